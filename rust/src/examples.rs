@@ -123,7 +123,13 @@ assert!(Memory::new_lending(ty, &mut quota).is_err());
 "#
     };
     (raw RawVal) => {
-        r#"# Examples
+        r#"# Conversions
+
+`From` makes one of each integer of 8 to 64 bits and of its [`NonZero`](core::num::NonZero), of `bool`, `f32` and `f64`, and of
+[`F32`](crate::F32), [`F64`](crate::F64), [`V128`](crate::V128), [`RawRef`](crate::RawRef) and [`TypedRawVal`](crate::TypedRawVal). It
+turns one into each of them but a `NonZero` and a `TypedRawVal`.
+
+# Examples
 
 ```
 use wasmi_core_proved::{RawVal, ReadAs, WriteAs};

@@ -88,30 +88,35 @@ impl FuncType {
     }
 
     #[doc = docs!(types FuncType.params)]
+    #[must_use]
     #[inline]
     pub fn params(&self) -> &[ValType] {
         self.inner.params()
     }
 
     #[doc = docs!(types FuncType.results)]
+    #[must_use]
     #[inline]
     pub fn results(&self) -> &[ValType] {
         self.inner.results()
     }
 
     #[doc = docs!(types FuncType.len_params)]
+    #[must_use]
     #[inline]
     pub fn len_params(&self) -> u16 {
         self.inner.len_params()
     }
 
     #[doc = docs!(types FuncType.len_results)]
+    #[must_use]
     #[inline]
     pub fn len_results(&self) -> u16 {
         self.inner.len_results()
     }
 
     #[doc = docs!(types FuncType.params_results)]
+    #[must_use]
     #[inline]
     pub fn params_results(&self) -> (&[ValType], &[ValType]) {
         self.inner.params_results()

@@ -110,6 +110,12 @@
     not(all(feature = "sse2", target_arch = "x86_64")),
     forbid(unsafe_code)
 )]
+#![cfg_attr(docsrs, feature(doc_cfg))]
+#![warn(
+    clippy::missing_errors_doc,
+    clippy::missing_panics_doc,
+    clippy::must_use_candidate
+)]
 
 #[cfg(not(target_pointer_width = "64"))]
 compile_error!("the proofs are of a `usize` of 64 bits");
@@ -123,6 +129,10 @@ extern crate std;
 mod docs;
 #[macro_use]
 mod examples;
+/// Exports functions of a module of the proved library, by their names and those of the standard.
+macro_rules! instructions {
+    ($part:ident $file:ident: $($name:ident),* $(,)?) => { $( instruction!($part $file $name); )* };
+}
 
 mod float;
 mod func_type;
@@ -160,8 +170,17 @@ mod memory;
     reason = "contracts, which aren't here, use more than the code does"
 )]
 mod proved;
+#[allow(
+    clippy::missing_errors_doc,
+    clippy::missing_panics_doc,
+    clippy::must_use_candidate,
+    clippy::complexity,
+    clippy::perf,
+    clippy::style,
+    reason = "it has the form of Rattle's library, and loops of which LLVM makes vectors"
+)]
 pub mod rattle;
-#[cfg(feature = "simd")]
+#[cfg(any(doc, feature = "simd"))]
 pub mod simd;
 /// The words and signs of Rattle's own library that contracts use; each other word has a page below.
 ///
@@ -172,7 +191,7 @@ pub mod simd;
 /// | `P → Q`, `P ↔ Q` | if P, then Q; if and only if; `(x : T) → P` is P for every x; of types, the functions from P to Q |
 /// | `if b then x else y`, `MatchBool b P Q`, `IsTrue b` | by a Boolean; `==`, `&&`, `not`, `nat_eq`, `nat_le`, `nat_lt` give one |
 /// | `record { a = x; b = y }` | the value with these fields |
-/// | `⟦<T as Trait>⟧` | the implementation of a trait for a type |
+/// | `⟦<T as Trait>⟧`, `T.Trait`, `T.name` | the implementation of a trait for a type, and a member of it, such as the `rules` of a limiter |
 /// | `ℕ`, `m - n`, `m / n`, `m % n` | the whole numbers from 0 on: a difference is 0 where n is greater, a quotient is rounded down; `suc n` is n + 1 |
 /// | `ℤ`, `+ℤ`, `-ℤ`, `*ℤ`, `int_div`, .. | the numbers with a sign, whose quotient is rounded towards 0; `pos n` is n, and `negsuc n` is -(n + 1) |
 /// | `w8` .. `w128`, `bits w` | the widths of integers, and the number of bits of one |
@@ -201,6 +220,7 @@ pub mod simd;
 /// | `T.converts x y`, `T.try_from_gives x r`, `T.output x` | what `From` and `TryFrom` may give, and the bytes that `Display` prints |
 /// | `W.contents w`, `Appends old new text`, `R.remaining r` | the bytes of a writer, what it has after a text, the bytes that a reader still has |
 /// | `sem 𝓛 (Lends R T x r F)` | the result r borrows from x: what is written through r last, w, makes x the value F w; `LendsIf`: where r is a value |
+/// | `T.row`, `the_row ..` | which loans a value of a type has in it, as `Lends` names them; no value depends on it |
 /// | `vec_len v`, `vec_capacity v`, `non_zero_u8_get x` | the length and the capacity of a `Vec`, the number of a `NonZero` |
 #[cfg(doc)]
 #[path = "proved/specs.rs"]
@@ -212,9 +232,10 @@ mod trap;
 mod values;
 pub mod wasm;
 
+#[doc(alias = "gas")]
+pub use crate::proved::meter::Fuel;
 pub use crate::proved::meter::{
-    CustomFuelCosts, Fuel, FuelCosts, FuelCostsProvider, FuelError, LimiterError, MemoryError,
-    TableError,
+    CustomFuelCosts, FuelCosts, FuelCostsProvider, FuelError, LimiterError, MemoryError, TableError,
 };
 pub use crate::proved::raw::{F32, F64, RawRef, RawVal, V128};
 pub use crate::proved::store::{ElementSegmentRef, MemoryType, MemoryTypeBuilder, TableType};
@@ -226,7 +247,10 @@ pub use crate::proved::{budget as pool, ops, region};
 #[cfg(feature = "std")]
 pub use crate::proved::{grammar, script};
 pub use func_type::{FuncType, FuncTypeError};
-pub use limiter::{ResourceLimiter, ResourceLimiterRef};
+#[doc(alias = "limiter")]
+#[doc(alias = "limits")]
+pub use limiter::ResourceLimiter;
+pub use limiter::ResourceLimiterRef;
 pub use memory::Memory;
 pub use table::{ElementSegment, Table};
 pub use trap::{HostError, Trap};

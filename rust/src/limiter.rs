@@ -77,6 +77,10 @@ pub trait ResourceLimiter {
     /// its type allows. `Ok(true)` permits; `Ok(false)` and `Err` deny.
     ///
     /// `current` isn't above `desired`.
+    ///
+    /// # Errors
+    ///
+    /// An implementation's own. The call then returns `ResourceLimiterDeniedAllocation`.
     fn memory_growing(
         &mut self,
         current: usize,
@@ -88,6 +92,10 @@ pub trait ResourceLimiter {
     /// allows. `Ok(true)` permits; `Ok(false)` and `Err` deny.
     ///
     /// `current` isn't above `desired`.
+    ///
+    /// # Errors
+    ///
+    /// An implementation's own. The call then returns `ResourceLimiterDeniedAllocation`.
     fn table_growing(
         &mut self,
         current: usize,
@@ -96,15 +104,21 @@ pub trait ResourceLimiter {
     ) -> Result<bool, LimiterError>;
 
     /// A memory was permitted to grow and did not, because of this error. After `Ok(())`, which it
-    /// returns unless an implementation has another body, the call returns this error; after `Err`
-    /// it returns `ResourceLimiterDeniedAllocation`.
+    /// returns unless an implementation has another body, the call returns this error.
+    ///
+    /// # Errors
+    ///
+    /// An implementation's own. The call then returns `ResourceLimiterDeniedAllocation`.
     fn memory_grow_failed(&mut self, _error: &MemoryError) -> Result<(), LimiterError> {
         Ok(())
     }
 
     /// A table was permitted to grow and did not, because of this error. After `Ok(())`, which it
-    /// returns unless an implementation has another body, the call returns this error; after `Err`
-    /// it returns `ResourceLimiterDeniedAllocation`.
+    /// returns unless an implementation has another body, the call returns this error.
+    ///
+    /// # Errors
+    ///
+    /// An implementation's own. The call then returns `ResourceLimiterDeniedAllocation`.
     fn table_grow_failed(&mut self, _error: &TableError) -> Result<(), LimiterError> {
         Ok(())
     }

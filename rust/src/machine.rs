@@ -60,7 +60,7 @@ pub use crate::proved::raw::{Number, ReadAs, ReadBack, WriteAs};
 pub use crate::proved::store::{
     Buffer, ByteBuffer, ElementSegment, LinearMemory, Memory, Region, SegmentError, Table, growth,
 };
-#[cfg(feature = "simd")]
+#[cfg(any(doc, feature = "simd"))]
 #[doc(no_inline)]
 pub use crate::simd;
 #[doc(no_inline)]

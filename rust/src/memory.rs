@@ -64,18 +64,22 @@ impl Memory {
     }
 
     #[doc = docs!(store LinearMemory.ty)]
+    #[must_use]
     #[inline]
     pub fn ty(&self) -> MemoryType {
         self.0.ty()
     }
 
     #[doc = docs!(store LinearMemory.dynamic_ty)]
+    #[must_use]
     #[inline]
     pub fn dynamic_ty(&self) -> MemoryType {
         self.0.dynamic_ty()
     }
 
     #[doc = docs!(store LinearMemory.size)]
+    #[doc(alias = "memory.size")]
+    #[must_use]
     #[inline]
     pub fn size(&self) -> u64 {
         self.0.size()
@@ -87,6 +91,7 @@ impl Memory {
     ///
     /// `wasmi_core` panics if the maximum has 2^48 pages of 64 KiB, which is cut at 2^64 - 1 bytes here.
     /// There a growth past a static buffer takes its fuel before it is refused.
+    #[doc(alias = "memory.grow")]
     #[inline]
     pub fn grow(
         &mut self,
@@ -98,6 +103,7 @@ impl Memory {
     }
 
     #[doc = docs!(store LinearMemory.data)]
+    #[must_use]
     #[inline]
     pub fn data(&self) -> &[u8] {
         self.0.data()
@@ -113,12 +119,14 @@ impl Memory {
     ///
     /// It comes of a shared borrow, so nothing may be written through it: see [`Memory::data_mut`].
     /// No contract speaks of it.
+    #[must_use]
     #[inline]
     pub fn data_ptr(&self) -> *mut u8 {
         self.0.data().as_ptr().cast_mut()
     }
 
     #[doc = docs!(store LinearMemory.data_size)]
+    #[must_use]
     #[inline]
     pub fn data_size(&self) -> usize {
         self.0.data_size()
@@ -161,6 +169,7 @@ impl Memory {
     /// assert!(matches!(past, Err(MemoryError::OutOfBoundsAccess)));
     /// # Ok::<(), MemoryError>(())
     /// ```
+    #[doc(alias = "memory.fill")]
     #[inline]
     pub fn fill(
         &mut self,
@@ -173,6 +182,7 @@ impl Memory {
     }
 
     #[doc = docs!(store LinearMemory.copy_within)]
+    #[doc(alias = "memory.copy")]
     #[inline]
     pub fn copy_within(
         &mut self,
@@ -198,6 +208,7 @@ impl Memory {
     }
 
     #[doc = docs!(store LinearMemory.init)]
+    #[doc(alias = "memory.init")]
     #[inline]
     pub fn init(
         &mut self,

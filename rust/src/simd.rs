@@ -27,7 +27,8 @@ use crate::{TrapCode, V128};
 
 pub use crate::proved::lanewise::simd::OutOfBoundsLaneIdx;
 // Lane by lane, on lanes of 8 or 16 bits.
-pub use crate::proved::lanewise::simd::{
+instructions! {
+    lanewise simd:
     i8x16_abs, i8x16_add, i8x16_add_sat_s, i8x16_add_sat_u, i8x16_avgr_u, i8x16_eq, i8x16_ge_s,
     i8x16_ge_u, i8x16_gt_s, i8x16_gt_u, i8x16_le_s, i8x16_le_u, i8x16_lt_s, i8x16_lt_u,
     i8x16_max_s, i8x16_max_u, i8x16_min_s, i8x16_min_u, i8x16_mul, i8x16_ne, i8x16_neg,
@@ -36,19 +37,21 @@ pub use crate::proved::lanewise::simd::{
     i16x8_ge_u, i16x8_gt_s, i16x8_gt_u, i16x8_le_s, i16x8_le_u, i16x8_lt_s, i16x8_lt_u,
     i16x8_max_s, i16x8_max_u, i16x8_min_s, i16x8_min_u, i16x8_mul, i16x8_ne, i16x8_neg,
     i16x8_q15mulr_sat_s, i16x8_splat, i16x8_sub, i16x8_sub_sat_s, i16x8_sub_sat_u,
-};
+}
 
 // Lane by lane, on lanes of 32 or 64 bits, and on whole vectors.
-pub use crate::proved::lanewise::simd::{
+instructions! {
+    lanewise simd:
     i32x4_abs, i32x4_add, i32x4_eq, i32x4_ge_s, i32x4_ge_u, i32x4_gt_s, i32x4_gt_u, i32x4_le_s,
     i32x4_le_u, i32x4_lt_s, i32x4_lt_u, i32x4_max_s, i32x4_max_u, i32x4_min_s, i32x4_min_u,
     i32x4_mul, i32x4_ne, i32x4_neg, i32x4_splat, i32x4_sub, i64x2_abs, i64x2_add, i64x2_eq,
     i64x2_ge_s, i64x2_gt_s, i64x2_le_s, i64x2_lt_s, i64x2_mul, i64x2_ne, i64x2_neg, i64x2_splat,
     i64x2_sub, v128_and, v128_andnot, v128_bitselect, v128_not, v128_or, v128_xor,
-};
+}
 
 // Instructions that widen, narrow, shift or test lanes, and the relaxed ones.
-pub use crate::proved::widening::simd::{
+instructions! {
+    widening simd:
     i8x16_all_true, i8x16_bitmask, i8x16_narrow_i16x8_s, i8x16_narrow_i16x8_u,
     i8x16_relaxed_laneselect, i8x16_relaxed_swizzle, i8x16_shl, i8x16_shr_s, i8x16_shr_u,
     i16x8_all_true, i16x8_bitmask, i16x8_extadd_pairwise_i8x16_s, i16x8_extadd_pairwise_i8x16_u,
@@ -67,17 +70,18 @@ pub use crate::proved::widening::simd::{
     i64x2_extmul_low_i32x4_u, i64x2_relaxed_laneselect, i64x2_shl, i64x2_shr_s, i64x2_shr_u,
     v128_any_true, v128_low32_zero, v128_low64_zero, v128_widen8x8_s, v128_widen8x8_u,
     v128_widen16x4_s, v128_widen16x4_u, v128_widen32x2_s, v128_widen32x2_u,
-};
+}
 
 // Loads and stores.
-pub use crate::proved::vector_access::simd::{
+instructions! {
+    vector_access simd:
     v128_load, v128_load_at, v128_load8_splat, v128_load8_splat_at, v128_load8x8_s,
     v128_load8x8_s_at, v128_load8x8_u, v128_load8x8_u_at, v128_load16_splat, v128_load16_splat_at,
     v128_load16x4_s, v128_load16x4_s_at, v128_load16x4_u, v128_load16x4_u_at, v128_load32_splat,
     v128_load32_splat_at, v128_load32_zero, v128_load32_zero_at, v128_load32x2_s,
     v128_load32x2_s_at, v128_load32x2_u, v128_load32x2_u_at, v128_load64_splat,
     v128_load64_splat_at, v128_load64_zero, v128_load64_zero_at, v128_store, v128_store_at,
-};
+}
 
 // Instructions with indices of lanes.
 mod proved {
@@ -86,8 +90,9 @@ mod proved {
 }
 
 macro_rules! lanes {
-    ($docs:tt; $($name:ident($($arg:ident: $ty:ty),*; $lane:ident: $index:ty $(, $item:ident: $item_ty:ty)?) -> $result:ty;)*) => { $(
+    ($docs:tt; $($(#[$mark:meta])* $name:ident($($arg:ident: $ty:ty),*; $lane:ident: $index:ty $(, $item:ident: $item_ty:ty)?) -> $result:ty;)*) => { $(
         #[doc = docs!($docs $name)]
+        $(#[$mark])*
         #[inline]
         pub fn $name($($arg: $ty,)* $lane: $index $(, $item: $item_ty)?) -> $result {
             proved::$name($($arg,)* $lane.proved() $(, $item)?)
@@ -96,38 +101,58 @@ macro_rules! lanes {
 }
 lanes! {
     lanewise;
+    #[doc(alias = "i8x16.extract_lane_s")] #[must_use]
     i8x16_extract_lane_s(v: V128; lane: ImmLaneIdx16) -> i32;
+    #[doc(alias = "i8x16.extract_lane_u")] #[must_use]
     i8x16_extract_lane_u(v: V128; lane: ImmLaneIdx16) -> u32;
+    #[doc(alias = "i8x16.replace_lane")] #[must_use]
     i8x16_replace_lane(v: V128; lane: ImmLaneIdx16, item: i8) -> V128;
+    #[doc(alias = "i16x8.extract_lane_s")] #[must_use]
     i16x8_extract_lane_s(v: V128; lane: ImmLaneIdx8) -> i32;
+    #[doc(alias = "i16x8.extract_lane_u")] #[must_use]
     i16x8_extract_lane_u(v: V128; lane: ImmLaneIdx8) -> u32;
+    #[doc(alias = "i16x8.replace_lane")] #[must_use]
     i16x8_replace_lane(v: V128; lane: ImmLaneIdx8, item: i16) -> V128;
+    #[doc(alias = "i32x4.extract_lane")] #[must_use]
     i32x4_extract_lane(v: V128; lane: ImmLaneIdx4) -> i32;
+    #[doc(alias = "i32x4.replace_lane")] #[must_use]
     i32x4_replace_lane(v: V128; lane: ImmLaneIdx4, item: i32) -> V128;
+    #[doc(alias = "i64x2.extract_lane")] #[must_use]
     i64x2_extract_lane(v: V128; lane: ImmLaneIdx2) -> i64;
+    #[doc(alias = "i64x2.replace_lane")] #[must_use]
     i64x2_replace_lane(v: V128; lane: ImmLaneIdx2, item: i64) -> V128;
 }
 lanes! {
     vector_access;
+    #[doc(alias = "v128.load8_lane")]
     v128_load8_lane(memory: &[u8], ptr: u64, offset: u64, v: V128; lane: ImmLaneIdx16) -> Result<V128, TrapCode>;
     v128_load8_lane_at(memory: &[u8], address: usize, v: V128; lane: ImmLaneIdx16) -> Result<V128, TrapCode>;
+    #[doc(alias = "v128.store8_lane")]
     v128_store8_lane(memory: &mut [u8], ptr: u64, offset: u64, v: V128; lane: ImmLaneIdx16) -> Result<(), TrapCode>;
     v128_store8_lane_at(memory: &mut [u8], address: usize, v: V128; lane: ImmLaneIdx16) -> Result<(), TrapCode>;
+    #[doc(alias = "v128.load16_lane")]
     v128_load16_lane(memory: &[u8], ptr: u64, offset: u64, v: V128; lane: ImmLaneIdx8) -> Result<V128, TrapCode>;
     v128_load16_lane_at(memory: &[u8], address: usize, v: V128; lane: ImmLaneIdx8) -> Result<V128, TrapCode>;
+    #[doc(alias = "v128.store16_lane")]
     v128_store16_lane(memory: &mut [u8], ptr: u64, offset: u64, v: V128; lane: ImmLaneIdx8) -> Result<(), TrapCode>;
     v128_store16_lane_at(memory: &mut [u8], address: usize, v: V128; lane: ImmLaneIdx8) -> Result<(), TrapCode>;
+    #[doc(alias = "v128.load32_lane")]
     v128_load32_lane(memory: &[u8], ptr: u64, offset: u64, v: V128; lane: ImmLaneIdx4) -> Result<V128, TrapCode>;
     v128_load32_lane_at(memory: &[u8], address: usize, v: V128; lane: ImmLaneIdx4) -> Result<V128, TrapCode>;
+    #[doc(alias = "v128.store32_lane")]
     v128_store32_lane(memory: &mut [u8], ptr: u64, offset: u64, v: V128; lane: ImmLaneIdx4) -> Result<(), TrapCode>;
     v128_store32_lane_at(memory: &mut [u8], address: usize, v: V128; lane: ImmLaneIdx4) -> Result<(), TrapCode>;
+    #[doc(alias = "v128.load64_lane")]
     v128_load64_lane(memory: &[u8], ptr: u64, offset: u64, v: V128; lane: ImmLaneIdx2) -> Result<V128, TrapCode>;
     v128_load64_lane_at(memory: &[u8], address: usize, v: V128; lane: ImmLaneIdx2) -> Result<V128, TrapCode>;
+    #[doc(alias = "v128.store64_lane")]
     v128_store64_lane(memory: &mut [u8], ptr: u64, offset: u64, v: V128; lane: ImmLaneIdx2) -> Result<(), TrapCode>;
     v128_store64_lane_at(memory: &mut [u8], address: usize, v: V128; lane: ImmLaneIdx2) -> Result<(), TrapCode>;
 }
 
 #[doc = docs!(lanewise i8x16_shuffle)]
+#[doc(alias = "i8x16.shuffle")]
+#[must_use]
 #[inline]
 pub fn i8x16_shuffle(a: V128, b: V128, s: [ImmLaneIdx32; 16]) -> V128 {
     proved::i8x16_shuffle(a, b, s.map(ImmLaneIdx32::proved))
@@ -136,10 +161,13 @@ pub fn i8x16_shuffle(a: V128, b: V128, s: [ImmLaneIdx32; 16]) -> V128 {
 // Lanes of floats as bits.
 macro_rules! floats {
     ($($float:ty, $index:ty: $splat:ident $extract:ident $replace:ident $abs:ident $neg:ident
-        by $splat_bits:ident $extract_bits:ident $replace_bits:ident $signed:ty;)*) => { $(
+        by $splat_bits:ident $extract_bits:ident $replace_bits:ident $signed:ty,
+        called $splat_name:literal $extract_name:literal $replace_name:literal $abs_name:literal $neg_name:literal;)*) => { $(
         /// The float in each lane.
         ///
         #[doc = concat!("Its bits are as in [`", stringify!($splat_bits), "`], which is proved; that floats become bits and back isn't.")]
+        #[doc(alias = $splat_name)]
+        #[must_use]
         #[inline]
         pub fn $splat(value: $float) -> V128 {
             $splat_bits(value.to_bits().cast_signed())
@@ -148,6 +176,8 @@ macro_rules! floats {
         /// The float of a lane.
         ///
         #[doc = concat!("Its bits are as in [`", stringify!($extract_bits), "`], which is proved; that floats become bits and back isn't.")]
+        #[doc(alias = $extract_name)]
+        #[must_use]
         #[inline]
         pub fn $extract(v128: V128, lane: $index) -> $float {
             <$float>::from_bits($extract_bits(v128, lane).cast_unsigned())
@@ -156,6 +186,8 @@ macro_rules! floats {
         /// The vector with a float in a lane.
         ///
         #[doc = concat!("Its bits are as in [`", stringify!($replace_bits), "`], which is proved; that floats become bits and back isn't.")]
+        #[doc(alias = $replace_name)]
+        #[must_use]
         #[inline]
         pub fn $replace(v128: V128, lane: $index, item: $float) -> V128 {
             $replace_bits(v128, lane, item.to_bits().cast_signed())
@@ -164,6 +196,8 @@ macro_rules! floats {
         /// The lanes without their signs.
         ///
         /// It is [`v128_and`] with a mask of the signs, and no contract speaks of floats.
+        #[doc(alias = $abs_name)]
+        #[must_use]
         #[inline]
         pub fn $abs(v128: V128) -> V128 {
             v128_and(v128, $splat_bits(<$signed>::MAX))
@@ -172,6 +206,8 @@ macro_rules! floats {
         /// The lanes with the other signs.
         ///
         /// It is [`v128_xor`] with a mask of the signs, and no contract speaks of floats.
+        #[doc(alias = $neg_name)]
+        #[must_use]
         #[inline]
         pub fn $neg(v128: V128) -> V128 {
             v128_xor(v128, $splat_bits(<$signed>::MIN))
@@ -180,9 +216,11 @@ macro_rules! floats {
 }
 floats! {
     f32, ImmLaneIdx4: f32x4_splat f32x4_extract_lane f32x4_replace_lane f32x4_abs f32x4_neg
-        by i32x4_splat i32x4_extract_lane i32x4_replace_lane i32;
+        by i32x4_splat i32x4_extract_lane i32x4_replace_lane i32,
+        called "f32x4.splat" "f32x4.extract_lane" "f32x4.replace_lane" "f32x4.abs" "f32x4.neg";
     f64, ImmLaneIdx2: f64x2_splat f64x2_extract_lane f64x2_replace_lane f64x2_abs f64x2_neg
-        by i64x2_splat i64x2_extract_lane i64x2_replace_lane i64;
+        by i64x2_splat i64x2_extract_lane i64x2_replace_lane i64,
+        called "f64x2.splat" "f64x2.extract_lane" "f64x2.replace_lane" "f64x2.abs" "f64x2.neg";
 }
 
 // Indices of lanes are counted by a `u8`: the proved ones are counted by a `usize`, as arrays are.

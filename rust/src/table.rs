@@ -52,24 +52,29 @@ impl Table {
     }
 
     #[doc = docs!(store Table.ty)]
+    #[must_use]
     #[inline]
     pub fn ty(&self) -> TableType {
         self.0.ty()
     }
 
     #[doc = docs!(store Table.dynamic_ty)]
+    #[must_use]
     #[inline]
     pub fn dynamic_ty(&self) -> TableType {
         self.0.dynamic_ty()
     }
 
     #[doc = docs!(store Table.size)]
+    #[doc(alias = "table.size")]
+    #[must_use]
     #[inline]
     pub fn size(&self) -> u64 {
         self.0.size()
     }
 
     #[doc = docs!(store Table.grow)]
+    #[doc(alias = "table.grow")]
     #[inline]
     pub fn grow(
         &mut self,
@@ -94,12 +99,15 @@ impl Table {
     }
 
     #[doc = docs!(store Table.get)]
+    #[doc(alias = "table.get")]
+    #[must_use]
     #[inline]
     pub fn get(&self, index: u64) -> Option<TypedRawRef> {
         self.0.get(index)
     }
 
     #[doc = docs!(store Table.set)]
+    #[doc(alias = "table.set")]
     #[inline]
     pub fn set(&mut self, index: u64, value: TypedRawRef) -> Result<(), TableError> {
         self.0.set(index, value)
@@ -112,6 +120,7 @@ impl Table {
     }
 
     #[doc = docs!(store Table.init)]
+    #[doc(alias = "table.init")]
     #[inline]
     pub fn init(
         &mut self,
@@ -125,6 +134,7 @@ impl Table {
     }
 
     #[doc = docs!(store Table.copy)]
+    #[doc(alias = "table.copy")]
     #[inline]
     pub fn copy(
         dst_table: &mut Self,
@@ -150,6 +160,7 @@ impl Table {
     }
 
     #[doc = docs!(store Table.fill)]
+    #[doc(alias = "table.fill")]
     #[inline]
     pub fn fill(
         &mut self,
@@ -205,6 +216,7 @@ impl ElementSegment {
     }
 
     #[doc = docs!(store ElementSegment.as_ref)]
+    #[must_use]
     #[allow(clippy::should_implement_trait)]
     #[inline]
     pub fn as_ref(&self) -> ElementSegmentRef<'_> {
@@ -212,24 +224,28 @@ impl ElementSegment {
     }
 
     #[doc = docs!(store ElementSegment.ty)]
+    #[must_use]
     #[inline]
     pub fn ty(&self) -> RefType {
         self.0.ty()
     }
 
     #[doc = docs!(store ElementSegment.items)]
+    #[must_use]
     #[inline]
     pub fn items(&self) -> &[RawRef] {
         self.0.items()
     }
 
     #[doc = docs!(store ElementSegment.size)]
+    #[must_use]
     #[inline]
     pub fn size(&self) -> u32 {
         self.0.size()
     }
 
     #[doc = docs!(store ElementSegment.drop_items)]
+    #[doc(alias = "elem.drop")]
     #[inline]
     pub fn drop_items(&mut self) {
         self.0.drop_items();

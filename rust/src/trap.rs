@@ -19,6 +19,7 @@ impl dyn HostError {
     }
 
     /// The `T`, if it is one.
+    #[must_use]
     #[inline]
     pub fn downcast_ref<T: HostError>(&self) -> Option<&T> {
         (self as &dyn Any).downcast_ref()
@@ -30,7 +31,11 @@ impl dyn HostError {
         (self as &mut dyn Any).downcast_mut()
     }
 
-    /// The `T`, if it is one, or else the error itself.
+    /// The `T`, if it is one.
+    ///
+    /// # Errors
+    ///
+    /// The error itself, if it isn't a `T`.
     #[inline]
     pub fn downcast<T: HostError>(self: Box<Self>) -> Result<Box<T>, Box<Self>> {
         if !self.is::<T>() {
@@ -106,6 +111,7 @@ impl Trap {
     /// The contract is of an error of any type; the comparison of types is Rust's [`Any`].
     ///
     #[doc = docs!(types Trap.downcast_ref.contract)]
+    #[must_use]
     #[inline]
     pub fn downcast_ref<T>(&self) -> Option<&T>
     where
@@ -136,6 +142,7 @@ impl Trap {
     /// The contract is of an error of any type; the comparison of types is Rust's [`Any`].
     ///
     #[doc = docs!(types Trap.downcast.contract)]
+    #[must_use]
     #[inline]
     pub fn downcast<T>(self) -> Option<T>
     where
@@ -148,18 +155,21 @@ impl Trap {
     }
 
     #[doc = docs!(types Trap.i32_exit)]
+    #[must_use]
     #[cold]
     pub fn i32_exit(status: i32) -> Self {
         Self(Box::new(Proved::i32_exit(status)))
     }
 
     #[doc = docs!(types Trap.i32_exit_status)]
+    #[must_use]
     #[inline]
     pub fn i32_exit_status(&self) -> Option<i32> {
         self.0.i32_exit_status()
     }
 
     #[doc = docs!(types Trap.trap_code)]
+    #[must_use]
     #[inline]
     pub fn trap_code(&self) -> Option<TrapCode> {
         self.0.trap_code()

@@ -23,17 +23,19 @@
 use crate::TrapCode;
 
 // Loads and stores.
-pub use crate::proved::accesses::wasm::{
+instructions! {
+    accesses wasm:
     i32_load8_s, i32_load8_s_at, i32_load8_u, i32_load8_u_at, i32_load16_s, i32_load16_s_at,
     i32_load16_u, i32_load16_u_at, i32_store8, i32_store8_at, i32_store16, i32_store16_at,
     i64_load8_s, i64_load8_s_at, i64_load8_u, i64_load8_u_at, i64_load16_s, i64_load16_s_at,
     i64_load16_u, i64_load16_u_at, i64_load32_s, i64_load32_s_at, i64_load32_u, i64_load32_u_at,
     i64_store8, i64_store8_at, i64_store16, i64_store16_at, i64_store32, i64_store32_at, load_u32,
     load_u32_at, load_u64, load_u64_at, store32, store32_at, store64, store64_at,
-};
+}
 
 // Integer instructions.
-pub use crate::proved::scalar::wasm::{
+instructions! {
+    scalar wasm:
     i32_add, i32_bitand, i32_bitor, i32_bitxor, i32_clz, i32_ctz, i32_div_s, i32_div_u, i32_eq,
     i32_eqz, i32_extend8_s, i32_extend16_s, i32_ge_s, i32_ge_u, i32_gt_s, i32_gt_u, i32_le_s,
     i32_le_u, i32_lt_s, i32_lt_u, i32_mul, i32_ne, i32_popcnt, i32_rem_s, i32_rem_u, i32_rotl,
@@ -43,61 +45,92 @@ pub use crate::proved::scalar::wasm::{
     i64_ge_u, i64_gt_s, i64_gt_u, i64_le_s, i64_le_u, i64_lt_s, i64_lt_u, i64_mul, i64_mul_wide_s,
     i64_mul_wide_u, i64_ne, i64_popcnt, i64_rem_s, i64_rem_u, i64_rotl, i64_rotr, i64_shl,
     i64_shr_s, i64_shr_u, i64_sub, i64_sub128,
-};
+}
 
 // Floats as bits: loads, stores, and what the specification does to bits alone.
 macro_rules! floats {
     ($($float:ty, $signed:ty: $load:ident $load_at:ident $store:ident $store_at:ident by $load_bits:ident $load_bits_at:ident $store_bits:ident $store_bits_at:ident,
-        $abs:ident $neg:ident $copysign:ident $to:ident $from:ident by $and:ident $or:ident $xor:ident;)*) => { $(
+        $abs:ident $neg:ident $copysign:ident $to:ident $from:ident by $and:ident $or:ident $xor:ident,
+        called $load_name:literal $store_name:literal $abs_name:literal $neg_name:literal $copysign_name:literal $to_name:literal $from_name:literal;)*) => { $(
         #[doc = concat!("Loads a float: the bits are those of [`", stringify!($load_bits), "`], which is proved.")]
+        ///
+        /// # Errors
+        ///
+        /// [`MemoryOutOfBounds`](TrapCode::MemoryOutOfBounds) if the bytes end past the memory.
+        #[doc(alias = $load_name)]
         #[inline]
         pub fn $load(memory: &[u8], ptr: u64, offset: u64) -> Result<$float, TrapCode> {
             $load_bits(memory, ptr, offset).map(<$float>::from_bits)
         }
 
         #[doc = concat!("Loads a float at an address: the bits are those of [`", stringify!($load_bits_at), "`], which is proved.")]
+        ///
+        /// # Errors
+        ///
+        /// [`MemoryOutOfBounds`](TrapCode::MemoryOutOfBounds) if the bytes end past the memory.
         #[inline]
         pub fn $load_at(memory: &[u8], address: usize) -> Result<$float, TrapCode> {
             $load_bits_at(memory, address).map(<$float>::from_bits)
         }
 
         #[doc = concat!("Stores a float: the bits are stored by [`", stringify!($store_bits), "`], which is proved.")]
+        ///
+        /// # Errors
+        ///
+        /// [`MemoryOutOfBounds`](TrapCode::MemoryOutOfBounds) if the bytes would end past the memory; then nothing is
+        /// written.
+        #[doc(alias = $store_name)]
         #[inline]
         pub fn $store(memory: &mut [u8], ptr: u64, offset: u64, value: $float) -> Result<(), TrapCode> {
             $store_bits(memory, ptr, offset, value.to_bits())
         }
 
         #[doc = concat!("Stores a float at an address: the bits are stored by [`", stringify!($store_bits_at), "`], which is proved.")]
+        ///
+        /// # Errors
+        ///
+        /// [`MemoryOutOfBounds`](TrapCode::MemoryOutOfBounds) if the bytes would end past the memory; then nothing is
+        /// written.
         #[inline]
         pub fn $store_at(memory: &mut [u8], address: usize, value: $float) -> Result<(), TrapCode> {
             $store_bits_at(memory, address, value.to_bits())
         }
 
         /// The float without its sign, by its bits; no contract speaks of floats.
+        #[doc(alias = $abs_name)]
+        #[must_use]
         #[inline]
         pub fn $abs(value: $float) -> $float {
             $from($and($to(value), <$signed>::MAX))
         }
 
         /// The float with the other sign, by its bits; no contract speaks of floats.
+        #[doc(alias = $neg_name)]
+        #[must_use]
         #[inline]
         pub fn $neg(value: $float) -> $float {
             $from($xor($to(value), <$signed>::MIN))
         }
 
         /// The first float with the sign of the second, by their bits; no contract speaks of floats.
+        #[doc(alias = $copysign_name)]
+        #[must_use]
         #[inline]
         pub fn $copysign(lhs: $float, rhs: $float) -> $float {
             $from($or($and($to(lhs), <$signed>::MAX), $and($to(rhs), <$signed>::MIN)))
         }
 
         /// The bits of a float, as a signed number.
+        #[doc(alias = $to_name)]
+        #[must_use]
         #[inline]
         pub fn $to(value: $float) -> $signed {
             value.to_bits().cast_signed()
         }
 
         /// The float of bits that are given as a signed number.
+        #[doc(alias = $from_name)]
+        #[must_use]
         #[inline]
         pub fn $from(value: $signed) -> $float {
             <$float>::from_bits(value.cast_unsigned())
@@ -106,7 +139,9 @@ macro_rules! floats {
 }
 floats! {
     f32, i32: load_f32 load_f32_at store_f32 store_f32_at by load_u32 load_u32_at store32 store32_at,
-        f32_abs f32_neg f32_copysign i32_reinterpret_f32 f32_reinterpret_i32 by i32_bitand i32_bitor i32_bitxor;
+        f32_abs f32_neg f32_copysign i32_reinterpret_f32 f32_reinterpret_i32 by i32_bitand i32_bitor i32_bitxor,
+        called "f32.load" "f32.store" "f32.abs" "f32.neg" "f32.copysign" "i32.reinterpret_f32" "f32.reinterpret_i32";
     f64, i64: load_f64 load_f64_at store_f64 store_f64_at by load_u64 load_u64_at store64 store64_at,
-        f64_abs f64_neg f64_copysign i64_reinterpret_f64 f64_reinterpret_i64 by i64_bitand i64_bitor i64_bitxor;
+        f64_abs f64_neg f64_copysign i64_reinterpret_f64 f64_reinterpret_i64 by i64_bitand i64_bitor i64_bitxor,
+        called "f64.load" "f64.store" "f64.abs" "f64.neg" "f64.copysign" "i64.reinterpret_f64" "f64.reinterpret_i64";
 }

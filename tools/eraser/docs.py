@@ -6,7 +6,7 @@ import re
 import urllib.parse
 
 from .source import Unknown
-from .tables import module_of
+from .tables import module_of, standard_name
 
 NAME = r"[^\s(){}\[\].,;:=λ→\"|]+"
 WORD = re.compile(rf"(\w+\.)?({NAME})")
@@ -14,7 +14,9 @@ USE = re.compile(r"(?:ghost |pub )?use Rattle\.(\w+)\.specs\.?([\w.]*?)(?:\.?\{(
 DECLARED = re.compile(rf"^(?: *(?:(?:abbrev|unfoldable|opaque|pub|record|data) )+| +(?=[A-Z]\w* : ))({NAME})(?= |$)", re.M)
 NAMED = re.compile(r"docs!\((\w+) ([\w.]+)\)")
 # A macro of rust/src that documents each of its rows by its name, and the rows of a call.
-PATTERN, ROWS = re.compile(r"docs!\(\$\w+ \$\w+\)"), re.compile(r"^ +(\w+);\n((?:    \w.*\n)+)", re.M)
+# A list of instructions that rust/src exports.
+LISTED = re.compile(r"instructions! \{\s*\w+ \w+:([^}]*)\}")
+PATTERN, ROWS = re.compile(r"docs!\(\$\w+ \$\w+\)"), re.compile(r"^ +(\w+);\n((?:    [#\w].*\n)+)", re.M)
 
 
 class Links:
@@ -59,13 +61,13 @@ class Specs:
         """The place of a word that a file of specs/ has or passes on, or none."""
         places = list(dict.fromkeys(self.places.get(word, ())))
         near = [it for it in places if it == (crate, file)] or [it for it in places if it[0] == crate] or places
-        return f"crate::specs::{module_of(near[0][0])}::{near[0][1]}#{urllib.parse.quote(word)}" if len(near) == 1 else None
+        return f"crate::specs::{module_of(near[0][0])}::{near[0][1]}Specs#{urllib.parse.quote(word)}" if len(near) == 1 else None
 
     def module(self):
         """The module of all pages."""
         lines = ["//! The definitions that the contracts cite, in antt, the language of the proofs.\n#![allow(non_snake_case)]\n"]
         for crate in self.crates:
-            pages = [f'#[doc = r####"{self.page(*its, text)}"####]\npub mod {its[1]} {{}}\n' for its, text in self.pages.items() if its[0] == crate]
+            pages = [f'#[doc = r####"{self.page(*its, text)}"####]\npub mod {its[1]}Specs {{}}\n' for its, text in self.pages.items() if its[0] == crate]
             if pages:
                 lines.append(f"/// Definitions of `{crate}`.\npub mod {module_of(crate)} {{\n{''.join(pages)}}}\n")
         return "".join(lines)
@@ -121,8 +123,28 @@ def included(crates, api):
         text = path.read_text()
         named = [(place, name, text[at.end():]) for at in NAMED.finditer(text) for place, name in [at.groups()]]
         for place, rows in ROWS.findall(text) if PATTERN.search(text) else ():
-            named += [(place, row.strip().partition("(")[0], row) for row in rows.splitlines()]
+            named += [(place, row.strip().partition("(")[0], row) for row in re.findall(r"^ +\w.*", rows, re.M)]
         for place, name, head in named:
             docs, item = docs_of(crates[place], name)
             arms[place, name] = f'    ({place} {name}) => {{ r####"{docs}\n"#### }};\n'
     return f"//! The docs of proved items, by the module and the item.\nmacro_rules! docs {{\n{''.join(arms[it] for it in sorted(arms))}}}\n"
+
+
+def aliases(api, standard):
+    """The text of a macro that exports a function of a module, with its name in the standard if that has it: rustdoc's search finds it by that.
+
+    It stands at the export, since rustdoc 1.95 leaves out the names that stand at a function which is exported elsewhere."""
+    names = {name for path in api.glob("*.rs") for listed in LISTED.findall(path.read_text()) for name in re.findall(r"\w+", listed)}
+    arms = "".join(f"""    ($part:ident $file:ident {name}) => {{
+        #[doc(alias = "{standard_name(name)}")]
+        pub use crate::proved::$part::$file::{name};
+    }};
+""" for name in sorted(names) if standard_name(name) in standard)
+    return f"""
+/// Exports a function.
+macro_rules! instruction {{
+{arms}    ($part:ident $file:ident $name:ident) => {{
+        pub use crate::proved::$part::$file::$name;
+    }};
+}}
+"""

@@ -53,6 +53,9 @@ EDITS = [
 /// is added to `ptr`, or counts bytes itself; `len`, `pages` and `delta` are how many; `lanes` has the index of the byte for each lane.
 #[allow(missing_docs)]
 pub enum Call {""", 1),
+    # What a search of the reference finds by the standard's name.
+    ("typed", "pub fn get(&self) -> TypedRawVal", '#[doc(alias = "global.get")]\npub fn get(&self) -> TypedRawVal', 1),
+    ("typed", "pub fn set(&mut self, new_value: TypedRawVal)", '#[doc(alias = "global.set")]\npub fn set(&mut self, new_value: TypedRawVal)', 1),
     # Upstream's feature.
     ("store", "let Some(page) = PageSize::from_log2(",
      "        if cfg!(not(feature = \"memory64\")) && self.index.is_64() {\n            return Err(MemoryError::InvalidMemoryType);\n        }\n        let Some(page) = PageSize::from_log2(", 1),
@@ -108,8 +111,7 @@ EDITS += [
     ("script", 'write!(f, "{first}")', "first.show(f)", 1),
     ("script", 'write!(f, " {second}")', '(" ", &second).show(f)', 1),
     ("script", 'write!(f, "{first} {second}")', '(&first, " ", &second).show(f)', 1),
-    ("script", "impl fmt::Display for ReplyHead<'_> { #[inline] fn fmt(&self, f: &mut fmt::Formatter<'_>) -> fmt::Result {", """
-impl fmt::Display for ReplyHead<'_> {
+    ("script", "impl fmt::Display for ReplyHead<'_> { #[inline] fn fmt(&self, f: &mut fmt::Formatter<'_>) -> fmt::Result {", """impl fmt::Display for ReplyHead<'_> {
     fn fmt(&self, f: &mut fmt::Formatter<'_>) -> fmt::Result {
         self.show(f)
     }

@@ -4,6 +4,7 @@
 |---|---|
 | `requires` of a `pub fn` | an `assert!` of the table `REQUIRES` and a section `Panics` of its docs, or nothing if Rust tests it or no test can |
 | `requires` of a function of a public trait | an `assert!` of the table `OF_TRAITS` in the implementations |
+| a clause of a form of `ERRORS` | a section `Errors` of the function's docs |
 | a clause, `impl Model`, a ghost member | a section `Contract` or `Model` of the item's docs |
 | `derive(Drop)`, `T: Drop`, an `impl Drop` that only takes apart | nothing: Rust drops every value |
 | a parameter, field or argument `alloc`, `rt.alloc()` | nothing: Rust has one allocator |
@@ -13,7 +14,10 @@
 | `vec![in a; x; n]`, `s.to_vec(a)`, `try_map` | `Vec::filled(x, n)`, `Vec::of`, `try_to_vec`, `try_map_all` of the shim |
 | `Vec`, `std::alloc`, `std::rc`, `std::simd`, `arrayvec` | the shim's, `crate::rattle` |
 | a trait whose functions have `Result<Self, ..>` | the same with `Sized` |
+| a `pub fn` that returns something else than a `Result` or a `&mut`, and takes no `&mut` | `#[must_use]` |
 | a function without a hint | `#[inline]`, or `#[inline(always)]` if it returns a type of `INLINED_ALWAYS` |
+| types of one letter in a contract | a legend of the table `LEGENDS` below it |
+| fields that Rust hides | a list of them in the docs of their struct |
 | a variant that is named after an instruction, without docs | a link to the function |
 | `laws.rt` | under `cfg(any(doc, test))` |
 | a crate | a module of `crate::proved` |
@@ -24,8 +28,8 @@ A form that no rule knows ends the program. tools/eraser/edits.py lists what is 
 import re
 
 from .source import MARK, Source, Unknown, body, closing
-from .tables import (ATTRIBUTES, ATTRIBUTES_OF_TESTS, DERIVES, INLINED_ALWAYS, MACROS, MACROS_OF_TESTS, OF_TESTS, OF_TRAITS, REQUIRES, STD_KEPT,
-                     UNTESTED, module_of_instruction)
+from .tables import (ATTRIBUTES, ATTRIBUTES_OF_TESTS, DERIVES, ERRORS, HIDDEN_FIELDS, INLINED_ALWAYS, LEGENDS, MACROS, MACROS_OF_TESTS, OF_TESTS, OF_TRAITS,
+                     PLACES_OF_ERRORS, REQUIRES, STD_KEPT, UNTESTED, module_of_instruction)
 
 ATTRIBUTES_OF_ITEM = r"(?P<attributes>(?:^ *#\[[^\]]*\]\n)*)"
 FN = re.compile(ATTRIBUTES_OF_ITEM + r"^(?P<indent> *)(?P<before>(?:pub(?:\(\w+\))? )?(?:const )?)fn (?P<name>\$?\w+)", re.M)
@@ -44,6 +48,8 @@ ALLOCATORS = r"alloc: (?:Global|Allocator)\b|alloc|self\.alloc|machine\.store\.a
 # The shim's traits and types, and what a text has that needs them.
 NEEDED = {"ArrayExt": r"\.try_map_all\(", "SliceExt": r"\.try_to_vec\(", "StrExt": r"\.try_repeat\(", "TextExt": r"\.try_push_str\(|try_of\(",
           "TryClone": r"\.try_clone\(", "Vec": r"(?<![.\w])Vec\b"}
+# A type of one letter in a contract; `{S = T}` names an argument of a definition.
+LETTER = re.compile(r"(?<![\w.'{])([A-Z])(?![\w'])")
 INNER = re.compile(r"(?:(?://![^\n]*|#!\[[^\n]*|\s*)\n)*")
 
 
@@ -132,12 +138,36 @@ class File(Source):
             tests = [] if self.is_test else self.tests_of(found["name"], head, opening, clauses, is_public)
             asserts = "".join(f"\nassert!({test}, {self.mark('s', chr(34) + said + chr(34))});" for test, said in tests)
             panics = [f"Panics if {', or if '.join(said for _, said in tests)}."] if tests else []
-            docs = self.docs("Panics", panics, found)
+            docs = self.docs("Errors", self.errors(found, head, clauses), found)
+            docs += self.docs("Panics", panics, found, after=docs)
             docs += self.docs("Contract", clauses, found, after=docs)
             hint = "" if self.is_test or opening == ";" or re.search(r"\b(inline|cold)\b", found["attributes"]) else self.hint(head)
             head = re.sub(r"\s*«q\d+»", "", head).rstrip() + ("\n" if "where" in head else " ") + opening
-            self.text = (self.text[:found.start()] + docs + found["attributes"] + hint + found["indent"] + found["before"]
-                         + f"fn {found['name']}" + head + asserts + rest)
+            attributes = found["attributes"] + self.must_use(found, head, opening) + hint
+            self.text = (self.text[:found.start()] + docs + attributes + found["indent"] + found["before"] + f"fn {found['name']}" + head + asserts + rest)
+
+    def errors(self, found, head, clauses):
+        """The errors that the forms of the clauses tell; in docs that say them already, each gets a link to its variant."""
+        returned = re.search(r"-> Result<.*?(\w+(?:Error|Code))\b", head, re.S)
+        variants = self.known.errors[returned[1]] if returned and returned[1] in PLACES_OF_ERRORS and not self.is_test else ()
+
+        def linked(name):
+            return f"[`{name[1]}`]({PLACES_OF_ERRORS[returned[1]]}::{returned[1]}::{name[1]})" if name[1] in variants else name[0]
+        said = COMMENTS.search(self.text[:found.start()])[0]
+        marks = re.findall(r"«d(\d+)»", said)
+        title = next((n for n, mark in enumerate(marks) if self.kept[int(mark)] == "/// # Errors"), len(marks))
+        for mark in map(int, marks[title:]):
+            self.kept[mark] = re.sub(r"`(\w+)`", linked, self.kept[mark])
+        return [re.sub(r"`(\w+)`", linked, its) for form, its in ERRORS.items() if variants and re.search(form, " ".join(clauses))]
+
+    def must_use(self, found, head, opening):
+        """`#[must_use]` of a public function whose result is all that it does."""
+        if self.is_test or opening == ";" or not found["before"].startswith("pub "):
+            return ""
+        taken, _, returned = re.split(r"\bwhere\b|«q", head)[0].rpartition("-> ")
+        # An arrow of a closure among the parameters, which others follow, is none of the function.
+        is_all = taken and "&mut" not in taken and ">(" not in returned and not re.match(r"Result<|fmt::Result|&(?:'\w+ )?mut\b", returned)
+        return "#[must_use]\n" * bool(is_all)
 
     def hint(self, head):
         """A function without a hint gets one: rustc inlines few across crates, and Rattle all."""
@@ -163,11 +193,31 @@ class File(Source):
         """A section of an item's docs, with the links of a contract."""
         if not lines:
             return ""
-        made = ["", f"# {title}", "", *(lines if title == "Panics" else ["```text", *"\n".join(lines).split("\n"), "```"])]
-        if title != "Panics" and self.links:
-            made += self.links.of("\n".join(lines))
+        is_said = title not in ("Contract", "Model")
+        made = ["", f"# {title}", "", *(lines if is_said else ["```text", *"\n".join(lines).split("\n"), "```"])]
+        if not is_said and self.links:
+            made += self.links.of("\n".join(lines)) + self.legend("\n".join(lines), found)
         has_docs = after or re.search(r"«d\d+»\n\Z", self.text[:found.start()])
         return "".join(f"{found['indent']}{self.mark('d', f'/// {line}'.rstrip())}\n" for line in made[not has_docs:])
+
+    def legend(self, contract, found):
+        """The lines below a contract that say what its types of one letter are, by their traits: the item has none of that name where
+        another calls it."""
+        heads = [it["head"] for it in ITEM.finditer(self.text, 0, found.start()) if closing(self.text, it.end() - 1) > found.start()]
+        heads += [found["head"] if "head" in found.re.groupindex else self.text[found.end():body(self.text, found.end())]]
+        bounds = {letter: bound for head in heads for letter, bound in re.findall(r"\b([A-Z])(?:: (?:\w+::)*(\w+))?(?=\W)", head) if bound}
+        said = []
+        for letter in sorted(set(LETTER.findall(contract))):
+            bound = bounds.get(letter)
+            said.append(f"`{letter}` is {LEGENDS.get(bound) or ('a type with the trait `' + bound + '`' if bound else 'any type')}.")
+        return ["", " ".join(said)] if said else []
+
+    def fields(self, head, inside):
+        """The fields of a struct that contracts see and Rust hides."""
+        if re.search(r"struct (\w+)|$", head)[1] not in HIDDEN_FIELDS:
+            return []
+        fields = re.findall(r"«d(\d+)»\n *pub (\w+):", inside)
+        return ["Contracts see these fields:", "", *(f"- `{name}`: {self.kept[int(mark)][4:]}" for mark, name in fields)]
 
     def items(self):
         """Shows ghost members in the docs of their items, and leaves out models and drops that Rust does itself."""
@@ -189,6 +239,7 @@ class File(Source):
             if found["kind"] == "trait" and re.search(r"<Self[,>]", inside):
                 head = re.sub(r"(trait \w+)(:)?", lambda it: f"{it[1]}: Sized{' +' * bool(it[2])}", head, count=1)
             docs = self.docs("Contract", [line for docs, text in ghosts for line in [*self.said(docs), *tidy(text).split("\n")]], found)
+            docs += self.docs("Fields in contracts", self.fields(head, inside), found)
             if found["kind"] in ("struct", "enum"):
                 docs += self.docs("Model", self.models.pop(re.search(r"(?:struct|enum) (\w+)", head)[1], []), found)
             self.text = self.text[:found.start()] + docs + found["attributes"] + found["indent"] + head + "{" + inside + self.text[end:]

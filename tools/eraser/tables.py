@@ -1,5 +1,7 @@
 """What the eraser knows by name: attributes, macros, modules, what callers have to meet, texts that Rust has otherwise."""
 
+import re
+
 STD_KEPT = {"fmt", "cmp", "error", "hash", "num", "str", "io"}  # as in Rust's std
 ATTRIBUTES = {"inline", "cold", "derive", "repr"}  # kept; `tactic` is left out
 DERIVES = {"Clone", "Copy", "Debug", "Default", "PartialEq", "Eq", "PartialOrd", "Ord", "Hash"}
@@ -76,6 +78,42 @@ CRATES_OF_LAWS = {"wasmi_laws"}
 # The modules of the Rust crate's root that have another name than under `proved`.
 PUBLIC = {"wasmi_budget": "pool"}
 
+# The errors of a function that has a clause of such a form.
+ERRORS = {
+    r"result ≡ loaded ": "`MemoryOutOfBounds` if the bytes end past the memory.",
+    r"IsStore ": "`MemoryOutOfBounds` if the bytes would end past the memory; then nothing is written.",
+    r"result ≡ idiv_s ": "In the order of the tests: `IntegerDivisionByZero` if the divisor is 0; `IntegerOverflow` for the least number by -1.",
+    r"result ≡ (?:idiv_u|irem_[su]) ": "`IntegerDivisionByZero` if the divisor is 0.",
+}
+# The module of each public error.
+PLACES_OF_ERRORS = dict.fromkeys(("FuelError", "GlobalError", "MemoryError", "TableError", "TrapCode"), "crate") | {
+    "AddError": "crate::pool", "ParseError": "crate::grammar", "PoolError": "crate::pool", "SegmentError": "crate::machine",
+}
+# What a type of one letter is, by the trait that it has, in the legend of a contract.
+LEGENDS = {
+    "ResourceLimiter": "the type of the limiter, a [`ResourceLimiter`](crate::machine::ResourceLimiter#contract)",
+    "Reserving": "the type of the limiter, a [`Reserving`](crate::machine::Reserving#contract)",
+    "LimiterByKind": "the type of the limiter, a [`LimiterByKind`](crate::machine::LimiterByKind#contract)",
+    "CappedLimiter": "the type of the limiter, a [`CappedLimiter`](crate::machine::CappedLimiter#contract)",
+    "Read": "the type of the reader",
+    "Lender": "the type of what lends the limiter, a [`Lender`](crate::machine::Lender#contract)",
+    "Region": "the type of what has the bytes, a [`Region`](crate::machine::Region#contract)",
+    "HostError": "the type of the host's error",
+    "Fn": "the type of the closure",
+    "FnOnce": "the type of the closure",
+    "IntoIterator": "the type of the items, an [`IntoIterator`]",
+    "Iterator": "the type of the items, an [`Iterator`]",
+    "BufRead": "the type of the reader",
+    "Write": "the type of the writer",
+    "usize": "a number",
+}
+# Structs whose fields contracts see, and Rust hides.
+HIDDEN_FIELDS = {"GlobalType", "RawVal", "TypedRawRef", "TypedRawVal"}
+# Instructions that upstream calls otherwise than the standard.
+STANDARD_NAMES = {"load_u32": "i32.load", "load_u64": "i64.load", "store32": "i32.store", "store64": "i64.store"}
+# Instructions of the wide-arithmetic proposal, which the engine and V8's list lack.
+PROPOSED = {"i64.add128", "i64.sub128", "i64.mul_wide_s", "i64.mul_wide_u"}
+
 # Functions that return one of these are inlined always: a value that a call returns through memory is stored by words and read as a
 # whole, which stalls a run of calls.
 INLINED_ALWAYS = {"Reply", "Option<Reply>"}
@@ -87,3 +125,8 @@ def module_of(crate):
 
 def module_of_instruction(name):
     return "simd" if name.startswith(("i8x16", "i16x8", "i32x4", "i64x2", "v128")) else "wasm"
+
+
+def standard_name(name):
+    """What the standard calls the instruction of a function."""
+    return STANDARD_NAMES.get(name) or re.sub(r"\.bit(?=and|or|xor)", ".", name.replace("_", ".", 1))

@@ -64,9 +64,14 @@ impl<'r> Pool<'r> {
         self.machines.is_empty()
     }
 
-    /// Adds a machine that has nothing yet, and returns its index. If it is refused, the machine is
-    /// handed back with the error. It costs what `Machine::total_bytes` and `total_elements` cost
-    /// on the added machine, nothing for a new one, and a place in a vector.
+    /// Adds a machine that has nothing yet, and returns its index. It costs what
+    /// `Machine::total_bytes` and `total_elements` cost on the added machine, nothing for a new
+    /// one, and a place in a vector.
+    ///
+    /// # Errors
+    ///
+    /// In the order of the tests: `NotEmpty` if the machine has or had bytes or elements; `NoRoom`
+    /// if memory for one more tenant is refused. The machine is handed back with the error.
     pub fn add(&mut self, machine: Machine<'r>) -> Result<usize, (AddError, Machine<'r>)>
         ensures added { IfOk result
             (λ index. (index ≡ length self.old.machines)
@@ -92,6 +97,11 @@ impl<'r> Pool<'r> {
     /// Executes calls on the machine of a tenant, under a limiter that permits what keeps all
     /// tenants together within the caps. It costs memory for the replies, and what the calls cost,
     /// however many tenants there are and however much they made or dropped before.
+    ///
+    /// # Errors
+    ///
+    /// In the order of the tests: `NoTenant` if no tenant has the index; `OutOfMemory` if memory
+    /// for the replies is refused. Then no call was executed.
     pub fn run(&mut self, index: usize, calls: &[Call]) -> Result<Vec<Reply>, PoolError>
         ensures ran { IfOk result
             (λ replies. RunsTenant self.old index calls.now replies.items self.new) }

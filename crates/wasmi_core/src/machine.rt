@@ -89,11 +89,15 @@ impl<'r> Machine<'r> {
         &self.store.fuel
     }
 
-    /// Takes an amount of fuel, and returns what is left. The error is `FuelMeteringDisabled` if
-    /// the meter is off, and `OutOfFuel` with the amount if less is left; then nothing is taken.
+    /// Takes an amount of fuel, and returns what is left.
     ///
     /// It isn't a call, so a run has no turn for it: an interpreter pays by it for the instructions
     /// that it executes between calls.
+    ///
+    /// # Errors
+    ///
+    /// `FuelMeteringDisabled` if the meter is off; `OutOfFuel` with the amount if less is left.
+    /// Then nothing is taken.
     pub fn consume_fuel(&mut self, amount: u64) -> Result<u64, FuelError>
         ensures on { IsSome self.old.meter.left
             → ConsumesFuel self.old.meter amount (amount_left self.old.meter - amount) result

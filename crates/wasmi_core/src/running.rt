@@ -63,8 +63,12 @@ impl<'r> Machine<'r> {
     }
 }
 
-/// Executes calls one after another. Memory for the replies is allocated first; if that fails,
-/// nothing has happened.
+/// Executes calls one after another.
+///
+/// # Errors
+///
+/// `AllocError` if memory for the replies, which is allocated first, is refused; then nothing has
+/// happened.
 pub fn run<L: ResourceLimiter>(
     machine: &mut Machine,
     calls: &[Call],
@@ -88,6 +92,10 @@ pub fn run<L: ResourceLimiter>(
 
 /// Executes calls, as `run`, but borrows the limiter for this run alone, so that its state
 /// afterwards is known.
+///
+/// # Errors
+///
+/// That of `run`.
 pub fn run_lending<L: ResourceLimiter>(
     machine: &mut Machine,
     calls: &[Call],
@@ -107,6 +115,10 @@ pub fn run_lending<L: ResourceLimiter>(
 
 /// Executes calls, as `run`, under a limiter that holds exactly what the machine has, and does so
 /// again afterwards.
+///
+/// # Errors
+///
+/// That of `run`.
 pub fn run_reserving<L: Reserving>(
     machine: &mut Machine,
     calls: &[Call],

@@ -250,7 +250,11 @@ impl Fuel {
         Ok(())
     }
 
-    /// Sets the fuel that is left. The error is `FuelMeteringDisabled` if the meter is off.
+    /// Sets the fuel that is left.
+    ///
+    /// # Errors
+    ///
+    /// `FuelMeteringDisabled` if the meter is off.
     pub fn set_fuel(&mut self, fuel: u64) -> Result<(), FuelError>
         ensures on { IsSome self.old.left
             → (result ≡ Ok tt) × (self.new ≡ meter_set self.old fuel) }
@@ -262,7 +266,11 @@ impl Fuel {
         Ok(())
     }
 
-    /// Returns the fuel that is left. The error is `FuelMeteringDisabled` if the meter is off.
+    /// Returns the fuel that is left.
+    ///
+    /// # Errors
+    ///
+    /// `FuelMeteringDisabled` if the meter is off.
     pub fn get_fuel(&self) -> Result<u64, FuelError>
         ensures on { IsSome self.now.left → result ≡ Ok (amount_left self.now) }
         ensures off { self.now.left ≡ None → result ≡ Err FuelError.FuelMeteringDisabled }
@@ -271,9 +279,12 @@ impl Fuel {
         Ok(self.remaining)
     }
 
-    /// Consumes `delta` fuel, and returns what is left. If less is left, the error is `OutOfFuel`
-    /// with `delta`, and nothing is consumed. It doesn't test whether the meter is on: one that is
-    /// off has no fuel left.
+    /// Consumes `delta` fuel, and returns what is left. It doesn't test whether the meter is on:
+    /// one that is off has no fuel left.
+    ///
+    /// # Errors
+    ///
+    /// `OutOfFuel` with `delta` if less is left; then nothing is consumed.
     pub fn consume_fuel_unchecked(&mut self, delta: u64) -> Result<u64, FuelError>
         ensures { ConsumesFuel self.old delta (amount_left self.old - delta) result self.new }
     {
@@ -284,9 +295,12 @@ impl Fuel {
         Ok(left)
     }
 
-    /// Consumes the fuel that `f` computes from the costs, and returns what is left. If the meter
-    /// is off, the error is `FuelMeteringDisabled`, and `f` isn't called. If less is left, the
-    /// error is `OutOfFuel`, and nothing is consumed.
+    /// Consumes the fuel that `f` computes from the costs, and returns what is left.
+    ///
+    /// # Errors
+    ///
+    /// `FuelMeteringDisabled` if the meter is off, and `f` isn't called; `OutOfFuel` if less is
+    /// left, and nothing is consumed.
     pub fn consume_fuel<C: FnOnce(&FuelCostsProvider) -> u64>(
         &mut self,
         f: C,
@@ -304,7 +318,11 @@ impl Fuel {
     }
 
     /// Consumes the fuel that `f` computes from the costs if the meter is on. If it is off, `f`
-    /// isn't called. If less is left, the error is `OutOfFuel`, and nothing is consumed.
+    /// isn't called.
+    ///
+    /// # Errors
+    ///
+    /// `OutOfFuel` if less is left; then nothing is consumed.
     pub fn consume_fuel_if<C: FnOnce(&FuelCostsProvider) -> u64>(
         &mut self,
         f: C,

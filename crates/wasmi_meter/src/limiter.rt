@@ -41,6 +41,10 @@ pub trait ResourceLimiter {
 
     /// May a memory grow from `current` to `desired` bytes? `maximum`, in bytes, is the most that
     /// its type allows. `Ok(true)` permits; `Ok(false)` and `Err` deny.
+    ///
+    /// # Errors
+    ///
+    /// An implementation's own. The call then returns `ResourceLimiterDeniedAllocation`.
     fn memory_growing(
         &mut self,
         current: usize,
@@ -54,6 +58,10 @@ pub trait ResourceLimiter {
 
     /// May a table grow from `current` to `desired` elements? `maximum` is the most that its type
     /// allows. `Ok(true)` permits; `Ok(false)` and `Err` deny.
+    ///
+    /// # Errors
+    ///
+    /// An implementation's own. The call then returns `ResourceLimiterDeniedAllocation`.
     fn table_growing(
         &mut self,
         current: usize,
@@ -66,12 +74,20 @@ pub trait ResourceLimiter {
             result self.new };
 
     /// A memory was permitted to grow and did not, because of this error. After `Ok(())` the call
-    /// returns this error; after `Err` it returns `ResourceLimiterDeniedAllocation`.
+    /// returns this error.
+    ///
+    /// # Errors
+    ///
+    /// An implementation's own. The call then returns `ResourceLimiterDeniedAllocation`.
     fn memory_grow_failed(&mut self, error: &MemoryError) -> Result<(), LimiterError>
         ensures { rules.noticed self.old (MemoryFailure error.now) result self.new };
 
     /// A table was permitted to grow and did not, because of this error. After `Ok(())` the call
-    /// returns this error; after `Err` it returns `ResourceLimiterDeniedAllocation`.
+    /// returns this error.
+    ///
+    /// # Errors
+    ///
+    /// An implementation's own. The call then returns `ResourceLimiterDeniedAllocation`.
     fn table_grow_failed(&mut self, error: &TableError) -> Result<(), LimiterError>
         ensures { rules.noticed self.old (TableFailure error.now) result self.new };
 
@@ -158,14 +174,22 @@ pub trait LimiterByKind {
     /// May something of this kind grow from `current` to `desired`, in bytes or elements? The
     /// answers have the meaning that they have for a [`ResourceLimiter`]: `Ok(true)` permits, and
     /// nothing else does.
+    ///
+    /// # Errors
+    ///
+    /// An implementation's own. The call then returns `ResourceLimiterDeniedAllocation`.
     fn growing(&mut self, kind: Kind, current: usize, desired: usize) -> Result<bool, LimiterError>
         requires grows { current ≤ desired }
         ensures asked { (maximum : Option ℕ) → kind_rules.asked self.old
             (record { kind = kind; current = current; desired = desired; maximum = maximum })
             result self.new };
 
-    /// Something of this kind was permitted to grow and did not. After `Err` the call returns
-    /// `ResourceLimiterDeniedAllocation` instead of its error.
+    /// Something of this kind was permitted to grow and did not. After `Ok(())` the call returns
+    /// its error.
+    ///
+    /// # Errors
+    ///
+    /// An implementation's own. The call then returns `ResourceLimiterDeniedAllocation`.
     fn grow_failed(&mut self, kind: Kind) -> Result<(), LimiterError>
         ensures { (failure : Failure) → kind_of failure ≡ kind
             → kind_rules.noticed self.old failure result self.new };

@@ -125,6 +125,10 @@ impl<R> LimiterRef<R> {
 
 impl<'a, L: ResourceLimiter> LimiterRef<&'a mut L> {
     /// Asks the limiter whether a memory may grow from `current` to `desired` bytes.
+    ///
+    /// # Errors
+    ///
+    /// The limiter's. Without a limiter there is none.
     pub fn memory_growing(
         &mut self,
         current: usize,
@@ -144,6 +148,10 @@ impl<'a, L: ResourceLimiter> LimiterRef<&'a mut L> {
     }
 
     /// Asks the limiter whether a table may grow from `current` to `desired` elements.
+    ///
+    /// # Errors
+    ///
+    /// The limiter's. Without a limiter there is none.
     pub fn table_growing(
         &mut self,
         current: usize,
@@ -163,6 +171,10 @@ impl<'a, L: ResourceLimiter> LimiterRef<&'a mut L> {
     }
 
     /// Notifies the limiter that a memory which it permitted to grow did not.
+    ///
+    /// # Errors
+    ///
+    /// The limiter's. Without a limiter there is none.
     pub fn memory_grow_failed(&mut self, error: &MemoryError) -> Result<(), LimiterError>
         ensures loan { KeepsLoan self.old self.new }
         ensures noticed { (optional_rules L.rules).noticed (lent_limiter self.old)
@@ -175,6 +187,10 @@ impl<'a, L: ResourceLimiter> LimiterRef<&'a mut L> {
     }
 
     /// Notifies the limiter that a table which it permitted to grow did not.
+    ///
+    /// # Errors
+    ///
+    /// The limiter's. Without a limiter there is none.
     pub fn table_grow_failed(&mut self, error: &TableError) -> Result<(), LimiterError>
         ensures loan { KeepsLoan self.old self.new }
         ensures noticed { (optional_rules L.rules).noticed (lent_limiter self.old)

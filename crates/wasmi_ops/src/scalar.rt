@@ -155,6 +155,8 @@ impl ScalarBinaryOp {
     /// The result for two operands in raw values. A Boolean is 0 or 1; the operands of 128 bits,
     /// and results of them, are the two words of a raw value.
     ///
+    /// # Errors
+    ///
     /// Divisions and remainders alone can trap: by zero with `IntegerDivisionByZero`, and a signed
     /// division of the least number by -1 with `IntegerOverflow`.
     pub fn apply(self, lhs: RawVal, rhs: RawVal) -> Result<RawVal, TrapCode>
@@ -196,7 +198,11 @@ macro_rules! loads {
 pub const LOADS: [(&str, LoadOp); 12] = loads!(names! LoadOp);
 
 impl LoadOp {
-    /// Loads from `ptr + offset`. The only error is `MemoryOutOfBounds`.
+    /// Loads from `ptr + offset`.
+    ///
+    /// # Errors
+    ///
+    /// `MemoryOutOfBounds` if the bytes end past the memory.
     #[inline(always)]
     pub fn load(self, memory: &[u8], ptr: u64, offset: u64) -> Result<RawVal, TrapCode>
         ensures { result ≡ loaded_raw self memory.now (ptr + offset) }
@@ -242,8 +248,11 @@ macro_rules! stores {
 pub const STORES: [(&str, StoreOp); 7] = stores!(names! StoreOp);
 
 impl StoreOp {
-    /// Stores a value at `ptr + offset`. The only error is `MemoryOutOfBounds`, and then nothing is
-    /// written.
+    /// Stores a value at `ptr + offset`.
+    ///
+    /// # Errors
+    ///
+    /// `MemoryOutOfBounds` if the bytes end past the memory; then nothing is written.
     #[inline(always)]
     pub fn store(
         self,

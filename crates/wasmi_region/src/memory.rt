@@ -35,7 +35,9 @@ pub fn pages(ty: MemoryType, size: usize) -> u64
 /// Makes a memory of zeros at the front of a region, at the minimum of its type, and returns its
 /// size in bytes. It takes no fuel, and leaves the bytes past the minimum alone.
 ///
-/// Errors, in the order of the tests: `MinimumSizeOverflow` if the minimum has 2^64 bytes or more;
+/// # Errors
+///
+/// In the order of the tests: `MinimumSizeOverflow` if the minimum has 2^64 bytes or more;
 /// `ResourceLimiterDeniedAllocation` if the limiter doesn't permit it; `InvalidStaticBufferSize` if
 /// the region is shorter than the minimum, of which the limiter is notified. After an error the
 /// bytes of the region are unchanged.
@@ -63,8 +65,11 @@ pub fn make<L: ResourceLimiter>(
 
 /// Grows a memory of `size` bytes at the front of a region by `additional` pages of zeros, and
 /// returns the old size in pages; `size` becomes the new size in bytes. A growth by 0 pages changes
-/// nothing and asks no limiter. The errors are those of [`wasmi_store::LinearMemory::grow`] on a
-/// lent region.
+/// nothing and asks no limiter.
+///
+/// # Errors
+///
+/// Those of [`wasmi_store::LinearMemory::grow`] on a lent region.
 #[tactic(auto, using(std::proofs::lemmas::Bool::Decides::nat_tests))]
 pub fn grow<L: ResourceLimiter>(
     ty: MemoryType,
@@ -119,6 +124,10 @@ pub fn question(ty: MemoryType, size: usize, additional: u64) -> Option<(usize, 
 }
 
 /// Fills bytes of a memory, as [`wasmi_store::LinearMemory::fill`] does.
+///
+/// # Errors
+///
+/// The same.
 pub fn fill(
     bytes: &mut [u8],
     dst: u64,
@@ -133,6 +142,10 @@ pub fn fill(
 }
 
 /// Copies bytes of a memory, as [`wasmi_store::LinearMemory::copy_within`] does.
+///
+/// # Errors
+///
+/// The same.
 pub fn copy_within(
     bytes: &mut [u8],
     dst: u64,
@@ -147,6 +160,10 @@ pub fn copy_within(
 }
 
 /// Copies bytes to a memory, as [`wasmi_store::LinearMemory::copy`] does.
+///
+/// # Errors
+///
+/// The same.
 pub fn copy(
     bytes: &mut [u8],
     source: &[u8],
@@ -162,6 +179,10 @@ pub fn copy(
 }
 
 /// Copies a segment to a memory, as [`wasmi_store::LinearMemory::init`] does.
+///
+/// # Errors
+///
+/// The same.
 pub fn init(
     bytes: &mut [u8],
     segment: &[u8],

@@ -26,9 +26,11 @@ pub fn is_sized(ty: TableType, size: usize) -> bool
 /// Makes a table with one reference in each place at the front of a region, at the minimum of its
 /// type, and returns its size. It takes no fuel, and leaves the elements past the minimum alone.
 ///
-/// Errors, in the order of the tests: `ResourceLimiterDeniedAllocation` if the limiter doesn't
-/// permit it; `OutOfSystemMemory` if the region is shorter than the minimum, of which the limiter
-/// is notified. After an error the region is unchanged.
+/// # Errors
+///
+/// In the order of the tests: `ResourceLimiterDeniedAllocation` if the limiter doesn't permit it;
+/// `OutOfSystemMemory` if the region is shorter than the minimum, of which the limiter is notified.
+/// After an error the region is unchanged.
 pub fn make<L: ResourceLimiter>(
     ty: TableType,
     region: &mut [u32],
@@ -56,9 +58,12 @@ pub fn make<L: ResourceLimiter>(
 
 /// Grows a table of `size` elements at the front of a region by `delta`, each the given reference,
 /// and returns the old size; `size` becomes the new one. A growth by 0 changes nothing and asks no
-/// limiter. The errors are those of [`wasmi_store::Table::grow_raw`], of which `OutOfSystemMemory`
-/// comes only if the region is shorter than the new size. What lies past the table is unchanged, and
-/// after an error the whole region is.
+/// limiter. What lies past the table is unchanged.
+///
+/// # Errors
+///
+/// Those of [`wasmi_store::Table::grow_raw`], of which `OutOfSystemMemory` comes only if the region
+/// is shorter than the new size. After an error the whole region is unchanged.
 pub fn grow<L: ResourceLimiter>(
     ty: TableType,
     size: &mut usize,
@@ -118,7 +123,11 @@ pub fn question(ty: TableType, size: usize, delta: u64) -> Option<(usize, Option
     Some((desired, ty.maximum_size()))
 }
 
-/// Sets the element at an index. The error is `SetOutOfBounds` past the end.
+/// Sets the element at an index.
+///
+/// # Errors
+///
+/// `SetOutOfBounds` past the end.
 pub fn set(
     ty: TableType,
     elements: &mut [u32],
@@ -136,8 +145,11 @@ pub fn set(
     Ok(())
 }
 
-/// Fills `len` elements from `dst` on with a reference. The errors are those of
-/// [`wasmi_store::Table::fill_raw`].
+/// Fills `len` elements from `dst` on with a reference.
+///
+/// # Errors
+///
+/// Those of [`wasmi_store::Table::fill_raw`].
 #[tactic(auto, using(crate::proofs::TableLemmas::writes))]
 pub fn fill(
     ty: TableType,
@@ -155,8 +167,11 @@ pub fn fill(
     fill_items(elements, dst, reference, len, outside, fuel)
 }
 
-/// Copies `len` elements from `src` on over those from `dst` on. The errors are those of
-/// [`wasmi_store::Table::copy_within`].
+/// Copies `len` elements from `src` on over those from `dst` on.
+///
+/// # Errors
+///
+/// Those of [`wasmi_store::Table::copy_within`].
 #[tactic(auto, using(crate::proofs::TableLemmas::writes))]
 pub fn copy_within(
     ty: TableType,
@@ -175,7 +190,10 @@ pub fn copy_within(
 }
 
 /// Copies `len` items of a table, from `src` on, over the elements of another table from `dst` on.
-/// The errors are those of [`wasmi_store::Table::copy`].
+///
+/// # Errors
+///
+/// Those of [`wasmi_store::Table::copy`].
 #[tactic(auto, using(crate::proofs::TableLemmas::writes))]
 pub fn copy(
     ty: TableType,
@@ -197,7 +215,11 @@ pub fn copy(
 }
 
 /// Copies `len` items of the type of a table's elements, from `src` on, over the elements from
-/// `dst` on. The errors are those of [`wasmi_store::Table::init`].
+/// `dst` on.
+///
+/// # Errors
+///
+/// Those of [`wasmi_store::Table::init`].
 #[tactic(auto, using(crate::proofs::TableLemmas::writes))]
 pub fn init(
     ty: TableType,

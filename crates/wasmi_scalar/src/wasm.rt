@@ -4,6 +4,9 @@
 //! `bitxor` are `and`, `or` and `xor`. Core specification: numeric instructions; of `i64_add128`,
 //! `i64_sub128`, `i64_mul_wide_s` and `i64_mul_wide_u`: the wide-arithmetic proposal. Upstream:
 //! `wasmi_core::wasm`.
+//!
+//! Divisions and remainders alone have errors: `IntegerDivisionByZero` if the divisor is 0, and those
+//! of `div_s` then `IntegerOverflow` for the least number by -1.
 #![tactic(auto, using(crate::proofs::NumericsLemmas::numerics))]
 
 ghost use Rattle.std.specs.Prelude.{◌≡◌, ◌*◌, ◌*ℤ◌};
@@ -91,30 +94,28 @@ pub fn i32_rotr(lhs: i32, rhs: i32) -> i32
     Integer::rotr(lhs, rhs)
 }
 
-/// The quotient towards zero; `IntegerDivisionByZero` for a divisor of 0, then `IntegerOverflow` for
-/// the least number by -1.
+/// The quotient towards zero.
 pub fn i32_div_s(lhs: i32, rhs: i32) -> Result<i32, TrapCode>
     ensures { result ≡ idiv_s w32 lhs rhs }
 {
     Integer::div_s(lhs, rhs)
 }
 
-/// The quotient, or `IntegerDivisionByZero` for a divisor of 0.
+/// The quotient.
 pub fn i32_div_u(lhs: u32, rhs: u32) -> Result<u32, TrapCode>
     ensures { result ≡ idiv_u lhs rhs }
 {
     <i32 as Integer>::div_u(lhs, rhs)
 }
 
-/// The remainder, with the sign of `lhs`: 0 for the least number by -1; or `IntegerDivisionByZero`
-/// for a divisor of 0.
+/// The remainder, with the sign of `lhs`: 0 for the least number by -1.
 pub fn i32_rem_s(lhs: i32, rhs: i32) -> Result<i32, TrapCode>
     ensures { result ≡ irem_s lhs rhs }
 {
     Integer::rem_s(lhs, rhs)
 }
 
-/// The remainder, or `IntegerDivisionByZero` for a divisor of 0.
+/// The remainder.
 pub fn i32_rem_u(lhs: u32, rhs: u32) -> Result<u32, TrapCode>
     ensures { result ≡ irem_u lhs rhs }
 {
@@ -296,30 +297,28 @@ pub fn i64_rotr(lhs: i64, rhs: i64) -> i64
     Integer::rotr(lhs, rhs)
 }
 
-/// The quotient towards zero; `IntegerDivisionByZero` for a divisor of 0, then `IntegerOverflow` for
-/// the least number by -1.
+/// The quotient towards zero.
 pub fn i64_div_s(lhs: i64, rhs: i64) -> Result<i64, TrapCode>
     ensures { result ≡ idiv_s w64 lhs rhs }
 {
     Integer::div_s(lhs, rhs)
 }
 
-/// The quotient, or `IntegerDivisionByZero` for a divisor of 0.
+/// The quotient.
 pub fn i64_div_u(lhs: u64, rhs: u64) -> Result<u64, TrapCode>
     ensures { result ≡ idiv_u lhs rhs }
 {
     <i64 as Integer>::div_u(lhs, rhs)
 }
 
-/// The remainder, with the sign of `lhs`: 0 for the least number by -1; or `IntegerDivisionByZero`
-/// for a divisor of 0.
+/// The remainder, with the sign of `lhs`: 0 for the least number by -1.
 pub fn i64_rem_s(lhs: i64, rhs: i64) -> Result<i64, TrapCode>
     ensures { result ≡ irem_s lhs rhs }
 {
     Integer::rem_s(lhs, rhs)
 }
 
-/// The remainder, or `IntegerDivisionByZero` for a divisor of 0.
+/// The remainder.
 pub fn i64_rem_u(lhs: u64, rhs: u64) -> Result<u64, TrapCode>
     ensures { result ≡ irem_u lhs rhs }
 {

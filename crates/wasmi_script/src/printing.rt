@@ -50,6 +50,10 @@ pub fn print<W: io::Write>(writer: &mut W, outcome: &Result<Replayed, ReplayErro
 }
 
 /// Prints a line for each call with its reply, to the last byte.
+///
+/// # Errors
+///
+/// That of the writer, after which nothing more is printed.
 pub fn print_lines<W: io::Write>(writer: &mut W, calls: &[Call], replies: &[Reply]) -> fmt::Result
     ensures ok { OnOk result (Appends (W.contents writer.old) (W.contents writer.new)
         (replies_text calls.now replies.now)) }

@@ -24,8 +24,11 @@ pub const MEMORY_DENIED: MemoryError = MemoryError::ResourceLimiterDeniedAllocat
 /// The error of a table if the limiter returns an error.
 pub const TABLE_DENIED: TableError = TableError::ResourceLimiterDeniedAllocation;
 
-/// Returns `Ok` if the limiter permits, `denial` if it says no, and `refusal` if it returns an
-/// error.
+/// Returns `Ok` if the limiter permits.
+///
+/// # Errors
+///
+/// `denial` if the limiter says no; `refusal` if it returns an error.
 pub fn permission<E: Drop>(
     answer: Result<bool, LimiterError>,
     denial: E,
@@ -54,6 +57,10 @@ pub trait GrowthError: Drop {
 
     /// Notifies the limiter, if there is one, that a growth which it permitted failed with this
     /// error.
+    ///
+    /// # Errors
+    ///
+    /// The limiter's.
     fn notify<L: ResourceLimiter>(
         &self,
         limiter: &mut ResourceLimiterRef<L>,
@@ -118,8 +125,11 @@ pub fn tell<L: ResourceLimiter, E: GrowthError>(
     }
 }
 
-/// Takes the fuel for copying `values` values of a type. If less is left, nothing is taken, and the
-/// error is the amount that is needed. A meter that is off takes nothing.
+/// Takes the fuel for copying `values` values of a type. A meter that is off takes nothing.
+///
+/// # Errors
+///
+/// The amount that is needed, if less is left; then nothing is taken.
 pub fn charge<T: ValueSize>(fuel: &mut Fuel, values: u64) -> Result<(), u64>
     ensures { Charges fuel.old
         (due fuel.old (λ costs. copy_cost costs values T.SIZE)) result fuel.new }
@@ -132,7 +142,9 @@ pub fn charge<T: ValueSize>(fuel: &mut Fuel, values: u64) -> Result<(), u64>
 
 /// Asks whether a memory of a type may be made, and returns its minimum in bytes.
 ///
-/// Errors, in the order of the tests: `MinimumSizeOverflow` if the minimum has 2^64 bytes or more;
+/// # Errors
+///
+/// In the order of the tests: `MinimumSizeOverflow` if the minimum has 2^64 bytes or more;
 /// `ResourceLimiterDeniedAllocation` if the limiter doesn't permit it.
 pub fn permitted_minimum<L: ResourceLimiter>(
     ty: MemoryType,
@@ -155,7 +167,9 @@ pub fn permitted_minimum<L: ResourceLimiter>(
 /// is room for them, and the added ones are paid, in this order. The fuel is taken if they may; no
 /// byte is written yet, so it is the same wherever the bytes lie.
 ///
-/// The errors are those of [`crate::LinearMemory::grow`] from the limiter's denial to `OutOfFuel`.
+/// # Errors
+///
+/// Those of [`crate::LinearMemory::grow`] from the limiter's denial to `OutOfFuel`.
 pub fn decide_growth<L: ResourceLimiter>(
     old_size: usize,
     size: usize,

@@ -51,9 +51,11 @@ pub type Memory<'r> = LinearMemory<&'r mut [u8]>;
 impl<'r> LinearMemory<&'r mut [u8]> {
     /// A memory of zeros, at the minimum of its type. It takes no fuel.
     ///
-    /// Errors, in the order of the tests: `MinimumSizeOverflow` if the minimum has 2^64 bytes or
-    /// more; `ResourceLimiterDeniedAllocation` if the limiter doesn't permit it;
-    /// `OutOfSystemMemory`, of which the limiter is notified.
+    /// # Errors
+    ///
+    /// In the order of the tests: `MinimumSizeOverflow` if the minimum has 2^64 bytes or more;
+    /// `ResourceLimiterDeniedAllocation` if the limiter doesn't permit it; `OutOfSystemMemory`, of
+    /// which the limiter is notified.
     pub fn new<L: ResourceLimiter>(
         alloc: Global,
         ty: MemoryType,
@@ -73,8 +75,10 @@ impl<'r> LinearMemory<&'r mut [u8]> {
     /// A memory of zeros at the front of a borrowed buffer, at the minimum of its type. It takes no
     /// fuel and allocates nothing, and the bytes past the minimum stay as they are.
     ///
-    /// Errors, in the order of the tests: `MinimumSizeOverflow` if the minimum has 2^64 bytes or
-    /// more; `ResourceLimiterDeniedAllocation` if the limiter doesn't permit it;
+    /// # Errors
+    ///
+    /// In the order of the tests: `MinimumSizeOverflow` if the minimum has 2^64 bytes or more;
+    /// `ResourceLimiterDeniedAllocation` if the limiter doesn't permit it;
     /// `InvalidStaticBufferSize` if the buffer is shorter than the minimum, of which the limiter is
     /// notified. After an error the loan has ended, and the bytes of the buffer are unchanged.
     pub fn new_static<L: ResourceLimiter>(
@@ -94,6 +98,10 @@ impl<'r> LinearMemory<&'r mut [u8]> {
     }
 
     /// As `new`, with a limiter that is known again after this call.
+    ///
+    /// # Errors
+    ///
+    /// Those of `new`.
     pub fn new_lending<L: ResourceLimiter>(
         alloc: Global,
         ty: MemoryType,
@@ -159,16 +167,25 @@ impl<R: Region> LinearMemory<R> {
     }
 
     /// Grows by `additional` pages of zeros, and returns the old size in pages. A growth by 0 pages
-    /// changes nothing and asks no limiter.
+    /// changes nothing and asks no limiter. Bytes of a borrowed buffer past the new size stay as
+    /// they are.
     ///
-    /// Errors, in the order of the tests: `OutOfBoundsGrowth` above the greatest number of pages or
-    /// the maximum, or at 2^64 bytes or more; the limiter's denial (`OutOfBoundsGrowth` if it says
-    /// no, `ResourceLimiterDeniedAllocation` if it returns an error); `InvalidStaticBufferSize` if
-    /// a borrowed buffer is shorter than the new size, which charges nothing; `OutOfFuel` if the
-    /// meter is on and the added bytes cost more than is left; `OutOfSystemMemory`, after which the
-    /// fuel stays spent, and which doesn't occur on a borrowed buffer. The limiter is notified of
-    /// the last three, and if it returns an error, the error is `ResourceLimiterDeniedAllocation`
-    /// instead. Bytes of a borrowed buffer past the new size stay as they are.
+    /// # Errors
+    ///
+    /// In the order of the tests:
+    ///
+    /// - `OutOfBoundsGrowth` above the greatest number of pages or the maximum, or at 2^64 bytes or
+    ///   more;
+    /// - `OutOfBoundsGrowth` if the limiter says no, `ResourceLimiterDeniedAllocation` if it
+    ///   returns an error;
+    /// - `InvalidStaticBufferSize` if a borrowed buffer is shorter than the new size, which charges
+    ///   nothing;
+    /// - `OutOfFuel` if the meter is on and the added bytes cost more than is left;
+    /// - `OutOfSystemMemory`, after which the fuel stays spent, and which doesn't occur on a
+    ///   borrowed buffer.
+    ///
+    /// The limiter is notified of the last three, and if it returns an error, the error is
+    /// `ResourceLimiterDeniedAllocation` instead.
     pub fn grow<L: ResourceLimiter>(
         &mut self,
         additional: u64,
@@ -184,6 +201,10 @@ impl<R: Region> LinearMemory<R> {
     }
 
     /// As `grow`, with a meter that isn't optional.
+    ///
+    /// # Errors
+    ///
+    /// Those of `grow`.
     pub fn grow_metered<L: ResourceLimiter>(
         &mut self,
         additional: u64,
@@ -213,6 +234,10 @@ impl<R: Region> LinearMemory<R> {
     }
 
     /// As `grow_metered`, with a limiter that is known again after this call.
+    ///
+    /// # Errors
+    ///
+    /// Those of `grow`.
     pub fn grow_lending<L: ResourceLimiter>(
         &mut self,
         additional: u64,
@@ -229,8 +254,11 @@ impl<R: Region> LinearMemory<R> {
         grown
     }
 
-    /// Fills a buffer with the bytes from an offset on. The error is `OutOfBoundsAccess` if they
-    /// end past the memory; then nothing is copied.
+    /// Fills a buffer with the bytes from an offset on.
+    ///
+    /// # Errors
+    ///
+    /// `OutOfBoundsAccess` if they end past the memory; then nothing is copied.
     pub fn read(&self, offset: usize, buffer: &mut [u8]) -> Result<(), MemoryError>
         ensures ok { OnOk result (at self.now.bytes offset (length buffer.old) ≡ Some buffer.new) }
         ensures err { IfErr result
@@ -240,21 +268,26 @@ impl<R: Region> LinearMemory<R> {
         read_bytes(self.buffer.data(), offset, buffer)
     }
 
-    /// Writes bytes over those from an offset on. The error is `OutOfBoundsAccess` if they would
-    /// end past the memory; then nothing is written.
+    /// Writes bytes over those from an offset on.
+    ///
+    /// # Errors
+    ///
+    /// `OutOfBoundsAccess` if they would end past the memory; then nothing is written.
     pub fn write(&mut self, offset: usize, buffer: &[u8]) -> Result<(), MemoryError>
         ensures { WritesMemory self.old offset buffer.now result self.new }
     {
         write_bytes(self.buffer.data_mut(), offset, buffer)
     }
 
-    /// Fills `len` bytes from `dst` on with a value.
-    ///
-    /// Errors, in the order of the tests: `OutOfBoundsAccess` if they end past the memory;
-    /// `OutOfFuel`, which is tested also if no byte is filled. Then no byte is written, and no fuel
-    /// taken. It is charged as a table's `fill`, by the bytes.
+    /// Fills `len` bytes from `dst` on with a value. It is charged as a table's `fill`, by the
+    /// bytes.
     ///
     /// Core specification, memory.fill.
+    ///
+    /// # Errors
+    ///
+    /// In the order of the tests: `OutOfBoundsAccess` if they end past the memory; `OutOfFuel`,
+    /// which is tested also if no byte is filled. Then no byte is written, and no fuel taken.
     pub fn fill(
         &mut self,
         dst: u64,
@@ -271,9 +304,13 @@ impl<R: Region> LinearMemory<R> {
     }
 
     /// Copies `len` bytes from `src` on over those from `dst` on. If the ranges overlap, the old
-    /// bytes are copied. The errors are those of `fill`, if a range ends past the memory.
+    /// bytes are copied.
     ///
     /// Core specification, memory.copy within a memory.
+    ///
+    /// # Errors
+    ///
+    /// Those of `fill`, if a range ends past the memory.
     pub fn copy_within(
         &mut self,
         dst: u64,
@@ -290,9 +327,13 @@ impl<R: Region> LinearMemory<R> {
     }
 
     /// Copies `len` bytes of another memory, from `src` on, over the bytes of a memory from `dst`
-    /// on. The errors are those of `fill`, if a range ends past its memory.
+    /// on.
     ///
     /// Core specification, memory.copy of two memories.
+    ///
+    /// # Errors
+    ///
+    /// Those of `fill`, if a range ends past its memory.
     pub fn copy<S: Region>(
         dst_memory: &mut LinearMemory<R>,
         dst: u64,
@@ -312,10 +353,13 @@ impl<R: Region> LinearMemory<R> {
     }
 
     /// Copies `len` bytes of a data segment, from `src` on, over the bytes from `dst` on. A segment
-    /// that was dropped has no bytes. The errors are those of `fill`, if a range ends past the
-    /// segment or the memory.
+    /// that was dropped has no bytes.
     ///
     /// Core specification, memory.init.
+    ///
+    /// # Errors
+    ///
+    /// Those of `fill`, if a range ends past the segment or the memory.
     pub fn init(
         &mut self,
         segment: &[u8],

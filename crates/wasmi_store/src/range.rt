@@ -17,8 +17,11 @@ pub fn lies_within<T>(items: &[T], index: u64, len: u64) -> bool
     index <= size && len <= size - index
 }
 
-/// Fills a buffer with the bytes from an offset on. The error is `OutOfBoundsAccess` if they end
-/// past the bytes; then nothing is copied.
+/// Fills a buffer with the bytes from an offset on.
+///
+/// # Errors
+///
+/// `OutOfBoundsAccess` if they end past the bytes; then nothing is copied.
 pub fn read_bytes(bytes: &[u8], offset: usize, buffer: &mut [u8]) -> Result<(), MemoryError>
     ensures ok { OnOk result (at bytes.now offset (length buffer.old) ≡ Some buffer.new) }
     ensures err { IfErr result
@@ -33,8 +36,11 @@ pub fn read_bytes(bytes: &[u8], offset: usize, buffer: &mut [u8]) -> Result<(), 
     Ok(())
 }
 
-/// Writes bytes over those from an offset on. The error is `OutOfBoundsAccess` if they would end
-/// past the bytes; then nothing is written.
+/// Writes bytes over those from an offset on.
+///
+/// # Errors
+///
+/// `OutOfBoundsAccess` if they would end past the bytes; then nothing is written.
 pub fn write_bytes(bytes: &mut [u8], offset: usize, buffer: &[u8]) -> Result<(), MemoryError>
     ensures ok { OnOk result (overwrite bytes.old offset buffer.now ≡ Some bytes.new) }
     ensures err { IfErr result

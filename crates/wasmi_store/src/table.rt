@@ -52,8 +52,11 @@ impl Table {
     /// A table at the minimum of its type, each element of which is the given reference. It takes
     /// no fuel.
     ///
-    /// Errors, in the order of the tests: `ElementTypeMismatch`; `ResourceLimiterDeniedAllocation`
-    /// if the limiter doesn't permit it; `OutOfSystemMemory`, of which the limiter is notified.
+    /// # Errors
+    ///
+    /// In the order of the tests: `ElementTypeMismatch` if the reference is of another type;
+    /// `ResourceLimiterDeniedAllocation` if the limiter doesn't permit it; `OutOfSystemMemory`, of
+    /// which the limiter is notified.
     pub fn new<L: ResourceLimiter>(
         alloc: Global,
         ty: TableType,
@@ -75,6 +78,10 @@ impl Table {
     }
 
     /// As `new`, with a limiter that is known again after this call.
+    ///
+    /// # Errors
+    ///
+    /// Those of `new`.
     pub fn new_lending<L: ResourceLimiter>(
         alloc: Global,
         ty: TableType,
@@ -114,9 +121,12 @@ impl Table {
         self.elements.len() as u64
     }
 
-    /// Grows by `delta` elements, each the given reference, and returns the old size. The type of
-    /// the reference is tested first, also in a growth by 0 (`ElementTypeMismatch`); the rest is as
-    /// in `grow_raw`.
+    /// Grows by `delta` elements, each the given reference, and returns the old size.
+    ///
+    /// # Errors
+    ///
+    /// `ElementTypeMismatch` if the reference is of another type, also in a growth by 0; then those
+    /// of `grow_raw`.
     pub fn grow<L: ResourceLimiter>(
         &mut self,
         delta: u64,
@@ -133,6 +143,10 @@ impl Table {
     }
 
     /// As `grow`, with a meter that isn't optional.
+    ///
+    /// # Errors
+    ///
+    /// Those of `grow`.
     pub fn grow_metered<L: ResourceLimiter>(
         &mut self,
         delta: u64,
@@ -150,6 +164,10 @@ impl Table {
     }
 
     /// As `grow_metered`, with a limiter that is known again after this call.
+    ///
+    /// # Errors
+    ///
+    /// Those of `grow`.
     pub fn grow_lending<L: ResourceLimiter>(
         &mut self,
         delta: u64,
@@ -170,12 +188,19 @@ impl Table {
     /// Grows by `delta` elements, each the given reference, and returns the old size. A growth by 0
     /// changes nothing and asks no limiter.
     ///
-    /// Errors, in the order of the tests: `GrowOutOfBounds` if there would be as many elements as
-    /// indices, 2^32 or 2^64; the limiter's denial (`GrowOutOfBounds` if it says no,
-    /// `ResourceLimiterDeniedAllocation` if it returns an error); `GrowOutOfBounds` above the
-    /// maximum; `OutOfFuel` if the meter is on and the new elements cost more than is left;
-    /// `OutOfSystemMemory`, after which the fuel stays spent. The limiter is notified of the last
-    /// three, and if it returns an error, the error is `ResourceLimiterDeniedAllocation` instead.
+    /// # Errors
+    ///
+    /// In the order of the tests:
+    ///
+    /// - `GrowOutOfBounds` if there would be as many elements as indices, 2^32 or 2^64;
+    /// - `GrowOutOfBounds` if the limiter says no, `ResourceLimiterDeniedAllocation` if it returns
+    ///   an error;
+    /// - `GrowOutOfBounds` above the maximum;
+    /// - `OutOfFuel` if the meter is on and the new elements cost more than is left;
+    /// - `OutOfSystemMemory`, after which the fuel stays spent.
+    ///
+    /// The limiter is notified of the last three, and if it returns an error, the error is
+    /// `ResourceLimiterDeniedAllocation` instead.
     pub fn grow_raw<L: ResourceLimiter>(
         &mut self,
         delta: u64,
@@ -232,8 +257,12 @@ impl Table {
         Some(TypedRawRef::new(raw, self.ty.element()))
     }
 
-    /// Sets the element at an index. Errors, in the order of the tests: `ElementTypeMismatch`,
-    /// `SetOutOfBounds`.
+    /// Sets the element at an index.
+    ///
+    /// # Errors
+    ///
+    /// In the order of the tests: `ElementTypeMismatch` if the reference is of another type;
+    /// `SetOutOfBounds` past the end.
     pub fn set(&mut self, index: u64, value: TypedRawRef) -> Result<(), TableError>
         ensures { SetsTable index value self.old result self.new }
     {
@@ -241,8 +270,12 @@ impl Table {
         self.set_raw(index, value.raw)
     }
 
-    /// Sets the element at an index. The error is `SetOutOfBounds` past the end. The type of the
-    /// reference isn't tested: that is up to the caller.
+    /// Sets the element at an index. The type of the reference isn't tested: that is up to the
+    /// caller.
+    ///
+    /// # Errors
+    ///
+    /// `SetOutOfBounds` past the end.
     pub fn set_raw(&mut self, index: u64, value: RawRef) -> Result<(), TableError>
         ensures { SetsTableRaw index value self.old result self.new }
     {
@@ -255,9 +288,12 @@ impl Table {
     }
 
     /// Copies `len` items of an element segment, from `src` on, over the elements from `dst` on.
+    /// Copying no items costs no fuel.
     ///
-    /// Errors, in the order of the tests: `ElementTypeMismatch`; `InitOutOfBounds` if a range ends
-    /// past the segment or the table; `OutOfFuel`. Copying no items costs no fuel.
+    /// # Errors
+    ///
+    /// In the order of the tests: `ElementTypeMismatch` if the items are of another type;
+    /// `InitOutOfBounds` if a range ends past the segment or the table; `OutOfFuel`.
     pub fn init(
         &mut self,
         element: ElementSegmentRef,
@@ -274,6 +310,10 @@ impl Table {
     }
 
     /// As `init`, with a meter that isn't optional.
+    ///
+    /// # Errors
+    ///
+    /// Those of `init`.
     pub fn init_metered(
         &mut self,
         element: ElementSegmentRef,
@@ -293,8 +333,11 @@ impl Table {
     /// Copies `len` elements of another table, from `src` on, over the elements of a table from
     /// `dst` on.
     ///
-    /// Errors, in the order of the tests: `ElementTypeMismatch`; `CopyOutOfBounds` if a range ends
-    /// past its table; `OutOfFuel`, which is tested also if no element is copied.
+    /// # Errors
+    ///
+    /// In the order of the tests: `ElementTypeMismatch` if the tables are of two types;
+    /// `CopyOutOfBounds` if a range ends past its table; `OutOfFuel`, which is tested also if no
+    /// element is copied.
     pub fn copy(
         dst_table: &mut Table,
         dst: u64,
@@ -311,6 +354,10 @@ impl Table {
     }
 
     /// As `copy`, with a meter that isn't optional.
+    ///
+    /// # Errors
+    ///
+    /// Those of `copy`.
     pub fn copy_metered(
         &mut self,
         dst: u64,
@@ -331,8 +378,10 @@ impl Table {
     /// Copies `len` elements from `src` on over those from `dst` on. If the ranges overlap, the old
     /// elements are copied.
     ///
-    /// Errors, in the order of the tests: `CopyOutOfBounds` if a range ends past the table;
-    /// `OutOfFuel`, which is tested also if no element is copied.
+    /// # Errors
+    ///
+    /// In the order of the tests: `CopyOutOfBounds` if a range ends past the table; `OutOfFuel`,
+    /// which is tested also if no element is copied.
     pub fn copy_within(
         &mut self,
         dst: u64,
@@ -348,6 +397,10 @@ impl Table {
     }
 
     /// As `copy_within`, with a meter that isn't optional.
+    ///
+    /// # Errors
+    ///
+    /// Those of `copy_within`.
     pub fn copy_within_metered(
         &mut self,
         dst: u64,
@@ -362,8 +415,11 @@ impl Table {
         copy_items_within(elements, dst, src, len, outside, fuel)
     }
 
-    /// Fills `len` elements from `dst` on with a reference. The type of the reference is tested
-    /// first (`ElementTypeMismatch`); the rest is as in `fill_raw`.
+    /// Fills `len` elements from `dst` on with a reference.
+    ///
+    /// # Errors
+    ///
+    /// `ElementTypeMismatch` if the reference is of another type; then those of `fill_raw`.
     pub fn fill(
         &mut self,
         dst: u64,
@@ -379,6 +435,10 @@ impl Table {
     }
 
     /// As `fill`, with a meter that isn't optional.
+    ///
+    /// # Errors
+    ///
+    /// Those of `fill`.
     pub fn fill_metered(
         &mut self,
         dst: u64,
@@ -394,9 +454,12 @@ impl Table {
         fill_items(elements, dst, val.raw, len, outside, fuel)
     }
 
-    /// Fills `len` elements from `dst` on with a reference. Errors, in the order of the tests:
-    /// `FillOutOfBounds` if they end past the table; `OutOfFuel`, which is tested also if no
-    /// element is filled.
+    /// Fills `len` elements from `dst` on with a reference.
+    ///
+    /// # Errors
+    ///
+    /// In the order of the tests: `FillOutOfBounds` if they end past the table; `OutOfFuel`, which
+    /// is tested also if no element is filled.
     pub fn fill_raw(
         &mut self,
         dst: u64,

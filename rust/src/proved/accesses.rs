@@ -30,7 +30,9 @@ pub mod access {
         /// ensures low_bits: wrap T.width (T.number result) ≡ wrap T.width (Self.number self)
         /// ```
         ///
-        /// Definitions: [`wrap`](crate::specs::types::Numbers#wrap).
+        /// Definitions: [`wrap`](crate::specs::types::NumbersSpecs#wrap).
+        ///
+        /// `T` is a type with the trait `Number`.
         fn wrap_into(self) -> T;
     }
 
@@ -44,6 +46,8 @@ pub mod access {
         /// ```text
         /// ensures: result ≡ T.of_number (Self.number self)
         /// ```
+        ///
+        /// `T` is a type with the trait `Number`.
         fn extend_into(self) -> T;
     }
 
@@ -66,6 +70,8 @@ pub mod access {
     /// LEN = N
     /// bytes_of = λ bytes. bytes
     /// ```
+    ///
+    /// `N` is a number.
     impl<const N: usize> ByteArray for [u8; N] {}
 
     /// Bytes that are read from a memory. Upstream: `LoadInto`, private there.
@@ -80,7 +86,7 @@ pub mod access {
         /// ensures length: length (Self.bytes_of self.new) ≡ Self.LEN
         /// ```
         ///
-        /// Definitions: [`IsCopy`](crate::specs::accesses::LoadStore#IsCopy).
+        /// Definitions: [`IsCopy`](crate::specs::accesses::LoadStoreSpecs#IsCopy).
         fn load_into(&mut self, memory: &[u8], address: usize) -> Result<(), TrapCode>;
     }
 
@@ -102,6 +108,10 @@ pub mod access {
     pub trait StoreFrom: ByteArray {
         /// Copies `self` to the bytes at `address`.
         ///
+        /// # Errors
+        ///
+        /// [`MemoryOutOfBounds`](crate::TrapCode::MemoryOutOfBounds) if the bytes would end past the memory; then nothing is written.
+        ///
         /// # Contract
         ///
         /// ```text
@@ -109,7 +119,7 @@ pub mod access {
         /// ensures length: length (Self.bytes_of self.now) ≡ Self.LEN
         /// ```
         ///
-        /// Definitions: [`IsStore`](crate::specs::accesses::LoadStore#IsStore).
+        /// Definitions: [`IsStore`](crate::specs::accesses::LoadStoreSpecs#IsStore).
         fn store_from(&self, memory: &mut [u8], address: usize) -> Result<(), TrapCode>;
     }
 
@@ -133,7 +143,9 @@ pub mod access {
     /// ensures written: overwrite memory.old address bytes.now ≡ Some memory.new
     /// ```
     ///
-    /// Definitions: [`overwrite`](crate::specs::types::Access#overwrite).
+    /// Definitions: [`overwrite`](crate::specs::types::AccessSpecs#overwrite).
+    ///
+    /// `N` is a number.
     #[inline]
     fn put<const N: usize>(memory: &mut [u8], address: usize, bytes: &[u8; N]) {
         memory[address..][..N].copy_from_slice(bytes);
@@ -166,7 +178,7 @@ pub mod access {
         ///     ≡ self
         /// ```
         ///
-        /// Definitions: [`le_bytes`](crate::specs::types::Numbers#le_bytes), [`wrap`](crate::specs::types::Numbers#wrap), [`number_of`](crate::specs::types::Numbers#number_of), [`number_of_bits`](crate::specs::raw::Number#number_of_bits).
+        /// Definitions: [`le_bytes`](crate::specs::types::NumbersSpecs#le_bytes), [`wrap`](crate::specs::types::NumbersSpecs#wrap), [`number_of`](crate::specs::types::NumbersSpecs#number_of), [`number_of_bits`](crate::specs::raw::NumberSpecs#number_of_bits).
         fn into_le_bytes(self) -> Self::Bytes;
 
         /// The value of some bytes, the lowest first.
@@ -184,7 +196,7 @@ pub mod access {
         ///     ≡ Self.Bytes.bytes_of bytes
         /// ```
         ///
-        /// Definitions: [`number_of_bits`](crate::specs::raw::Number#number_of_bits), [`number_of`](crate::specs::types::Numbers#number_of), [`wrap`](crate::specs::types::Numbers#wrap), [`le_bytes`](crate::specs::types::Numbers#le_bytes).
+        /// Definitions: [`number_of_bits`](crate::specs::raw::NumberSpecs#number_of_bits), [`number_of`](crate::specs::types::NumbersSpecs#number_of), [`wrap`](crate::specs::types::NumbersSpecs#wrap), [`le_bytes`](crate::specs::types::NumbersSpecs#le_bytes).
         fn from_le_bytes(bytes: Self::Bytes) -> Self;
     }
 
@@ -210,6 +222,10 @@ pub mod access {
 
     /// The number at `ptr + offset`.
     ///
+    /// # Errors
+    ///
+    /// [`MemoryOutOfBounds`](crate::TrapCode::MemoryOutOfBounds) if the bytes end past the memory.
+    ///
     /// # Contract
     ///
     /// ```text
@@ -219,7 +235,9 @@ pub mod access {
     ///     (loaded T.Bytes.LEN (number_of_bits T.is_signed T.width) memory.now (ptr + offset))
     /// ```
     ///
-    /// Definitions: [`loaded`](crate::specs::accesses::LoadStore#loaded), [`number_of_bits`](crate::specs::raw::Number#number_of_bits), [`GivesNumber`](crate::specs::accesses::LoadStore#GivesNumber).
+    /// Definitions: [`loaded`](crate::specs::accesses::LoadStoreSpecs#loaded), [`number_of_bits`](crate::specs::raw::NumberSpecs#number_of_bits), [`GivesNumber`](crate::specs::accesses::LoadStoreSpecs#GivesNumber).
+    ///
+    /// `T` is a type with the trait `LittleEndianConvert`.
     #[inline]
     pub fn load<T>(memory: &[u8], ptr: u64, offset: u64) -> Result<T, TrapCode>
     where
@@ -230,6 +248,10 @@ pub mod access {
 
     /// The number at `address`.
     ///
+    /// # Errors
+    ///
+    /// [`MemoryOutOfBounds`](crate::TrapCode::MemoryOutOfBounds) if the bytes end past the memory.
+    ///
     /// # Contract
     ///
     /// ```text
@@ -239,7 +261,9 @@ pub mod access {
     ///     (loaded T.Bytes.LEN (number_of_bits T.is_signed T.width) memory.now address)
     /// ```
     ///
-    /// Definitions: [`loaded`](crate::specs::accesses::LoadStore#loaded), [`number_of_bits`](crate::specs::raw::Number#number_of_bits), [`GivesNumber`](crate::specs::accesses::LoadStore#GivesNumber).
+    /// Definitions: [`loaded`](crate::specs::accesses::LoadStoreSpecs#loaded), [`number_of_bits`](crate::specs::raw::NumberSpecs#number_of_bits), [`GivesNumber`](crate::specs::accesses::LoadStoreSpecs#GivesNumber).
+    ///
+    /// `T` is a type with the trait `LittleEndianConvert`.
     #[inline]
     pub fn load_at<T>(memory: &[u8], address: usize) -> Result<T, TrapCode>
     where
@@ -260,7 +284,9 @@ pub mod access {
     ///     (ptr + offset)
     /// ```
     ///
-    /// Definitions: [`loaded`](crate::specs::accesses::LoadStore#loaded), [`number_of_bits`](crate::specs::raw::Number#number_of_bits).
+    /// Definitions: [`loaded`](crate::specs::accesses::LoadStoreSpecs#loaded), [`number_of_bits`](crate::specs::raw::NumberSpecs#number_of_bits).
+    ///
+    /// `T` is a type with the trait `Number`. `U` is a type with the trait `LittleEndianConvert`.
     #[inline]
     pub fn load_extend<T, U>(memory: &[u8], ptr: u64, offset: u64) -> Result<T, TrapCode>
     where
@@ -280,7 +306,9 @@ pub mod access {
     ///     (λ n. T.of_number (number_of_bits U.is_signed U.width n)) memory.now address
     /// ```
     ///
-    /// Definitions: [`loaded`](crate::specs::accesses::LoadStore#loaded), [`number_of_bits`](crate::specs::raw::Number#number_of_bits).
+    /// Definitions: [`loaded`](crate::specs::accesses::LoadStoreSpecs#loaded), [`number_of_bits`](crate::specs::raw::NumberSpecs#number_of_bits).
+    ///
+    /// `T` is a type with the trait `Number`. `U` is a type with the trait `LittleEndianConvert`.
     #[inline]
     pub fn load_extend_at<T, U>(memory: &[u8], address: usize) -> Result<T, TrapCode>
     where
@@ -292,6 +320,10 @@ pub mod access {
 
     /// Writes a number at `ptr + offset`.
     ///
+    /// # Errors
+    ///
+    /// [`MemoryOutOfBounds`](crate::TrapCode::MemoryOutOfBounds) if the bytes would end past the memory; then nothing is written.
+    ///
     /// # Contract
     ///
     /// ```text
@@ -299,7 +331,9 @@ pub mod access {
     ///     (le_bytes T.Bytes.LEN (wrap T.width (T.number value))) memory.new result
     /// ```
     ///
-    /// Definitions: [`IsStore`](crate::specs::accesses::LoadStore#IsStore), [`le_bytes`](crate::specs::types::Numbers#le_bytes), [`wrap`](crate::specs::types::Numbers#wrap).
+    /// Definitions: [`IsStore`](crate::specs::accesses::LoadStoreSpecs#IsStore), [`le_bytes`](crate::specs::types::NumbersSpecs#le_bytes), [`wrap`](crate::specs::types::NumbersSpecs#wrap).
+    ///
+    /// `T` is a type with the trait `LittleEndianConvert`.
     #[inline]
     pub fn store<T>(memory: &mut [u8], ptr: u64, offset: u64, value: T) -> Result<(), TrapCode>
     where
@@ -310,6 +344,10 @@ pub mod access {
 
     /// Writes a number at `address`.
     ///
+    /// # Errors
+    ///
+    /// [`MemoryOutOfBounds`](crate::TrapCode::MemoryOutOfBounds) if the bytes would end past the memory; then nothing is written.
+    ///
     /// # Contract
     ///
     /// ```text
@@ -317,7 +355,9 @@ pub mod access {
     ///     (le_bytes T.Bytes.LEN (wrap T.width (T.number value))) memory.new result
     /// ```
     ///
-    /// Definitions: [`IsStore`](crate::specs::accesses::LoadStore#IsStore), [`le_bytes`](crate::specs::types::Numbers#le_bytes), [`wrap`](crate::specs::types::Numbers#wrap).
+    /// Definitions: [`IsStore`](crate::specs::accesses::LoadStoreSpecs#IsStore), [`le_bytes`](crate::specs::types::NumbersSpecs#le_bytes), [`wrap`](crate::specs::types::NumbersSpecs#wrap).
+    ///
+    /// `T` is a type with the trait `LittleEndianConvert`.
     #[inline]
     pub fn store_at<T>(memory: &mut [u8], address: usize, value: T) -> Result<(), TrapCode>
     where
@@ -328,6 +368,10 @@ pub mod access {
 
     /// Writes a number at `ptr + offset`, wrapped to a `U`.
     ///
+    /// # Errors
+    ///
+    /// [`MemoryOutOfBounds`](crate::TrapCode::MemoryOutOfBounds) if the bytes would end past the memory; then nothing is written.
+    ///
     /// # Contract
     ///
     /// ```text
@@ -335,7 +379,9 @@ pub mod access {
     ///     (le_bytes U.Bytes.LEN (wrap U.width (T.number value))) memory.new result
     /// ```
     ///
-    /// Definitions: [`IsStore`](crate::specs::accesses::LoadStore#IsStore), [`le_bytes`](crate::specs::types::Numbers#le_bytes), [`wrap`](crate::specs::types::Numbers#wrap).
+    /// Definitions: [`IsStore`](crate::specs::accesses::LoadStoreSpecs#IsStore), [`le_bytes`](crate::specs::types::NumbersSpecs#le_bytes), [`wrap`](crate::specs::types::NumbersSpecs#wrap).
+    ///
+    /// `T` is a type with the trait `WrapInto`. `U` is a type with the trait `LittleEndianConvert`.
     #[inline]
     pub fn store_wrap<T, U>(
         memory: &mut [u8],
@@ -352,6 +398,10 @@ pub mod access {
 
     /// Writes a number at `address`, wrapped to a `U`.
     ///
+    /// # Errors
+    ///
+    /// [`MemoryOutOfBounds`](crate::TrapCode::MemoryOutOfBounds) if the bytes would end past the memory; then nothing is written.
+    ///
     /// # Contract
     ///
     /// ```text
@@ -359,7 +409,9 @@ pub mod access {
     ///     (le_bytes U.Bytes.LEN (wrap U.width (T.number value))) memory.new result
     /// ```
     ///
-    /// Definitions: [`IsStore`](crate::specs::accesses::LoadStore#IsStore), [`le_bytes`](crate::specs::types::Numbers#le_bytes), [`wrap`](crate::specs::types::Numbers#wrap).
+    /// Definitions: [`IsStore`](crate::specs::accesses::LoadStoreSpecs#IsStore), [`le_bytes`](crate::specs::types::NumbersSpecs#le_bytes), [`wrap`](crate::specs::types::NumbersSpecs#wrap).
+    ///
+    /// `T` is a type with the trait `WrapInto`. `U` is a type with the trait `LittleEndianConvert`.
     #[inline]
     pub fn store_wrap_at<T, U>(memory: &mut [u8], address: usize, value: T) -> Result<(), TrapCode>
     where
@@ -676,7 +728,7 @@ pub mod laws {
     ///     → IsSameOutside old new a k
     /// ```
     ///
-    /// Definitions: [`IsStore`](crate::specs::accesses::LoadStore#IsStore), [`le_bytes`](crate::specs::types::Numbers#le_bytes), [`loaded`](crate::specs::accesses::LoadStore#loaded), [`IsSameOutside`](crate::specs::accesses::LoadStore#IsSameOutside).
+    /// Definitions: [`IsStore`](crate::specs::accesses::LoadStoreSpecs#IsStore), [`le_bytes`](crate::specs::types::NumbersSpecs#le_bytes), [`loaded`](crate::specs::accesses::LoadStoreSpecs#loaded), [`IsSameOutside`](crate::specs::accesses::LoadStoreSpecs#IsSameOutside).
     #[inline]
     pub fn stored_number_is_loaded() {}
 
@@ -687,6 +739,9 @@ pub mod laws {
     /// ```text
     /// ensures: T.Bytes.bytes_of result ≡ T.Bytes.bytes_of bytes
     /// ```
+    ///
+    /// `T` is a type with the trait `LittleEndianConvert`.
+    #[must_use]
     #[inline]
     pub fn bytes_of_their_value<T: LittleEndianConvert>(bytes: T::Bytes) -> T::Bytes {
         T::from_le_bytes(bytes).into_le_bytes()
@@ -699,6 +754,7 @@ pub mod laws {
     /// ```text
     /// ensures: result ≡ value
     /// ```
+    #[must_use]
     #[inline]
     pub fn value_of_its_bytes<T: LittleEndianConvert>(value: T) -> T {
         T::from_le_bytes(value.into_le_bytes())
@@ -718,13 +774,17 @@ pub mod wasm {
 
     /// `i32.load8_s`: 8 bits, read signed.
     ///
+    /// # Errors
+    ///
+    /// [`MemoryOutOfBounds`](crate::TrapCode::MemoryOutOfBounds) if the bytes end past the memory.
+    ///
     /// # Contract
     ///
     /// ```text
     /// ensures: result ≡ loaded 1 (cast_signed w8) memory.now (ptr + offset)
     /// ```
     ///
-    /// Definitions: [`loaded`](crate::specs::accesses::LoadStore#loaded).
+    /// Definitions: [`loaded`](crate::specs::accesses::LoadStoreSpecs#loaded).
     #[inline]
     pub fn i32_load8_s(memory: &[u8], ptr: u64, offset: u64) -> Result<i32, TrapCode> {
         load_extend::<i32, i8>(memory, ptr, offset)
@@ -732,13 +792,17 @@ pub mod wasm {
 
     /// `i32.load8_s` at an address.
     ///
+    /// # Errors
+    ///
+    /// [`MemoryOutOfBounds`](crate::TrapCode::MemoryOutOfBounds) if the bytes end past the memory.
+    ///
     /// # Contract
     ///
     /// ```text
     /// ensures: result ≡ loaded 1 (cast_signed w8) memory.now address
     /// ```
     ///
-    /// Definitions: [`loaded`](crate::specs::accesses::LoadStore#loaded).
+    /// Definitions: [`loaded`](crate::specs::accesses::LoadStoreSpecs#loaded).
     #[inline]
     pub fn i32_load8_s_at(memory: &[u8], address: usize) -> Result<i32, TrapCode> {
         load_extend_at::<i32, i8>(memory, address)
@@ -746,13 +810,17 @@ pub mod wasm {
 
     /// `i32.load8_u`: 8 bits, read unsigned.
     ///
+    /// # Errors
+    ///
+    /// [`MemoryOutOfBounds`](crate::TrapCode::MemoryOutOfBounds) if the bytes end past the memory.
+    ///
     /// # Contract
     ///
     /// ```text
     /// ensures: result ≡ loaded 1 pos memory.now (ptr + offset)
     /// ```
     ///
-    /// Definitions: [`loaded`](crate::specs::accesses::LoadStore#loaded).
+    /// Definitions: [`loaded`](crate::specs::accesses::LoadStoreSpecs#loaded).
     #[inline]
     pub fn i32_load8_u(memory: &[u8], ptr: u64, offset: u64) -> Result<i32, TrapCode> {
         load_extend::<i32, u8>(memory, ptr, offset)
@@ -760,13 +828,17 @@ pub mod wasm {
 
     /// `i32.load8_u` at an address.
     ///
+    /// # Errors
+    ///
+    /// [`MemoryOutOfBounds`](crate::TrapCode::MemoryOutOfBounds) if the bytes end past the memory.
+    ///
     /// # Contract
     ///
     /// ```text
     /// ensures: result ≡ loaded 1 pos memory.now address
     /// ```
     ///
-    /// Definitions: [`loaded`](crate::specs::accesses::LoadStore#loaded).
+    /// Definitions: [`loaded`](crate::specs::accesses::LoadStoreSpecs#loaded).
     #[inline]
     pub fn i32_load8_u_at(memory: &[u8], address: usize) -> Result<i32, TrapCode> {
         load_extend_at::<i32, u8>(memory, address)
@@ -774,13 +846,17 @@ pub mod wasm {
 
     /// `i32.load16_s`: 16 bits, read signed.
     ///
+    /// # Errors
+    ///
+    /// [`MemoryOutOfBounds`](crate::TrapCode::MemoryOutOfBounds) if the bytes end past the memory.
+    ///
     /// # Contract
     ///
     /// ```text
     /// ensures: result ≡ loaded 2 (cast_signed w16) memory.now (ptr + offset)
     /// ```
     ///
-    /// Definitions: [`loaded`](crate::specs::accesses::LoadStore#loaded).
+    /// Definitions: [`loaded`](crate::specs::accesses::LoadStoreSpecs#loaded).
     #[inline]
     pub fn i32_load16_s(memory: &[u8], ptr: u64, offset: u64) -> Result<i32, TrapCode> {
         load_extend::<i32, i16>(memory, ptr, offset)
@@ -788,13 +864,17 @@ pub mod wasm {
 
     /// `i32.load16_s` at an address.
     ///
+    /// # Errors
+    ///
+    /// [`MemoryOutOfBounds`](crate::TrapCode::MemoryOutOfBounds) if the bytes end past the memory.
+    ///
     /// # Contract
     ///
     /// ```text
     /// ensures: result ≡ loaded 2 (cast_signed w16) memory.now address
     /// ```
     ///
-    /// Definitions: [`loaded`](crate::specs::accesses::LoadStore#loaded).
+    /// Definitions: [`loaded`](crate::specs::accesses::LoadStoreSpecs#loaded).
     #[inline]
     pub fn i32_load16_s_at(memory: &[u8], address: usize) -> Result<i32, TrapCode> {
         load_extend_at::<i32, i16>(memory, address)
@@ -802,13 +882,17 @@ pub mod wasm {
 
     /// `i32.load16_u`: 16 bits, read unsigned.
     ///
+    /// # Errors
+    ///
+    /// [`MemoryOutOfBounds`](crate::TrapCode::MemoryOutOfBounds) if the bytes end past the memory.
+    ///
     /// # Contract
     ///
     /// ```text
     /// ensures: result ≡ loaded 2 pos memory.now (ptr + offset)
     /// ```
     ///
-    /// Definitions: [`loaded`](crate::specs::accesses::LoadStore#loaded).
+    /// Definitions: [`loaded`](crate::specs::accesses::LoadStoreSpecs#loaded).
     #[inline]
     pub fn i32_load16_u(memory: &[u8], ptr: u64, offset: u64) -> Result<i32, TrapCode> {
         load_extend::<i32, u16>(memory, ptr, offset)
@@ -816,13 +900,17 @@ pub mod wasm {
 
     /// `i32.load16_u` at an address.
     ///
+    /// # Errors
+    ///
+    /// [`MemoryOutOfBounds`](crate::TrapCode::MemoryOutOfBounds) if the bytes end past the memory.
+    ///
     /// # Contract
     ///
     /// ```text
     /// ensures: result ≡ loaded 2 pos memory.now address
     /// ```
     ///
-    /// Definitions: [`loaded`](crate::specs::accesses::LoadStore#loaded).
+    /// Definitions: [`loaded`](crate::specs::accesses::LoadStoreSpecs#loaded).
     #[inline]
     pub fn i32_load16_u_at(memory: &[u8], address: usize) -> Result<i32, TrapCode> {
         load_extend_at::<i32, u16>(memory, address)
@@ -830,13 +918,17 @@ pub mod wasm {
 
     /// `i64.load8_s`: 8 bits, read signed.
     ///
+    /// # Errors
+    ///
+    /// [`MemoryOutOfBounds`](crate::TrapCode::MemoryOutOfBounds) if the bytes end past the memory.
+    ///
     /// # Contract
     ///
     /// ```text
     /// ensures: result ≡ loaded 1 (cast_signed w8) memory.now (ptr + offset)
     /// ```
     ///
-    /// Definitions: [`loaded`](crate::specs::accesses::LoadStore#loaded).
+    /// Definitions: [`loaded`](crate::specs::accesses::LoadStoreSpecs#loaded).
     #[inline]
     pub fn i64_load8_s(memory: &[u8], ptr: u64, offset: u64) -> Result<i64, TrapCode> {
         load_extend::<i64, i8>(memory, ptr, offset)
@@ -844,13 +936,17 @@ pub mod wasm {
 
     /// `i64.load8_s` at an address.
     ///
+    /// # Errors
+    ///
+    /// [`MemoryOutOfBounds`](crate::TrapCode::MemoryOutOfBounds) if the bytes end past the memory.
+    ///
     /// # Contract
     ///
     /// ```text
     /// ensures: result ≡ loaded 1 (cast_signed w8) memory.now address
     /// ```
     ///
-    /// Definitions: [`loaded`](crate::specs::accesses::LoadStore#loaded).
+    /// Definitions: [`loaded`](crate::specs::accesses::LoadStoreSpecs#loaded).
     #[inline]
     pub fn i64_load8_s_at(memory: &[u8], address: usize) -> Result<i64, TrapCode> {
         load_extend_at::<i64, i8>(memory, address)
@@ -858,13 +954,17 @@ pub mod wasm {
 
     /// `i64.load8_u`: 8 bits, read unsigned.
     ///
+    /// # Errors
+    ///
+    /// [`MemoryOutOfBounds`](crate::TrapCode::MemoryOutOfBounds) if the bytes end past the memory.
+    ///
     /// # Contract
     ///
     /// ```text
     /// ensures: result ≡ loaded 1 pos memory.now (ptr + offset)
     /// ```
     ///
-    /// Definitions: [`loaded`](crate::specs::accesses::LoadStore#loaded).
+    /// Definitions: [`loaded`](crate::specs::accesses::LoadStoreSpecs#loaded).
     #[inline]
     pub fn i64_load8_u(memory: &[u8], ptr: u64, offset: u64) -> Result<i64, TrapCode> {
         load_extend::<i64, u8>(memory, ptr, offset)
@@ -872,13 +972,17 @@ pub mod wasm {
 
     /// `i64.load8_u` at an address.
     ///
+    /// # Errors
+    ///
+    /// [`MemoryOutOfBounds`](crate::TrapCode::MemoryOutOfBounds) if the bytes end past the memory.
+    ///
     /// # Contract
     ///
     /// ```text
     /// ensures: result ≡ loaded 1 pos memory.now address
     /// ```
     ///
-    /// Definitions: [`loaded`](crate::specs::accesses::LoadStore#loaded).
+    /// Definitions: [`loaded`](crate::specs::accesses::LoadStoreSpecs#loaded).
     #[inline]
     pub fn i64_load8_u_at(memory: &[u8], address: usize) -> Result<i64, TrapCode> {
         load_extend_at::<i64, u8>(memory, address)
@@ -886,13 +990,17 @@ pub mod wasm {
 
     /// `i64.load16_s`: 16 bits, read signed.
     ///
+    /// # Errors
+    ///
+    /// [`MemoryOutOfBounds`](crate::TrapCode::MemoryOutOfBounds) if the bytes end past the memory.
+    ///
     /// # Contract
     ///
     /// ```text
     /// ensures: result ≡ loaded 2 (cast_signed w16) memory.now (ptr + offset)
     /// ```
     ///
-    /// Definitions: [`loaded`](crate::specs::accesses::LoadStore#loaded).
+    /// Definitions: [`loaded`](crate::specs::accesses::LoadStoreSpecs#loaded).
     #[inline]
     pub fn i64_load16_s(memory: &[u8], ptr: u64, offset: u64) -> Result<i64, TrapCode> {
         load_extend::<i64, i16>(memory, ptr, offset)
@@ -900,13 +1008,17 @@ pub mod wasm {
 
     /// `i64.load16_s` at an address.
     ///
+    /// # Errors
+    ///
+    /// [`MemoryOutOfBounds`](crate::TrapCode::MemoryOutOfBounds) if the bytes end past the memory.
+    ///
     /// # Contract
     ///
     /// ```text
     /// ensures: result ≡ loaded 2 (cast_signed w16) memory.now address
     /// ```
     ///
-    /// Definitions: [`loaded`](crate::specs::accesses::LoadStore#loaded).
+    /// Definitions: [`loaded`](crate::specs::accesses::LoadStoreSpecs#loaded).
     #[inline]
     pub fn i64_load16_s_at(memory: &[u8], address: usize) -> Result<i64, TrapCode> {
         load_extend_at::<i64, i16>(memory, address)
@@ -914,13 +1026,17 @@ pub mod wasm {
 
     /// `i64.load16_u`: 16 bits, read unsigned.
     ///
+    /// # Errors
+    ///
+    /// [`MemoryOutOfBounds`](crate::TrapCode::MemoryOutOfBounds) if the bytes end past the memory.
+    ///
     /// # Contract
     ///
     /// ```text
     /// ensures: result ≡ loaded 2 pos memory.now (ptr + offset)
     /// ```
     ///
-    /// Definitions: [`loaded`](crate::specs::accesses::LoadStore#loaded).
+    /// Definitions: [`loaded`](crate::specs::accesses::LoadStoreSpecs#loaded).
     #[inline]
     pub fn i64_load16_u(memory: &[u8], ptr: u64, offset: u64) -> Result<i64, TrapCode> {
         load_extend::<i64, u16>(memory, ptr, offset)
@@ -928,13 +1044,17 @@ pub mod wasm {
 
     /// `i64.load16_u` at an address.
     ///
+    /// # Errors
+    ///
+    /// [`MemoryOutOfBounds`](crate::TrapCode::MemoryOutOfBounds) if the bytes end past the memory.
+    ///
     /// # Contract
     ///
     /// ```text
     /// ensures: result ≡ loaded 2 pos memory.now address
     /// ```
     ///
-    /// Definitions: [`loaded`](crate::specs::accesses::LoadStore#loaded).
+    /// Definitions: [`loaded`](crate::specs::accesses::LoadStoreSpecs#loaded).
     #[inline]
     pub fn i64_load16_u_at(memory: &[u8], address: usize) -> Result<i64, TrapCode> {
         load_extend_at::<i64, u16>(memory, address)
@@ -942,13 +1062,17 @@ pub mod wasm {
 
     /// `i64.load32_s`: 32 bits, read signed.
     ///
+    /// # Errors
+    ///
+    /// [`MemoryOutOfBounds`](crate::TrapCode::MemoryOutOfBounds) if the bytes end past the memory.
+    ///
     /// # Contract
     ///
     /// ```text
     /// ensures: result ≡ loaded 4 (cast_signed w32) memory.now (ptr + offset)
     /// ```
     ///
-    /// Definitions: [`loaded`](crate::specs::accesses::LoadStore#loaded).
+    /// Definitions: [`loaded`](crate::specs::accesses::LoadStoreSpecs#loaded).
     #[inline]
     pub fn i64_load32_s(memory: &[u8], ptr: u64, offset: u64) -> Result<i64, TrapCode> {
         load_extend::<i64, i32>(memory, ptr, offset)
@@ -956,13 +1080,17 @@ pub mod wasm {
 
     /// `i64.load32_s` at an address.
     ///
+    /// # Errors
+    ///
+    /// [`MemoryOutOfBounds`](crate::TrapCode::MemoryOutOfBounds) if the bytes end past the memory.
+    ///
     /// # Contract
     ///
     /// ```text
     /// ensures: result ≡ loaded 4 (cast_signed w32) memory.now address
     /// ```
     ///
-    /// Definitions: [`loaded`](crate::specs::accesses::LoadStore#loaded).
+    /// Definitions: [`loaded`](crate::specs::accesses::LoadStoreSpecs#loaded).
     #[inline]
     pub fn i64_load32_s_at(memory: &[u8], address: usize) -> Result<i64, TrapCode> {
         load_extend_at::<i64, i32>(memory, address)
@@ -970,13 +1098,17 @@ pub mod wasm {
 
     /// `i64.load32_u`: 32 bits, read unsigned.
     ///
+    /// # Errors
+    ///
+    /// [`MemoryOutOfBounds`](crate::TrapCode::MemoryOutOfBounds) if the bytes end past the memory.
+    ///
     /// # Contract
     ///
     /// ```text
     /// ensures: result ≡ loaded 4 pos memory.now (ptr + offset)
     /// ```
     ///
-    /// Definitions: [`loaded`](crate::specs::accesses::LoadStore#loaded).
+    /// Definitions: [`loaded`](crate::specs::accesses::LoadStoreSpecs#loaded).
     #[inline]
     pub fn i64_load32_u(memory: &[u8], ptr: u64, offset: u64) -> Result<i64, TrapCode> {
         load_extend::<i64, u32>(memory, ptr, offset)
@@ -984,13 +1116,17 @@ pub mod wasm {
 
     /// `i64.load32_u` at an address.
     ///
+    /// # Errors
+    ///
+    /// [`MemoryOutOfBounds`](crate::TrapCode::MemoryOutOfBounds) if the bytes end past the memory.
+    ///
     /// # Contract
     ///
     /// ```text
     /// ensures: result ≡ loaded 4 pos memory.now address
     /// ```
     ///
-    /// Definitions: [`loaded`](crate::specs::accesses::LoadStore#loaded).
+    /// Definitions: [`loaded`](crate::specs::accesses::LoadStoreSpecs#loaded).
     #[inline]
     pub fn i64_load32_u_at(memory: &[u8], address: usize) -> Result<i64, TrapCode> {
         load_extend_at::<i64, u32>(memory, address)
@@ -998,13 +1134,17 @@ pub mod wasm {
 
     /// `i32.load`: 32 bits, read unsigned.
     ///
+    /// # Errors
+    ///
+    /// [`MemoryOutOfBounds`](crate::TrapCode::MemoryOutOfBounds) if the bytes end past the memory.
+    ///
     /// # Contract
     ///
     /// ```text
     /// ensures: result ≡ loaded 4 (λ n. n) memory.now (ptr + offset)
     /// ```
     ///
-    /// Definitions: [`loaded`](crate::specs::accesses::LoadStore#loaded).
+    /// Definitions: [`loaded`](crate::specs::accesses::LoadStoreSpecs#loaded).
     #[inline]
     pub fn load_u32(memory: &[u8], ptr: u64, offset: u64) -> Result<u32, TrapCode> {
         load::<u32>(memory, ptr, offset)
@@ -1012,13 +1152,17 @@ pub mod wasm {
 
     /// `i32.load` at an address.
     ///
+    /// # Errors
+    ///
+    /// [`MemoryOutOfBounds`](crate::TrapCode::MemoryOutOfBounds) if the bytes end past the memory.
+    ///
     /// # Contract
     ///
     /// ```text
     /// ensures: result ≡ loaded 4 (λ n. n) memory.now address
     /// ```
     ///
-    /// Definitions: [`loaded`](crate::specs::accesses::LoadStore#loaded).
+    /// Definitions: [`loaded`](crate::specs::accesses::LoadStoreSpecs#loaded).
     #[inline]
     pub fn load_u32_at(memory: &[u8], address: usize) -> Result<u32, TrapCode> {
         load_at::<u32>(memory, address)
@@ -1026,13 +1170,17 @@ pub mod wasm {
 
     /// `i64.load`: 64 bits, read unsigned.
     ///
+    /// # Errors
+    ///
+    /// [`MemoryOutOfBounds`](crate::TrapCode::MemoryOutOfBounds) if the bytes end past the memory.
+    ///
     /// # Contract
     ///
     /// ```text
     /// ensures: result ≡ loaded 8 (λ n. n) memory.now (ptr + offset)
     /// ```
     ///
-    /// Definitions: [`loaded`](crate::specs::accesses::LoadStore#loaded).
+    /// Definitions: [`loaded`](crate::specs::accesses::LoadStoreSpecs#loaded).
     #[inline]
     pub fn load_u64(memory: &[u8], ptr: u64, offset: u64) -> Result<u64, TrapCode> {
         load::<u64>(memory, ptr, offset)
@@ -1040,19 +1188,27 @@ pub mod wasm {
 
     /// `i64.load` at an address.
     ///
+    /// # Errors
+    ///
+    /// [`MemoryOutOfBounds`](crate::TrapCode::MemoryOutOfBounds) if the bytes end past the memory.
+    ///
     /// # Contract
     ///
     /// ```text
     /// ensures: result ≡ loaded 8 (λ n. n) memory.now address
     /// ```
     ///
-    /// Definitions: [`loaded`](crate::specs::accesses::LoadStore#loaded).
+    /// Definitions: [`loaded`](crate::specs::accesses::LoadStoreSpecs#loaded).
     #[inline]
     pub fn load_u64_at(memory: &[u8], address: usize) -> Result<u64, TrapCode> {
         load_at::<u64>(memory, address)
     }
 
     /// `i32.store8`: the value modulo 2 to the power 8.
+    ///
+    /// # Errors
+    ///
+    /// [`MemoryOutOfBounds`](crate::TrapCode::MemoryOutOfBounds) if the bytes would end past the memory; then nothing is written.
     ///
     /// # Contract
     ///
@@ -1061,7 +1217,7 @@ pub mod wasm {
     ///     (le_bytes 1 (cast_unsigned w32 value % 2 ^ 8)) memory.new result
     /// ```
     ///
-    /// Definitions: [`IsStore`](crate::specs::accesses::LoadStore#IsStore), [`le_bytes`](crate::specs::types::Numbers#le_bytes).
+    /// Definitions: [`IsStore`](crate::specs::accesses::LoadStoreSpecs#IsStore), [`le_bytes`](crate::specs::types::NumbersSpecs#le_bytes).
     #[inline]
     pub fn i32_store8(
         memory: &mut [u8],
@@ -1074,6 +1230,10 @@ pub mod wasm {
 
     /// `i32.store8` at an address.
     ///
+    /// # Errors
+    ///
+    /// [`MemoryOutOfBounds`](crate::TrapCode::MemoryOutOfBounds) if the bytes would end past the memory; then nothing is written.
+    ///
     /// # Contract
     ///
     /// ```text
@@ -1081,13 +1241,17 @@ pub mod wasm {
     ///     (le_bytes 1 (cast_unsigned w32 value % 2 ^ 8)) memory.new result
     /// ```
     ///
-    /// Definitions: [`IsStore`](crate::specs::accesses::LoadStore#IsStore), [`le_bytes`](crate::specs::types::Numbers#le_bytes).
+    /// Definitions: [`IsStore`](crate::specs::accesses::LoadStoreSpecs#IsStore), [`le_bytes`](crate::specs::types::NumbersSpecs#le_bytes).
     #[inline]
     pub fn i32_store8_at(memory: &mut [u8], address: usize, value: i32) -> Result<(), TrapCode> {
         store_wrap_at::<i32, i8>(memory, address, value)
     }
 
     /// `i32.store16`: the value modulo 2 to the power 16.
+    ///
+    /// # Errors
+    ///
+    /// [`MemoryOutOfBounds`](crate::TrapCode::MemoryOutOfBounds) if the bytes would end past the memory; then nothing is written.
     ///
     /// # Contract
     ///
@@ -1096,7 +1260,7 @@ pub mod wasm {
     ///     (le_bytes 2 (cast_unsigned w32 value % 2 ^ 16)) memory.new result
     /// ```
     ///
-    /// Definitions: [`IsStore`](crate::specs::accesses::LoadStore#IsStore), [`le_bytes`](crate::specs::types::Numbers#le_bytes).
+    /// Definitions: [`IsStore`](crate::specs::accesses::LoadStoreSpecs#IsStore), [`le_bytes`](crate::specs::types::NumbersSpecs#le_bytes).
     #[inline]
     pub fn i32_store16(
         memory: &mut [u8],
@@ -1109,6 +1273,10 @@ pub mod wasm {
 
     /// `i32.store16` at an address.
     ///
+    /// # Errors
+    ///
+    /// [`MemoryOutOfBounds`](crate::TrapCode::MemoryOutOfBounds) if the bytes would end past the memory; then nothing is written.
+    ///
     /// # Contract
     ///
     /// ```text
@@ -1116,13 +1284,17 @@ pub mod wasm {
     ///     (le_bytes 2 (cast_unsigned w32 value % 2 ^ 16)) memory.new result
     /// ```
     ///
-    /// Definitions: [`IsStore`](crate::specs::accesses::LoadStore#IsStore), [`le_bytes`](crate::specs::types::Numbers#le_bytes).
+    /// Definitions: [`IsStore`](crate::specs::accesses::LoadStoreSpecs#IsStore), [`le_bytes`](crate::specs::types::NumbersSpecs#le_bytes).
     #[inline]
     pub fn i32_store16_at(memory: &mut [u8], address: usize, value: i32) -> Result<(), TrapCode> {
         store_wrap_at::<i32, i16>(memory, address, value)
     }
 
     /// `i64.store8`: the value modulo 2 to the power 8.
+    ///
+    /// # Errors
+    ///
+    /// [`MemoryOutOfBounds`](crate::TrapCode::MemoryOutOfBounds) if the bytes would end past the memory; then nothing is written.
     ///
     /// # Contract
     ///
@@ -1131,7 +1303,7 @@ pub mod wasm {
     ///     (le_bytes 1 (cast_unsigned w64 value % 2 ^ 8)) memory.new result
     /// ```
     ///
-    /// Definitions: [`IsStore`](crate::specs::accesses::LoadStore#IsStore), [`le_bytes`](crate::specs::types::Numbers#le_bytes).
+    /// Definitions: [`IsStore`](crate::specs::accesses::LoadStoreSpecs#IsStore), [`le_bytes`](crate::specs::types::NumbersSpecs#le_bytes).
     #[inline]
     pub fn i64_store8(
         memory: &mut [u8],
@@ -1144,6 +1316,10 @@ pub mod wasm {
 
     /// `i64.store8` at an address.
     ///
+    /// # Errors
+    ///
+    /// [`MemoryOutOfBounds`](crate::TrapCode::MemoryOutOfBounds) if the bytes would end past the memory; then nothing is written.
+    ///
     /// # Contract
     ///
     /// ```text
@@ -1151,13 +1327,17 @@ pub mod wasm {
     ///     (le_bytes 1 (cast_unsigned w64 value % 2 ^ 8)) memory.new result
     /// ```
     ///
-    /// Definitions: [`IsStore`](crate::specs::accesses::LoadStore#IsStore), [`le_bytes`](crate::specs::types::Numbers#le_bytes).
+    /// Definitions: [`IsStore`](crate::specs::accesses::LoadStoreSpecs#IsStore), [`le_bytes`](crate::specs::types::NumbersSpecs#le_bytes).
     #[inline]
     pub fn i64_store8_at(memory: &mut [u8], address: usize, value: i64) -> Result<(), TrapCode> {
         store_wrap_at::<i64, i8>(memory, address, value)
     }
 
     /// `i64.store16`: the value modulo 2 to the power 16.
+    ///
+    /// # Errors
+    ///
+    /// [`MemoryOutOfBounds`](crate::TrapCode::MemoryOutOfBounds) if the bytes would end past the memory; then nothing is written.
     ///
     /// # Contract
     ///
@@ -1166,7 +1346,7 @@ pub mod wasm {
     ///     (le_bytes 2 (cast_unsigned w64 value % 2 ^ 16)) memory.new result
     /// ```
     ///
-    /// Definitions: [`IsStore`](crate::specs::accesses::LoadStore#IsStore), [`le_bytes`](crate::specs::types::Numbers#le_bytes).
+    /// Definitions: [`IsStore`](crate::specs::accesses::LoadStoreSpecs#IsStore), [`le_bytes`](crate::specs::types::NumbersSpecs#le_bytes).
     #[inline]
     pub fn i64_store16(
         memory: &mut [u8],
@@ -1179,6 +1359,10 @@ pub mod wasm {
 
     /// `i64.store16` at an address.
     ///
+    /// # Errors
+    ///
+    /// [`MemoryOutOfBounds`](crate::TrapCode::MemoryOutOfBounds) if the bytes would end past the memory; then nothing is written.
+    ///
     /// # Contract
     ///
     /// ```text
@@ -1186,13 +1370,17 @@ pub mod wasm {
     ///     (le_bytes 2 (cast_unsigned w64 value % 2 ^ 16)) memory.new result
     /// ```
     ///
-    /// Definitions: [`IsStore`](crate::specs::accesses::LoadStore#IsStore), [`le_bytes`](crate::specs::types::Numbers#le_bytes).
+    /// Definitions: [`IsStore`](crate::specs::accesses::LoadStoreSpecs#IsStore), [`le_bytes`](crate::specs::types::NumbersSpecs#le_bytes).
     #[inline]
     pub fn i64_store16_at(memory: &mut [u8], address: usize, value: i64) -> Result<(), TrapCode> {
         store_wrap_at::<i64, i16>(memory, address, value)
     }
 
     /// `i64.store32`: the value modulo 2 to the power 32.
+    ///
+    /// # Errors
+    ///
+    /// [`MemoryOutOfBounds`](crate::TrapCode::MemoryOutOfBounds) if the bytes would end past the memory; then nothing is written.
     ///
     /// # Contract
     ///
@@ -1201,7 +1389,7 @@ pub mod wasm {
     ///     (le_bytes 4 (cast_unsigned w64 value % 2 ^ 32)) memory.new result
     /// ```
     ///
-    /// Definitions: [`IsStore`](crate::specs::accesses::LoadStore#IsStore), [`le_bytes`](crate::specs::types::Numbers#le_bytes).
+    /// Definitions: [`IsStore`](crate::specs::accesses::LoadStoreSpecs#IsStore), [`le_bytes`](crate::specs::types::NumbersSpecs#le_bytes).
     #[inline]
     pub fn i64_store32(
         memory: &mut [u8],
@@ -1214,6 +1402,10 @@ pub mod wasm {
 
     /// `i64.store32` at an address.
     ///
+    /// # Errors
+    ///
+    /// [`MemoryOutOfBounds`](crate::TrapCode::MemoryOutOfBounds) if the bytes would end past the memory; then nothing is written.
+    ///
     /// # Contract
     ///
     /// ```text
@@ -1221,7 +1413,7 @@ pub mod wasm {
     ///     (le_bytes 4 (cast_unsigned w64 value % 2 ^ 32)) memory.new result
     /// ```
     ///
-    /// Definitions: [`IsStore`](crate::specs::accesses::LoadStore#IsStore), [`le_bytes`](crate::specs::types::Numbers#le_bytes).
+    /// Definitions: [`IsStore`](crate::specs::accesses::LoadStoreSpecs#IsStore), [`le_bytes`](crate::specs::types::NumbersSpecs#le_bytes).
     #[inline]
     pub fn i64_store32_at(memory: &mut [u8], address: usize, value: i64) -> Result<(), TrapCode> {
         store_wrap_at::<i64, i32>(memory, address, value)
@@ -1229,13 +1421,17 @@ pub mod wasm {
 
     /// `i32.store`: the 32 bits of the value.
     ///
+    /// # Errors
+    ///
+    /// [`MemoryOutOfBounds`](crate::TrapCode::MemoryOutOfBounds) if the bytes would end past the memory; then nothing is written.
+    ///
     /// # Contract
     ///
     /// ```text
     /// ensures: IsStore memory.old (ptr + offset) (le_bytes 4 value) memory.new result
     /// ```
     ///
-    /// Definitions: [`IsStore`](crate::specs::accesses::LoadStore#IsStore), [`le_bytes`](crate::specs::types::Numbers#le_bytes).
+    /// Definitions: [`IsStore`](crate::specs::accesses::LoadStoreSpecs#IsStore), [`le_bytes`](crate::specs::types::NumbersSpecs#le_bytes).
     #[inline]
     pub fn store32(memory: &mut [u8], ptr: u64, offset: u64, value: u32) -> Result<(), TrapCode> {
         store::<u32>(memory, ptr, offset, value)
@@ -1243,13 +1439,17 @@ pub mod wasm {
 
     /// `i32.store` at an address.
     ///
+    /// # Errors
+    ///
+    /// [`MemoryOutOfBounds`](crate::TrapCode::MemoryOutOfBounds) if the bytes would end past the memory; then nothing is written.
+    ///
     /// # Contract
     ///
     /// ```text
     /// ensures: IsStore memory.old address (le_bytes 4 value) memory.new result
     /// ```
     ///
-    /// Definitions: [`IsStore`](crate::specs::accesses::LoadStore#IsStore), [`le_bytes`](crate::specs::types::Numbers#le_bytes).
+    /// Definitions: [`IsStore`](crate::specs::accesses::LoadStoreSpecs#IsStore), [`le_bytes`](crate::specs::types::NumbersSpecs#le_bytes).
     #[inline]
     pub fn store32_at(memory: &mut [u8], address: usize, value: u32) -> Result<(), TrapCode> {
         store_at::<u32>(memory, address, value)
@@ -1257,13 +1457,17 @@ pub mod wasm {
 
     /// `i64.store`: the 64 bits of the value.
     ///
+    /// # Errors
+    ///
+    /// [`MemoryOutOfBounds`](crate::TrapCode::MemoryOutOfBounds) if the bytes would end past the memory; then nothing is written.
+    ///
     /// # Contract
     ///
     /// ```text
     /// ensures: IsStore memory.old (ptr + offset) (le_bytes 8 value) memory.new result
     /// ```
     ///
-    /// Definitions: [`IsStore`](crate::specs::accesses::LoadStore#IsStore), [`le_bytes`](crate::specs::types::Numbers#le_bytes).
+    /// Definitions: [`IsStore`](crate::specs::accesses::LoadStoreSpecs#IsStore), [`le_bytes`](crate::specs::types::NumbersSpecs#le_bytes).
     #[inline]
     pub fn store64(memory: &mut [u8], ptr: u64, offset: u64, value: u64) -> Result<(), TrapCode> {
         store::<u64>(memory, ptr, offset, value)
@@ -1271,13 +1475,17 @@ pub mod wasm {
 
     /// `i64.store` at an address.
     ///
+    /// # Errors
+    ///
+    /// [`MemoryOutOfBounds`](crate::TrapCode::MemoryOutOfBounds) if the bytes would end past the memory; then nothing is written.
+    ///
     /// # Contract
     ///
     /// ```text
     /// ensures: IsStore memory.old address (le_bytes 8 value) memory.new result
     /// ```
     ///
-    /// Definitions: [`IsStore`](crate::specs::accesses::LoadStore#IsStore), [`le_bytes`](crate::specs::types::Numbers#le_bytes).
+    /// Definitions: [`IsStore`](crate::specs::accesses::LoadStoreSpecs#IsStore), [`le_bytes`](crate::specs::types::NumbersSpecs#le_bytes).
     #[inline]
     pub fn store64_at(memory: &mut [u8], address: usize, value: u64) -> Result<(), TrapCode> {
         store_at::<u64>(memory, address, value)

@@ -21,7 +21,7 @@ mod error {
     /// output = λ error. Some (add_error_text error)
     /// ```
     ///
-    /// Definitions: [`add_error_text`](crate::specs::budget::Pool#add_error_text).
+    /// Definitions: [`add_error_text`](crate::specs::budget::PoolSpecs#add_error_text).
     impl fmt::Display for AddError {
         #[inline]
         fn fmt(&self, f: &mut fmt::Formatter<'_>) -> fmt::Result {
@@ -49,7 +49,7 @@ mod error {
     /// output = λ error. Some (pool_error_text error)
     /// ```
     ///
-    /// Definitions: [`pool_error_text`](crate::specs::budget::Pool#pool_error_text).
+    /// Definitions: [`pool_error_text`](crate::specs::budget::PoolSpecs#pool_error_text).
     impl fmt::Display for PoolError {
         #[inline]
         fn fmt(&self, f: &mut fmt::Formatter<'_>) -> fmt::Result {
@@ -87,7 +87,7 @@ pub mod laws {
     /// ensures: CapsHold
     /// ```
     ///
-    /// Definitions: [`CapsHold`](crate::specs::budget::Laws#CapsHold).
+    /// Definitions: [`CapsHold`](crate::specs::budget::LawsSpecs#CapsHold).
     #[inline]
     pub fn caps_hold() {}
 
@@ -100,7 +100,7 @@ pub mod laws {
     /// ensures: OthersDontShow
     /// ```
     ///
-    /// Definitions: [`OthersDontShow`](crate::specs::budget::Laws#OthersDontShow).
+    /// Definitions: [`OthersDontShow`](crate::specs::budget::LawsSpecs#OthersDontShow).
     #[inline]
     pub fn others_do_not_show() {}
 
@@ -113,7 +113,7 @@ pub mod laws {
     /// ensures: RunsAsAlone
     /// ```
     ///
-    /// Definitions: [`RunsAsAlone`](crate::specs::budget::Laws#RunsAsAlone).
+    /// Definitions: [`RunsAsAlone`](crate::specs::budget::LawsSpecs#RunsAsAlone).
     #[inline]
     pub fn permitted_runs_as_alone() {}
 
@@ -126,7 +126,7 @@ pub mod laws {
     /// ensures: RepliesPermit
     /// ```
     ///
-    /// Definitions: [`RepliesPermit`](crate::specs::budget::Laws#RepliesPermit).
+    /// Definitions: [`RepliesPermit`](crate::specs::budget::LawsSpecs#RepliesPermit).
     #[inline]
     pub fn replies_permit() {}
 
@@ -139,7 +139,7 @@ pub mod laws {
     /// ensures notices: AcceptsNotices tenant_rules
     /// ```
     ///
-    /// Definitions: [`IsDeterministic`](crate::specs::machine::Determinism#IsDeterministic), [`tenant_rules`](crate::specs::budget::Pool#tenant_rules), [`AcceptsNotices`](crate::specs::machine::Determinism#AcceptsNotices).
+    /// Definitions: [`IsDeterministic`](crate::specs::machine::DeterminismSpecs#IsDeterministic), [`tenant_rules`](crate::specs::budget::PoolSpecs#tenant_rules), [`AcceptsNotices`](crate::specs::machine::DeterminismSpecs#AcceptsNotices).
     #[inline]
     pub fn tenants_leave_no_choice() {}
 }
@@ -166,7 +166,7 @@ mod pool {
     ///     IsKept (record { caps = p.caps; machines = p.machines.items }) p.held_by_all
     /// ```
     ///
-    /// Definitions: [`PoolValue`](crate::specs::budget::Pool#PoolValue), [`IsKept`](crate::specs::budget::Pool#IsKept).
+    /// Definitions: [`PoolValue`](crate::specs::budget::PoolSpecs#PoolValue), [`IsKept`](crate::specs::budget::PoolSpecs#IsKept).
     #[doc = examples!(budget Pool)]
     #[derive(Debug)]
     pub struct Pool<'r> {
@@ -186,7 +186,8 @@ mod pool {
         /// ensures within: IsWithinCaps result
         /// ```
         ///
-        /// Definitions: [`IsWithinCaps`](crate::specs::budget::Pool#IsWithinCaps).
+        /// Definitions: [`IsWithinCaps`](crate::specs::budget::PoolSpecs#IsWithinCaps).
+        #[must_use]
         #[inline]
         pub fn new(bytes: u64, elements: u64) -> Pool<'r> {
             Pool {
@@ -205,7 +206,8 @@ mod pool {
         /// ensures within: IsWithinCaps self.now
         /// ```
         ///
-        /// Definitions: [`IsWithinCaps`](crate::specs::budget::Pool#IsWithinCaps).
+        /// Definitions: [`IsWithinCaps`](crate::specs::budget::PoolSpecs#IsWithinCaps).
+        #[must_use]
         #[inline]
         pub fn len(&self) -> usize {
             self.machines.len()
@@ -218,14 +220,20 @@ mod pool {
         /// ```text
         /// ensures: IsTrue result ↔ (self.now.machines ≡ [])
         /// ```
+        #[must_use]
         #[inline]
         pub fn is_empty(&self) -> bool {
             self.machines.is_empty()
         }
 
-        /// Adds a machine that has nothing yet, and returns its index. If it is refused, the machine is
-        /// handed back with the error. It costs what `Machine::total_bytes` and `total_elements` cost
-        /// on the added machine, nothing for a new one, and a place in a vector.
+        /// Adds a machine that has nothing yet, and returns its index. It costs what
+        /// `Machine::total_bytes` and `total_elements` cost on the added machine, nothing for a new
+        /// one, and a place in a vector.
+        ///
+        /// # Errors
+        ///
+        /// In the order of the tests: [`NotEmpty`](crate::pool::AddError::NotEmpty) if the machine has or had bytes or elements; [`NoRoom`](crate::pool::AddError::NoRoom)
+        /// if memory for one more tenant is refused. The machine is handed back with the error.
         ///
         /// # Contract
         ///
@@ -239,7 +247,7 @@ mod pool {
         /// ensures within: IsWithinCaps self.new
         /// ```
         ///
-        /// Definitions: [`AddsTenant`](crate::specs::budget::Pool#AddsTenant), [`IsAddRefusal`](crate::specs::budget::Pool#IsAddRefusal), [`IsWithinCaps`](crate::specs::budget::Pool#IsWithinCaps).
+        /// Definitions: [`AddsTenant`](crate::specs::budget::PoolSpecs#AddsTenant), [`IsAddRefusal`](crate::specs::budget::PoolSpecs#IsAddRefusal), [`IsWithinCaps`](crate::specs::budget::PoolSpecs#IsWithinCaps).
         #[inline]
         pub fn add(&mut self, machine: Machine<'r>) -> Result<usize, (AddError, Machine<'r>)> {
             let index = self.machines.len();
@@ -259,6 +267,11 @@ mod pool {
         /// tenants together within the caps. It costs memory for the replies, and what the calls cost,
         /// however many tenants there are and however much they made or dropped before.
         ///
+        /// # Errors
+        ///
+        /// In the order of the tests: [`NoTenant`](crate::pool::PoolError::NoTenant) if no tenant has the index; [`OutOfMemory`](crate::pool::PoolError::OutOfMemory) if memory
+        /// for the replies is refused. Then no call was executed.
+        ///
         /// # Contract
         ///
         /// ```text
@@ -269,7 +282,7 @@ mod pool {
         /// ensures within: IsWithinCaps self.new
         /// ```
         ///
-        /// Definitions: [`RunsTenant`](crate::specs::budget::Pool#RunsTenant), [`IsWithinCaps`](crate::specs::budget::Pool#IsWithinCaps).
+        /// Definitions: [`RunsTenant`](crate::specs::budget::PoolSpecs#RunsTenant), [`IsWithinCaps`](crate::specs::budget::PoolSpecs#IsWithinCaps).
         #[inline]
         pub fn run(&mut self, index: usize, calls: &[Call]) -> Result<Vec<Reply>, PoolError> {
             let Some(mut tenant) = self.tenant(index) else {
@@ -290,7 +303,8 @@ mod pool {
         /// ensures within: IsWithinCaps self.now
         /// ```
         ///
-        /// Definitions: [`IsWithinCaps`](crate::specs::budget::Pool#IsWithinCaps).
+        /// Definitions: [`IsWithinCaps`](crate::specs::budget::PoolSpecs#IsWithinCaps).
+        #[must_use]
         #[inline]
         pub fn machine(&self, index: usize) -> Option<&Machine<'r>> {
             Some(&self.machines.get(index)?.machine)
@@ -304,7 +318,8 @@ mod pool {
         /// ensures: result ≡ option_map (λ s. total s Bytes) (slice_get self.now.machines index)
         /// ```
         ///
-        /// Definitions: [`total`](crate::specs::machine::State#total).
+        /// Definitions: [`total`](crate::specs::machine::StateSpecs#total).
+        #[must_use]
         #[inline]
         pub fn held_bytes(&self, index: usize) -> Option<u64> {
             Some(self.held(index)?.bytes)
@@ -318,7 +333,8 @@ mod pool {
         /// ensures: result ≡ option_map (λ s. total s Elements) (slice_get self.now.machines index)
         /// ```
         ///
-        /// Definitions: [`total`](crate::specs::machine::State#total).
+        /// Definitions: [`total`](crate::specs::machine::StateSpecs#total).
+        #[must_use]
         #[inline]
         pub fn held_elements(&self, index: usize) -> Option<u64> {
             Some(self.held(index)?.elements)
@@ -333,7 +349,8 @@ mod pool {
         /// ensures: result ≡ amounts_of (total_of self.now.machines)
         /// ```
         ///
-        /// Definitions: [`amounts_of`](crate::specs::meter::Capped#amounts_of), [`total_of`](crate::specs::budget::Pool#total_of).
+        /// Definitions: [`amounts_of`](crate::specs::meter::CappedSpecs#amounts_of), [`total_of`](crate::specs::budget::PoolSpecs#total_of).
+        #[must_use]
         #[inline]
         pub fn held_by_all(&self) -> Amounts {
             self.held_by_all
@@ -348,7 +365,7 @@ mod pool {
         ///     ≡ option_map (λ s. amounts_of (total s)) (slice_get self.now.machines index)
         /// ```
         ///
-        /// Definitions: [`amounts_of`](crate::specs::meter::Capped#amounts_of), [`total`](crate::specs::machine::State#total).
+        /// Definitions: [`amounts_of`](crate::specs::meter::CappedSpecs#amounts_of), [`total`](crate::specs::machine::StateSpecs#total).
         #[inline]
         fn held(&self, index: usize) -> Option<Amounts> {
             Some(self.machines.get(index)?.held)
@@ -363,7 +380,7 @@ mod pool {
         ///     ≡ option_map (tenant_at self.now index) (slice_get self.now.machines index)
         /// ```
         ///
-        /// Definitions: [`tenant_at`](crate::specs::budget::Pool#tenant_at).
+        /// Definitions: [`tenant_at`](crate::specs::budget::PoolSpecs#tenant_at).
         #[inline]
         fn tenant(&self, index: usize) -> Option<Tenant> {
             let held = self.held(index)?;
@@ -404,7 +421,7 @@ mod tenant {
         ///     { caps = caps; others = others; holdings = record { held = held; last = None } }
         /// ```
         ///
-        /// Definitions: [`holdings`](crate::specs::budget::Pool#holdings).
+        /// Definitions: [`holdings`](crate::specs::budget::PoolSpecs#holdings).
         #[inline]
         pub(crate) fn new(caps: Amounts, others: Amounts, held: Amounts) -> Self {
             Tenant {
@@ -423,7 +440,7 @@ mod tenant {
         /// ensures value: result ≡ amounts_of (held_together capped_tenant self.now)
         /// ```
         ///
-        /// Definitions: [`held_together`](crate::specs::meter::Capped#held_together), [`capped_tenant`](crate::specs::budget::Pool#capped_tenant), [`amounts_of`](crate::specs::meter::Capped#amounts_of).
+        /// Definitions: [`held_together`](crate::specs::meter::CappedSpecs#held_together), [`capped_tenant`](crate::specs::budget::PoolSpecs#capped_tenant), [`amounts_of`](crate::specs::meter::CappedSpecs#amounts_of).
         #[inline]
         pub(crate) fn held_by_all(&self) -> Amounts {
             let held = self.holdings.held();
@@ -440,7 +457,7 @@ mod tenant {
     /// capped = capped_tenant
     /// ```
     ///
-    /// Definitions: [`capped_tenant`](crate::specs::budget::Pool#capped_tenant).
+    /// Definitions: [`capped_tenant`](crate::specs::budget::PoolSpecs#capped_tenant).
     impl CappedLimiter for Tenant {
         #[inline]
         fn holdings(&self) -> Holdings {
@@ -470,7 +487,7 @@ mod tenant {
     /// invariant = λ m. m.held ≡ amounts_of (total m.machine)
     /// ```
     ///
-    /// Definitions: [`State`](crate::specs::machine::State#State), [`amounts_of`](crate::specs::meter::Capped#amounts_of), [`total`](crate::specs::machine::State#total).
+    /// Definitions: [`State`](crate::specs::machine::StateSpecs#State), [`amounts_of`](crate::specs::meter::CappedSpecs#amounts_of), [`total`](crate::specs::machine::StateSpecs#total).
     #[derive(Debug)]
     pub(crate) struct CountedMachine<'r> {
         pub(crate) machine: Machine<'r>,
@@ -491,7 +508,7 @@ mod tenant {
         /// ensures held: HoldsTotals (holdings tenant.new) self.new
         /// ```
         ///
-        /// Definitions: [`HoldsTotals`](crate::specs::machine::State#HoldsTotals), [`holdings`](crate::specs::budget::Pool#holdings), [`IsRunOf`](crate::specs::machine::Steps#IsRunOf), [`optional_rules`](crate::specs::meter::Limiter#optional_rules), [`tenant_rules`](crate::specs::budget::Pool#tenant_rules), [`world`](crate::specs::machine::State#world).
+        /// Definitions: [`HoldsTotals`](crate::specs::machine::StateSpecs#HoldsTotals), [`holdings`](crate::specs::budget::PoolSpecs#holdings), [`IsRunOf`](crate::specs::machine::StepsSpecs#IsRunOf), [`optional_rules`](crate::specs::meter::LimiterSpecs#optional_rules), [`tenant_rules`](crate::specs::budget::PoolSpecs#tenant_rules), [`world`](crate::specs::machine::StateSpecs#world).
         #[inline]
         pub(crate) fn run(
             &mut self,

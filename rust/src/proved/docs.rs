@@ -8,7 +8,7 @@ macro_rules! docs {
 ensures: result ≡ vector.extract_lane_s w16 v lane
 ```
 
-Definitions: [`extract_lane_s`](crate::specs::lanewise::VectorTable#extract_lane_s).
+Definitions: [`extract_lane_s`](crate::specs::lanewise::VectorTableSpecs#extract_lane_s).
 "#### };
     (lanewise i16x8_extract_lane_u) => { r####"One lane, read unsigned.
 
@@ -18,7 +18,7 @@ Definitions: [`extract_lane_s`](crate::specs::lanewise::VectorTable#extract_lane
 ensures: result ≡ vector.extract_lane_u w16 v lane
 ```
 
-Definitions: [`extract_lane_u`](crate::specs::lanewise::VectorTable#extract_lane_u).
+Definitions: [`extract_lane_u`](crate::specs::lanewise::VectorTableSpecs#extract_lane_u).
 "#### };
     (lanewise i16x8_replace_lane) => { r####"`v` with the item in one lane.
 
@@ -28,7 +28,7 @@ Definitions: [`extract_lane_u`](crate::specs::lanewise::VectorTable#extract_lane
 ensures: result ≡ vector.replace_lane w16 v lane item
 ```
 
-Definitions: [`replace_lane`](crate::specs::lanewise::VectorTable#replace_lane).
+Definitions: [`replace_lane`](crate::specs::lanewise::VectorTableSpecs#replace_lane).
 "#### };
     (lanewise i32x4_extract_lane) => { r####"One lane, read signed.
 
@@ -38,7 +38,7 @@ Definitions: [`replace_lane`](crate::specs::lanewise::VectorTable#replace_lane).
 ensures: result ≡ vector.extract_lane_s w32 v lane
 ```
 
-Definitions: [`extract_lane_s`](crate::specs::lanewise::VectorTable#extract_lane_s).
+Definitions: [`extract_lane_s`](crate::specs::lanewise::VectorTableSpecs#extract_lane_s).
 "#### };
     (lanewise i32x4_replace_lane) => { r####"`v` with the item in one lane.
 
@@ -48,7 +48,7 @@ Definitions: [`extract_lane_s`](crate::specs::lanewise::VectorTable#extract_lane
 ensures: result ≡ vector.replace_lane w32 v lane item
 ```
 
-Definitions: [`replace_lane`](crate::specs::lanewise::VectorTable#replace_lane).
+Definitions: [`replace_lane`](crate::specs::lanewise::VectorTableSpecs#replace_lane).
 "#### };
     (lanewise i64x2_extract_lane) => { r####"One lane, read signed.
 
@@ -58,7 +58,7 @@ Definitions: [`replace_lane`](crate::specs::lanewise::VectorTable#replace_lane).
 ensures: result ≡ vector.extract_lane_s w64 v lane
 ```
 
-Definitions: [`extract_lane_s`](crate::specs::lanewise::VectorTable#extract_lane_s).
+Definitions: [`extract_lane_s`](crate::specs::lanewise::VectorTableSpecs#extract_lane_s).
 "#### };
     (lanewise i64x2_replace_lane) => { r####"`v` with the item in one lane.
 
@@ -68,7 +68,7 @@ Definitions: [`extract_lane_s`](crate::specs::lanewise::VectorTable#extract_lane
 ensures: result ≡ vector.replace_lane w64 v lane item
 ```
 
-Definitions: [`replace_lane`](crate::specs::lanewise::VectorTable#replace_lane).
+Definitions: [`replace_lane`](crate::specs::lanewise::VectorTableSpecs#replace_lane).
 "#### };
     (lanewise i8x16_extract_lane_s) => { r####"One lane, read signed.
 
@@ -78,7 +78,7 @@ Definitions: [`replace_lane`](crate::specs::lanewise::VectorTable#replace_lane).
 ensures: result ≡ vector.extract_lane_s w8 v lane
 ```
 
-Definitions: [`extract_lane_s`](crate::specs::lanewise::VectorTable#extract_lane_s).
+Definitions: [`extract_lane_s`](crate::specs::lanewise::VectorTableSpecs#extract_lane_s).
 "#### };
     (lanewise i8x16_extract_lane_u) => { r####"One lane, read unsigned.
 
@@ -88,7 +88,7 @@ Definitions: [`extract_lane_s`](crate::specs::lanewise::VectorTable#extract_lane
 ensures: result ≡ vector.extract_lane_u w8 v lane
 ```
 
-Definitions: [`extract_lane_u`](crate::specs::lanewise::VectorTable#extract_lane_u).
+Definitions: [`extract_lane_u`](crate::specs::lanewise::VectorTableSpecs#extract_lane_u).
 "#### };
     (lanewise i8x16_replace_lane) => { r####"`v` with the item in one lane.
 
@@ -98,7 +98,7 @@ Definitions: [`extract_lane_u`](crate::specs::lanewise::VectorTable#extract_lane
 ensures: result ≡ vector.replace_lane w8 v lane item
 ```
 
-Definitions: [`replace_lane`](crate::specs::lanewise::VectorTable#replace_lane).
+Definitions: [`replace_lane`](crate::specs::lanewise::VectorTableSpecs#replace_lane).
 "#### };
     (lanewise i8x16_shuffle) => { r####"Lane i is lane `s[i]` of `a`, or lane `s[i] - 16` of `b` where `s[i]` is above 15.
 
@@ -108,7 +108,7 @@ Definitions: [`replace_lane`](crate::specs::lanewise::VectorTable#replace_lane).
 ensures: result ≡ vector.shuffle a b s
 ```
 
-Definitions: [`shuffle`](crate::specs::lanewise::VectorTable#shuffle).
+Definitions: [`shuffle`](crate::specs::lanewise::VectorTableSpecs#shuffle).
 "#### };
     (store ElementSegment.as_ref) => { r####"A shared reference to the segment.
 
@@ -118,7 +118,7 @@ Definitions: [`shuffle`](crate::specs::lanewise::VectorTable#shuffle).
 ensures: segment_of result ≡ self.now
 ```
 
-Definitions: [`segment_of`](crate::specs::store::Segment#segment_of).
+Definitions: [`segment_of`](crate::specs::store::SegmentSpecs#segment_of).
 "#### };
     (store ElementSegment.contract) => { r####"# Model
 
@@ -128,7 +128,7 @@ view = λ segment. record { ty = segment.ty; items = segment.items.items }
 invariant = λ segment. IsKept segment.items.items (vec_capacity segment.items)
 ```
 
-Definitions: [`SegmentValue`](crate::specs::store::Segment#SegmentValue), [`IsKept`](crate::specs::store::Segment#IsKept).
+Definitions: [`SegmentValue`](crate::specs::store::SegmentSpecs#SegmentValue), [`IsKept`](crate::specs::store::SegmentSpecs#IsKept).
 "#### };
     (store ElementSegment.drop_items) => { r####"Drops the items and gives their memory back. The type stays.
 
@@ -138,7 +138,7 @@ Definitions: [`SegmentValue`](crate::specs::store::Segment#SegmentValue), [`IsKe
 ensures: self.new ≡ dropped self.old
 ```
 
-Definitions: [`dropped`](crate::specs::store::Segment#dropped).
+Definitions: [`dropped`](crate::specs::store::SegmentSpecs#dropped).
 "#### };
     (store ElementSegment.items) => { r####"The items.
 
@@ -172,12 +172,16 @@ view = λ m. memory_of m.ty m.buffer
 invariant = λ m. IsSized m.ty (length m.buffer.bytes)
 ```
 
-Definitions: [`MemoryValue`](crate::specs::store::Memory#MemoryValue), [`memory_of`](crate::specs::store::Memory#memory_of), [`IsSized`](crate::specs::store::Memory#IsSized).
+Definitions: [`MemoryValue`](crate::specs::store::MemorySpecs#MemoryValue), [`memory_of`](crate::specs::store::MemorySpecs#memory_of), [`IsSized`](crate::specs::store::MemorySpecs#IsSized).
 "#### };
     (store LinearMemory.copy) => { r####"Copies `len` bytes of another memory, from `src` on, over the bytes of a memory from `dst`
-on. The errors are those of `fill`, if a range ends past its memory.
+on.
 
 Core specification, memory.copy of two memories.
+
+# Errors
+
+Those of `fill`, if a range ends past its memory.
 
 # Contract
 
@@ -189,12 +193,16 @@ ensures written: BulkWrites
 ensures kept: KeepsPlace dst_memory.old dst_memory.new
 ```
 
-Definitions: [`BulkWrites`](crate::specs::store::Growth#BulkWrites), [`copied`](crate::specs::store::Growth#copied), [`metered`](crate::specs::store::Growth#metered), [`meter_at_entry`](crate::specs::meter::Meter#meter_at_entry), [`meter_at_exit`](crate::specs::meter::Meter#meter_at_exit), [`KeepsPlace`](crate::specs::store::Memory#KeepsPlace).
+Definitions: [`BulkWrites`](crate::specs::store::GrowthSpecs#BulkWrites), [`copied`](crate::specs::store::GrowthSpecs#copied), [`metered`](crate::specs::store::GrowthSpecs#metered), [`meter_at_entry`](crate::specs::meter::MeterSpecs#meter_at_entry), [`meter_at_exit`](crate::specs::meter::MeterSpecs#meter_at_exit), [`KeepsPlace`](crate::specs::store::MemorySpecs#KeepsPlace).
 "#### };
     (store LinearMemory.copy_within) => { r####"Copies `len` bytes from `src` on over those from `dst` on. If the ranges overlap, the old
-bytes are copied. The errors are those of `fill`, if a range ends past the memory.
+bytes are copied.
 
 Core specification, memory.copy within a memory.
+
+# Errors
+
+Those of `fill`, if a range ends past the memory.
 
 # Contract
 
@@ -205,7 +213,7 @@ ensures written: BulkWrites (copied self.old.bytes dst self.old.bytes src len) l
 ensures kept: KeepsPlace self.old self.new
 ```
 
-Definitions: [`BulkWrites`](crate::specs::store::Growth#BulkWrites), [`copied`](crate::specs::store::Growth#copied), [`metered`](crate::specs::store::Growth#metered), [`meter_at_entry`](crate::specs::meter::Meter#meter_at_entry), [`meter_at_exit`](crate::specs::meter::Meter#meter_at_exit), [`KeepsPlace`](crate::specs::store::Memory#KeepsPlace).
+Definitions: [`BulkWrites`](crate::specs::store::GrowthSpecs#BulkWrites), [`copied`](crate::specs::store::GrowthSpecs#copied), [`metered`](crate::specs::store::GrowthSpecs#metered), [`meter_at_entry`](crate::specs::meter::MeterSpecs#meter_at_entry), [`meter_at_exit`](crate::specs::meter::MeterSpecs#meter_at_exit), [`KeepsPlace`](crate::specs::store::MemorySpecs#KeepsPlace).
 "#### };
     (store LinearMemory.data) => { r####"The bytes.
 
@@ -225,7 +233,9 @@ ensures* writes_back: sem 𝓛 (Lends (the_row R.row R.Region) (Array u8 0) self
 ensures value: result.now ≡ self.old.bytes
 ```
 
-Definitions: [`memory_of`](crate::specs::store::Memory#memory_of), [`with_bytes`](crate::specs::store::Buffer#with_bytes), [`buffer_of`](crate::specs::store::Memory#buffer_of).
+Definitions: [`memory_of`](crate::specs::store::MemorySpecs#memory_of), [`with_bytes`](crate::specs::store::BufferSpecs#with_bytes), [`buffer_of`](crate::specs::store::MemorySpecs#buffer_of).
+
+`R` is the type of what has the bytes, a [`Region`](crate::machine::Region#contract).
 "#### };
     (store LinearMemory.data_size) => { r####"The size in bytes: whole pages, as many as its type allows.
 
@@ -236,7 +246,7 @@ ensures value: result ≡ length self.now.bytes
 ensures sized: IsSized self.now.ty result
 ```
 
-Definitions: [`IsSized`](crate::specs::store::Memory#IsSized).
+Definitions: [`IsSized`](crate::specs::store::MemorySpecs#IsSized).
 "#### };
     (store LinearMemory.dynamic_ty) => { r####"The type that it was made with, with the present size as its minimum: a subtype of that
 type.
@@ -248,15 +258,17 @@ ensures value: result ≡ dynamic_type self.now
 ensures subtype: IsSubtype result self.now.ty
 ```
 
-Definitions: [`dynamic_type`](crate::specs::store::Memory#dynamic_type), [`IsSubtype`](crate::specs::store::Memory#IsSubtype).
+Definitions: [`dynamic_type`](crate::specs::store::MemorySpecs#dynamic_type), [`IsSubtype`](crate::specs::store::MemorySpecs#IsSubtype).
 "#### };
-    (store LinearMemory.fill) => { r####"Fills `len` bytes from `dst` on with a value.
-
-Errors, in the order of the tests: `OutOfBoundsAccess` if they end past the memory;
-`OutOfFuel`, which is tested also if no byte is filled. Then no byte is written, and no fuel
-taken. It is charged as a table's `fill`, by the bytes.
+    (store LinearMemory.fill) => { r####"Fills `len` bytes from `dst` on with a value. It is charged as a table's `fill`, by the
+bytes.
 
 Core specification, memory.fill.
+
+# Errors
+
+In the order of the tests: [`OutOfBoundsAccess`](crate::MemoryError::OutOfBoundsAccess) if they end past the memory; [`OutOfFuel`](crate::MemoryError::OutOfFuel),
+which is tested also if no byte is filled. Then no byte is written, and no fuel taken.
 
 # Contract
 
@@ -267,19 +279,28 @@ ensures written: BulkWrites (filled self.old.bytes dst value len) len
 ensures kept: KeepsPlace self.old self.new
 ```
 
-Definitions: [`BulkWrites`](crate::specs::store::Growth#BulkWrites), [`filled`](crate::specs::store::Growth#filled), [`metered`](crate::specs::store::Growth#metered), [`meter_at_entry`](crate::specs::meter::Meter#meter_at_entry), [`meter_at_exit`](crate::specs::meter::Meter#meter_at_exit), [`KeepsPlace`](crate::specs::store::Memory#KeepsPlace).
+Definitions: [`BulkWrites`](crate::specs::store::GrowthSpecs#BulkWrites), [`filled`](crate::specs::store::GrowthSpecs#filled), [`metered`](crate::specs::store::GrowthSpecs#metered), [`meter_at_entry`](crate::specs::meter::MeterSpecs#meter_at_entry), [`meter_at_exit`](crate::specs::meter::MeterSpecs#meter_at_exit), [`KeepsPlace`](crate::specs::store::MemorySpecs#KeepsPlace).
 "#### };
     (store LinearMemory.grow) => { r####"Grows by `additional` pages of zeros, and returns the old size in pages. A growth by 0 pages
-changes nothing and asks no limiter.
+changes nothing and asks no limiter. Bytes of a borrowed buffer past the new size stay as
+they are.
 
-Errors, in the order of the tests: `OutOfBoundsGrowth` above the greatest number of pages or
-the maximum, or at 2^64 bytes or more; the limiter's denial (`OutOfBoundsGrowth` if it says
-no, `ResourceLimiterDeniedAllocation` if it returns an error); `InvalidStaticBufferSize` if
-a borrowed buffer is shorter than the new size, which charges nothing; `OutOfFuel` if the
-meter is on and the added bytes cost more than is left; `OutOfSystemMemory`, after which the
-fuel stays spent, and which doesn't occur on a borrowed buffer. The limiter is notified of
-the last three, and if it returns an error, the error is `ResourceLimiterDeniedAllocation`
-instead. Bytes of a borrowed buffer past the new size stay as they are.
+# Errors
+
+In the order of the tests:
+
+- [`OutOfBoundsGrowth`](crate::MemoryError::OutOfBoundsGrowth) above the greatest number of pages or the maximum, or at 2^64 bytes or
+  more;
+- [`OutOfBoundsGrowth`](crate::MemoryError::OutOfBoundsGrowth) if the limiter says no, [`ResourceLimiterDeniedAllocation`](crate::MemoryError::ResourceLimiterDeniedAllocation) if it
+  returns an error;
+- [`InvalidStaticBufferSize`](crate::MemoryError::InvalidStaticBufferSize) if a borrowed buffer is shorter than the new size, which charges
+  nothing;
+- [`OutOfFuel`](crate::MemoryError::OutOfFuel) if the meter is on and the added bytes cost more than is left;
+- [`OutOfSystemMemory`](crate::MemoryError::OutOfSystemMemory), after which the fuel stays spent, and which doesn't occur on a
+  borrowed buffer.
+
+The limiter is notified of the last three, and if it returns an error, the error is
+[`ResourceLimiterDeniedAllocation`](crate::MemoryError::ResourceLimiterDeniedAllocation) instead.
 
 # Contract
 
@@ -290,13 +311,18 @@ ensures grown: GrowsMemory (optional_rules L.rules) additional
     (metered_value self.new (meter_at_exit fuel.exit) (lent_limiter limiter.new))
 ```
 
-Definitions: [`KeepsLoan`](crate::specs::meter::Limiter#KeepsLoan), [`GrowsMemory`](crate::specs::store::Memory#GrowsMemory), [`optional_rules`](crate::specs::meter::Limiter#optional_rules), [`metered_value`](crate::specs::store::Growth#metered_value), [`meter_at_entry`](crate::specs::meter::Meter#meter_at_entry), [`lent_limiter`](crate::specs::meter::Limiter#lent_limiter), [`meter_at_exit`](crate::specs::meter::Meter#meter_at_exit).
+Definitions: [`KeepsLoan`](crate::specs::meter::LimiterSpecs#KeepsLoan), [`GrowsMemory`](crate::specs::store::MemorySpecs#GrowsMemory), [`optional_rules`](crate::specs::meter::LimiterSpecs#optional_rules), [`metered_value`](crate::specs::store::GrowthSpecs#metered_value), [`meter_at_entry`](crate::specs::meter::MeterSpecs#meter_at_entry), [`lent_limiter`](crate::specs::meter::LimiterSpecs#lent_limiter), [`meter_at_exit`](crate::specs::meter::MeterSpecs#meter_at_exit).
+
+`L` is the type of the limiter, a [`ResourceLimiter`](crate::machine::ResourceLimiter#contract).
 "#### };
     (store LinearMemory.init) => { r####"Copies `len` bytes of a data segment, from `src` on, over the bytes from `dst` on. A segment
-that was dropped has no bytes. The errors are those of `fill`, if a range ends past the
-segment or the memory.
+that was dropped has no bytes.
 
 Core specification, memory.init.
+
+# Errors
+
+Those of `fill`, if a range ends past the segment or the memory.
 
 # Contract
 
@@ -307,13 +333,15 @@ ensures written: BulkWrites (copied self.old.bytes dst segment.now src len) len
 ensures kept: KeepsPlace self.old self.new
 ```
 
-Definitions: [`BulkWrites`](crate::specs::store::Growth#BulkWrites), [`copied`](crate::specs::store::Growth#copied), [`metered`](crate::specs::store::Growth#metered), [`meter_at_entry`](crate::specs::meter::Meter#meter_at_entry), [`meter_at_exit`](crate::specs::meter::Meter#meter_at_exit), [`KeepsPlace`](crate::specs::store::Memory#KeepsPlace).
+Definitions: [`BulkWrites`](crate::specs::store::GrowthSpecs#BulkWrites), [`copied`](crate::specs::store::GrowthSpecs#copied), [`metered`](crate::specs::store::GrowthSpecs#metered), [`meter_at_entry`](crate::specs::meter::MeterSpecs#meter_at_entry), [`meter_at_exit`](crate::specs::meter::MeterSpecs#meter_at_exit), [`KeepsPlace`](crate::specs::store::MemorySpecs#KeepsPlace).
 "#### };
     (store LinearMemory.new) => { r####"A memory of zeros, at the minimum of its type. It takes no fuel.
 
-Errors, in the order of the tests: `MinimumSizeOverflow` if the minimum has 2^64 bytes or
-more; `ResourceLimiterDeniedAllocation` if the limiter doesn't permit it;
-`OutOfSystemMemory`, of which the limiter is notified.
+# Errors
+
+In the order of the tests: [`MinimumSizeOverflow`](crate::MemoryError::MinimumSizeOverflow) if the minimum has 2^64 bytes or more;
+[`ResourceLimiterDeniedAllocation`](crate::MemoryError::ResourceLimiterDeniedAllocation) if the limiter doesn't permit it; [`OutOfSystemMemory`](crate::MemoryError::OutOfSystemMemory), of
+which the limiter is notified.
 
 # Contract
 
@@ -323,14 +351,18 @@ ensures made: MakesMemory (optional_rules L.rules) Owned ty
     (lent_limiter limiter.old) result (lent_limiter limiter.new)
 ```
 
-Definitions: [`KeepsLoan`](crate::specs::meter::Limiter#KeepsLoan), [`MakesMemory`](crate::specs::store::Memory#MakesMemory), [`optional_rules`](crate::specs::meter::Limiter#optional_rules), [`Owned`](crate::specs::store::Buffer#Owned), [`lent_limiter`](crate::specs::meter::Limiter#lent_limiter).
+Definitions: [`KeepsLoan`](crate::specs::meter::LimiterSpecs#KeepsLoan), [`MakesMemory`](crate::specs::store::MemorySpecs#MakesMemory), [`optional_rules`](crate::specs::meter::LimiterSpecs#optional_rules), [`Owned`](crate::specs::store::BufferSpecs#Owned), [`lent_limiter`](crate::specs::meter::LimiterSpecs#lent_limiter).
+
+`L` is the type of the limiter, a [`ResourceLimiter`](crate::machine::ResourceLimiter#contract).
 "#### };
     (store LinearMemory.new_static) => { r####"A memory of zeros at the front of a borrowed buffer, at the minimum of its type. It takes no
 fuel and allocates nothing, and the bytes past the minimum stay as they are.
 
-Errors, in the order of the tests: `MinimumSizeOverflow` if the minimum has 2^64 bytes or
-more; `ResourceLimiterDeniedAllocation` if the limiter doesn't permit it;
-`InvalidStaticBufferSize` if the buffer is shorter than the minimum, of which the limiter is
+# Errors
+
+In the order of the tests: [`MinimumSizeOverflow`](crate::MemoryError::MinimumSizeOverflow) if the minimum has 2^64 bytes or more;
+[`ResourceLimiterDeniedAllocation`](crate::MemoryError::ResourceLimiterDeniedAllocation) if the limiter doesn't permit it;
+[`InvalidStaticBufferSize`](crate::MemoryError::InvalidStaticBufferSize) if the buffer is shorter than the minimum, of which the limiter is
 notified. After an error the loan has ended, and the bytes of the buffer are unchanged.
 
 # Contract
@@ -341,10 +373,15 @@ ensures made: MakesMemory (optional_rules L.rules) (Lent region.entry.now) ty
     (lent_limiter limiter.old) result (lent_limiter limiter.new)
 ```
 
-Definitions: [`KeepsLoan`](crate::specs::meter::Limiter#KeepsLoan), [`MakesMemory`](crate::specs::store::Memory#MakesMemory), [`optional_rules`](crate::specs::meter::Limiter#optional_rules), [`Lent`](crate::specs::store::Buffer#Lent), [`lent_limiter`](crate::specs::meter::Limiter#lent_limiter).
+Definitions: [`KeepsLoan`](crate::specs::meter::LimiterSpecs#KeepsLoan), [`MakesMemory`](crate::specs::store::MemorySpecs#MakesMemory), [`optional_rules`](crate::specs::meter::LimiterSpecs#optional_rules), [`Lent`](crate::specs::store::BufferSpecs#Lent), [`lent_limiter`](crate::specs::meter::LimiterSpecs#lent_limiter).
+
+`L` is the type of the limiter, a [`ResourceLimiter`](crate::machine::ResourceLimiter#contract).
 "#### };
-    (store LinearMemory.read) => { r####"Fills a buffer with the bytes from an offset on. The error is `OutOfBoundsAccess` if they
-end past the memory; then nothing is copied.
+    (store LinearMemory.read) => { r####"Fills a buffer with the bytes from an offset on.
+
+# Errors
+
+[`OutOfBoundsAccess`](crate::MemoryError::OutOfBoundsAccess) if they end past the memory; then nothing is copied.
 
 # Contract
 
@@ -355,7 +392,7 @@ ensures err: IfErr result
     × (at self.now.bytes offset (length buffer.old) ≡ None) × (buffer.new ≡ buffer.old))
 ```
 
-Definitions: [`at`](crate::specs::types::Access#at).
+Definitions: [`at`](crate::specs::types::AccessSpecs#at).
 "#### };
     (store LinearMemory.size) => { r####"The size in pages.
 
@@ -366,7 +403,7 @@ ensures value: result ≡ pages_of self.now
 ensures within: in_bounds self.now.ty result ≡ true
 ```
 
-Definitions: [`pages_of`](crate::specs::store::Memory#pages_of), [`in_bounds`](crate::specs::store::Memory#in_bounds).
+Definitions: [`pages_of`](crate::specs::store::MemorySpecs#pages_of), [`in_bounds`](crate::specs::store::MemorySpecs#in_bounds).
 "#### };
     (store LinearMemory.ty) => { r####"The type that it was made with.
 
@@ -376,8 +413,11 @@ Definitions: [`pages_of`](crate::specs::store::Memory#pages_of), [`in_bounds`](c
 ensures: result ≡ self.now.ty
 ```
 "#### };
-    (store LinearMemory.write) => { r####"Writes bytes over those from an offset on. The error is `OutOfBoundsAccess` if they would
-end past the memory; then nothing is written.
+    (store LinearMemory.write) => { r####"Writes bytes over those from an offset on.
+
+# Errors
+
+[`OutOfBoundsAccess`](crate::MemoryError::OutOfBoundsAccess) if they would end past the memory; then nothing is written.
 
 # Contract
 
@@ -385,7 +425,7 @@ end past the memory; then nothing is written.
 ensures: WritesMemory self.old offset buffer.now result self.new
 ```
 
-Definitions: [`WritesMemory`](crate::specs::store::Memory#WritesMemory).
+Definitions: [`WritesMemory`](crate::specs::store::MemorySpecs#WritesMemory).
 "#### };
     (store Table.contract) => { r####"# Model
 
@@ -395,13 +435,16 @@ view = λ t. record { ty = t.ty; elements = t.elements.items }
 invariant = λ t. IsSized t.ty (length t.elements.items)
 ```
 
-Definitions: [`TableValue`](crate::specs::store::Table#TableValue), [`IsSized`](crate::specs::store::Table#IsSized).
+Definitions: [`TableValue`](crate::specs::store::TableSpecs#TableValue), [`IsSized`](crate::specs::store::TableSpecs#IsSized).
 "#### };
     (store Table.copy) => { r####"Copies `len` elements of another table, from `src` on, over the elements of a table from
 `dst` on.
 
-Errors, in the order of the tests: `ElementTypeMismatch`; `CopyOutOfBounds` if a range ends
-past its table; `OutOfFuel`, which is tested also if no element is copied.
+# Errors
+
+In the order of the tests: [`ElementTypeMismatch`](crate::TableError::ElementTypeMismatch) if the tables are of two types;
+[`CopyOutOfBounds`](crate::TableError::CopyOutOfBounds) if a range ends past its table; [`OutOfFuel`](crate::TableError::OutOfFuel), which is tested also if no
+element is copied.
 
 # Contract
 
@@ -411,13 +454,15 @@ ensures: WritesTable (copy_of dst src len src_table.now)
     (metered dst_table.new (meter_at_exit fuel.exit))
 ```
 
-Definitions: [`WritesTable`](crate::specs::store::Table#WritesTable), [`copy_of`](crate::specs::store::Table#copy_of), [`metered`](crate::specs::store::Growth#metered), [`meter_at_entry`](crate::specs::meter::Meter#meter_at_entry), [`meter_at_exit`](crate::specs::meter::Meter#meter_at_exit).
+Definitions: [`WritesTable`](crate::specs::store::TableSpecs#WritesTable), [`copy_of`](crate::specs::store::TableSpecs#copy_of), [`metered`](crate::specs::store::GrowthSpecs#metered), [`meter_at_entry`](crate::specs::meter::MeterSpecs#meter_at_entry), [`meter_at_exit`](crate::specs::meter::MeterSpecs#meter_at_exit).
 "#### };
     (store Table.copy_within) => { r####"Copies `len` elements from `src` on over those from `dst` on. If the ranges overlap, the old
 elements are copied.
 
-Errors, in the order of the tests: `CopyOutOfBounds` if a range ends past the table;
-`OutOfFuel`, which is tested also if no element is copied.
+# Errors
+
+In the order of the tests: [`CopyOutOfBounds`](crate::TableError::CopyOutOfBounds) if a range ends past the table; [`OutOfFuel`](crate::TableError::OutOfFuel),
+which is tested also if no element is copied.
 
 # Contract
 
@@ -427,7 +472,7 @@ ensures: WritesTable (copy_of dst src len self.old)
     (metered self.new (meter_at_exit fuel.exit))
 ```
 
-Definitions: [`WritesTable`](crate::specs::store::Table#WritesTable), [`copy_of`](crate::specs::store::Table#copy_of), [`metered`](crate::specs::store::Growth#metered), [`meter_at_entry`](crate::specs::meter::Meter#meter_at_entry), [`meter_at_exit`](crate::specs::meter::Meter#meter_at_exit).
+Definitions: [`WritesTable`](crate::specs::store::TableSpecs#WritesTable), [`copy_of`](crate::specs::store::TableSpecs#copy_of), [`metered`](crate::specs::store::GrowthSpecs#metered), [`meter_at_entry`](crate::specs::meter::MeterSpecs#meter_at_entry), [`meter_at_exit`](crate::specs::meter::MeterSpecs#meter_at_exit).
 "#### };
     (store Table.dynamic_ty) => { r####"The type that it was made with, with the present size as its minimum: a subtype of that
 type.
@@ -439,10 +484,13 @@ ensures value: result ≡ dynamic_type self.now
 ensures subtype: IsSubtype result self.now.ty
 ```
 
-Definitions: [`dynamic_type`](crate::specs::store::Table#dynamic_type), [`IsSubtype`](crate::specs::store::Table#IsSubtype).
+Definitions: [`dynamic_type`](crate::specs::store::TableSpecs#dynamic_type), [`IsSubtype`](crate::specs::store::TableSpecs#IsSubtype).
 "#### };
-    (store Table.fill) => { r####"Fills `len` elements from `dst` on with a reference. The type of the reference is tested
-first (`ElementTypeMismatch`); the rest is as in `fill_raw`.
+    (store Table.fill) => { r####"Fills `len` elements from `dst` on with a reference.
+
+# Errors
+
+[`ElementTypeMismatch`](crate::TableError::ElementTypeMismatch) if the reference is of another type; then those of `fill_raw`.
 
 # Contract
 
@@ -452,11 +500,14 @@ ensures: WritesTable (filling_of dst val len)
     (metered self.new (meter_at_exit fuel.exit))
 ```
 
-Definitions: [`WritesTable`](crate::specs::store::Table#WritesTable), [`filling_of`](crate::specs::store::Table#filling_of), [`metered`](crate::specs::store::Growth#metered), [`meter_at_entry`](crate::specs::meter::Meter#meter_at_entry), [`meter_at_exit`](crate::specs::meter::Meter#meter_at_exit).
+Definitions: [`WritesTable`](crate::specs::store::TableSpecs#WritesTable), [`filling_of`](crate::specs::store::TableSpecs#filling_of), [`metered`](crate::specs::store::GrowthSpecs#metered), [`meter_at_entry`](crate::specs::meter::MeterSpecs#meter_at_entry), [`meter_at_exit`](crate::specs::meter::MeterSpecs#meter_at_exit).
 "#### };
-    (store Table.fill_raw) => { r####"Fills `len` elements from `dst` on with a reference. Errors, in the order of the tests:
-`FillOutOfBounds` if they end past the table; `OutOfFuel`, which is tested also if no
-element is filled.
+    (store Table.fill_raw) => { r####"Fills `len` elements from `dst` on with a reference.
+
+# Errors
+
+In the order of the tests: [`FillOutOfBounds`](crate::TableError::FillOutOfBounds) if they end past the table; [`OutOfFuel`](crate::TableError::OutOfFuel), which
+is tested also if no element is filled.
 
 # Contract
 
@@ -466,7 +517,7 @@ ensures: WritesTable (raw_filling_of dst val len)
     (metered self.new (meter_at_exit fuel.exit))
 ```
 
-Definitions: [`WritesTable`](crate::specs::store::Table#WritesTable), [`raw_filling_of`](crate::specs::store::Table#raw_filling_of), [`metered`](crate::specs::store::Growth#metered), [`meter_at_entry`](crate::specs::meter::Meter#meter_at_entry), [`meter_at_exit`](crate::specs::meter::Meter#meter_at_exit).
+Definitions: [`WritesTable`](crate::specs::store::TableSpecs#WritesTable), [`raw_filling_of`](crate::specs::store::TableSpecs#raw_filling_of), [`metered`](crate::specs::store::GrowthSpecs#metered), [`meter_at_entry`](crate::specs::meter::MeterSpecs#meter_at_entry), [`meter_at_exit`](crate::specs::meter::MeterSpecs#meter_at_exit).
 "#### };
     (store Table.get) => { r####"The element at an index with its type, or `None` past the end.
 
@@ -476,11 +527,14 @@ Definitions: [`WritesTable`](crate::specs::store::Table#WritesTable), [`raw_fill
 ensures: result ≡ element_at self.now index
 ```
 
-Definitions: [`element_at`](crate::specs::store::Table#element_at).
+Definitions: [`element_at`](crate::specs::store::TableSpecs#element_at).
 "#### };
-    (store Table.grow) => { r####"Grows by `delta` elements, each the given reference, and returns the old size. The type of
-the reference is tested first, also in a growth by 0 (`ElementTypeMismatch`); the rest is as
-in `grow_raw`.
+    (store Table.grow) => { r####"Grows by `delta` elements, each the given reference, and returns the old size.
+
+# Errors
+
+[`ElementTypeMismatch`](crate::TableError::ElementTypeMismatch) if the reference is of another type, also in a growth by 0; then those
+of `grow_raw`.
 
 # Contract
 
@@ -491,17 +545,26 @@ ensures grown: GrowsTable (optional_rules L.rules) delta init
     (metered_value self.new (meter_at_exit fuel.exit) (lent_limiter limiter.new))
 ```
 
-Definitions: [`KeepsLoan`](crate::specs::meter::Limiter#KeepsLoan), [`GrowsTable`](crate::specs::store::Table#GrowsTable), [`optional_rules`](crate::specs::meter::Limiter#optional_rules), [`metered_value`](crate::specs::store::Growth#metered_value), [`meter_at_entry`](crate::specs::meter::Meter#meter_at_entry), [`lent_limiter`](crate::specs::meter::Limiter#lent_limiter), [`meter_at_exit`](crate::specs::meter::Meter#meter_at_exit).
+Definitions: [`KeepsLoan`](crate::specs::meter::LimiterSpecs#KeepsLoan), [`GrowsTable`](crate::specs::store::TableSpecs#GrowsTable), [`optional_rules`](crate::specs::meter::LimiterSpecs#optional_rules), [`metered_value`](crate::specs::store::GrowthSpecs#metered_value), [`meter_at_entry`](crate::specs::meter::MeterSpecs#meter_at_entry), [`lent_limiter`](crate::specs::meter::LimiterSpecs#lent_limiter), [`meter_at_exit`](crate::specs::meter::MeterSpecs#meter_at_exit).
+
+`L` is the type of the limiter, a [`ResourceLimiter`](crate::machine::ResourceLimiter#contract).
 "#### };
     (store Table.grow_raw) => { r####"Grows by `delta` elements, each the given reference, and returns the old size. A growth by 0
 changes nothing and asks no limiter.
 
-Errors, in the order of the tests: `GrowOutOfBounds` if there would be as many elements as
-indices, 2^32 or 2^64; the limiter's denial (`GrowOutOfBounds` if it says no,
-`ResourceLimiterDeniedAllocation` if it returns an error); `GrowOutOfBounds` above the
-maximum; `OutOfFuel` if the meter is on and the new elements cost more than is left;
-`OutOfSystemMemory`, after which the fuel stays spent. The limiter is notified of the last
-three, and if it returns an error, the error is `ResourceLimiterDeniedAllocation` instead.
+# Errors
+
+In the order of the tests:
+
+- [`GrowOutOfBounds`](crate::TableError::GrowOutOfBounds) if there would be as many elements as indices, 2^32 or 2^64;
+- [`GrowOutOfBounds`](crate::TableError::GrowOutOfBounds) if the limiter says no, [`ResourceLimiterDeniedAllocation`](crate::TableError::ResourceLimiterDeniedAllocation) if it returns
+  an error;
+- [`GrowOutOfBounds`](crate::TableError::GrowOutOfBounds) above the maximum;
+- [`OutOfFuel`](crate::TableError::OutOfFuel) if the meter is on and the new elements cost more than is left;
+- [`OutOfSystemMemory`](crate::TableError::OutOfSystemMemory), after which the fuel stays spent.
+
+The limiter is notified of the last three, and if it returns an error, the error is
+[`ResourceLimiterDeniedAllocation`](crate::TableError::ResourceLimiterDeniedAllocation) instead.
 
 # Contract
 
@@ -512,12 +575,17 @@ ensures grown: GrowsTableRaw (optional_rules L.rules) delta init
     (metered_value self.new (meter_at_exit fuel.exit) (lent_limiter limiter.new))
 ```
 
-Definitions: [`KeepsLoan`](crate::specs::meter::Limiter#KeepsLoan), [`GrowsTableRaw`](crate::specs::store::Table#GrowsTableRaw), [`optional_rules`](crate::specs::meter::Limiter#optional_rules), [`metered_value`](crate::specs::store::Growth#metered_value), [`meter_at_entry`](crate::specs::meter::Meter#meter_at_entry), [`lent_limiter`](crate::specs::meter::Limiter#lent_limiter), [`meter_at_exit`](crate::specs::meter::Meter#meter_at_exit).
+Definitions: [`KeepsLoan`](crate::specs::meter::LimiterSpecs#KeepsLoan), [`GrowsTableRaw`](crate::specs::store::TableSpecs#GrowsTableRaw), [`optional_rules`](crate::specs::meter::LimiterSpecs#optional_rules), [`metered_value`](crate::specs::store::GrowthSpecs#metered_value), [`meter_at_entry`](crate::specs::meter::MeterSpecs#meter_at_entry), [`lent_limiter`](crate::specs::meter::LimiterSpecs#lent_limiter), [`meter_at_exit`](crate::specs::meter::MeterSpecs#meter_at_exit).
+
+`L` is the type of the limiter, a [`ResourceLimiter`](crate::machine::ResourceLimiter#contract).
 "#### };
     (store Table.init) => { r####"Copies `len` items of an element segment, from `src` on, over the elements from `dst` on.
+Copying no items costs no fuel.
 
-Errors, in the order of the tests: `ElementTypeMismatch`; `InitOutOfBounds` if a range ends
-past the segment or the table; `OutOfFuel`. Copying no items costs no fuel.
+# Errors
+
+In the order of the tests: [`ElementTypeMismatch`](crate::TableError::ElementTypeMismatch) if the items are of another type;
+[`InitOutOfBounds`](crate::TableError::InitOutOfBounds) if a range ends past the segment or the table; [`OutOfFuel`](crate::TableError::OutOfFuel).
 
 # Contract
 
@@ -527,13 +595,16 @@ ensures: WritesTable (initialization_of dst src len (segment_of element.entry))
     (metered self.new (meter_at_exit fuel.exit))
 ```
 
-Definitions: [`WritesTable`](crate::specs::store::Table#WritesTable), [`initialization_of`](crate::specs::store::Table#initialization_of), [`segment_of`](crate::specs::store::Segment#segment_of), [`metered`](crate::specs::store::Growth#metered), [`meter_at_entry`](crate::specs::meter::Meter#meter_at_entry), [`meter_at_exit`](crate::specs::meter::Meter#meter_at_exit).
+Definitions: [`WritesTable`](crate::specs::store::TableSpecs#WritesTable), [`initialization_of`](crate::specs::store::TableSpecs#initialization_of), [`segment_of`](crate::specs::store::SegmentSpecs#segment_of), [`metered`](crate::specs::store::GrowthSpecs#metered), [`meter_at_entry`](crate::specs::meter::MeterSpecs#meter_at_entry), [`meter_at_exit`](crate::specs::meter::MeterSpecs#meter_at_exit).
 "#### };
     (store Table.new) => { r####"A table at the minimum of its type, each element of which is the given reference. It takes
 no fuel.
 
-Errors, in the order of the tests: `ElementTypeMismatch`; `ResourceLimiterDeniedAllocation`
-if the limiter doesn't permit it; `OutOfSystemMemory`, of which the limiter is notified.
+# Errors
+
+In the order of the tests: [`ElementTypeMismatch`](crate::TableError::ElementTypeMismatch) if the reference is of another type;
+[`ResourceLimiterDeniedAllocation`](crate::TableError::ResourceLimiterDeniedAllocation) if the limiter doesn't permit it; [`OutOfSystemMemory`](crate::TableError::OutOfSystemMemory), of
+which the limiter is notified.
 
 # Contract
 
@@ -543,10 +614,16 @@ ensures made: MakesTable (optional_rules L.rules) ty init (lent_limiter limiter.
     (lent_limiter limiter.new)
 ```
 
-Definitions: [`KeepsLoan`](crate::specs::meter::Limiter#KeepsLoan), [`MakesTable`](crate::specs::store::Table#MakesTable), [`optional_rules`](crate::specs::meter::Limiter#optional_rules), [`lent_limiter`](crate::specs::meter::Limiter#lent_limiter).
+Definitions: [`KeepsLoan`](crate::specs::meter::LimiterSpecs#KeepsLoan), [`MakesTable`](crate::specs::store::TableSpecs#MakesTable), [`optional_rules`](crate::specs::meter::LimiterSpecs#optional_rules), [`lent_limiter`](crate::specs::meter::LimiterSpecs#lent_limiter).
+
+`L` is the type of the limiter, a [`ResourceLimiter`](crate::machine::ResourceLimiter#contract).
 "#### };
-    (store Table.set) => { r####"Sets the element at an index. Errors, in the order of the tests: `ElementTypeMismatch`,
-`SetOutOfBounds`.
+    (store Table.set) => { r####"Sets the element at an index.
+
+# Errors
+
+In the order of the tests: [`ElementTypeMismatch`](crate::TableError::ElementTypeMismatch) if the reference is of another type;
+[`SetOutOfBounds`](crate::TableError::SetOutOfBounds) past the end.
 
 # Contract
 
@@ -554,10 +631,14 @@ Definitions: [`KeepsLoan`](crate::specs::meter::Limiter#KeepsLoan), [`MakesTable
 ensures: SetsTable index value self.old result self.new
 ```
 
-Definitions: [`SetsTable`](crate::specs::store::Table#SetsTable).
+Definitions: [`SetsTable`](crate::specs::store::TableSpecs#SetsTable).
 "#### };
-    (store Table.set_raw) => { r####"Sets the element at an index. The error is `SetOutOfBounds` past the end. The type of the
-reference isn't tested: that is up to the caller.
+    (store Table.set_raw) => { r####"Sets the element at an index. The type of the reference isn't tested: that is up to the
+caller.
+
+# Errors
+
+[`SetOutOfBounds`](crate::TableError::SetOutOfBounds) past the end.
 
 # Contract
 
@@ -565,7 +646,7 @@ reference isn't tested: that is up to the caller.
 ensures: SetsTableRaw index value self.old result self.new
 ```
 
-Definitions: [`SetsTableRaw`](crate::specs::store::Table#SetsTableRaw).
+Definitions: [`SetsTableRaw`](crate::specs::store::TableSpecs#SetsTableRaw).
 "#### };
     (store Table.size) => { r####"The size in elements: as many as its type allows.
 
@@ -576,7 +657,7 @@ ensures value: result ≡ size_of self.now
 ensures sized: IsSized self.now.ty result
 ```
 
-Definitions: [`size_of`](crate::specs::store::Table#size_of), [`IsSized`](crate::specs::store::Table#IsSized).
+Definitions: [`size_of`](crate::specs::store::TableSpecs#size_of), [`IsSized`](crate::specs::store::TableSpecs#IsSized).
 "#### };
     (store Table.ty) => { r####"The type that it was made with.
 
@@ -592,7 +673,7 @@ ensures: result ≡ self.now.ty
 ensures: result ≡ shift_amount (bits Self.Lane.width) (Self.ShiftSource.number source)
 ```
 
-Definitions: [`shift_amount`](crate::specs::typed::Typed#shift_amount).
+Definitions: [`shift_amount`](crate::specs::typed::TypedSpecs#shift_amount).
 "#### };
     (types FuncType.contract) => { r####"# Model
 
@@ -602,7 +683,7 @@ view = λ ty. function_type_of ty.len_params ty.len_results ty.kept
 invariant = λ ty. IsKept ty.len_params ty.len_results ty.kept
 ```
 
-Definitions: [`FunctionType`](crate::specs::types::FunctionType#FunctionType), [`function_type_of`](crate::specs::types::FunctionType#function_type_of), [`IsKept`](crate::specs::types::FunctionType#IsKept).
+Definitions: [`FunctionType`](crate::specs::types::FunctionTypeSpecs#FunctionType), [`function_type_of`](crate::specs::types::FunctionTypeSpecs#function_type_of), [`IsKept`](crate::specs::types::FunctionTypeSpecs#IsKept).
 "#### };
     (types FuncType.len_params) => { r####"How many parameters there are.
 
@@ -631,7 +712,9 @@ ensures reading: IsReadingOf P.into_iter_gives P.IntoIter.next_gives R.into_iter
     R.IntoIter.next_gives params results result
 ```
 
-Definitions: [`EachBecomes`](crate::specs::types::Reading#EachBecomes), [`AfterAll`](crate::specs::types::Reading#AfterAll), [`IsReadingOf`](crate::specs::types::Reading#IsReadingOf).
+Definitions: [`EachBecomes`](crate::specs::types::ReadingSpecs#EachBecomes), [`AfterAll`](crate::specs::types::ReadingSpecs#AfterAll), [`IsReadingOf`](crate::specs::types::ReadingSpecs#IsReadingOf).
+
+`P` is the type of the items, an [`IntoIterator`]. `R` is the type of the items, an [`IntoIterator`].
 "#### };
     (types FuncType.params) => { r####"The types of the parameters.
 
@@ -664,6 +747,8 @@ ensures: result.now ≡ self.now.results
 Value = TrapReason H
 view = λ trap. trap.reason
 ```
+
+`H` is any type.
 "#### };
     (types Trap.downcast.contract) => { r####"# Contract
 
@@ -671,7 +756,7 @@ view = λ trap. trap.reason
 ensures: result ≡ host_error_of self
 ```
 
-Definitions: [`host_error_of`](crate::specs::types::Trap#host_error_of).
+Definitions: [`host_error_of`](crate::specs::types::TrapSpecs#host_error_of).
 "#### };
     (types Trap.downcast_mut.contract) => { r####"# Contract
 
@@ -681,7 +766,9 @@ ensures* writes_back: sem 𝓛 (LendsIf (the_row H.row) H.row self.entry result
 ensures value: option_copied_mut result ≡ host_error_of self.old
 ```
 
-Definitions: [`with_host_error`](crate::specs::types::Trap#with_host_error), [`host_error_of`](crate::specs::types::Trap#host_error_of).
+Definitions: [`with_host_error`](crate::specs::types::TrapSpecs#with_host_error), [`host_error_of`](crate::specs::types::TrapSpecs#host_error_of).
+
+`H` is the type of the host's error.
 "#### };
     (types Trap.downcast_ref.contract) => { r####"# Contract
 
@@ -689,7 +776,7 @@ Definitions: [`with_host_error`](crate::specs::types::Trap#with_host_error), [`h
 ensures: option_copied result ≡ host_error_of self.now
 ```
 
-Definitions: [`host_error_of`](crate::specs::types::Trap#host_error_of).
+Definitions: [`host_error_of`](crate::specs::types::TrapSpecs#host_error_of).
 "#### };
     (types Trap.i32_exit) => { r####"An exit of the program with a status.
 
@@ -707,7 +794,7 @@ ensures: result ≡ reason.I32Exit status
 ensures: result ≡ exit_status_of self.now
 ```
 
-Definitions: [`exit_status_of`](crate::specs::types::Trap#exit_status_of).
+Definitions: [`exit_status_of`](crate::specs::types::TrapSpecs#exit_status_of).
 "#### };
     (types Trap.new) => { r####"A trap that a message describes.
 
@@ -725,9 +812,13 @@ ensures: result ≡ reason.Message message
 ensures: result ≡ code_of self.now
 ```
 
-Definitions: [`code_of`](crate::specs::types::Trap#code_of).
+Definitions: [`code_of`](crate::specs::types::TrapSpecs#code_of).
 "#### };
     (vector_access v128_load16_lane) => { r####"`v128.load16_lane`: `v` with 16 bits in one lane.
+
+# Errors
+
+[`MemoryOutOfBounds`](crate::TrapCode::MemoryOutOfBounds) if the bytes end past the memory.
 
 # Contract
 
@@ -735,9 +826,13 @@ Definitions: [`code_of`](crate::specs::types::Trap#code_of).
 ensures: result ≡ loaded 2 (with_lane w16 v lane) memory.now (ptr + offset)
 ```
 
-Definitions: [`loaded`](crate::specs::accesses::LoadStore#loaded), [`with_lane`](crate::specs::lanes::Vector#with_lane).
+Definitions: [`loaded`](crate::specs::accesses::LoadStoreSpecs#loaded), [`with_lane`](crate::specs::lanes::VectorSpecs#with_lane).
 "#### };
     (vector_access v128_load16_lane_at) => { r####"`v128.load16_lane` at an address.
+
+# Errors
+
+[`MemoryOutOfBounds`](crate::TrapCode::MemoryOutOfBounds) if the bytes end past the memory.
 
 # Contract
 
@@ -745,9 +840,13 @@ Definitions: [`loaded`](crate::specs::accesses::LoadStore#loaded), [`with_lane`]
 ensures: result ≡ loaded 2 (with_lane w16 v lane) memory.now address
 ```
 
-Definitions: [`loaded`](crate::specs::accesses::LoadStore#loaded), [`with_lane`](crate::specs::lanes::Vector#with_lane).
+Definitions: [`loaded`](crate::specs::accesses::LoadStoreSpecs#loaded), [`with_lane`](crate::specs::lanes::VectorSpecs#with_lane).
 "#### };
     (vector_access v128_load32_lane) => { r####"`v128.load32_lane`: `v` with 32 bits in one lane.
+
+# Errors
+
+[`MemoryOutOfBounds`](crate::TrapCode::MemoryOutOfBounds) if the bytes end past the memory.
 
 # Contract
 
@@ -755,9 +854,13 @@ Definitions: [`loaded`](crate::specs::accesses::LoadStore#loaded), [`with_lane`]
 ensures: result ≡ loaded 4 (with_lane w32 v lane) memory.now (ptr + offset)
 ```
 
-Definitions: [`loaded`](crate::specs::accesses::LoadStore#loaded), [`with_lane`](crate::specs::lanes::Vector#with_lane).
+Definitions: [`loaded`](crate::specs::accesses::LoadStoreSpecs#loaded), [`with_lane`](crate::specs::lanes::VectorSpecs#with_lane).
 "#### };
     (vector_access v128_load32_lane_at) => { r####"`v128.load32_lane` at an address.
+
+# Errors
+
+[`MemoryOutOfBounds`](crate::TrapCode::MemoryOutOfBounds) if the bytes end past the memory.
 
 # Contract
 
@@ -765,9 +868,13 @@ Definitions: [`loaded`](crate::specs::accesses::LoadStore#loaded), [`with_lane`]
 ensures: result ≡ loaded 4 (with_lane w32 v lane) memory.now address
 ```
 
-Definitions: [`loaded`](crate::specs::accesses::LoadStore#loaded), [`with_lane`](crate::specs::lanes::Vector#with_lane).
+Definitions: [`loaded`](crate::specs::accesses::LoadStoreSpecs#loaded), [`with_lane`](crate::specs::lanes::VectorSpecs#with_lane).
 "#### };
     (vector_access v128_load64_lane) => { r####"`v128.load64_lane`: `v` with 64 bits in one lane.
+
+# Errors
+
+[`MemoryOutOfBounds`](crate::TrapCode::MemoryOutOfBounds) if the bytes end past the memory.
 
 # Contract
 
@@ -775,9 +882,13 @@ Definitions: [`loaded`](crate::specs::accesses::LoadStore#loaded), [`with_lane`]
 ensures: result ≡ loaded 8 (with_lane w64 v lane) memory.now (ptr + offset)
 ```
 
-Definitions: [`loaded`](crate::specs::accesses::LoadStore#loaded), [`with_lane`](crate::specs::lanes::Vector#with_lane).
+Definitions: [`loaded`](crate::specs::accesses::LoadStoreSpecs#loaded), [`with_lane`](crate::specs::lanes::VectorSpecs#with_lane).
 "#### };
     (vector_access v128_load64_lane_at) => { r####"`v128.load64_lane` at an address.
+
+# Errors
+
+[`MemoryOutOfBounds`](crate::TrapCode::MemoryOutOfBounds) if the bytes end past the memory.
 
 # Contract
 
@@ -785,9 +896,13 @@ Definitions: [`loaded`](crate::specs::accesses::LoadStore#loaded), [`with_lane`]
 ensures: result ≡ loaded 8 (with_lane w64 v lane) memory.now address
 ```
 
-Definitions: [`loaded`](crate::specs::accesses::LoadStore#loaded), [`with_lane`](crate::specs::lanes::Vector#with_lane).
+Definitions: [`loaded`](crate::specs::accesses::LoadStoreSpecs#loaded), [`with_lane`](crate::specs::lanes::VectorSpecs#with_lane).
 "#### };
     (vector_access v128_load8_lane) => { r####"`v128.load8_lane`: `v` with 8 bits in one lane.
+
+# Errors
+
+[`MemoryOutOfBounds`](crate::TrapCode::MemoryOutOfBounds) if the bytes end past the memory.
 
 # Contract
 
@@ -795,9 +910,13 @@ Definitions: [`loaded`](crate::specs::accesses::LoadStore#loaded), [`with_lane`]
 ensures: result ≡ loaded 1 (with_lane w8 v lane) memory.now (ptr + offset)
 ```
 
-Definitions: [`loaded`](crate::specs::accesses::LoadStore#loaded), [`with_lane`](crate::specs::lanes::Vector#with_lane).
+Definitions: [`loaded`](crate::specs::accesses::LoadStoreSpecs#loaded), [`with_lane`](crate::specs::lanes::VectorSpecs#with_lane).
 "#### };
     (vector_access v128_load8_lane_at) => { r####"`v128.load8_lane` at an address.
+
+# Errors
+
+[`MemoryOutOfBounds`](crate::TrapCode::MemoryOutOfBounds) if the bytes end past the memory.
 
 # Contract
 
@@ -805,9 +924,13 @@ Definitions: [`loaded`](crate::specs::accesses::LoadStore#loaded), [`with_lane`]
 ensures: result ≡ loaded 1 (with_lane w8 v lane) memory.now address
 ```
 
-Definitions: [`loaded`](crate::specs::accesses::LoadStore#loaded), [`with_lane`](crate::specs::lanes::Vector#with_lane).
+Definitions: [`loaded`](crate::specs::accesses::LoadStoreSpecs#loaded), [`with_lane`](crate::specs::lanes::VectorSpecs#with_lane).
 "#### };
     (vector_access v128_store16_lane) => { r####"`v128.store16_lane`: the 16 bits of one lane of `v`.
+
+# Errors
+
+[`MemoryOutOfBounds`](crate::TrapCode::MemoryOutOfBounds) if the bytes would end past the memory; then nothing is written.
 
 # Contract
 
@@ -816,9 +939,13 @@ ensures: IsStore memory.old (ptr + offset)
     (le_bytes 2 (lanes.lane w16 v lane)) memory.new result
 ```
 
-Definitions: [`IsStore`](crate::specs::accesses::LoadStore#IsStore), [`le_bytes`](crate::specs::types::Numbers#le_bytes), [`lane`](crate::specs::lanes::Vector#lane).
+Definitions: [`IsStore`](crate::specs::accesses::LoadStoreSpecs#IsStore), [`le_bytes`](crate::specs::types::NumbersSpecs#le_bytes), [`lane`](crate::specs::lanes::VectorSpecs#lane).
 "#### };
     (vector_access v128_store16_lane_at) => { r####"`v128.store16_lane` at an address.
+
+# Errors
+
+[`MemoryOutOfBounds`](crate::TrapCode::MemoryOutOfBounds) if the bytes would end past the memory; then nothing is written.
 
 # Contract
 
@@ -826,9 +953,13 @@ Definitions: [`IsStore`](crate::specs::accesses::LoadStore#IsStore), [`le_bytes`
 ensures: IsStore memory.old address (le_bytes 2 (lanes.lane w16 v lane)) memory.new result
 ```
 
-Definitions: [`IsStore`](crate::specs::accesses::LoadStore#IsStore), [`le_bytes`](crate::specs::types::Numbers#le_bytes), [`lane`](crate::specs::lanes::Vector#lane).
+Definitions: [`IsStore`](crate::specs::accesses::LoadStoreSpecs#IsStore), [`le_bytes`](crate::specs::types::NumbersSpecs#le_bytes), [`lane`](crate::specs::lanes::VectorSpecs#lane).
 "#### };
     (vector_access v128_store32_lane) => { r####"`v128.store32_lane`: the 32 bits of one lane of `v`.
+
+# Errors
+
+[`MemoryOutOfBounds`](crate::TrapCode::MemoryOutOfBounds) if the bytes would end past the memory; then nothing is written.
 
 # Contract
 
@@ -837,9 +968,13 @@ ensures: IsStore memory.old (ptr + offset)
     (le_bytes 4 (lanes.lane w32 v lane)) memory.new result
 ```
 
-Definitions: [`IsStore`](crate::specs::accesses::LoadStore#IsStore), [`le_bytes`](crate::specs::types::Numbers#le_bytes), [`lane`](crate::specs::lanes::Vector#lane).
+Definitions: [`IsStore`](crate::specs::accesses::LoadStoreSpecs#IsStore), [`le_bytes`](crate::specs::types::NumbersSpecs#le_bytes), [`lane`](crate::specs::lanes::VectorSpecs#lane).
 "#### };
     (vector_access v128_store32_lane_at) => { r####"`v128.store32_lane` at an address.
+
+# Errors
+
+[`MemoryOutOfBounds`](crate::TrapCode::MemoryOutOfBounds) if the bytes would end past the memory; then nothing is written.
 
 # Contract
 
@@ -847,9 +982,13 @@ Definitions: [`IsStore`](crate::specs::accesses::LoadStore#IsStore), [`le_bytes`
 ensures: IsStore memory.old address (le_bytes 4 (lanes.lane w32 v lane)) memory.new result
 ```
 
-Definitions: [`IsStore`](crate::specs::accesses::LoadStore#IsStore), [`le_bytes`](crate::specs::types::Numbers#le_bytes), [`lane`](crate::specs::lanes::Vector#lane).
+Definitions: [`IsStore`](crate::specs::accesses::LoadStoreSpecs#IsStore), [`le_bytes`](crate::specs::types::NumbersSpecs#le_bytes), [`lane`](crate::specs::lanes::VectorSpecs#lane).
 "#### };
     (vector_access v128_store64_lane) => { r####"`v128.store64_lane`: the 64 bits of one lane of `v`.
+
+# Errors
+
+[`MemoryOutOfBounds`](crate::TrapCode::MemoryOutOfBounds) if the bytes would end past the memory; then nothing is written.
 
 # Contract
 
@@ -858,9 +997,13 @@ ensures: IsStore memory.old (ptr + offset)
     (le_bytes 8 (lanes.lane w64 v lane)) memory.new result
 ```
 
-Definitions: [`IsStore`](crate::specs::accesses::LoadStore#IsStore), [`le_bytes`](crate::specs::types::Numbers#le_bytes), [`lane`](crate::specs::lanes::Vector#lane).
+Definitions: [`IsStore`](crate::specs::accesses::LoadStoreSpecs#IsStore), [`le_bytes`](crate::specs::types::NumbersSpecs#le_bytes), [`lane`](crate::specs::lanes::VectorSpecs#lane).
 "#### };
     (vector_access v128_store64_lane_at) => { r####"`v128.store64_lane` at an address.
+
+# Errors
+
+[`MemoryOutOfBounds`](crate::TrapCode::MemoryOutOfBounds) if the bytes would end past the memory; then nothing is written.
 
 # Contract
 
@@ -868,9 +1011,13 @@ Definitions: [`IsStore`](crate::specs::accesses::LoadStore#IsStore), [`le_bytes`
 ensures: IsStore memory.old address (le_bytes 8 (lanes.lane w64 v lane)) memory.new result
 ```
 
-Definitions: [`IsStore`](crate::specs::accesses::LoadStore#IsStore), [`le_bytes`](crate::specs::types::Numbers#le_bytes), [`lane`](crate::specs::lanes::Vector#lane).
+Definitions: [`IsStore`](crate::specs::accesses::LoadStoreSpecs#IsStore), [`le_bytes`](crate::specs::types::NumbersSpecs#le_bytes), [`lane`](crate::specs::lanes::VectorSpecs#lane).
 "#### };
     (vector_access v128_store8_lane) => { r####"`v128.store8_lane`: the 8 bits of one lane of `v`.
+
+# Errors
+
+[`MemoryOutOfBounds`](crate::TrapCode::MemoryOutOfBounds) if the bytes would end past the memory; then nothing is written.
 
 # Contract
 
@@ -879,9 +1026,13 @@ ensures: IsStore memory.old (ptr + offset)
     (le_bytes 1 (lanes.lane w8 v lane)) memory.new result
 ```
 
-Definitions: [`IsStore`](crate::specs::accesses::LoadStore#IsStore), [`le_bytes`](crate::specs::types::Numbers#le_bytes), [`lane`](crate::specs::lanes::Vector#lane).
+Definitions: [`IsStore`](crate::specs::accesses::LoadStoreSpecs#IsStore), [`le_bytes`](crate::specs::types::NumbersSpecs#le_bytes), [`lane`](crate::specs::lanes::VectorSpecs#lane).
 "#### };
     (vector_access v128_store8_lane_at) => { r####"`v128.store8_lane` at an address.
+
+# Errors
+
+[`MemoryOutOfBounds`](crate::TrapCode::MemoryOutOfBounds) if the bytes would end past the memory; then nothing is written.
 
 # Contract
 
@@ -889,6 +1040,1033 @@ Definitions: [`IsStore`](crate::specs::accesses::LoadStore#IsStore), [`le_bytes`
 ensures: IsStore memory.old address (le_bytes 1 (lanes.lane w8 v lane)) memory.new result
 ```
 
-Definitions: [`IsStore`](crate::specs::accesses::LoadStore#IsStore), [`le_bytes`](crate::specs::types::Numbers#le_bytes), [`lane`](crate::specs::lanes::Vector#lane).
+Definitions: [`IsStore`](crate::specs::accesses::LoadStoreSpecs#IsStore), [`le_bytes`](crate::specs::types::NumbersSpecs#le_bytes), [`lane`](crate::specs::lanes::VectorSpecs#lane).
 "#### };
+}
+
+/// Exports a function.
+macro_rules! instruction {
+    ($part:ident $file:ident i16x8_abs) => {
+        #[doc(alias = "i16x8.abs")]
+        pub use crate::proved::$part::$file::i16x8_abs;
+    };
+    ($part:ident $file:ident i16x8_add) => {
+        #[doc(alias = "i16x8.add")]
+        pub use crate::proved::$part::$file::i16x8_add;
+    };
+    ($part:ident $file:ident i16x8_add_sat_s) => {
+        #[doc(alias = "i16x8.add_sat_s")]
+        pub use crate::proved::$part::$file::i16x8_add_sat_s;
+    };
+    ($part:ident $file:ident i16x8_add_sat_u) => {
+        #[doc(alias = "i16x8.add_sat_u")]
+        pub use crate::proved::$part::$file::i16x8_add_sat_u;
+    };
+    ($part:ident $file:ident i16x8_all_true) => {
+        #[doc(alias = "i16x8.all_true")]
+        pub use crate::proved::$part::$file::i16x8_all_true;
+    };
+    ($part:ident $file:ident i16x8_avgr_u) => {
+        #[doc(alias = "i16x8.avgr_u")]
+        pub use crate::proved::$part::$file::i16x8_avgr_u;
+    };
+    ($part:ident $file:ident i16x8_bitmask) => {
+        #[doc(alias = "i16x8.bitmask")]
+        pub use crate::proved::$part::$file::i16x8_bitmask;
+    };
+    ($part:ident $file:ident i16x8_eq) => {
+        #[doc(alias = "i16x8.eq")]
+        pub use crate::proved::$part::$file::i16x8_eq;
+    };
+    ($part:ident $file:ident i16x8_extadd_pairwise_i8x16_s) => {
+        #[doc(alias = "i16x8.extadd_pairwise_i8x16_s")]
+        pub use crate::proved::$part::$file::i16x8_extadd_pairwise_i8x16_s;
+    };
+    ($part:ident $file:ident i16x8_extadd_pairwise_i8x16_u) => {
+        #[doc(alias = "i16x8.extadd_pairwise_i8x16_u")]
+        pub use crate::proved::$part::$file::i16x8_extadd_pairwise_i8x16_u;
+    };
+    ($part:ident $file:ident i16x8_extend_high_i8x16_s) => {
+        #[doc(alias = "i16x8.extend_high_i8x16_s")]
+        pub use crate::proved::$part::$file::i16x8_extend_high_i8x16_s;
+    };
+    ($part:ident $file:ident i16x8_extend_high_i8x16_u) => {
+        #[doc(alias = "i16x8.extend_high_i8x16_u")]
+        pub use crate::proved::$part::$file::i16x8_extend_high_i8x16_u;
+    };
+    ($part:ident $file:ident i16x8_extend_low_i8x16_s) => {
+        #[doc(alias = "i16x8.extend_low_i8x16_s")]
+        pub use crate::proved::$part::$file::i16x8_extend_low_i8x16_s;
+    };
+    ($part:ident $file:ident i16x8_extend_low_i8x16_u) => {
+        #[doc(alias = "i16x8.extend_low_i8x16_u")]
+        pub use crate::proved::$part::$file::i16x8_extend_low_i8x16_u;
+    };
+    ($part:ident $file:ident i16x8_extmul_high_i8x16_s) => {
+        #[doc(alias = "i16x8.extmul_high_i8x16_s")]
+        pub use crate::proved::$part::$file::i16x8_extmul_high_i8x16_s;
+    };
+    ($part:ident $file:ident i16x8_extmul_high_i8x16_u) => {
+        #[doc(alias = "i16x8.extmul_high_i8x16_u")]
+        pub use crate::proved::$part::$file::i16x8_extmul_high_i8x16_u;
+    };
+    ($part:ident $file:ident i16x8_extmul_low_i8x16_s) => {
+        #[doc(alias = "i16x8.extmul_low_i8x16_s")]
+        pub use crate::proved::$part::$file::i16x8_extmul_low_i8x16_s;
+    };
+    ($part:ident $file:ident i16x8_extmul_low_i8x16_u) => {
+        #[doc(alias = "i16x8.extmul_low_i8x16_u")]
+        pub use crate::proved::$part::$file::i16x8_extmul_low_i8x16_u;
+    };
+    ($part:ident $file:ident i16x8_ge_s) => {
+        #[doc(alias = "i16x8.ge_s")]
+        pub use crate::proved::$part::$file::i16x8_ge_s;
+    };
+    ($part:ident $file:ident i16x8_ge_u) => {
+        #[doc(alias = "i16x8.ge_u")]
+        pub use crate::proved::$part::$file::i16x8_ge_u;
+    };
+    ($part:ident $file:ident i16x8_gt_s) => {
+        #[doc(alias = "i16x8.gt_s")]
+        pub use crate::proved::$part::$file::i16x8_gt_s;
+    };
+    ($part:ident $file:ident i16x8_gt_u) => {
+        #[doc(alias = "i16x8.gt_u")]
+        pub use crate::proved::$part::$file::i16x8_gt_u;
+    };
+    ($part:ident $file:ident i16x8_le_s) => {
+        #[doc(alias = "i16x8.le_s")]
+        pub use crate::proved::$part::$file::i16x8_le_s;
+    };
+    ($part:ident $file:ident i16x8_le_u) => {
+        #[doc(alias = "i16x8.le_u")]
+        pub use crate::proved::$part::$file::i16x8_le_u;
+    };
+    ($part:ident $file:ident i16x8_lt_s) => {
+        #[doc(alias = "i16x8.lt_s")]
+        pub use crate::proved::$part::$file::i16x8_lt_s;
+    };
+    ($part:ident $file:ident i16x8_lt_u) => {
+        #[doc(alias = "i16x8.lt_u")]
+        pub use crate::proved::$part::$file::i16x8_lt_u;
+    };
+    ($part:ident $file:ident i16x8_max_s) => {
+        #[doc(alias = "i16x8.max_s")]
+        pub use crate::proved::$part::$file::i16x8_max_s;
+    };
+    ($part:ident $file:ident i16x8_max_u) => {
+        #[doc(alias = "i16x8.max_u")]
+        pub use crate::proved::$part::$file::i16x8_max_u;
+    };
+    ($part:ident $file:ident i16x8_min_s) => {
+        #[doc(alias = "i16x8.min_s")]
+        pub use crate::proved::$part::$file::i16x8_min_s;
+    };
+    ($part:ident $file:ident i16x8_min_u) => {
+        #[doc(alias = "i16x8.min_u")]
+        pub use crate::proved::$part::$file::i16x8_min_u;
+    };
+    ($part:ident $file:ident i16x8_mul) => {
+        #[doc(alias = "i16x8.mul")]
+        pub use crate::proved::$part::$file::i16x8_mul;
+    };
+    ($part:ident $file:ident i16x8_narrow_i32x4_s) => {
+        #[doc(alias = "i16x8.narrow_i32x4_s")]
+        pub use crate::proved::$part::$file::i16x8_narrow_i32x4_s;
+    };
+    ($part:ident $file:ident i16x8_narrow_i32x4_u) => {
+        #[doc(alias = "i16x8.narrow_i32x4_u")]
+        pub use crate::proved::$part::$file::i16x8_narrow_i32x4_u;
+    };
+    ($part:ident $file:ident i16x8_ne) => {
+        #[doc(alias = "i16x8.ne")]
+        pub use crate::proved::$part::$file::i16x8_ne;
+    };
+    ($part:ident $file:ident i16x8_neg) => {
+        #[doc(alias = "i16x8.neg")]
+        pub use crate::proved::$part::$file::i16x8_neg;
+    };
+    ($part:ident $file:ident i16x8_q15mulr_sat_s) => {
+        #[doc(alias = "i16x8.q15mulr_sat_s")]
+        pub use crate::proved::$part::$file::i16x8_q15mulr_sat_s;
+    };
+    ($part:ident $file:ident i16x8_relaxed_dot_i8x16_i7x16_s) => {
+        #[doc(alias = "i16x8.relaxed_dot_i8x16_i7x16_s")]
+        pub use crate::proved::$part::$file::i16x8_relaxed_dot_i8x16_i7x16_s;
+    };
+    ($part:ident $file:ident i16x8_relaxed_laneselect) => {
+        #[doc(alias = "i16x8.relaxed_laneselect")]
+        pub use crate::proved::$part::$file::i16x8_relaxed_laneselect;
+    };
+    ($part:ident $file:ident i16x8_relaxed_q15mulr_s) => {
+        #[doc(alias = "i16x8.relaxed_q15mulr_s")]
+        pub use crate::proved::$part::$file::i16x8_relaxed_q15mulr_s;
+    };
+    ($part:ident $file:ident i16x8_shl) => {
+        #[doc(alias = "i16x8.shl")]
+        pub use crate::proved::$part::$file::i16x8_shl;
+    };
+    ($part:ident $file:ident i16x8_shr_s) => {
+        #[doc(alias = "i16x8.shr_s")]
+        pub use crate::proved::$part::$file::i16x8_shr_s;
+    };
+    ($part:ident $file:ident i16x8_shr_u) => {
+        #[doc(alias = "i16x8.shr_u")]
+        pub use crate::proved::$part::$file::i16x8_shr_u;
+    };
+    ($part:ident $file:ident i16x8_splat) => {
+        #[doc(alias = "i16x8.splat")]
+        pub use crate::proved::$part::$file::i16x8_splat;
+    };
+    ($part:ident $file:ident i16x8_sub) => {
+        #[doc(alias = "i16x8.sub")]
+        pub use crate::proved::$part::$file::i16x8_sub;
+    };
+    ($part:ident $file:ident i16x8_sub_sat_s) => {
+        #[doc(alias = "i16x8.sub_sat_s")]
+        pub use crate::proved::$part::$file::i16x8_sub_sat_s;
+    };
+    ($part:ident $file:ident i16x8_sub_sat_u) => {
+        #[doc(alias = "i16x8.sub_sat_u")]
+        pub use crate::proved::$part::$file::i16x8_sub_sat_u;
+    };
+    ($part:ident $file:ident i32_add) => {
+        #[doc(alias = "i32.add")]
+        pub use crate::proved::$part::$file::i32_add;
+    };
+    ($part:ident $file:ident i32_bitand) => {
+        #[doc(alias = "i32.and")]
+        pub use crate::proved::$part::$file::i32_bitand;
+    };
+    ($part:ident $file:ident i32_bitor) => {
+        #[doc(alias = "i32.or")]
+        pub use crate::proved::$part::$file::i32_bitor;
+    };
+    ($part:ident $file:ident i32_bitxor) => {
+        #[doc(alias = "i32.xor")]
+        pub use crate::proved::$part::$file::i32_bitxor;
+    };
+    ($part:ident $file:ident i32_clz) => {
+        #[doc(alias = "i32.clz")]
+        pub use crate::proved::$part::$file::i32_clz;
+    };
+    ($part:ident $file:ident i32_ctz) => {
+        #[doc(alias = "i32.ctz")]
+        pub use crate::proved::$part::$file::i32_ctz;
+    };
+    ($part:ident $file:ident i32_div_s) => {
+        #[doc(alias = "i32.div_s")]
+        pub use crate::proved::$part::$file::i32_div_s;
+    };
+    ($part:ident $file:ident i32_div_u) => {
+        #[doc(alias = "i32.div_u")]
+        pub use crate::proved::$part::$file::i32_div_u;
+    };
+    ($part:ident $file:ident i32_eq) => {
+        #[doc(alias = "i32.eq")]
+        pub use crate::proved::$part::$file::i32_eq;
+    };
+    ($part:ident $file:ident i32_eqz) => {
+        #[doc(alias = "i32.eqz")]
+        pub use crate::proved::$part::$file::i32_eqz;
+    };
+    ($part:ident $file:ident i32_extend16_s) => {
+        #[doc(alias = "i32.extend16_s")]
+        pub use crate::proved::$part::$file::i32_extend16_s;
+    };
+    ($part:ident $file:ident i32_extend8_s) => {
+        #[doc(alias = "i32.extend8_s")]
+        pub use crate::proved::$part::$file::i32_extend8_s;
+    };
+    ($part:ident $file:ident i32_ge_s) => {
+        #[doc(alias = "i32.ge_s")]
+        pub use crate::proved::$part::$file::i32_ge_s;
+    };
+    ($part:ident $file:ident i32_ge_u) => {
+        #[doc(alias = "i32.ge_u")]
+        pub use crate::proved::$part::$file::i32_ge_u;
+    };
+    ($part:ident $file:ident i32_gt_s) => {
+        #[doc(alias = "i32.gt_s")]
+        pub use crate::proved::$part::$file::i32_gt_s;
+    };
+    ($part:ident $file:ident i32_gt_u) => {
+        #[doc(alias = "i32.gt_u")]
+        pub use crate::proved::$part::$file::i32_gt_u;
+    };
+    ($part:ident $file:ident i32_le_s) => {
+        #[doc(alias = "i32.le_s")]
+        pub use crate::proved::$part::$file::i32_le_s;
+    };
+    ($part:ident $file:ident i32_le_u) => {
+        #[doc(alias = "i32.le_u")]
+        pub use crate::proved::$part::$file::i32_le_u;
+    };
+    ($part:ident $file:ident i32_load16_s) => {
+        #[doc(alias = "i32.load16_s")]
+        pub use crate::proved::$part::$file::i32_load16_s;
+    };
+    ($part:ident $file:ident i32_load16_u) => {
+        #[doc(alias = "i32.load16_u")]
+        pub use crate::proved::$part::$file::i32_load16_u;
+    };
+    ($part:ident $file:ident i32_load8_s) => {
+        #[doc(alias = "i32.load8_s")]
+        pub use crate::proved::$part::$file::i32_load8_s;
+    };
+    ($part:ident $file:ident i32_load8_u) => {
+        #[doc(alias = "i32.load8_u")]
+        pub use crate::proved::$part::$file::i32_load8_u;
+    };
+    ($part:ident $file:ident i32_lt_s) => {
+        #[doc(alias = "i32.lt_s")]
+        pub use crate::proved::$part::$file::i32_lt_s;
+    };
+    ($part:ident $file:ident i32_lt_u) => {
+        #[doc(alias = "i32.lt_u")]
+        pub use crate::proved::$part::$file::i32_lt_u;
+    };
+    ($part:ident $file:ident i32_mul) => {
+        #[doc(alias = "i32.mul")]
+        pub use crate::proved::$part::$file::i32_mul;
+    };
+    ($part:ident $file:ident i32_ne) => {
+        #[doc(alias = "i32.ne")]
+        pub use crate::proved::$part::$file::i32_ne;
+    };
+    ($part:ident $file:ident i32_popcnt) => {
+        #[doc(alias = "i32.popcnt")]
+        pub use crate::proved::$part::$file::i32_popcnt;
+    };
+    ($part:ident $file:ident i32_rem_s) => {
+        #[doc(alias = "i32.rem_s")]
+        pub use crate::proved::$part::$file::i32_rem_s;
+    };
+    ($part:ident $file:ident i32_rem_u) => {
+        #[doc(alias = "i32.rem_u")]
+        pub use crate::proved::$part::$file::i32_rem_u;
+    };
+    ($part:ident $file:ident i32_rotl) => {
+        #[doc(alias = "i32.rotl")]
+        pub use crate::proved::$part::$file::i32_rotl;
+    };
+    ($part:ident $file:ident i32_rotr) => {
+        #[doc(alias = "i32.rotr")]
+        pub use crate::proved::$part::$file::i32_rotr;
+    };
+    ($part:ident $file:ident i32_shl) => {
+        #[doc(alias = "i32.shl")]
+        pub use crate::proved::$part::$file::i32_shl;
+    };
+    ($part:ident $file:ident i32_shr_s) => {
+        #[doc(alias = "i32.shr_s")]
+        pub use crate::proved::$part::$file::i32_shr_s;
+    };
+    ($part:ident $file:ident i32_shr_u) => {
+        #[doc(alias = "i32.shr_u")]
+        pub use crate::proved::$part::$file::i32_shr_u;
+    };
+    ($part:ident $file:ident i32_store16) => {
+        #[doc(alias = "i32.store16")]
+        pub use crate::proved::$part::$file::i32_store16;
+    };
+    ($part:ident $file:ident i32_store8) => {
+        #[doc(alias = "i32.store8")]
+        pub use crate::proved::$part::$file::i32_store8;
+    };
+    ($part:ident $file:ident i32_sub) => {
+        #[doc(alias = "i32.sub")]
+        pub use crate::proved::$part::$file::i32_sub;
+    };
+    ($part:ident $file:ident i32_wrap_i64) => {
+        #[doc(alias = "i32.wrap_i64")]
+        pub use crate::proved::$part::$file::i32_wrap_i64;
+    };
+    ($part:ident $file:ident i32x4_abs) => {
+        #[doc(alias = "i32x4.abs")]
+        pub use crate::proved::$part::$file::i32x4_abs;
+    };
+    ($part:ident $file:ident i32x4_add) => {
+        #[doc(alias = "i32x4.add")]
+        pub use crate::proved::$part::$file::i32x4_add;
+    };
+    ($part:ident $file:ident i32x4_all_true) => {
+        #[doc(alias = "i32x4.all_true")]
+        pub use crate::proved::$part::$file::i32x4_all_true;
+    };
+    ($part:ident $file:ident i32x4_bitmask) => {
+        #[doc(alias = "i32x4.bitmask")]
+        pub use crate::proved::$part::$file::i32x4_bitmask;
+    };
+    ($part:ident $file:ident i32x4_dot_i16x8_s) => {
+        #[doc(alias = "i32x4.dot_i16x8_s")]
+        pub use crate::proved::$part::$file::i32x4_dot_i16x8_s;
+    };
+    ($part:ident $file:ident i32x4_eq) => {
+        #[doc(alias = "i32x4.eq")]
+        pub use crate::proved::$part::$file::i32x4_eq;
+    };
+    ($part:ident $file:ident i32x4_extadd_pairwise_i16x8_s) => {
+        #[doc(alias = "i32x4.extadd_pairwise_i16x8_s")]
+        pub use crate::proved::$part::$file::i32x4_extadd_pairwise_i16x8_s;
+    };
+    ($part:ident $file:ident i32x4_extadd_pairwise_i16x8_u) => {
+        #[doc(alias = "i32x4.extadd_pairwise_i16x8_u")]
+        pub use crate::proved::$part::$file::i32x4_extadd_pairwise_i16x8_u;
+    };
+    ($part:ident $file:ident i32x4_extend_high_i16x8_s) => {
+        #[doc(alias = "i32x4.extend_high_i16x8_s")]
+        pub use crate::proved::$part::$file::i32x4_extend_high_i16x8_s;
+    };
+    ($part:ident $file:ident i32x4_extend_high_i16x8_u) => {
+        #[doc(alias = "i32x4.extend_high_i16x8_u")]
+        pub use crate::proved::$part::$file::i32x4_extend_high_i16x8_u;
+    };
+    ($part:ident $file:ident i32x4_extend_low_i16x8_s) => {
+        #[doc(alias = "i32x4.extend_low_i16x8_s")]
+        pub use crate::proved::$part::$file::i32x4_extend_low_i16x8_s;
+    };
+    ($part:ident $file:ident i32x4_extend_low_i16x8_u) => {
+        #[doc(alias = "i32x4.extend_low_i16x8_u")]
+        pub use crate::proved::$part::$file::i32x4_extend_low_i16x8_u;
+    };
+    ($part:ident $file:ident i32x4_extmul_high_i16x8_s) => {
+        #[doc(alias = "i32x4.extmul_high_i16x8_s")]
+        pub use crate::proved::$part::$file::i32x4_extmul_high_i16x8_s;
+    };
+    ($part:ident $file:ident i32x4_extmul_high_i16x8_u) => {
+        #[doc(alias = "i32x4.extmul_high_i16x8_u")]
+        pub use crate::proved::$part::$file::i32x4_extmul_high_i16x8_u;
+    };
+    ($part:ident $file:ident i32x4_extmul_low_i16x8_s) => {
+        #[doc(alias = "i32x4.extmul_low_i16x8_s")]
+        pub use crate::proved::$part::$file::i32x4_extmul_low_i16x8_s;
+    };
+    ($part:ident $file:ident i32x4_extmul_low_i16x8_u) => {
+        #[doc(alias = "i32x4.extmul_low_i16x8_u")]
+        pub use crate::proved::$part::$file::i32x4_extmul_low_i16x8_u;
+    };
+    ($part:ident $file:ident i32x4_ge_s) => {
+        #[doc(alias = "i32x4.ge_s")]
+        pub use crate::proved::$part::$file::i32x4_ge_s;
+    };
+    ($part:ident $file:ident i32x4_ge_u) => {
+        #[doc(alias = "i32x4.ge_u")]
+        pub use crate::proved::$part::$file::i32x4_ge_u;
+    };
+    ($part:ident $file:ident i32x4_gt_s) => {
+        #[doc(alias = "i32x4.gt_s")]
+        pub use crate::proved::$part::$file::i32x4_gt_s;
+    };
+    ($part:ident $file:ident i32x4_gt_u) => {
+        #[doc(alias = "i32x4.gt_u")]
+        pub use crate::proved::$part::$file::i32x4_gt_u;
+    };
+    ($part:ident $file:ident i32x4_le_s) => {
+        #[doc(alias = "i32x4.le_s")]
+        pub use crate::proved::$part::$file::i32x4_le_s;
+    };
+    ($part:ident $file:ident i32x4_le_u) => {
+        #[doc(alias = "i32x4.le_u")]
+        pub use crate::proved::$part::$file::i32x4_le_u;
+    };
+    ($part:ident $file:ident i32x4_lt_s) => {
+        #[doc(alias = "i32x4.lt_s")]
+        pub use crate::proved::$part::$file::i32x4_lt_s;
+    };
+    ($part:ident $file:ident i32x4_lt_u) => {
+        #[doc(alias = "i32x4.lt_u")]
+        pub use crate::proved::$part::$file::i32x4_lt_u;
+    };
+    ($part:ident $file:ident i32x4_max_s) => {
+        #[doc(alias = "i32x4.max_s")]
+        pub use crate::proved::$part::$file::i32x4_max_s;
+    };
+    ($part:ident $file:ident i32x4_max_u) => {
+        #[doc(alias = "i32x4.max_u")]
+        pub use crate::proved::$part::$file::i32x4_max_u;
+    };
+    ($part:ident $file:ident i32x4_min_s) => {
+        #[doc(alias = "i32x4.min_s")]
+        pub use crate::proved::$part::$file::i32x4_min_s;
+    };
+    ($part:ident $file:ident i32x4_min_u) => {
+        #[doc(alias = "i32x4.min_u")]
+        pub use crate::proved::$part::$file::i32x4_min_u;
+    };
+    ($part:ident $file:ident i32x4_mul) => {
+        #[doc(alias = "i32x4.mul")]
+        pub use crate::proved::$part::$file::i32x4_mul;
+    };
+    ($part:ident $file:ident i32x4_ne) => {
+        #[doc(alias = "i32x4.ne")]
+        pub use crate::proved::$part::$file::i32x4_ne;
+    };
+    ($part:ident $file:ident i32x4_neg) => {
+        #[doc(alias = "i32x4.neg")]
+        pub use crate::proved::$part::$file::i32x4_neg;
+    };
+    ($part:ident $file:ident i32x4_relaxed_dot_i8x16_i7x16_add_s) => {
+        #[doc(alias = "i32x4.relaxed_dot_i8x16_i7x16_add_s")]
+        pub use crate::proved::$part::$file::i32x4_relaxed_dot_i8x16_i7x16_add_s;
+    };
+    ($part:ident $file:ident i32x4_relaxed_laneselect) => {
+        #[doc(alias = "i32x4.relaxed_laneselect")]
+        pub use crate::proved::$part::$file::i32x4_relaxed_laneselect;
+    };
+    ($part:ident $file:ident i32x4_shl) => {
+        #[doc(alias = "i32x4.shl")]
+        pub use crate::proved::$part::$file::i32x4_shl;
+    };
+    ($part:ident $file:ident i32x4_shr_s) => {
+        #[doc(alias = "i32x4.shr_s")]
+        pub use crate::proved::$part::$file::i32x4_shr_s;
+    };
+    ($part:ident $file:ident i32x4_shr_u) => {
+        #[doc(alias = "i32x4.shr_u")]
+        pub use crate::proved::$part::$file::i32x4_shr_u;
+    };
+    ($part:ident $file:ident i32x4_splat) => {
+        #[doc(alias = "i32x4.splat")]
+        pub use crate::proved::$part::$file::i32x4_splat;
+    };
+    ($part:ident $file:ident i32x4_sub) => {
+        #[doc(alias = "i32x4.sub")]
+        pub use crate::proved::$part::$file::i32x4_sub;
+    };
+    ($part:ident $file:ident i64_add) => {
+        #[doc(alias = "i64.add")]
+        pub use crate::proved::$part::$file::i64_add;
+    };
+    ($part:ident $file:ident i64_add128) => {
+        #[doc(alias = "i64.add128")]
+        pub use crate::proved::$part::$file::i64_add128;
+    };
+    ($part:ident $file:ident i64_bitand) => {
+        #[doc(alias = "i64.and")]
+        pub use crate::proved::$part::$file::i64_bitand;
+    };
+    ($part:ident $file:ident i64_bitor) => {
+        #[doc(alias = "i64.or")]
+        pub use crate::proved::$part::$file::i64_bitor;
+    };
+    ($part:ident $file:ident i64_bitxor) => {
+        #[doc(alias = "i64.xor")]
+        pub use crate::proved::$part::$file::i64_bitxor;
+    };
+    ($part:ident $file:ident i64_clz) => {
+        #[doc(alias = "i64.clz")]
+        pub use crate::proved::$part::$file::i64_clz;
+    };
+    ($part:ident $file:ident i64_ctz) => {
+        #[doc(alias = "i64.ctz")]
+        pub use crate::proved::$part::$file::i64_ctz;
+    };
+    ($part:ident $file:ident i64_div_s) => {
+        #[doc(alias = "i64.div_s")]
+        pub use crate::proved::$part::$file::i64_div_s;
+    };
+    ($part:ident $file:ident i64_div_u) => {
+        #[doc(alias = "i64.div_u")]
+        pub use crate::proved::$part::$file::i64_div_u;
+    };
+    ($part:ident $file:ident i64_eq) => {
+        #[doc(alias = "i64.eq")]
+        pub use crate::proved::$part::$file::i64_eq;
+    };
+    ($part:ident $file:ident i64_eqz) => {
+        #[doc(alias = "i64.eqz")]
+        pub use crate::proved::$part::$file::i64_eqz;
+    };
+    ($part:ident $file:ident i64_extend16_s) => {
+        #[doc(alias = "i64.extend16_s")]
+        pub use crate::proved::$part::$file::i64_extend16_s;
+    };
+    ($part:ident $file:ident i64_extend32_s) => {
+        #[doc(alias = "i64.extend32_s")]
+        pub use crate::proved::$part::$file::i64_extend32_s;
+    };
+    ($part:ident $file:ident i64_extend8_s) => {
+        #[doc(alias = "i64.extend8_s")]
+        pub use crate::proved::$part::$file::i64_extend8_s;
+    };
+    ($part:ident $file:ident i64_extend_i32_s) => {
+        #[doc(alias = "i64.extend_i32_s")]
+        pub use crate::proved::$part::$file::i64_extend_i32_s;
+    };
+    ($part:ident $file:ident i64_extend_i32_u) => {
+        #[doc(alias = "i64.extend_i32_u")]
+        pub use crate::proved::$part::$file::i64_extend_i32_u;
+    };
+    ($part:ident $file:ident i64_ge_s) => {
+        #[doc(alias = "i64.ge_s")]
+        pub use crate::proved::$part::$file::i64_ge_s;
+    };
+    ($part:ident $file:ident i64_ge_u) => {
+        #[doc(alias = "i64.ge_u")]
+        pub use crate::proved::$part::$file::i64_ge_u;
+    };
+    ($part:ident $file:ident i64_gt_s) => {
+        #[doc(alias = "i64.gt_s")]
+        pub use crate::proved::$part::$file::i64_gt_s;
+    };
+    ($part:ident $file:ident i64_gt_u) => {
+        #[doc(alias = "i64.gt_u")]
+        pub use crate::proved::$part::$file::i64_gt_u;
+    };
+    ($part:ident $file:ident i64_le_s) => {
+        #[doc(alias = "i64.le_s")]
+        pub use crate::proved::$part::$file::i64_le_s;
+    };
+    ($part:ident $file:ident i64_le_u) => {
+        #[doc(alias = "i64.le_u")]
+        pub use crate::proved::$part::$file::i64_le_u;
+    };
+    ($part:ident $file:ident i64_load16_s) => {
+        #[doc(alias = "i64.load16_s")]
+        pub use crate::proved::$part::$file::i64_load16_s;
+    };
+    ($part:ident $file:ident i64_load16_u) => {
+        #[doc(alias = "i64.load16_u")]
+        pub use crate::proved::$part::$file::i64_load16_u;
+    };
+    ($part:ident $file:ident i64_load32_s) => {
+        #[doc(alias = "i64.load32_s")]
+        pub use crate::proved::$part::$file::i64_load32_s;
+    };
+    ($part:ident $file:ident i64_load32_u) => {
+        #[doc(alias = "i64.load32_u")]
+        pub use crate::proved::$part::$file::i64_load32_u;
+    };
+    ($part:ident $file:ident i64_load8_s) => {
+        #[doc(alias = "i64.load8_s")]
+        pub use crate::proved::$part::$file::i64_load8_s;
+    };
+    ($part:ident $file:ident i64_load8_u) => {
+        #[doc(alias = "i64.load8_u")]
+        pub use crate::proved::$part::$file::i64_load8_u;
+    };
+    ($part:ident $file:ident i64_lt_s) => {
+        #[doc(alias = "i64.lt_s")]
+        pub use crate::proved::$part::$file::i64_lt_s;
+    };
+    ($part:ident $file:ident i64_lt_u) => {
+        #[doc(alias = "i64.lt_u")]
+        pub use crate::proved::$part::$file::i64_lt_u;
+    };
+    ($part:ident $file:ident i64_mul) => {
+        #[doc(alias = "i64.mul")]
+        pub use crate::proved::$part::$file::i64_mul;
+    };
+    ($part:ident $file:ident i64_mul_wide_s) => {
+        #[doc(alias = "i64.mul_wide_s")]
+        pub use crate::proved::$part::$file::i64_mul_wide_s;
+    };
+    ($part:ident $file:ident i64_mul_wide_u) => {
+        #[doc(alias = "i64.mul_wide_u")]
+        pub use crate::proved::$part::$file::i64_mul_wide_u;
+    };
+    ($part:ident $file:ident i64_ne) => {
+        #[doc(alias = "i64.ne")]
+        pub use crate::proved::$part::$file::i64_ne;
+    };
+    ($part:ident $file:ident i64_popcnt) => {
+        #[doc(alias = "i64.popcnt")]
+        pub use crate::proved::$part::$file::i64_popcnt;
+    };
+    ($part:ident $file:ident i64_rem_s) => {
+        #[doc(alias = "i64.rem_s")]
+        pub use crate::proved::$part::$file::i64_rem_s;
+    };
+    ($part:ident $file:ident i64_rem_u) => {
+        #[doc(alias = "i64.rem_u")]
+        pub use crate::proved::$part::$file::i64_rem_u;
+    };
+    ($part:ident $file:ident i64_rotl) => {
+        #[doc(alias = "i64.rotl")]
+        pub use crate::proved::$part::$file::i64_rotl;
+    };
+    ($part:ident $file:ident i64_rotr) => {
+        #[doc(alias = "i64.rotr")]
+        pub use crate::proved::$part::$file::i64_rotr;
+    };
+    ($part:ident $file:ident i64_shl) => {
+        #[doc(alias = "i64.shl")]
+        pub use crate::proved::$part::$file::i64_shl;
+    };
+    ($part:ident $file:ident i64_shr_s) => {
+        #[doc(alias = "i64.shr_s")]
+        pub use crate::proved::$part::$file::i64_shr_s;
+    };
+    ($part:ident $file:ident i64_shr_u) => {
+        #[doc(alias = "i64.shr_u")]
+        pub use crate::proved::$part::$file::i64_shr_u;
+    };
+    ($part:ident $file:ident i64_store16) => {
+        #[doc(alias = "i64.store16")]
+        pub use crate::proved::$part::$file::i64_store16;
+    };
+    ($part:ident $file:ident i64_store32) => {
+        #[doc(alias = "i64.store32")]
+        pub use crate::proved::$part::$file::i64_store32;
+    };
+    ($part:ident $file:ident i64_store8) => {
+        #[doc(alias = "i64.store8")]
+        pub use crate::proved::$part::$file::i64_store8;
+    };
+    ($part:ident $file:ident i64_sub) => {
+        #[doc(alias = "i64.sub")]
+        pub use crate::proved::$part::$file::i64_sub;
+    };
+    ($part:ident $file:ident i64_sub128) => {
+        #[doc(alias = "i64.sub128")]
+        pub use crate::proved::$part::$file::i64_sub128;
+    };
+    ($part:ident $file:ident i64x2_abs) => {
+        #[doc(alias = "i64x2.abs")]
+        pub use crate::proved::$part::$file::i64x2_abs;
+    };
+    ($part:ident $file:ident i64x2_add) => {
+        #[doc(alias = "i64x2.add")]
+        pub use crate::proved::$part::$file::i64x2_add;
+    };
+    ($part:ident $file:ident i64x2_all_true) => {
+        #[doc(alias = "i64x2.all_true")]
+        pub use crate::proved::$part::$file::i64x2_all_true;
+    };
+    ($part:ident $file:ident i64x2_bitmask) => {
+        #[doc(alias = "i64x2.bitmask")]
+        pub use crate::proved::$part::$file::i64x2_bitmask;
+    };
+    ($part:ident $file:ident i64x2_eq) => {
+        #[doc(alias = "i64x2.eq")]
+        pub use crate::proved::$part::$file::i64x2_eq;
+    };
+    ($part:ident $file:ident i64x2_extend_high_i32x4_s) => {
+        #[doc(alias = "i64x2.extend_high_i32x4_s")]
+        pub use crate::proved::$part::$file::i64x2_extend_high_i32x4_s;
+    };
+    ($part:ident $file:ident i64x2_extend_high_i32x4_u) => {
+        #[doc(alias = "i64x2.extend_high_i32x4_u")]
+        pub use crate::proved::$part::$file::i64x2_extend_high_i32x4_u;
+    };
+    ($part:ident $file:ident i64x2_extend_low_i32x4_s) => {
+        #[doc(alias = "i64x2.extend_low_i32x4_s")]
+        pub use crate::proved::$part::$file::i64x2_extend_low_i32x4_s;
+    };
+    ($part:ident $file:ident i64x2_extend_low_i32x4_u) => {
+        #[doc(alias = "i64x2.extend_low_i32x4_u")]
+        pub use crate::proved::$part::$file::i64x2_extend_low_i32x4_u;
+    };
+    ($part:ident $file:ident i64x2_extmul_high_i32x4_s) => {
+        #[doc(alias = "i64x2.extmul_high_i32x4_s")]
+        pub use crate::proved::$part::$file::i64x2_extmul_high_i32x4_s;
+    };
+    ($part:ident $file:ident i64x2_extmul_high_i32x4_u) => {
+        #[doc(alias = "i64x2.extmul_high_i32x4_u")]
+        pub use crate::proved::$part::$file::i64x2_extmul_high_i32x4_u;
+    };
+    ($part:ident $file:ident i64x2_extmul_low_i32x4_s) => {
+        #[doc(alias = "i64x2.extmul_low_i32x4_s")]
+        pub use crate::proved::$part::$file::i64x2_extmul_low_i32x4_s;
+    };
+    ($part:ident $file:ident i64x2_extmul_low_i32x4_u) => {
+        #[doc(alias = "i64x2.extmul_low_i32x4_u")]
+        pub use crate::proved::$part::$file::i64x2_extmul_low_i32x4_u;
+    };
+    ($part:ident $file:ident i64x2_ge_s) => {
+        #[doc(alias = "i64x2.ge_s")]
+        pub use crate::proved::$part::$file::i64x2_ge_s;
+    };
+    ($part:ident $file:ident i64x2_gt_s) => {
+        #[doc(alias = "i64x2.gt_s")]
+        pub use crate::proved::$part::$file::i64x2_gt_s;
+    };
+    ($part:ident $file:ident i64x2_le_s) => {
+        #[doc(alias = "i64x2.le_s")]
+        pub use crate::proved::$part::$file::i64x2_le_s;
+    };
+    ($part:ident $file:ident i64x2_lt_s) => {
+        #[doc(alias = "i64x2.lt_s")]
+        pub use crate::proved::$part::$file::i64x2_lt_s;
+    };
+    ($part:ident $file:ident i64x2_mul) => {
+        #[doc(alias = "i64x2.mul")]
+        pub use crate::proved::$part::$file::i64x2_mul;
+    };
+    ($part:ident $file:ident i64x2_ne) => {
+        #[doc(alias = "i64x2.ne")]
+        pub use crate::proved::$part::$file::i64x2_ne;
+    };
+    ($part:ident $file:ident i64x2_neg) => {
+        #[doc(alias = "i64x2.neg")]
+        pub use crate::proved::$part::$file::i64x2_neg;
+    };
+    ($part:ident $file:ident i64x2_relaxed_laneselect) => {
+        #[doc(alias = "i64x2.relaxed_laneselect")]
+        pub use crate::proved::$part::$file::i64x2_relaxed_laneselect;
+    };
+    ($part:ident $file:ident i64x2_shl) => {
+        #[doc(alias = "i64x2.shl")]
+        pub use crate::proved::$part::$file::i64x2_shl;
+    };
+    ($part:ident $file:ident i64x2_shr_s) => {
+        #[doc(alias = "i64x2.shr_s")]
+        pub use crate::proved::$part::$file::i64x2_shr_s;
+    };
+    ($part:ident $file:ident i64x2_shr_u) => {
+        #[doc(alias = "i64x2.shr_u")]
+        pub use crate::proved::$part::$file::i64x2_shr_u;
+    };
+    ($part:ident $file:ident i64x2_splat) => {
+        #[doc(alias = "i64x2.splat")]
+        pub use crate::proved::$part::$file::i64x2_splat;
+    };
+    ($part:ident $file:ident i64x2_sub) => {
+        #[doc(alias = "i64x2.sub")]
+        pub use crate::proved::$part::$file::i64x2_sub;
+    };
+    ($part:ident $file:ident i8x16_abs) => {
+        #[doc(alias = "i8x16.abs")]
+        pub use crate::proved::$part::$file::i8x16_abs;
+    };
+    ($part:ident $file:ident i8x16_add) => {
+        #[doc(alias = "i8x16.add")]
+        pub use crate::proved::$part::$file::i8x16_add;
+    };
+    ($part:ident $file:ident i8x16_add_sat_s) => {
+        #[doc(alias = "i8x16.add_sat_s")]
+        pub use crate::proved::$part::$file::i8x16_add_sat_s;
+    };
+    ($part:ident $file:ident i8x16_add_sat_u) => {
+        #[doc(alias = "i8x16.add_sat_u")]
+        pub use crate::proved::$part::$file::i8x16_add_sat_u;
+    };
+    ($part:ident $file:ident i8x16_all_true) => {
+        #[doc(alias = "i8x16.all_true")]
+        pub use crate::proved::$part::$file::i8x16_all_true;
+    };
+    ($part:ident $file:ident i8x16_avgr_u) => {
+        #[doc(alias = "i8x16.avgr_u")]
+        pub use crate::proved::$part::$file::i8x16_avgr_u;
+    };
+    ($part:ident $file:ident i8x16_bitmask) => {
+        #[doc(alias = "i8x16.bitmask")]
+        pub use crate::proved::$part::$file::i8x16_bitmask;
+    };
+    ($part:ident $file:ident i8x16_eq) => {
+        #[doc(alias = "i8x16.eq")]
+        pub use crate::proved::$part::$file::i8x16_eq;
+    };
+    ($part:ident $file:ident i8x16_ge_s) => {
+        #[doc(alias = "i8x16.ge_s")]
+        pub use crate::proved::$part::$file::i8x16_ge_s;
+    };
+    ($part:ident $file:ident i8x16_ge_u) => {
+        #[doc(alias = "i8x16.ge_u")]
+        pub use crate::proved::$part::$file::i8x16_ge_u;
+    };
+    ($part:ident $file:ident i8x16_gt_s) => {
+        #[doc(alias = "i8x16.gt_s")]
+        pub use crate::proved::$part::$file::i8x16_gt_s;
+    };
+    ($part:ident $file:ident i8x16_gt_u) => {
+        #[doc(alias = "i8x16.gt_u")]
+        pub use crate::proved::$part::$file::i8x16_gt_u;
+    };
+    ($part:ident $file:ident i8x16_le_s) => {
+        #[doc(alias = "i8x16.le_s")]
+        pub use crate::proved::$part::$file::i8x16_le_s;
+    };
+    ($part:ident $file:ident i8x16_le_u) => {
+        #[doc(alias = "i8x16.le_u")]
+        pub use crate::proved::$part::$file::i8x16_le_u;
+    };
+    ($part:ident $file:ident i8x16_lt_s) => {
+        #[doc(alias = "i8x16.lt_s")]
+        pub use crate::proved::$part::$file::i8x16_lt_s;
+    };
+    ($part:ident $file:ident i8x16_lt_u) => {
+        #[doc(alias = "i8x16.lt_u")]
+        pub use crate::proved::$part::$file::i8x16_lt_u;
+    };
+    ($part:ident $file:ident i8x16_max_s) => {
+        #[doc(alias = "i8x16.max_s")]
+        pub use crate::proved::$part::$file::i8x16_max_s;
+    };
+    ($part:ident $file:ident i8x16_max_u) => {
+        #[doc(alias = "i8x16.max_u")]
+        pub use crate::proved::$part::$file::i8x16_max_u;
+    };
+    ($part:ident $file:ident i8x16_min_s) => {
+        #[doc(alias = "i8x16.min_s")]
+        pub use crate::proved::$part::$file::i8x16_min_s;
+    };
+    ($part:ident $file:ident i8x16_min_u) => {
+        #[doc(alias = "i8x16.min_u")]
+        pub use crate::proved::$part::$file::i8x16_min_u;
+    };
+    ($part:ident $file:ident i8x16_narrow_i16x8_s) => {
+        #[doc(alias = "i8x16.narrow_i16x8_s")]
+        pub use crate::proved::$part::$file::i8x16_narrow_i16x8_s;
+    };
+    ($part:ident $file:ident i8x16_narrow_i16x8_u) => {
+        #[doc(alias = "i8x16.narrow_i16x8_u")]
+        pub use crate::proved::$part::$file::i8x16_narrow_i16x8_u;
+    };
+    ($part:ident $file:ident i8x16_ne) => {
+        #[doc(alias = "i8x16.ne")]
+        pub use crate::proved::$part::$file::i8x16_ne;
+    };
+    ($part:ident $file:ident i8x16_neg) => {
+        #[doc(alias = "i8x16.neg")]
+        pub use crate::proved::$part::$file::i8x16_neg;
+    };
+    ($part:ident $file:ident i8x16_popcnt) => {
+        #[doc(alias = "i8x16.popcnt")]
+        pub use crate::proved::$part::$file::i8x16_popcnt;
+    };
+    ($part:ident $file:ident i8x16_relaxed_laneselect) => {
+        #[doc(alias = "i8x16.relaxed_laneselect")]
+        pub use crate::proved::$part::$file::i8x16_relaxed_laneselect;
+    };
+    ($part:ident $file:ident i8x16_relaxed_swizzle) => {
+        #[doc(alias = "i8x16.relaxed_swizzle")]
+        pub use crate::proved::$part::$file::i8x16_relaxed_swizzle;
+    };
+    ($part:ident $file:ident i8x16_shl) => {
+        #[doc(alias = "i8x16.shl")]
+        pub use crate::proved::$part::$file::i8x16_shl;
+    };
+    ($part:ident $file:ident i8x16_shr_s) => {
+        #[doc(alias = "i8x16.shr_s")]
+        pub use crate::proved::$part::$file::i8x16_shr_s;
+    };
+    ($part:ident $file:ident i8x16_shr_u) => {
+        #[doc(alias = "i8x16.shr_u")]
+        pub use crate::proved::$part::$file::i8x16_shr_u;
+    };
+    ($part:ident $file:ident i8x16_splat) => {
+        #[doc(alias = "i8x16.splat")]
+        pub use crate::proved::$part::$file::i8x16_splat;
+    };
+    ($part:ident $file:ident i8x16_sub) => {
+        #[doc(alias = "i8x16.sub")]
+        pub use crate::proved::$part::$file::i8x16_sub;
+    };
+    ($part:ident $file:ident i8x16_sub_sat_s) => {
+        #[doc(alias = "i8x16.sub_sat_s")]
+        pub use crate::proved::$part::$file::i8x16_sub_sat_s;
+    };
+    ($part:ident $file:ident i8x16_sub_sat_u) => {
+        #[doc(alias = "i8x16.sub_sat_u")]
+        pub use crate::proved::$part::$file::i8x16_sub_sat_u;
+    };
+    ($part:ident $file:ident i8x16_swizzle) => {
+        #[doc(alias = "i8x16.swizzle")]
+        pub use crate::proved::$part::$file::i8x16_swizzle;
+    };
+    ($part:ident $file:ident load_u32) => {
+        #[doc(alias = "i32.load")]
+        pub use crate::proved::$part::$file::load_u32;
+    };
+    ($part:ident $file:ident load_u64) => {
+        #[doc(alias = "i64.load")]
+        pub use crate::proved::$part::$file::load_u64;
+    };
+    ($part:ident $file:ident store32) => {
+        #[doc(alias = "i32.store")]
+        pub use crate::proved::$part::$file::store32;
+    };
+    ($part:ident $file:ident store64) => {
+        #[doc(alias = "i64.store")]
+        pub use crate::proved::$part::$file::store64;
+    };
+    ($part:ident $file:ident v128_and) => {
+        #[doc(alias = "v128.and")]
+        pub use crate::proved::$part::$file::v128_and;
+    };
+    ($part:ident $file:ident v128_andnot) => {
+        #[doc(alias = "v128.andnot")]
+        pub use crate::proved::$part::$file::v128_andnot;
+    };
+    ($part:ident $file:ident v128_any_true) => {
+        #[doc(alias = "v128.any_true")]
+        pub use crate::proved::$part::$file::v128_any_true;
+    };
+    ($part:ident $file:ident v128_bitselect) => {
+        #[doc(alias = "v128.bitselect")]
+        pub use crate::proved::$part::$file::v128_bitselect;
+    };
+    ($part:ident $file:ident v128_load) => {
+        #[doc(alias = "v128.load")]
+        pub use crate::proved::$part::$file::v128_load;
+    };
+    ($part:ident $file:ident v128_load16_splat) => {
+        #[doc(alias = "v128.load16_splat")]
+        pub use crate::proved::$part::$file::v128_load16_splat;
+    };
+    ($part:ident $file:ident v128_load16x4_s) => {
+        #[doc(alias = "v128.load16x4_s")]
+        pub use crate::proved::$part::$file::v128_load16x4_s;
+    };
+    ($part:ident $file:ident v128_load16x4_u) => {
+        #[doc(alias = "v128.load16x4_u")]
+        pub use crate::proved::$part::$file::v128_load16x4_u;
+    };
+    ($part:ident $file:ident v128_load32_splat) => {
+        #[doc(alias = "v128.load32_splat")]
+        pub use crate::proved::$part::$file::v128_load32_splat;
+    };
+    ($part:ident $file:ident v128_load32_zero) => {
+        #[doc(alias = "v128.load32_zero")]
+        pub use crate::proved::$part::$file::v128_load32_zero;
+    };
+    ($part:ident $file:ident v128_load32x2_s) => {
+        #[doc(alias = "v128.load32x2_s")]
+        pub use crate::proved::$part::$file::v128_load32x2_s;
+    };
+    ($part:ident $file:ident v128_load32x2_u) => {
+        #[doc(alias = "v128.load32x2_u")]
+        pub use crate::proved::$part::$file::v128_load32x2_u;
+    };
+    ($part:ident $file:ident v128_load64_splat) => {
+        #[doc(alias = "v128.load64_splat")]
+        pub use crate::proved::$part::$file::v128_load64_splat;
+    };
+    ($part:ident $file:ident v128_load64_zero) => {
+        #[doc(alias = "v128.load64_zero")]
+        pub use crate::proved::$part::$file::v128_load64_zero;
+    };
+    ($part:ident $file:ident v128_load8_splat) => {
+        #[doc(alias = "v128.load8_splat")]
+        pub use crate::proved::$part::$file::v128_load8_splat;
+    };
+    ($part:ident $file:ident v128_load8x8_s) => {
+        #[doc(alias = "v128.load8x8_s")]
+        pub use crate::proved::$part::$file::v128_load8x8_s;
+    };
+    ($part:ident $file:ident v128_load8x8_u) => {
+        #[doc(alias = "v128.load8x8_u")]
+        pub use crate::proved::$part::$file::v128_load8x8_u;
+    };
+    ($part:ident $file:ident v128_not) => {
+        #[doc(alias = "v128.not")]
+        pub use crate::proved::$part::$file::v128_not;
+    };
+    ($part:ident $file:ident v128_or) => {
+        #[doc(alias = "v128.or")]
+        pub use crate::proved::$part::$file::v128_or;
+    };
+    ($part:ident $file:ident v128_store) => {
+        #[doc(alias = "v128.store")]
+        pub use crate::proved::$part::$file::v128_store;
+    };
+    ($part:ident $file:ident v128_xor) => {
+        #[doc(alias = "v128.xor")]
+        pub use crate::proved::$part::$file::v128_xor;
+    };
+    ($part:ident $file:ident $name:ident) => {
+        pub use crate::proved::$part::$file::$name;
+    };
 }

@@ -28,7 +28,7 @@ mod command {
     /// ensures: AcceptsWithMemory result (NamesAfter name.now operands.now)
     /// ```
     ///
-    /// Definitions: [`AcceptsWithMemory`](crate::specs::operands::LineWords#AcceptsWithMemory), [`NamesAfter`](crate::specs::grammar::Commands#NamesAfter).
+    /// Definitions: [`AcceptsWithMemory`](crate::specs::operands::LineWordsSpecs#AcceptsWithMemory), [`NamesAfter`](crate::specs::grammar::CommandsSpecs#NamesAfter).
     #[inline]
     pub(crate) fn command(name: &str, operands: &[&str]) -> Result<Call, LineError> {
         match name {
@@ -59,7 +59,7 @@ mod command {
     /// ensures call: Accepts result (NamesAfter name.now operands.now)
     /// ```
     ///
-    /// Definitions: [`IsValueWord`](crate::specs::grammar::Commands#IsValueWord), [`Accepts`](crate::specs::operands::LineWords#Accepts), [`NamesAfter`](crate::specs::grammar::Commands#NamesAfter).
+    /// Definitions: [`IsValueWord`](crate::specs::grammar::CommandsSpecs#IsValueWord), [`Accepts`](crate::specs::operands::LineWordsSpecs#Accepts), [`NamesAfter`](crate::specs::grammar::CommandsSpecs#NamesAfter).
     #[inline]
     fn values_call(name: &str, operands: &[&str]) -> Result<Call, LineError> {
         match name {
@@ -101,7 +101,7 @@ mod command {
     /// ensures call: Accepts result (NamesAfter name.now operands.now)
     /// ```
     ///
-    /// Definitions: [`IsMemoryWord`](crate::specs::grammar::Commands#IsMemoryWord), [`Accepts`](crate::specs::operands::LineWords#Accepts), [`NamesAfter`](crate::specs::grammar::Commands#NamesAfter).
+    /// Definitions: [`IsMemoryWord`](crate::specs::grammar::CommandsSpecs#IsMemoryWord), [`Accepts`](crate::specs::operands::LineWordsSpecs#Accepts), [`NamesAfter`](crate::specs::grammar::CommandsSpecs#NamesAfter).
     #[inline]
     fn memory_call(name: &str, operands: &[&str]) -> Result<Call, LineError> {
         match name {
@@ -121,7 +121,7 @@ mod command {
     /// ensures: AcceptsWithMemory result (NamesAfter (codes "write") operands.now)
     /// ```
     ///
-    /// Definitions: [`AcceptsWithMemory`](crate::specs::operands::LineWords#AcceptsWithMemory), [`NamesAfter`](crate::specs::grammar::Commands#NamesAfter).
+    /// Definitions: [`AcceptsWithMemory`](crate::specs::operands::LineWordsSpecs#AcceptsWithMemory), [`NamesAfter`](crate::specs::grammar::CommandsSpecs#NamesAfter).
     #[inline]
     fn write(operands: &[&str]) -> Result<Call, LineError> {
         let [memory, offset, bytes @ ..] = operands else {
@@ -142,7 +142,7 @@ mod command {
     /// ensures: Accepts result (NamesAfter (codes "drop") operands.now)
     /// ```
     ///
-    /// Definitions: [`Accepts`](crate::specs::operands::LineWords#Accepts), [`NamesAfter`](crate::specs::grammar::Commands#NamesAfter).
+    /// Definitions: [`Accepts`](crate::specs::operands::LineWordsSpecs#Accepts), [`NamesAfter`](crate::specs::grammar::CommandsSpecs#NamesAfter).
     #[inline]
     fn drop_live(operands: &[&str]) -> Result<Call, LineError> {
         let [kind, index] = operands else {
@@ -165,7 +165,7 @@ mod command {
     ///     (word_at words.now 1) (word_at words.now 2) (word_at words.now 3) ty)
     /// ```
     ///
-    /// Definitions: [`Accepts`](crate::specs::operands::LineWords#Accepts), [`NamesType`](crate::specs::grammar::Commands#NamesType), [`word_at`](crate::specs::operands::LineWords#word_at).
+    /// Definitions: [`Accepts`](crate::specs::operands::LineWordsSpecs#Accepts), [`NamesType`](crate::specs::grammar::CommandsSpecs#NamesType), [`word_at`](crate::specs::operands::LineWordsSpecs#word_at).
     #[inline]
     fn memory_type(words: &[&str]) -> Result<MemoryType, LineError> {
         let (minimum, maximum, page_size_log2, index) = operand::four(words)?;
@@ -187,7 +187,7 @@ mod command {
     /// ensures call: Accepts result (NamesAfter name.now operands.now)
     /// ```
     ///
-    /// Definitions: [`IsAccessWord`](crate::specs::grammar::Commands#IsAccessWord), [`Accepts`](crate::specs::operands::LineWords#Accepts), [`NamesAfter`](crate::specs::grammar::Commands#NamesAfter).
+    /// Definitions: [`IsAccessWord`](crate::specs::grammar::CommandsSpecs#IsAccessWord), [`Accepts`](crate::specs::operands::LineWordsSpecs#Accepts), [`NamesAfter`](crate::specs::grammar::CommandsSpecs#NamesAfter).
     #[inline]
     fn access_call(name: &str, operands: &[&str]) -> Result<Call, LineError> {
         match name {
@@ -217,7 +217,7 @@ mod command {
     /// ensures: Accepts result (NamesAfter (codes "vloadlane") operands.now)
     /// ```
     ///
-    /// Definitions: [`Accepts`](crate::specs::operands::LineWords#Accepts), [`NamesAfter`](crate::specs::grammar::Commands#NamesAfter).
+    /// Definitions: [`Accepts`](crate::specs::operands::LineWordsSpecs#Accepts), [`NamesAfter`](crate::specs::grammar::CommandsSpecs#NamesAfter).
     #[inline]
     fn load_lane(operands: &[&str]) -> Result<Call, LineError> {
         let &[name, dst, a, lane, memory, ptr, offset] = operands else {
@@ -243,7 +243,7 @@ mod command {
     /// ensures: Accepts result (NamesAfter (codes "vstorelane") operands.now)
     /// ```
     ///
-    /// Definitions: [`Accepts`](crate::specs::operands::LineWords#Accepts), [`NamesAfter`](crate::specs::grammar::Commands#NamesAfter).
+    /// Definitions: [`Accepts`](crate::specs::operands::LineWordsSpecs#Accepts), [`NamesAfter`](crate::specs::grammar::CommandsSpecs#NamesAfter).
     #[inline]
     fn store_lane(operands: &[&str]) -> Result<Call, LineError> {
         let &[name, a, lane, memory, ptr, offset] = operands else {
@@ -269,7 +269,7 @@ mod command {
     /// ensures call: Accepts result (NamesAfter name.now operands.now)
     /// ```
     ///
-    /// Definitions: [`IsTableWord`](crate::specs::grammar::Commands#IsTableWord), [`Accepts`](crate::specs::operands::LineWords#Accepts), [`NamesAfter`](crate::specs::grammar::Commands#NamesAfter).
+    /// Definitions: [`IsTableWord`](crate::specs::grammar::CommandsSpecs#IsTableWord), [`Accepts`](crate::specs::operands::LineWordsSpecs#Accepts), [`NamesAfter`](crate::specs::grammar::CommandsSpecs#NamesAfter).
     #[inline]
     fn table_call(name: &str, operands: &[&str]) -> Result<Call, LineError> {
         match name {
@@ -314,7 +314,7 @@ mod command {
     /// ensures: Accepts result (NamesAfter (codes "table") operands.now)
     /// ```
     ///
-    /// Definitions: [`Accepts`](crate::specs::operands::LineWords#Accepts), [`NamesAfter`](crate::specs::grammar::Commands#NamesAfter).
+    /// Definitions: [`Accepts`](crate::specs::operands::LineWordsSpecs#Accepts), [`NamesAfter`](crate::specs::grammar::CommandsSpecs#NamesAfter).
     #[inline]
     fn new_table(operands: &[&str]) -> Result<Call, LineError> {
         let &[element, min, max, width, init_ty, raw] = operands else {
@@ -336,7 +336,7 @@ mod command {
     /// ensures: AcceptsWithMemory result (NamesAfter (codes "segment") operands.now)
     /// ```
     ///
-    /// Definitions: [`AcceptsWithMemory`](crate::specs::operands::LineWords#AcceptsWithMemory), [`NamesAfter`](crate::specs::grammar::Commands#NamesAfter).
+    /// Definitions: [`AcceptsWithMemory`](crate::specs::operands::LineWordsSpecs#AcceptsWithMemory), [`NamesAfter`](crate::specs::grammar::CommandsSpecs#NamesAfter).
     #[inline]
     fn new_segment(operands: &[&str]) -> Result<Call, LineError> {
         let [ty, items @ ..] = operands else {
@@ -357,7 +357,7 @@ mod command {
     ///     (word_at words.now 1) (word_at words.now 2) (word_at words.now 3) ty)
     /// ```
     ///
-    /// Definitions: [`Accepts`](crate::specs::operands::LineWords#Accepts), [`NamesTableType`](crate::specs::grammar::Commands#NamesTableType), [`word_at`](crate::specs::operands::LineWords#word_at).
+    /// Definitions: [`Accepts`](crate::specs::operands::LineWordsSpecs#Accepts), [`NamesTableType`](crate::specs::grammar::CommandsSpecs#NamesTableType), [`word_at`](crate::specs::operands::LineWordsSpecs#word_at).
     #[inline]
     fn table_type(words: &[&str]) -> Result<TableType, LineError> {
         let (element, minimum, maximum, index) = operand::four::<_, u64, Option<u64>, _>(words)?;
@@ -396,7 +396,7 @@ mod command {
     /// ensures call: Accepts result (NamesAfter name.now operands.now)
     /// ```
     ///
-    /// Definitions: [`IsVectorWord`](crate::specs::grammar::Commands#IsVectorWord), [`Accepts`](crate::specs::operands::LineWords#Accepts), [`NamesAfter`](crate::specs::grammar::Commands#NamesAfter).
+    /// Definitions: [`IsVectorWord`](crate::specs::grammar::CommandsSpecs#IsVectorWord), [`Accepts`](crate::specs::operands::LineWordsSpecs#Accepts), [`NamesAfter`](crate::specs::grammar::CommandsSpecs#NamesAfter).
     #[inline]
     fn vector_call(name: &str, operands: &[&str]) -> Result<Call, LineError> {
         match name {
@@ -420,7 +420,7 @@ mod command {
     /// ensures: Accepts result (NamesAfter (codes "extract") operands.now)
     /// ```
     ///
-    /// Definitions: [`Accepts`](crate::specs::operands::LineWords#Accepts), [`NamesAfter`](crate::specs::grammar::Commands#NamesAfter).
+    /// Definitions: [`Accepts`](crate::specs::operands::LineWordsSpecs#Accepts), [`NamesAfter`](crate::specs::grammar::CommandsSpecs#NamesAfter).
     #[inline]
     fn extract(operands: &[&str]) -> Result<Call, LineError> {
         let &[name, a, lane] = operands else {
@@ -440,7 +440,7 @@ mod command {
     /// ensures: Accepts result (NamesAfter (codes "replace") operands.now)
     /// ```
     ///
-    /// Definitions: [`Accepts`](crate::specs::operands::LineWords#Accepts), [`NamesAfter`](crate::specs::grammar::Commands#NamesAfter).
+    /// Definitions: [`Accepts`](crate::specs::operands::LineWordsSpecs#Accepts), [`NamesAfter`](crate::specs::grammar::CommandsSpecs#NamesAfter).
     #[inline]
     fn replace(operands: &[&str]) -> Result<Call, LineError> {
         let &[name, dst, a, lane, item] = operands else {
@@ -460,7 +460,7 @@ mod command {
     /// ensures: Accepts result (NamesAfter (codes "shuffle") operands.now)
     /// ```
     ///
-    /// Definitions: [`Accepts`](crate::specs::operands::LineWords#Accepts), [`NamesAfter`](crate::specs::grammar::Commands#NamesAfter).
+    /// Definitions: [`Accepts`](crate::specs::operands::LineWordsSpecs#Accepts), [`NamesAfter`](crate::specs::grammar::CommandsSpecs#NamesAfter).
     #[inline]
     fn shuffle(operands: &[&str]) -> Result<Call, LineError> {
         let [dst, a, b, lanes @ ..] = operands else {
@@ -480,7 +480,7 @@ mod command {
     /// ensures: Accepts result (WritesLanes words.now)
     /// ```
     ///
-    /// Definitions: [`Accepts`](crate::specs::operands::LineWords#Accepts), [`WritesLanes`](crate::specs::operands::Names#WritesLanes).
+    /// Definitions: [`Accepts`](crate::specs::operands::LineWordsSpecs#Accepts), [`WritesLanes`](crate::specs::operands::NamesSpecs#WritesLanes).
     #[inline]
     fn lanes_of(words: &[&str]) -> Result<[ImmLaneIdx32; 16], LineError> {
         let Ok(words) = <&[&str; 16]>::try_from(words) else {
@@ -586,7 +586,8 @@ mod header {
         /// ensures: result ≡ tenants_of self.now.limiter
         /// ```
         ///
-        /// Definitions: [`tenants_of`](crate::specs::grammar::Headers#tenants_of).
+        /// Definitions: [`tenants_of`](crate::specs::grammar::HeadersSpecs#tenants_of).
+        #[must_use]
         #[inline]
         pub fn tenants(&self) -> usize {
             match &self.limiter {
@@ -604,7 +605,7 @@ mod header {
     /// ensures: Accepts result (WritesMeter operands.now)
     /// ```
     ///
-    /// Definitions: [`Accepts`](crate::specs::operands::LineWords#Accepts), [`WritesMeter`](crate::specs::grammar::Headers#WritesMeter).
+    /// Definitions: [`Accepts`](crate::specs::operands::LineWordsSpecs#Accepts), [`WritesMeter`](crate::specs::grammar::HeadersSpecs#WritesMeter).
     #[inline]
     pub(crate) fn meter_line(operands: &[&str]) -> Result<MeterLine, LineError> {
         match operands {
@@ -622,7 +623,7 @@ mod header {
     /// ensures: Accepts result (WritesRegion operands.now)
     /// ```
     ///
-    /// Definitions: [`Accepts`](crate::specs::operands::LineWords#Accepts), [`WritesRegion`](crate::specs::grammar::Headers#WritesRegion).
+    /// Definitions: [`Accepts`](crate::specs::operands::LineWordsSpecs#Accepts), [`WritesRegion`](crate::specs::grammar::HeadersSpecs#WritesRegion).
     #[inline]
     pub(crate) fn region_line(operands: &[&str]) -> Result<RegionLine, LineError> {
         let (len, byte) = operand::two(operands)?;
@@ -637,7 +638,7 @@ mod header {
     /// ensures: Accepts result (NamesLimiterAfter (codes "quota") operands.now)
     /// ```
     ///
-    /// Definitions: [`Accepts`](crate::specs::operands::LineWords#Accepts), [`NamesLimiterAfter`](crate::specs::grammar::Headers#NamesLimiterAfter).
+    /// Definitions: [`Accepts`](crate::specs::operands::LineWordsSpecs#Accepts), [`NamesLimiterAfter`](crate::specs::grammar::HeadersSpecs#NamesLimiterAfter).
     #[inline]
     pub(crate) fn quota(operands: &[&str]) -> Result<LimiterLine, LineError> {
         let (bytes, elements) = operand::two(operands)?;
@@ -652,7 +653,7 @@ mod header {
     /// ensures: Accepts result (NamesLimiterAfter (codes "tenants") operands.now)
     /// ```
     ///
-    /// Definitions: [`Accepts`](crate::specs::operands::LineWords#Accepts), [`NamesLimiterAfter`](crate::specs::grammar::Headers#NamesLimiterAfter).
+    /// Definitions: [`Accepts`](crate::specs::operands::LineWordsSpecs#Accepts), [`NamesLimiterAfter`](crate::specs::grammar::HeadersSpecs#NamesLimiterAfter).
     #[inline]
     pub(crate) fn tenants(operands: &[&str]) -> Result<LimiterLine, LineError> {
         let (count, bytes, elements) = operand::three(operands)?;
@@ -673,7 +674,7 @@ mod header {
     /// ensures: AcceptsWithMemory result (NamesLimiterAfter (codes "answers") operands.now)
     /// ```
     ///
-    /// Definitions: [`AcceptsWithMemory`](crate::specs::operands::LineWords#AcceptsWithMemory), [`NamesLimiterAfter`](crate::specs::grammar::Headers#NamesLimiterAfter).
+    /// Definitions: [`AcceptsWithMemory`](crate::specs::operands::LineWordsSpecs#AcceptsWithMemory), [`NamesLimiterAfter`](crate::specs::grammar::HeadersSpecs#NamesLimiterAfter).
     #[inline]
     pub(crate) fn listed(operands: &[&str]) -> Result<LimiterLine, LineError> {
         Ok(LimiterLine::Answers(list_of(operands)?))
@@ -691,7 +692,7 @@ pub mod laws {
     /// ensures: TextsWriteOneScript
     /// ```
     ///
-    /// Definitions: [`TextsWriteOneScript`](crate::specs::grammar::Meanings#TextsWriteOneScript).
+    /// Definitions: [`TextsWriteOneScript`](crate::specs::grammar::MeaningsSpecs#TextsWriteOneScript).
     #[inline]
     pub fn texts_write_one_script() {}
 
@@ -703,7 +704,7 @@ pub mod laws {
     /// ensures: FirstBadLinesAreOne
     /// ```
     ///
-    /// Definitions: [`FirstBadLinesAreOne`](crate::specs::grammar::Meanings#FirstBadLinesAreOne).
+    /// Definitions: [`FirstBadLinesAreOne`](crate::specs::grammar::MeaningsSpecs#FirstBadLinesAreOne).
     #[inline]
     pub fn first_bad_lines_are_one() {}
 
@@ -715,7 +716,7 @@ pub mod laws {
     /// ensures: WrittenTextsHaveNoBadLine
     /// ```
     ///
-    /// Definitions: [`WrittenTextsHaveNoBadLine`](crate::specs::grammar::Meanings#WrittenTextsHaveNoBadLine).
+    /// Definitions: [`WrittenTextsHaveNoBadLine`](crate::specs::grammar::MeaningsSpecs#WrittenTextsHaveNoBadLine).
     #[inline]
     pub fn written_texts_have_no_bad_line() {}
 }
@@ -755,7 +756,7 @@ mod script {
     /// invariant = λ p. AreCut p.earlier.items p.start p.calls.items
     /// ```
     ///
-    /// Definitions: [`PartsValue`](crate::specs::grammar::Parts#PartsValue), [`part_at`](crate::specs::grammar::Parts#part_at), [`AreCut`](crate::specs::grammar::Parts#AreCut).
+    /// Definitions: [`PartsValue`](crate::specs::grammar::PartsSpecs#PartsValue), [`part_at`](crate::specs::grammar::PartsSpecs#part_at), [`AreCut`](crate::specs::grammar::PartsSpecs#AreCut).
     pub struct Parts {
         /// The call of each command, in order.
         calls: Vec<Call>,
@@ -828,7 +829,7 @@ mod script {
         ///     (self.new ≡ record { earlier = parts_in self.old; tenant = tenant; calls = [] })
         /// ```
         ///
-        /// Definitions: [`parts_in`](crate::specs::grammar::Parts#parts_in).
+        /// Definitions: [`parts_in`](crate::specs::grammar::PartsSpecs#parts_in).
         #[inline]
         fn begin(&mut self, tenant: usize) -> Result<(), AllocError> {
             let end = self.calls.len();
@@ -851,7 +852,8 @@ mod script {
         /// ensures: result ≡ length (parts_in self.now)
         /// ```
         ///
-        /// Definitions: [`parts_in`](crate::specs::grammar::Parts#parts_in).
+        /// Definitions: [`parts_in`](crate::specs::grammar::PartsSpecs#parts_in).
+        #[must_use]
         #[inline]
         pub fn len(&self) -> usize {
             self.earlier.len() + 1
@@ -866,7 +868,8 @@ mod script {
         ///     ≡ slice_get (parts_in self.now) index
         /// ```
         ///
-        /// Definitions: [`parts_in`](crate::specs::grammar::Parts#parts_in).
+        /// Definitions: [`parts_in`](crate::specs::grammar::PartsSpecs#parts_in).
+        #[must_use]
         #[inline]
         pub fn get(&self, index: usize) -> Option<(usize, &[Call])> {
             if index < self.earlier.len() {
@@ -890,7 +893,8 @@ mod script {
         /// ensures: result.now ≡ calls_in (parts_in self.now)
         /// ```
         ///
-        /// Definitions: [`calls_in`](crate::specs::grammar::Parts#calls_in), [`parts_in`](crate::specs::grammar::Parts#parts_in).
+        /// Definitions: [`calls_in`](crate::specs::grammar::PartsSpecs#calls_in), [`parts_in`](crate::specs::grammar::PartsSpecs#parts_in).
+        #[must_use]
         #[inline]
         pub fn calls(&self) -> &[Call] {
             &self.calls
@@ -920,7 +924,7 @@ mod script {
         /// ensures: IsNewScript result
         /// ```
         ///
-        /// Definitions: [`IsNewScript`](crate::specs::grammar::Lines#IsNewScript).
+        /// Definitions: [`IsNewScript`](crate::specs::grammar::LinesSpecs#IsNewScript).
         #[inline]
         fn new() -> Self {
             Script {
@@ -939,7 +943,7 @@ mod script {
         ///     → (new : Script) → ¬ (AddsWords self.old words.now new))
         /// ```
         ///
-        /// Definitions: [`AddsWords`](crate::specs::grammar::Lines#AddsWords).
+        /// Definitions: [`AddsWords`](crate::specs::grammar::LinesSpecs#AddsWords).
         #[inline]
         fn take_line(&mut self, words: &[&str]) -> Result<(), LineError> {
             let [name, operands @ ..] = words else {
@@ -959,7 +963,7 @@ mod script {
         ///     → (new : Script) → ¬ (AddsLine self.old line new))
         /// ```
         ///
-        /// Definitions: [`AddsLine`](crate::specs::grammar::Lines#AddsLine).
+        /// Definitions: [`AddsLine`](crate::specs::grammar::LinesSpecs#AddsLine).
         #[inline]
         fn take(&mut self, line: Line) -> Result<(), LineError> {
             match line {
@@ -980,7 +984,7 @@ mod script {
         /// ensures refused: OnErr result ((new : Script) → ¬ (AddsMeter self.old line new))
         /// ```
         ///
-        /// Definitions: [`AddsMeter`](crate::specs::grammar::Lines#AddsMeter).
+        /// Definitions: [`AddsMeter`](crate::specs::grammar::LinesSpecs#AddsMeter).
         #[inline]
         fn take_meter(&mut self, line: MeterLine) -> Result<(), LineError> {
             if !self.parts.is_empty() || self.header.meter.is_some() {
@@ -999,7 +1003,7 @@ mod script {
         /// ensures refused: OnErr result ((new : Script) → ¬ (AddsLimiter self.old line new))
         /// ```
         ///
-        /// Definitions: [`AddsLimiter`](crate::specs::grammar::Lines#AddsLimiter).
+        /// Definitions: [`AddsLimiter`](crate::specs::grammar::LinesSpecs#AddsLimiter).
         #[inline]
         fn take_limiter(&mut self, line: LimiterLine) -> Result<(), LineError> {
             if !self.parts.is_empty() || self.header.limiter.is_some() {
@@ -1021,7 +1025,7 @@ mod script {
         /// ensures refused: OnErr result ((new : Script) → ¬ (AddsRegion self.old line new))
         /// ```
         ///
-        /// Definitions: [`AddsRegion`](crate::specs::grammar::Lines#AddsRegion).
+        /// Definitions: [`AddsRegion`](crate::specs::grammar::LinesSpecs#AddsRegion).
         #[inline]
         fn take_region(&mut self, line: RegionLine) -> Result<(), LineError> {
             if !self.parts.is_empty()
@@ -1043,7 +1047,7 @@ mod script {
         /// ensures memory: IfErr result (λ error. error ≡ LineError.OutOfMemory)
         /// ```
         ///
-        /// Definitions: [`AddsCall`](crate::specs::grammar::Lines#AddsCall).
+        /// Definitions: [`AddsCall`](crate::specs::grammar::LinesSpecs#AddsCall).
         #[inline]
         fn take_call(&mut self, call: Call) -> Result<(), LineError> {
             self.parts.push(call)?;
@@ -1060,7 +1064,7 @@ mod script {
         ///     → (new : Script) → ¬ (AddsPart self.old tenant new))
         /// ```
         ///
-        /// Definitions: [`AddsPart`](crate::specs::grammar::Lines#AddsPart).
+        /// Definitions: [`AddsPart`](crate::specs::grammar::LinesSpecs#AddsPart).
         #[inline]
         fn take_part(&mut self, tenant: usize) -> Result<(), LineError> {
             if tenant >= self.header.tenants() {
@@ -1088,7 +1092,7 @@ mod script {
     /// ensures: AcceptsWithMemory result (NamesLine name.now operands.now)
     /// ```
     ///
-    /// Definitions: [`AcceptsWithMemory`](crate::specs::operands::LineWords#AcceptsWithMemory), [`NamesLine`](crate::specs::grammar::Lines#NamesLine).
+    /// Definitions: [`AcceptsWithMemory`](crate::specs::operands::LineWordsSpecs#AcceptsWithMemory), [`NamesLine`](crate::specs::grammar::LinesSpecs#NamesLine).
     #[inline]
     fn line_of(name: &str, operands: &[&str]) -> Result<Line, LineError> {
         match name {
@@ -1102,7 +1106,12 @@ mod script {
         }
     }
 
-    /// The script that the bytes write. Of several bad lines the first is named.
+    /// The script that the bytes write.
+    ///
+    /// # Errors
+    ///
+    /// [`BadCommand`](crate::grammar::ParseError::BadCommand) with the first line that is no command; [`OutOfMemory`](crate::grammar::ParseError::OutOfMemory) if memory for the script is
+    /// refused.
     ///
     /// # Contract
     ///
@@ -1115,7 +1124,7 @@ mod script {
     ///     → (0 < line) × (line ≤ length bytes.now + 1))
     /// ```
     ///
-    /// Definitions: [`WritesScript`](crate::specs::grammar::Lines#WritesScript), [`calls_of`](crate::specs::grammar::Lines#calls_of), [`IsParseError`](crate::specs::grammar::Lines#IsParseError).
+    /// Definitions: [`WritesScript`](crate::specs::grammar::LinesSpecs#WritesScript), [`calls_of`](crate::specs::grammar::LinesSpecs#calls_of), [`IsParseError`](crate::specs::grammar::LinesSpecs#IsParseError).
     #[inline]
     pub fn parse(bytes: &[u8]) -> Result<Script, ParseError> {
         let mut script = Script::new();

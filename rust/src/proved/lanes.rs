@@ -22,7 +22,9 @@ mod index {
     /// inverse = λ number. record { index = number }
     /// ```
     ///
-    /// Definitions: [`IsLaneCount`](crate::specs::lanes::Vector#IsLaneCount).
+    /// Definitions: [`IsLaneCount`](crate::specs::lanes::VectorSpecs#IsLaneCount).
+    ///
+    /// `N` is a number.
     #[derive(Clone, Copy, Debug, PartialEq, Eq)]
     pub struct ImmLaneIdx<const N: usize> {
         index: u8,
@@ -48,7 +50,9 @@ mod index {
     /// is_lane_count: IsLaneCount N
     /// ```
     ///
-    /// Definitions: [`IsLaneCount`](crate::specs::lanes::Vector#IsLaneCount).
+    /// Definitions: [`IsLaneCount`](crate::specs::lanes::VectorSpecs#IsLaneCount).
+    ///
+    /// `A` is any type. `N` is a number.
     pub trait CountsLanes<const N: usize> {}
 
     impl CountsLanes<2> for ImmLaneIdx2 {}
@@ -66,6 +70,8 @@ mod index {
     /// ```text
     /// from_gives = λ lane number. (number ≡ lane) × (number < N)
     /// ```
+    ///
+    /// `N` is a number.
     impl<const N: usize> From<ImmLaneIdx<N>> for u8 {
         #[inline]
         fn from(lane: ImmLaneIdx<N>) -> u8 {
@@ -78,6 +84,8 @@ mod index {
     /// ```text
     /// try_from_gives = λ number lane. OkIff lane (number < N) number
     /// ```
+    ///
+    /// `N` is a number.
     impl<const N: usize> TryFrom<u8> for ImmLaneIdx<N>
     where
         ImmLaneIdx<N>: CountsLanes<N>,
@@ -113,6 +121,8 @@ mod index {
     /// -- A number that makes no index is `COUNT` or more.
     /// refused: (n : ℕ) (error : _) → Self.try_from_gives n (Err error) → COUNT ≤ n
     /// ```
+    ///
+    /// `A` is any type.
     pub trait LaneIndex: Copy + Into<u8> + TryFrom<u8, Error = OutOfBoundsLaneIdx> {}
 
     /// # Contract
@@ -121,6 +131,8 @@ mod index {
     /// COUNT = N
     /// number = λ lane. lane
     /// ```
+    ///
+    /// `N` is a number.
     impl<const N: usize> LaneIndex for ImmLaneIdx<N> where ImmLaneIdx<N>: CountsLanes<N> {}
 
     /// An integer with the index of one of its lanes in a vector, of which there are 128 divided by its
@@ -163,7 +175,7 @@ mod item {
     /// laws: ReadsLanes width read image Fits ALL_ONES ALL_ZEROS
     /// ```
     ///
-    /// Definitions: [`lane`](crate::specs::lanes::Vector#lane), [`ReadsLanes`](crate::specs::lanes::Vector#ReadsLanes).
+    /// Definitions: [`lane`](crate::specs::lanes::VectorSpecs#lane), [`ReadsLanes`](crate::specs::lanes::VectorSpecs#ReadsLanes).
     pub trait LaneInteger: Copy {
         /// The item whose bits are all ones.
         const ALL_ONES: Self;
@@ -180,6 +192,8 @@ mod item {
     /// -- `N` lanes make 128 bits.
     /// filled: N * bits Self.width ≡ 128
     /// ```
+    ///
+    /// `N` is a number.
     pub trait LaneItem<const N: usize>: LaneInteger {
         /// Fills `items` with the lanes of a vector, lane 0 first.
         ///
@@ -190,7 +204,9 @@ mod item {
         ///     → slice_index_or items.new i Self.ALL_ZEROS ≡ Self.read (lane Self.width vector i)
         /// ```
         ///
-        /// Definitions: [`lane`](crate::specs::lanes::Vector#lane).
+        /// Definitions: [`lane`](crate::specs::lanes::VectorSpecs#lane).
+        ///
+        /// `N` is a number.
         fn read_into(vector: V128, items: &mut [Self; N]);
 
         /// The vector with these lanes, lane 0 first.
@@ -203,7 +219,9 @@ mod item {
         /// ensures in_range: result < 2 ^ 128
         /// ```
         ///
-        /// Definitions: [`lane`](crate::specs::lanes::Vector#lane).
+        /// Definitions: [`lane`](crate::specs::lanes::VectorSpecs#lane).
+        ///
+        /// `N` is a number.
         fn write_from(items: &[Self; N]) -> V128;
     }
 
@@ -218,7 +236,7 @@ mod item {
     /// Fits = λ item. item < 2 ^ 8
     /// ```
     ///
-    /// Definitions: [`unsigned`](crate::specs::lanes::Vector#unsigned).
+    /// Definitions: [`unsigned`](crate::specs::lanes::VectorSpecs#unsigned).
     impl LaneInteger for u8 {
         const ALL_ONES: u8 = u8::MAX;
 
@@ -284,7 +302,7 @@ mod item {
     /// Fits = λ item. item < 2 ^ 16
     /// ```
     ///
-    /// Definitions: [`unsigned`](crate::specs::lanes::Vector#unsigned).
+    /// Definitions: [`unsigned`](crate::specs::lanes::VectorSpecs#unsigned).
     impl LaneInteger for u16 {
         const ALL_ONES: u16 = u16::MAX;
 
@@ -346,7 +364,7 @@ mod item {
     /// Fits = λ item. item < 2 ^ 32
     /// ```
     ///
-    /// Definitions: [`unsigned`](crate::specs::lanes::Vector#unsigned).
+    /// Definitions: [`unsigned`](crate::specs::lanes::VectorSpecs#unsigned).
     impl LaneInteger for u32 {
         const ALL_ONES: u32 = u32::MAX;
 
@@ -408,7 +426,7 @@ mod item {
     /// Fits = λ item. item < 2 ^ 64
     /// ```
     ///
-    /// Definitions: [`unsigned`](crate::specs::lanes::Vector#unsigned).
+    /// Definitions: [`unsigned`](crate::specs::lanes::VectorSpecs#unsigned).
     impl LaneInteger for u64 {
         const ALL_ONES: u64 = u64::MAX;
 
@@ -484,7 +502,7 @@ mod lanes {
     ///     Self.Item.ALL_ONES Self.Item.ALL_ZEROS
     /// ```
     ///
-    /// Definitions: [`lane`](crate::specs::lanes::Vector#lane), [`AreWholeLanes`](crate::specs::lanes::Vector#AreWholeLanes).
+    /// Definitions: [`lane`](crate::specs::lanes::VectorSpecs#lane), [`AreWholeLanes`](crate::specs::lanes::VectorSpecs#AreWholeLanes).
     pub trait Lanes: Copy {
         /// The integer of one lane.
         type Item: LaneInteger;
@@ -510,7 +528,7 @@ mod lanes {
         ///     → item result i ≡ Self.Item.read (lane Self.Item.width vector i)
         /// ```
         ///
-        /// Definitions: [`lane`](crate::specs::lanes::Vector#lane).
+        /// Definitions: [`lane`](crate::specs::lanes::VectorSpecs#lane).
         fn from_v128(vector: V128) -> Self;
 
         /// The vector with these lanes.
@@ -523,7 +541,7 @@ mod lanes {
         /// ensures in_range: result < 2 ^ 128
         /// ```
         ///
-        /// Definitions: [`lane`](crate::specs::lanes::Vector#lane).
+        /// Definitions: [`lane`](crate::specs::lanes::VectorSpecs#lane).
         fn into_v128(self) -> V128;
 
         /// The same item in all lanes.
@@ -544,7 +562,7 @@ mod lanes {
         /// ensures inside: Self.LaneIdx.number lane < LANES
         /// ```
         ///
-        /// Definitions: [`lane`](crate::specs::lanes::Vector#lane).
+        /// Definitions: [`lane`](crate::specs::lanes::VectorSpecs#lane).
         fn extract_lane(self, lane: Self::LaneIdx) -> Self::Item;
 
         /// The lanes with `value` in one of them.
@@ -556,7 +574,7 @@ mod lanes {
         ///     → item result i ≡ (if i == Self.LaneIdx.number lane then value else item self i)
         /// ```
         ///
-        /// Definitions: [`lane`](crate::specs::lanes::Vector#lane).
+        /// Definitions: [`lane`](crate::specs::lanes::VectorSpecs#lane).
         fn replace_lane(self, lane: Self::LaneIdx, value: Self::Item) -> Self;
 
         /// What `f` gives for each lane.
@@ -567,6 +585,8 @@ mod lanes {
         /// requires callable: F.IsAlwaysCallable f
         /// ensures lanes: (i : ℕ) → i < LANES → F.post f (item self i) (item result i)
         /// ```
+        ///
+        /// `F` is the type of the closure.
         fn lanewise_unary<F: Fn(Self::Item) -> Self::Item>(self, f: F) -> Self;
 
         /// What `f` gives for the lanes of two vectors at each index.
@@ -578,6 +598,8 @@ mod lanes {
         /// ensures lanes: (i : ℕ) → i < LANES
         ///     → F.post f (item self i) (item other i) (item result i)
         /// ```
+        ///
+        /// `F` is the type of the closure.
         fn lanewise_binary<F: Fn(Self::Item, Self::Item) -> Self::Item>(
             self,
             other: Self,
@@ -593,6 +615,8 @@ mod lanes {
         /// ensures lanes: (i : ℕ) → i < LANES
         ///     → F.post f (item self i) (item b i) (item c i) (item result i)
         /// ```
+        ///
+        /// `F` is the type of the closure.
         fn lanewise_ternary<F: Fn(Self::Item, Self::Item, Self::Item) -> Self::Item>(
             self,
             b: Self,
@@ -610,6 +634,8 @@ mod lanes {
         ///     → (holds : Bool) × F.post f (item self i) (item other i) holds
         ///     × (item result i ≡ (if holds then ALL_ONES else ALL_ZEROS))
         /// ```
+        ///
+        /// `F` is the type of the closure.
         fn lanewise_comparison<F: Fn(Self::Item, Self::Item) -> bool>(
             self,
             other: Self,
@@ -627,7 +653,9 @@ mod lanes {
         ///     result
         /// ```
         ///
-        /// Definitions: [`ReducesTo`](crate::specs::lanes::Vector#ReducesTo).
+        /// Definitions: [`ReducesTo`](crate::specs::lanes::VectorSpecs#ReducesTo).
+        ///
+        /// `F` is the type of the closure.
         fn lanewise_reduce<T, F: Fn(u8, Self::Item, T) -> T>(self, acc: T, f: F) -> T;
     }
 
@@ -643,6 +671,8 @@ mod lanes {
     /// ```text
     /// ensures: result ≡ (if holds then T.ALL_ONES else T.ALL_ZEROS)
     /// ```
+    ///
+    /// `T` is a type with the trait `LaneInteger`.
     #[inline(always)]
     fn ones_if<T: LaneInteger>(holds: bool) -> T {
         if holds { T::ALL_ONES } else { T::ALL_ZEROS }
@@ -656,6 +686,8 @@ mod lanes {
     /// ALL_ONES = T.ALL_ONES
     /// ALL_ZEROS = T.ALL_ZEROS
     /// ```
+    ///
+    /// `N` is a number. `T` is a type with the trait `LaneItem`.
     impl<T: LaneItem<N>, const N: usize> Lanes for LaneArray<T, N>
     where
         ImmLaneIdx<N>: CountsLanes<N>,
@@ -832,6 +864,8 @@ mod lanes {
     /// -- There are twice as many as of `U`.
     /// twice: N ≡ 2 * M
     /// ```
+    ///
+    /// `M` is a number. `N` is a number. `U` is a type with the trait `LaneItem`.
     pub trait Narrower<U: LaneItem<M>, const N: usize, const M: usize>: LaneItem<N> {}
 
     impl Narrower<u16, 16, 8> for u8 {}
@@ -854,6 +888,8 @@ mod lanes {
     /// -- There are twice as many lanes as wide ones.
     /// twice: Self.LANES ≡ 2 * W.LANES
     /// ```
+    ///
+    /// `W` is a type with the trait `Lanes`.
     pub trait FromWide<W: Lanes>: Lanes {
         /// Lanes made of each lane of `low`, then of each lane of `high`.
         ///
@@ -865,6 +901,8 @@ mod lanes {
         /// ensures high: (i : ℕ) → i < W.LANES
         ///     → F.post f (W.item high i) (Self.item result (W.LANES + i))
         /// ```
+        ///
+        /// `F` is the type of the closure. `W` is a type with the trait `Lanes`.
         fn from_low_high<F: Fn(W::Item) -> Self::Item>(low: W, high: W, f: F) -> Self;
     }
 
@@ -897,6 +935,8 @@ mod lanes {
         /// ensures lanes: (i : ℕ) → i < Self.LANES
         ///     → F.post f (S.item narrow (2 * i)) (S.item narrow (2 * i + 1)) (Self.item result i)
         /// ```
+        ///
+        /// `F` is the type of the closure. `S` is a type with the trait `FromWide`.
         fn pairwise_unary<F: Fn(S::Item, S::Item) -> Self::Item>(narrow: S, f: F) -> Self;
 
         /// Lane i is made of the narrow lanes 2i and 2i + 1 of both operands.
@@ -909,6 +949,8 @@ mod lanes {
         ///     → F.post f (S.item a (2 * i) ∷ S.item a (2 * i + 1) ∷ [])
         ///     (S.item b (2 * i) ∷ S.item b (2 * i + 1) ∷ []) (Self.item result i)
         /// ```
+        ///
+        /// `F` is the type of the closure. `S` is a type with the trait `FromWide`.
         fn pairwise_binary<F: Fn([S::Item; 2], [S::Item; 2]) -> Self::Item>(
             a: S,
             b: S,
@@ -924,6 +966,8 @@ mod lanes {
         /// ensures lanes: (i : ℕ) → i < Self.LANES
         ///     → F.post f (S.item narrow i) (Self.item result i)
         /// ```
+        ///
+        /// `F` is the type of the closure. `S` is a type with the trait `FromWide`.
         fn low_unary<F: Fn(S::Item) -> Self::Item>(narrow: S, f: F) -> Self;
 
         /// Lane i is made of the narrow lane i of the upper half.
@@ -935,6 +979,8 @@ mod lanes {
         /// ensures lanes: (i : ℕ) → i < Self.LANES
         ///     → F.post f (S.item narrow (Self.LANES + i)) (Self.item result i)
         /// ```
+        ///
+        /// `F` is the type of the closure. `S` is a type with the trait `FromWide`.
         fn high_unary<F: Fn(S::Item) -> Self::Item>(narrow: S, f: F) -> Self;
 
         /// Lane i is made of the narrow lanes i of both operands.
@@ -946,6 +992,8 @@ mod lanes {
         /// ensures lanes: (i : ℕ) → i < Self.LANES
         ///     → F.post f (S.item a i) (S.item b i) (Self.item result i)
         /// ```
+        ///
+        /// `F` is the type of the closure. `S` is a type with the trait `FromWide`.
         fn low_binary<F: Fn(S::Item, S::Item) -> Self::Item>(a: S, b: S, f: F) -> Self;
 
         /// Lane i is made of the narrow lanes i of the upper halves of both operands.
@@ -958,6 +1006,8 @@ mod lanes {
         ///     → F.post f (S.item a (Self.LANES + i)) (S.item b (Self.LANES + i))
         ///     (Self.item result i)
         /// ```
+        ///
+        /// `F` is the type of the closure. `S` is a type with the trait `FromWide`.
         fn high_binary<F: Fn(S::Item, S::Item) -> Self::Item>(a: S, b: S, f: F) -> Self;
     }
 
@@ -1039,6 +1089,7 @@ mod lanes {
     /// ```text
     /// ensures: result ≡ clamp_signed w8 number
     /// ```
+    #[must_use]
     #[inline]
     pub fn clamped_i8(number: i16) -> i8 {
         number.clamp(-128, 127) as i8
@@ -1051,6 +1102,7 @@ mod lanes {
     /// ```text
     /// ensures: result ≡ clamp_signed w16 number
     /// ```
+    #[must_use]
     #[inline]
     pub fn clamped_i16(number: i32) -> i16 {
         number.clamp(-32768, 32767) as i16
@@ -1070,6 +1122,9 @@ pub mod laws {
     /// ```text
     /// ensures same: (i : ℕ) → i < L.LANES → L.item result i ≡ L.item lanes i
     /// ```
+    ///
+    /// `L` is a type with the trait `Lanes`.
+    #[must_use]
     #[inline]
     pub fn lanes_there_and_back<L: Lanes>(lanes: L) -> L {
         L::from_v128(lanes.into_v128())
@@ -1089,7 +1144,7 @@ pub mod laws {
     ///     → lane w (with_lane w v k n) i ≡ (if i == k then n else lane w v i)
     /// ```
     ///
-    /// Definitions: [`lane`](crate::specs::lanes::Vector#lane), [`from_lanes`](crate::specs::lanes::Vector#from_lanes), [`splat_of`](crate::specs::lanes::Vector#splat_of), [`with_lane`](crate::specs::lanes::Vector#with_lane).
+    /// Definitions: [`lane`](crate::specs::lanes::VectorSpecs#lane), [`from_lanes`](crate::specs::lanes::VectorSpecs#from_lanes), [`splat_of`](crate::specs::lanes::VectorSpecs#splat_of), [`with_lane`](crate::specs::lanes::VectorSpecs#with_lane).
     #[inline]
     pub fn lanes_of_made_vector() {}
 
@@ -1113,7 +1168,9 @@ pub mod laws {
     ///     (read (lane L.Item.width b i)) then 2 ^ bits L.Item.width - 1 else 0)
     /// ```
     ///
-    /// Definitions: [`lane`](crate::specs::lanes::Vector#lane), [`unary_of_lanes`](crate::specs::lanes::Vector#unary_of_lanes), [`binary_of_lanes`](crate::specs::lanes::Vector#binary_of_lanes), [`comparison_of_lanes`](crate::specs::lanes::Vector#comparison_of_lanes).
+    /// Definitions: [`lane`](crate::specs::lanes::VectorSpecs#lane), [`unary_of_lanes`](crate::specs::lanes::VectorSpecs#unary_of_lanes), [`binary_of_lanes`](crate::specs::lanes::VectorSpecs#binary_of_lanes), [`comparison_of_lanes`](crate::specs::lanes::VectorSpecs#comparison_of_lanes).
+    ///
+    /// `L` is a type with the trait `Lanes`.
     #[inline]
     pub fn lanes_of_rows<L: Lanes>() {}
 
@@ -1126,7 +1183,7 @@ pub mod laws {
     ///     → word ≡ word_of_lanes (λ start width. field start width word) 0 widths
     /// ```
     ///
-    /// Definitions: [`word_of_lanes`](crate::specs::lanes::Words#word_of_lanes), [`field`](crate::specs::lanes::Words#field).
+    /// Definitions: [`word_of_lanes`](crate::specs::lanes::WordsSpecs#word_of_lanes), [`field`](crate::specs::lanes::WordsSpecs#field).
     #[inline]
     pub fn word_is_made_of_lanes(word: u64) {}
 
@@ -1140,7 +1197,8 @@ pub mod laws {
     ///     (λ start width. (field start width a + field start width b) % 2 ^ width) 0 widths
     /// ```
     ///
-    /// Definitions: [`AreLanes`](crate::specs::lanes::Words#AreLanes), [`word_of_lanes`](crate::specs::lanes::Words#word_of_lanes), [`field`](crate::specs::lanes::Words#field).
+    /// Definitions: [`AreLanes`](crate::specs::lanes::WordsSpecs#AreLanes), [`word_of_lanes`](crate::specs::lanes::WordsSpecs#word_of_lanes), [`field`](crate::specs::lanes::WordsSpecs#field).
+    #[must_use]
     #[inline]
     pub fn sums_of_lanes(a: u64, b: u64, tops: u64) -> u64 {
         word_add(a, b, tops)
@@ -1157,7 +1215,8 @@ pub mod laws {
     ///     widths
     /// ```
     ///
-    /// Definitions: [`AreLanes`](crate::specs::lanes::Words#AreLanes), [`word_of_lanes`](crate::specs::lanes::Words#word_of_lanes), [`field`](crate::specs::lanes::Words#field).
+    /// Definitions: [`AreLanes`](crate::specs::lanes::WordsSpecs#AreLanes), [`word_of_lanes`](crate::specs::lanes::WordsSpecs#word_of_lanes), [`field`](crate::specs::lanes::WordsSpecs#field).
+    #[must_use]
     #[inline]
     pub fn differences_of_lanes(a: u64, b: u64, tops: u64) -> u64 {
         word_sub(a, b, tops)
@@ -1174,7 +1233,8 @@ pub mod laws {
     ///     (width - 1)) 0 widths
     /// ```
     ///
-    /// Definitions: [`AreLanes`](crate::specs::lanes::Words#AreLanes), [`word_of_lanes`](crate::specs::lanes::Words#word_of_lanes), [`field`](crate::specs::lanes::Words#field).
+    /// Definitions: [`AreLanes`](crate::specs::lanes::WordsSpecs#AreLanes), [`word_of_lanes`](crate::specs::lanes::WordsSpecs#word_of_lanes), [`field`](crate::specs::lanes::WordsSpecs#field).
+    #[must_use]
     #[inline]
     pub fn tops_of_different_lanes(a: u64, b: u64, tops: u64) -> u64 {
         word_differ(a, b, tops)
@@ -1201,8 +1261,11 @@ pub mod on_vectors {
     ///     → result ≡ unary_of_lanes L.Item.width L.Item.read row a
     /// ```
     ///
-    /// Definitions: [`lane`](crate::specs::lanes::Vector#lane), [`ComputesLane`](crate::specs::lanes::Vector#ComputesLane), [`unary_of_lanes`](crate::specs::lanes::Vector#unary_of_lanes).
+    /// Definitions: [`lane`](crate::specs::lanes::VectorSpecs#lane), [`ComputesLane`](crate::specs::lanes::VectorSpecs#ComputesLane), [`unary_of_lanes`](crate::specs::lanes::VectorSpecs#unary_of_lanes).
+    ///
+    /// `F` is the type of the closure. `L` is a type with the trait `Lanes`.
     #[inline(always)]
+    #[must_use]
     pub fn unary<L: Lanes, F: Fn(L::Item) -> L::Item>(a: V128, f: F) -> V128 {
         L::from_v128(a).lanewise_unary(f).into_v128()
     }
@@ -1221,8 +1284,11 @@ pub mod on_vectors {
     ///     → result ≡ binary_of_lanes L.Item.width L.Item.read row a b
     /// ```
     ///
-    /// Definitions: [`lane`](crate::specs::lanes::Vector#lane), [`ComputesLaneOfTwo`](crate::specs::lanes::Vector#ComputesLaneOfTwo), [`binary_of_lanes`](crate::specs::lanes::Vector#binary_of_lanes).
+    /// Definitions: [`lane`](crate::specs::lanes::VectorSpecs#lane), [`ComputesLaneOfTwo`](crate::specs::lanes::VectorSpecs#ComputesLaneOfTwo), [`binary_of_lanes`](crate::specs::lanes::VectorSpecs#binary_of_lanes).
+    ///
+    /// `F` is the type of the closure. `L` is a type with the trait `Lanes`.
     #[inline(always)]
+    #[must_use]
     pub fn binary<L: Lanes, F: Fn(L::Item, L::Item) -> L::Item>(a: V128, b: V128, f: F) -> V128 {
         L::from_v128(a)
             .lanewise_binary(L::from_v128(b), f)
@@ -1239,8 +1305,11 @@ pub mod on_vectors {
     /// ensures image: result ≡ splat_of L.Item.width (L.Item.image value)
     /// ```
     ///
-    /// Definitions: [`splat_of`](crate::specs::lanes::Vector#splat_of).
+    /// Definitions: [`splat_of`](crate::specs::lanes::VectorSpecs#splat_of).
+    ///
+    /// `L` is a type with the trait `Lanes`.
     #[inline(always)]
+    #[must_use]
     pub fn splat<L: Lanes>(value: L::Item) -> V128 {
         L::splat(value).into_v128()
     }
@@ -1265,7 +1334,7 @@ mod simd_lane {
     /// at: Self.Vector → ℕ → ℕ
     /// ```
     ///
-    /// Definitions: [`lane`](crate::specs::lanes::Vector#lane).
+    /// Definitions: [`lane`](crate::specs::lanes::VectorSpecs#lane).
     pub trait SimdLane: LaneInteger {
         /// The lanes that fill a vector.
         type Vector: Copy;
@@ -1279,7 +1348,7 @@ mod simd_lane {
         ///     → at result i ≡ lane Self.width vector i
         /// ```
         ///
-        /// Definitions: [`lane_count`](crate::specs::lanes::Vector#lane_count), [`lane`](crate::specs::lanes::Vector#lane).
+        /// Definitions: [`lane_count`](crate::specs::lanes::VectorSpecs#lane_count), [`lane`](crate::specs::lanes::VectorSpecs#lane).
         fn lanes_of(vector: V128) -> Self::Vector;
 
         /// The vector with these lanes.
@@ -1292,7 +1361,7 @@ mod simd_lane {
         /// ensures in_range: result < 2 ^ 128
         /// ```
         ///
-        /// Definitions: [`lane_count`](crate::specs::lanes::Vector#lane_count), [`lane`](crate::specs::lanes::Vector#lane).
+        /// Definitions: [`lane_count`](crate::specs::lanes::VectorSpecs#lane_count), [`lane`](crate::specs::lanes::VectorSpecs#lane).
         fn vector_of(items: Self::Vector) -> V128;
 
         /// The lanes moved by half of their range, so that as unsigned numbers they stand in the order
@@ -1305,7 +1374,7 @@ mod simd_lane {
         ///     → at result i ≡ (at items i + 2 ^ (bits Self.width - 1)) % 2 ^ bits Self.width
         /// ```
         ///
-        /// Definitions: [`lane_count`](crate::specs::lanes::Vector#lane_count).
+        /// Definitions: [`lane_count`](crate::specs::lanes::VectorSpecs#lane_count).
         fn biased(items: Self::Vector) -> Self::Vector;
 
         /// The lanes of `chosen` where that of `a` is less than that of `b`, else those of `other`.
@@ -1317,7 +1386,7 @@ mod simd_lane {
         ///     → at result i ≡ (if nat_lt (at a i) (at b i) then at chosen i else at other i)
         /// ```
         ///
-        /// Definitions: [`lane_count`](crate::specs::lanes::Vector#lane_count).
+        /// Definitions: [`lane_count`](crate::specs::lanes::VectorSpecs#lane_count).
         fn choose_if_less(
             a: Self::Vector,
             b: Self::Vector,
@@ -1451,8 +1520,9 @@ mod simd_lane {
     /// ensures lanes: (i : ℕ) → i < 16 → slice_index_or result i 0 ≡ lane w8 vector i
     /// ```
     ///
-    /// Definitions: [`lane`](crate::specs::lanes::Vector#lane).
+    /// Definitions: [`lane`](crate::specs::lanes::VectorSpecs#lane).
     #[inline(always)]
+    #[must_use]
     pub fn bytes_of(vector: V128) -> u8x16 {
         let (low, high) = vector.words();
         u64x2::from_array([low, high]).to_le_bytes()
@@ -1470,7 +1540,7 @@ mod simd_lane {
     /// ensures lanes: (i : ℕ) → i < 16 → slice_index_or result i 0 ≡ lane w8 vector i
     /// ```
     ///
-    /// Definitions: [`lane`](crate::specs::lanes::Vector#lane).
+    /// Definitions: [`lane`](crate::specs::lanes::VectorSpecs#lane).
     #[inline(always)]
     pub(crate) fn bytes_to_take_out(vector: V128) -> u8x16 {
         let (low, high) = vector.words();
@@ -1489,8 +1559,9 @@ mod simd_lane {
     /// ensures in_range: result < 2 ^ 128
     /// ```
     ///
-    /// Definitions: [`lane`](crate::specs::lanes::Vector#lane).
+    /// Definitions: [`lane`](crate::specs::lanes::VectorSpecs#lane).
     #[inline(always)]
+    #[must_use]
     pub fn from_bytes(bytes: u8x16) -> V128 {
         let [low, high] = u64x2::from_le_bytes(bytes).to_array();
         V128::from_word_pair(low, high)
@@ -1504,6 +1575,7 @@ mod simd_lane {
     /// ensures: result ≡ vector % 2 ^ 64 ∷ vector / 2 ^ 64 ∷ []
     /// ```
     #[inline(always)]
+    #[must_use]
     pub fn u64x2_of(vector: V128) -> u64x2 {
         let (low, high) = vector.words();
         u64x2::from_array([low, high])
@@ -1517,8 +1589,9 @@ mod simd_lane {
     /// ensures: (low high : ℕ) → words ≡ low ∷ high ∷ [] → result ≡ vector_of low high
     /// ```
     ///
-    /// Definitions: [`vector_of`](crate::specs::raw::RawVal#vector_of).
+    /// Definitions: [`vector_of`](crate::specs::raw::RawValSpecs#vector_of).
     #[inline(always)]
+    #[must_use]
     pub fn from_u64x2(words: u64x2) -> V128 {
         let [low, high] = words.to_array();
         V128::from_word_pair(low, high)
@@ -1542,7 +1615,7 @@ mod simd_lane {
         /// ensures: Self.image result ≡ lane Self.width vector (Self.LaneIdx.number at)
         /// ```
         ///
-        /// Definitions: [`lane`](crate::specs::lanes::Vector#lane).
+        /// Definitions: [`lane`](crate::specs::lanes::VectorSpecs#lane).
         fn lane_at(vector: V128, at: Self::LaneIdx) -> Self;
 
         /// The vector with `item` in the lane at an index.
@@ -1554,7 +1627,7 @@ mod simd_lane {
         ///     ≡ vectors.with_lane Self.width vector (Self.LaneIdx.number at) (Self.image item)
         /// ```
         ///
-        /// Definitions: [`with_lane`](crate::specs::lanes::Vector#with_lane).
+        /// Definitions: [`with_lane`](crate::specs::lanes::VectorSpecs#with_lane).
         fn with_lane(vector: V128, at: Self::LaneIdx, item: Self) -> V128;
     }
 
@@ -1631,7 +1704,7 @@ mod simd_lane {
     ///     → slice_index result i ≡ lane w8 vector (lane w8 indices i)
     /// ```
     ///
-    /// Definitions: [`lane`](crate::specs::lanes::Vector#lane).
+    /// Definitions: [`lane`](crate::specs::lanes::VectorSpecs#lane).
     #[inline(always)]
     fn bytes_at(vector: V128, indices: u32) -> u8x16 {
         let places = u32x4::from_array([indices, 0, 0, 0]).to_le_bytes();
@@ -1678,7 +1751,8 @@ pub mod words {
     ///     → field start width result ≡ (field start width a + field start width b) % 2 ^ width
     /// ```
     ///
-    /// Definitions: [`IsLane`](crate::specs::lanes::Words#IsLane), [`field`](crate::specs::lanes::Words#field), [`IsLastLane`](crate::specs::lanes::Words#IsLastLane).
+    /// Definitions: [`IsLane`](crate::specs::lanes::WordsSpecs#IsLane), [`field`](crate::specs::lanes::WordsSpecs#field), [`IsLastLane`](crate::specs::lanes::WordsSpecs#IsLastLane).
+    #[must_use]
     #[inline]
     pub fn word_add(a: u64, b: u64, tops: u64) -> u64 {
         let rest = !tops;
@@ -1698,7 +1772,8 @@ pub mod words {
     ///     ≡ (field start width a + (2 ^ width - field start width b)) % 2 ^ width
     /// ```
     ///
-    /// Definitions: [`IsLane`](crate::specs::lanes::Words#IsLane), [`field`](crate::specs::lanes::Words#field), [`IsLastLane`](crate::specs::lanes::Words#IsLastLane).
+    /// Definitions: [`IsLane`](crate::specs::lanes::WordsSpecs#IsLane), [`field`](crate::specs::lanes::WordsSpecs#field), [`IsLastLane`](crate::specs::lanes::WordsSpecs#IsLastLane).
+    #[must_use]
     #[inline]
     pub fn word_sub(a: u64, b: u64, tops: u64) -> u64 {
         (a | tops).wrapping_sub(b & !tops) ^ ((a ^ !b) & tops)
@@ -1715,7 +1790,8 @@ pub mod words {
     /// ensures tops_alone: bit_and result tops ≡ result
     /// ```
     ///
-    /// Definitions: [`IsLane`](crate::specs::lanes::Words#IsLane), [`field`](crate::specs::lanes::Words#field).
+    /// Definitions: [`IsLane`](crate::specs::lanes::WordsSpecs#IsLane), [`field`](crate::specs::lanes::WordsSpecs#field).
+    #[must_use]
     #[inline]
     pub fn word_differ(a: u64, b: u64, tops: u64) -> u64 {
         let rest = !tops;
@@ -1735,7 +1811,7 @@ pub mod words {
     /// laws: IsWordLane Self.width BITS TOPS ONES
     /// ```
     ///
-    /// Definitions: [`IsWordLane`](crate::specs::lanes::Words#IsWordLane).
+    /// Definitions: [`IsWordLane`](crate::specs::lanes::WordsSpecs#IsWordLane).
     pub trait WordLane: LaneInteger {
         /// The width of a lane.
         const BITS: u32;

@@ -9,6 +9,7 @@ pub mod clamp {
     /// ```text
     /// ensures: cast_unsigned w8 result ≡ clamp_unsigned w8 x
     /// ```
+    #[must_use]
     #[inline]
     pub fn clamped_u8(x: i16) -> i8 {
         (x.clamp(0, 255) as u8).cast_signed()
@@ -21,6 +22,7 @@ pub mod clamp {
     /// ```text
     /// ensures: cast_unsigned w16 result ≡ clamp_unsigned w16 x
     /// ```
+    #[must_use]
     #[inline]
     pub fn clamped_u16(x: i32) -> i16 {
         (x.clamp(0, 65535) as u16).cast_signed()
@@ -45,8 +47,11 @@ pub mod shift {
     /// ensures: result ≡ vector.shl T.width v amount
     /// ```
     ///
-    /// Definitions: [`shl`](crate::specs::lanewise::VectorTable#shl).
+    /// Definitions: [`shl`](crate::specs::lanewise::VectorTableSpecs#shl).
+    ///
+    /// `T` is a type with the trait `NarrowLane`.
     #[inline(always)]
+    #[must_use]
     pub fn shifted_left<T: NarrowLane>(v: V128, amount: u32) -> V128 {
         let amount = u64::from(amount % T::BITS);
         let kept = T::shift_masks(amount);
@@ -61,8 +66,11 @@ pub mod shift {
     /// ensures: result ≡ vector.shr_u T.width v amount
     /// ```
     ///
-    /// Definitions: [`shr_u`](crate::specs::lanewise::VectorTable#shr_u).
+    /// Definitions: [`shr_u`](crate::specs::lanewise::VectorTableSpecs#shr_u).
+    ///
+    /// `T` is a type with the trait `NarrowLane`.
     #[inline(always)]
+    #[must_use]
     pub fn shifted_right<T: NarrowLane>(v: V128, amount: u32) -> V128 {
         let amount = u64::from(amount % T::BITS);
         let kept = T::shift_masks(amount);
@@ -83,7 +91,7 @@ pub mod shift {
         ///     ≡ replicate 2 (in_each_lane Self.width (2 ^ (bits Self.width - dropped) - 1))
         /// ```
         ///
-        /// Definitions: [`in_each_lane`](crate::specs::lanes::Words#in_each_lane).
+        /// Definitions: [`in_each_lane`](crate::specs::lanes::WordsSpecs#in_each_lane).
         fn shift_masks(dropped: u64) -> u64x2;
     }
 
@@ -152,7 +160,9 @@ pub mod simd {
         /// ensures: result ≡ vector.lt_u T.width lhs rhs
         /// ```
         ///
-        /// Definitions: [`lt_u`](crate::specs::lanewise::VectorTable#lt_u).
+        /// Definitions: [`lt_u`](crate::specs::lanewise::VectorTableSpecs#lt_u).
+        ///
+        /// `T` is a type with the trait `SimdLane`.
         #[inline(always)]
         pub(super) fn less_u<T: SimdLane>(lhs: V128, rhs: V128) -> V128 {
             ones_if_less::<T>(T::lanes_of(lhs), T::lanes_of(rhs))
@@ -166,7 +176,9 @@ pub mod simd {
         /// ensures: result ≡ vector.le_u T.width lhs rhs
         /// ```
         ///
-        /// Definitions: [`le_u`](crate::specs::lanewise::VectorTable#le_u).
+        /// Definitions: [`le_u`](crate::specs::lanewise::VectorTableSpecs#le_u).
+        ///
+        /// `T` is a type with the trait `SimdLane`.
         #[inline(always)]
         pub(super) fn at_most_u<T: SimdLane>(lhs: V128, rhs: V128) -> V128 {
             v128_not(less_u::<T>(rhs, lhs))
@@ -180,7 +192,9 @@ pub mod simd {
         /// ensures: result ≡ vector.lt_s T.width lhs rhs
         /// ```
         ///
-        /// Definitions: [`lt_s`](crate::specs::lanewise::VectorTable#lt_s).
+        /// Definitions: [`lt_s`](crate::specs::lanewise::VectorTableSpecs#lt_s).
+        ///
+        /// `T` is a type with the trait `SimdLane`.
         #[inline(always)]
         pub(super) fn less_s<T: SimdLane>(lhs: V128, rhs: V128) -> V128 {
             ones_if_less::<T>(T::biased(T::lanes_of(lhs)), T::biased(T::lanes_of(rhs)))
@@ -194,7 +208,9 @@ pub mod simd {
         /// ensures: result ≡ vector.le_s T.width lhs rhs
         /// ```
         ///
-        /// Definitions: [`le_s`](crate::specs::lanewise::VectorTable#le_s).
+        /// Definitions: [`le_s`](crate::specs::lanewise::VectorTableSpecs#le_s).
+        ///
+        /// `T` is a type with the trait `SimdLane`.
         #[inline(always)]
         pub(super) fn at_most_s<T: SimdLane>(lhs: V128, rhs: V128) -> V128 {
             v128_not(less_s::<T>(rhs, lhs))
@@ -208,7 +224,9 @@ pub mod simd {
         /// ensures: result ≡ vector.min_u T.width lhs rhs
         /// ```
         ///
-        /// Definitions: [`min_u`](crate::specs::lanewise::VectorTable#min_u).
+        /// Definitions: [`min_u`](crate::specs::lanewise::VectorTableSpecs#min_u).
+        ///
+        /// `T` is a type with the trait `SimdLane`.
         #[inline(always)]
         pub(super) fn smaller_u<T: SimdLane>(lhs: V128, rhs: V128) -> V128 {
             let (a, b) = (T::lanes_of(lhs), T::lanes_of(rhs));
@@ -223,7 +241,9 @@ pub mod simd {
         /// ensures: result ≡ vector.max_u T.width lhs rhs
         /// ```
         ///
-        /// Definitions: [`max_u`](crate::specs::lanewise::VectorTable#max_u).
+        /// Definitions: [`max_u`](crate::specs::lanewise::VectorTableSpecs#max_u).
+        ///
+        /// `T` is a type with the trait `SimdLane`.
         #[inline(always)]
         pub(super) fn larger_u<T: SimdLane>(lhs: V128, rhs: V128) -> V128 {
             let (a, b) = (T::lanes_of(lhs), T::lanes_of(rhs));
@@ -238,7 +258,9 @@ pub mod simd {
         /// ensures: result ≡ vector.min_s T.width lhs rhs
         /// ```
         ///
-        /// Definitions: [`min_s`](crate::specs::lanewise::VectorTable#min_s).
+        /// Definitions: [`min_s`](crate::specs::lanewise::VectorTableSpecs#min_s).
+        ///
+        /// `T` is a type with the trait `SimdLane`.
         #[inline(always)]
         pub(super) fn smaller_s<T: SimdLane>(lhs: V128, rhs: V128) -> V128 {
             let (a, b) = (T::lanes_of(lhs), T::lanes_of(rhs));
@@ -253,7 +275,9 @@ pub mod simd {
         /// ensures: result ≡ vector.max_s T.width lhs rhs
         /// ```
         ///
-        /// Definitions: [`max_s`](crate::specs::lanewise::VectorTable#max_s).
+        /// Definitions: [`max_s`](crate::specs::lanewise::VectorTableSpecs#max_s).
+        ///
+        /// `T` is a type with the trait `SimdLane`.
         #[inline(always)]
         pub(super) fn larger_s<T: SimdLane>(lhs: V128, rhs: V128) -> V128 {
             let (a, b) = (T::lanes_of(lhs), T::lanes_of(rhs));
@@ -269,7 +293,9 @@ pub mod simd {
         /// ensures in_range: result < 2 ^ 128
         /// ```
         ///
-        /// Definitions: [`lane_count`](crate::specs::lanes::Vector#lane_count), [`lane`](crate::specs::lanes::Vector#lane).
+        /// Definitions: [`lane_count`](crate::specs::lanes::VectorSpecs#lane_count), [`lane`](crate::specs::lanes::VectorSpecs#lane).
+        ///
+        /// `T` is a type with the trait `SimdLane`.
         #[inline(always)]
         fn ones_if_less<T: SimdLane>(a: T::Vector, b: T::Vector) -> V128 {
             let ones = T::lanes_of(V128::from_word_pair(u64::MAX, u64::MAX));
@@ -297,7 +323,9 @@ pub mod simd {
         /// ensures: result ≡ in_each_lane T.width (2 ^ (bits T.width - 1)) % 2 ^ 63
         /// ```
         ///
-        /// Definitions: [`in_each_lane`](crate::specs::lanes::Words#in_each_lane).
+        /// Definitions: [`in_each_lane`](crate::specs::lanes::WordsSpecs#in_each_lane).
+        ///
+        /// `T` is a type with the trait `WordLane`.
         #[inline(always)]
         fn inner_tops<T: WordLane>() -> u64 {
             T::TOPS % (1 << 63)
@@ -311,7 +339,9 @@ pub mod simd {
         /// ensures: result ≡ vector.add T.width lhs rhs
         /// ```
         ///
-        /// Definitions: [`add`](crate::specs::lanewise::VectorTable#add).
+        /// Definitions: [`add`](crate::specs::lanewise::VectorTableSpecs#add).
+        ///
+        /// `T` is a type with the trait `WordLane`.
         #[inline(always)]
         pub(super) fn sums<T: WordLane>(lhs: V128, rhs: V128) -> V128 {
             let tops = inner_tops::<T>();
@@ -330,7 +360,9 @@ pub mod simd {
         /// ensures: result ≡ vector.sub T.width lhs rhs
         /// ```
         ///
-        /// Definitions: [`sub`](crate::specs::lanewise::VectorTable#sub).
+        /// Definitions: [`sub`](crate::specs::lanewise::VectorTableSpecs#sub).
+        ///
+        /// `T` is a type with the trait `WordLane`.
         #[inline(always)]
         pub(super) fn differences<T: WordLane>(lhs: V128, rhs: V128) -> V128 {
             let tops = inner_tops::<T>();
@@ -351,7 +383,9 @@ pub mod simd {
         /// ensures: result ≡ vector.neg T.width v
         /// ```
         ///
-        /// Definitions: [`neg`](crate::specs::lanewise::VectorTable#neg).
+        /// Definitions: [`neg`](crate::specs::lanewise::VectorTableSpecs#neg).
+        ///
+        /// `T` is a type with the trait `WordLane`.
         #[inline(always)]
         pub(super) fn negations<T: WordLane>(v: V128) -> V128 {
             let tops = inner_tops::<T>();
@@ -370,7 +404,9 @@ pub mod simd {
         /// ensures: result ≡ vector.eq T.width lhs rhs
         /// ```
         ///
-        /// Definitions: [`eq`](crate::specs::lanewise::VectorTable#eq).
+        /// Definitions: [`eq`](crate::specs::lanewise::VectorTableSpecs#eq).
+        ///
+        /// `T` is a type with the trait `WordLane`.
         #[inline(always)]
         pub(super) fn equal<T: WordLane>(lhs: V128, rhs: V128) -> V128 {
             let tops = T::TOPS;
@@ -390,7 +426,9 @@ pub mod simd {
         /// ensures: result ≡ vector.ne T.width lhs rhs
         /// ```
         ///
-        /// Definitions: [`ne`](crate::specs::lanewise::VectorTable#ne).
+        /// Definitions: [`ne`](crate::specs::lanewise::VectorTableSpecs#ne).
+        ///
+        /// `T` is a type with the trait `WordLane`.
         #[inline(always)]
         pub(super) fn different<T: WordLane>(lhs: V128, rhs: V128) -> V128 {
             let tops = T::TOPS;
@@ -415,7 +453,9 @@ pub mod simd {
         ///     × AreFilled T.width low x × AreFilled T.width high y
         /// ```
         ///
-        /// Definitions: [`AreMarks`](crate::specs::lanes::Words#AreMarks), [`vector_of`](crate::specs::raw::RawVal#vector_of), [`AreFilled`](crate::specs::lanes::Words#AreFilled).
+        /// Definitions: [`AreMarks`](crate::specs::lanes::WordsSpecs#AreMarks), [`vector_of`](crate::specs::raw::RawValSpecs#vector_of), [`AreFilled`](crate::specs::lanes::WordsSpecs#AreFilled).
+        ///
+        /// `T` is a type with the trait `WordLane`.
         #[inline(always)]
         fn filled<T: WordLane>(low: u64, high: u64) -> V128 {
             let marks = u64x2::from_array([low, high]);
@@ -431,7 +471,9 @@ pub mod simd {
         /// ensures: result ≡ vector.avgr_u T.width lhs rhs
         /// ```
         ///
-        /// Definitions: [`avgr_u`](crate::specs::lanewise::VectorTable#avgr_u).
+        /// Definitions: [`avgr_u`](crate::specs::lanewise::VectorTableSpecs#avgr_u).
+        ///
+        /// `T` is a type with the trait `WordLane`.
         #[inline(always)]
         pub(super) fn averages<T: WordLane>(lhs: V128, rhs: V128) -> V128 {
             let tops = T::TOPS;
@@ -451,7 +493,7 @@ pub mod simd {
         ///     → field start width result ≡ vector.average (field start width a) (field start width b)
         /// ```
         ///
-        /// Definitions: [`IsLane`](crate::specs::lanes::Words#IsLane), [`field`](crate::specs::lanes::Words#field), [`average`](crate::specs::lanewise::VectorTable#average).
+        /// Definitions: [`IsLane`](crate::specs::lanes::WordsSpecs#IsLane), [`field`](crate::specs::lanes::WordsSpecs#field), [`average`](crate::specs::lanewise::VectorTableSpecs#average).
         #[inline(always)]
         fn word_averages(a: u64, b: u64, tops: u64) -> u64 {
             (a | b) - (((a ^ b) >> 1) & !tops)
@@ -483,7 +525,8 @@ pub mod simd {
     /// ensures: result ≡ vector.neg w8 v
     /// ```
     ///
-    /// Definitions: [`neg`](crate::specs::lanewise::VectorTable#neg).
+    /// Definitions: [`neg`](crate::specs::lanewise::VectorTableSpecs#neg).
+    #[must_use]
     #[inline]
     pub fn i8x16_neg(v: V128) -> V128 {
         words::negations::<u8>(v)
@@ -497,7 +540,8 @@ pub mod simd {
     /// ensures: result ≡ vector.neg w16 v
     /// ```
     ///
-    /// Definitions: [`neg`](crate::specs::lanewise::VectorTable#neg).
+    /// Definitions: [`neg`](crate::specs::lanewise::VectorTableSpecs#neg).
+    #[must_use]
     #[inline]
     pub fn i16x8_neg(v: V128) -> V128 {
         words::negations::<u16>(v)
@@ -511,7 +555,8 @@ pub mod simd {
     /// ensures: result ≡ vector.neg w32 v
     /// ```
     ///
-    /// Definitions: [`neg`](crate::specs::lanewise::VectorTable#neg).
+    /// Definitions: [`neg`](crate::specs::lanewise::VectorTableSpecs#neg).
+    #[must_use]
     #[inline]
     pub fn i32x4_neg(v: V128) -> V128 {
         words::negations::<u32>(v)
@@ -525,7 +570,8 @@ pub mod simd {
     /// ensures: result ≡ vector.neg w64 v
     /// ```
     ///
-    /// Definitions: [`neg`](crate::specs::lanewise::VectorTable#neg).
+    /// Definitions: [`neg`](crate::specs::lanewise::VectorTableSpecs#neg).
+    #[must_use]
     #[inline]
     pub fn i64x2_neg(v: V128) -> V128 {
         words::negations::<u64>(v)
@@ -539,7 +585,8 @@ pub mod simd {
     /// ensures: result ≡ vector.abs w8 v
     /// ```
     ///
-    /// Definitions: [`abs`](crate::specs::lanewise::VectorTable#abs).
+    /// Definitions: [`abs`](crate::specs::lanewise::VectorTableSpecs#abs).
+    #[must_use]
     #[inline]
     pub fn i8x16_abs(v: V128) -> V128 {
         on_vectors::unary::<I8x16, _>(v, |x| x.wrapping_abs())
@@ -553,7 +600,8 @@ pub mod simd {
     /// ensures: result ≡ vector.abs w16 v
     /// ```
     ///
-    /// Definitions: [`abs`](crate::specs::lanewise::VectorTable#abs).
+    /// Definitions: [`abs`](crate::specs::lanewise::VectorTableSpecs#abs).
+    #[must_use]
     #[inline]
     pub fn i16x8_abs(v: V128) -> V128 {
         on_vectors::unary::<I16x8, _>(v, |x| x.wrapping_abs())
@@ -567,7 +615,8 @@ pub mod simd {
     /// ensures: result ≡ vector.abs w32 v
     /// ```
     ///
-    /// Definitions: [`abs`](crate::specs::lanewise::VectorTable#abs).
+    /// Definitions: [`abs`](crate::specs::lanewise::VectorTableSpecs#abs).
+    #[must_use]
     #[inline]
     pub fn i32x4_abs(v: V128) -> V128 {
         on_vectors::unary::<I32x4, _>(v, |x| x.wrapping_abs())
@@ -581,7 +630,8 @@ pub mod simd {
     /// ensures: result ≡ vector.abs w64 v
     /// ```
     ///
-    /// Definitions: [`abs`](crate::specs::lanewise::VectorTable#abs).
+    /// Definitions: [`abs`](crate::specs::lanewise::VectorTableSpecs#abs).
+    #[must_use]
     #[inline]
     pub fn i64x2_abs(v: V128) -> V128 {
         on_vectors::unary::<I64x2, _>(v, |x| x.wrapping_abs())
@@ -598,7 +648,8 @@ pub mod simd {
     /// ensures: result ≡ vector.popcnt w8 v
     /// ```
     ///
-    /// Definitions: [`popcnt`](crate::specs::lanewise::VectorTable#popcnt).
+    /// Definitions: [`popcnt`](crate::specs::lanewise::VectorTableSpecs#popcnt).
+    #[must_use]
     #[inline]
     pub fn i8x16_popcnt(v: V128) -> V128 {
         let words = u64x2_of(v);
@@ -618,7 +669,8 @@ pub mod simd {
     /// ensures: result ≡ vector.v128_and lhs rhs
     /// ```
     ///
-    /// Definitions: [`v128_and`](crate::specs::lanewise::VectorTable#v128_and).
+    /// Definitions: [`v128_and`](crate::specs::lanewise::VectorTableSpecs#v128_and).
+    #[must_use]
     #[inline]
     pub fn v128_and(lhs: V128, rhs: V128) -> V128 {
         from_u64x2(u64x2_of(lhs) & u64x2_of(rhs))
@@ -632,7 +684,8 @@ pub mod simd {
     /// ensures: result ≡ vector.v128_or lhs rhs
     /// ```
     ///
-    /// Definitions: [`v128_or`](crate::specs::lanewise::VectorTable#v128_or).
+    /// Definitions: [`v128_or`](crate::specs::lanewise::VectorTableSpecs#v128_or).
+    #[must_use]
     #[inline]
     pub fn v128_or(lhs: V128, rhs: V128) -> V128 {
         from_u64x2(u64x2_of(lhs) | u64x2_of(rhs))
@@ -646,7 +699,8 @@ pub mod simd {
     /// ensures: result ≡ vector.v128_xor lhs rhs
     /// ```
     ///
-    /// Definitions: [`v128_xor`](crate::specs::lanewise::VectorTable#v128_xor).
+    /// Definitions: [`v128_xor`](crate::specs::lanewise::VectorTableSpecs#v128_xor).
+    #[must_use]
     #[inline]
     pub fn v128_xor(lhs: V128, rhs: V128) -> V128 {
         from_u64x2(u64x2_of(lhs) ^ u64x2_of(rhs))
@@ -660,7 +714,8 @@ pub mod simd {
     /// ensures: result ≡ vector.v128_not v
     /// ```
     ///
-    /// Definitions: [`v128_not`](crate::specs::lanewise::VectorTable#v128_not).
+    /// Definitions: [`v128_not`](crate::specs::lanewise::VectorTableSpecs#v128_not).
+    #[must_use]
     #[inline]
     pub fn v128_not(v: V128) -> V128 {
         from_u64x2(!u64x2_of(v))
@@ -674,7 +729,8 @@ pub mod simd {
     /// ensures: result ≡ vector.v128_andnot lhs rhs
     /// ```
     ///
-    /// Definitions: [`v128_andnot`](crate::specs::lanewise::VectorTable#v128_andnot).
+    /// Definitions: [`v128_andnot`](crate::specs::lanewise::VectorTableSpecs#v128_andnot).
+    #[must_use]
     #[inline]
     pub fn v128_andnot(lhs: V128, rhs: V128) -> V128 {
         v128_and(lhs, v128_not(rhs))
@@ -688,7 +744,8 @@ pub mod simd {
     /// ensures: result ≡ vector.v128_bitselect v1 v2 c
     /// ```
     ///
-    /// Definitions: [`v128_bitselect`](crate::specs::lanewise::VectorTable#v128_bitselect).
+    /// Definitions: [`v128_bitselect`](crate::specs::lanewise::VectorTableSpecs#v128_bitselect).
+    #[must_use]
     #[inline]
     pub fn v128_bitselect(v1: V128, v2: V128, c: V128) -> V128 {
         let ones = u64x2_of(c);
@@ -705,7 +762,8 @@ pub mod simd {
     /// ensures: result ≡ vector.add w8 lhs rhs
     /// ```
     ///
-    /// Definitions: [`add`](crate::specs::lanewise::VectorTable#add).
+    /// Definitions: [`add`](crate::specs::lanewise::VectorTableSpecs#add).
+    #[must_use]
     #[inline]
     pub fn i8x16_add(lhs: V128, rhs: V128) -> V128 {
         words::sums::<u8>(lhs, rhs)
@@ -719,7 +777,8 @@ pub mod simd {
     /// ensures: result ≡ vector.add w16 lhs rhs
     /// ```
     ///
-    /// Definitions: [`add`](crate::specs::lanewise::VectorTable#add).
+    /// Definitions: [`add`](crate::specs::lanewise::VectorTableSpecs#add).
+    #[must_use]
     #[inline]
     pub fn i16x8_add(lhs: V128, rhs: V128) -> V128 {
         words::sums::<u16>(lhs, rhs)
@@ -733,7 +792,8 @@ pub mod simd {
     /// ensures: result ≡ vector.add w32 lhs rhs
     /// ```
     ///
-    /// Definitions: [`add`](crate::specs::lanewise::VectorTable#add).
+    /// Definitions: [`add`](crate::specs::lanewise::VectorTableSpecs#add).
+    #[must_use]
     #[inline]
     pub fn i32x4_add(lhs: V128, rhs: V128) -> V128 {
         words::sums::<u32>(lhs, rhs)
@@ -747,7 +807,8 @@ pub mod simd {
     /// ensures: result ≡ vector.add w64 lhs rhs
     /// ```
     ///
-    /// Definitions: [`add`](crate::specs::lanewise::VectorTable#add).
+    /// Definitions: [`add`](crate::specs::lanewise::VectorTableSpecs#add).
+    #[must_use]
     #[inline]
     pub fn i64x2_add(lhs: V128, rhs: V128) -> V128 {
         words::sums::<u64>(lhs, rhs)
@@ -761,7 +822,8 @@ pub mod simd {
     /// ensures: result ≡ vector.sub w8 lhs rhs
     /// ```
     ///
-    /// Definitions: [`sub`](crate::specs::lanewise::VectorTable#sub).
+    /// Definitions: [`sub`](crate::specs::lanewise::VectorTableSpecs#sub).
+    #[must_use]
     #[inline]
     pub fn i8x16_sub(lhs: V128, rhs: V128) -> V128 {
         words::differences::<u8>(lhs, rhs)
@@ -775,7 +837,8 @@ pub mod simd {
     /// ensures: result ≡ vector.sub w16 lhs rhs
     /// ```
     ///
-    /// Definitions: [`sub`](crate::specs::lanewise::VectorTable#sub).
+    /// Definitions: [`sub`](crate::specs::lanewise::VectorTableSpecs#sub).
+    #[must_use]
     #[inline]
     pub fn i16x8_sub(lhs: V128, rhs: V128) -> V128 {
         words::differences::<u16>(lhs, rhs)
@@ -789,7 +852,8 @@ pub mod simd {
     /// ensures: result ≡ vector.sub w32 lhs rhs
     /// ```
     ///
-    /// Definitions: [`sub`](crate::specs::lanewise::VectorTable#sub).
+    /// Definitions: [`sub`](crate::specs::lanewise::VectorTableSpecs#sub).
+    #[must_use]
     #[inline]
     pub fn i32x4_sub(lhs: V128, rhs: V128) -> V128 {
         words::differences::<u32>(lhs, rhs)
@@ -803,7 +867,8 @@ pub mod simd {
     /// ensures: result ≡ vector.sub w64 lhs rhs
     /// ```
     ///
-    /// Definitions: [`sub`](crate::specs::lanewise::VectorTable#sub).
+    /// Definitions: [`sub`](crate::specs::lanewise::VectorTableSpecs#sub).
+    #[must_use]
     #[inline]
     pub fn i64x2_sub(lhs: V128, rhs: V128) -> V128 {
         words::differences::<u64>(lhs, rhs)
@@ -817,7 +882,8 @@ pub mod simd {
     /// ensures: result ≡ vector.mul w8 lhs rhs
     /// ```
     ///
-    /// Definitions: [`mul`](crate::specs::lanewise::VectorTable#mul).
+    /// Definitions: [`mul`](crate::specs::lanewise::VectorTableSpecs#mul).
+    #[must_use]
     #[inline]
     pub fn i8x16_mul(lhs: V128, rhs: V128) -> V128 {
         on_vectors::binary::<U8x16, _>(lhs, rhs, |x, y| x.wrapping_mul(y))
@@ -831,7 +897,8 @@ pub mod simd {
     /// ensures: result ≡ vector.mul w16 lhs rhs
     /// ```
     ///
-    /// Definitions: [`mul`](crate::specs::lanewise::VectorTable#mul).
+    /// Definitions: [`mul`](crate::specs::lanewise::VectorTableSpecs#mul).
+    #[must_use]
     #[inline]
     pub fn i16x8_mul(lhs: V128, rhs: V128) -> V128 {
         on_vectors::binary::<U16x8, _>(lhs, rhs, |x, y| x.wrapping_mul(y))
@@ -845,7 +912,8 @@ pub mod simd {
     /// ensures: result ≡ vector.mul w32 lhs rhs
     /// ```
     ///
-    /// Definitions: [`mul`](crate::specs::lanewise::VectorTable#mul).
+    /// Definitions: [`mul`](crate::specs::lanewise::VectorTableSpecs#mul).
+    #[must_use]
     #[inline]
     pub fn i32x4_mul(lhs: V128, rhs: V128) -> V128 {
         on_vectors::binary::<U32x4, _>(lhs, rhs, |x, y| x.wrapping_mul(y))
@@ -859,7 +927,8 @@ pub mod simd {
     /// ensures: result ≡ vector.mul w64 lhs rhs
     /// ```
     ///
-    /// Definitions: [`mul`](crate::specs::lanewise::VectorTable#mul).
+    /// Definitions: [`mul`](crate::specs::lanewise::VectorTableSpecs#mul).
+    #[must_use]
     #[inline]
     pub fn i64x2_mul(lhs: V128, rhs: V128) -> V128 {
         let (a_low, a_high) = lhs.words();
@@ -878,7 +947,8 @@ pub mod simd {
     /// ensures: result ≡ vector.add_sat_s w8 lhs rhs
     /// ```
     ///
-    /// Definitions: [`add_sat_s`](crate::specs::lanewise::VectorTable#add_sat_s).
+    /// Definitions: [`add_sat_s`](crate::specs::lanewise::VectorTableSpecs#add_sat_s).
+    #[must_use]
     #[inline]
     pub fn i8x16_add_sat_s(lhs: V128, rhs: V128) -> V128 {
         on_vectors::binary::<I8x16, _>(lhs, rhs, |x, y| clamped_i8(i16::from(x) + i16::from(y)))
@@ -892,7 +962,8 @@ pub mod simd {
     /// ensures: result ≡ vector.add_sat_u w8 lhs rhs
     /// ```
     ///
-    /// Definitions: [`add_sat_u`](crate::specs::lanewise::VectorTable#add_sat_u).
+    /// Definitions: [`add_sat_u`](crate::specs::lanewise::VectorTableSpecs#add_sat_u).
+    #[must_use]
     #[inline]
     pub fn i8x16_add_sat_u(lhs: V128, rhs: V128) -> V128 {
         u8::vector_of(u8::lanes_of(lhs).saturating_add(u8::lanes_of(rhs)))
@@ -906,7 +977,8 @@ pub mod simd {
     /// ensures: result ≡ vector.add_sat_s w16 lhs rhs
     /// ```
     ///
-    /// Definitions: [`add_sat_s`](crate::specs::lanewise::VectorTable#add_sat_s).
+    /// Definitions: [`add_sat_s`](crate::specs::lanewise::VectorTableSpecs#add_sat_s).
+    #[must_use]
     #[inline]
     pub fn i16x8_add_sat_s(lhs: V128, rhs: V128) -> V128 {
         on_vectors::binary::<I16x8, _>(lhs, rhs, |x, y| clamped_i16(i32::from(x) + i32::from(y)))
@@ -920,7 +992,8 @@ pub mod simd {
     /// ensures: result ≡ vector.add_sat_u w16 lhs rhs
     /// ```
     ///
-    /// Definitions: [`add_sat_u`](crate::specs::lanewise::VectorTable#add_sat_u).
+    /// Definitions: [`add_sat_u`](crate::specs::lanewise::VectorTableSpecs#add_sat_u).
+    #[must_use]
     #[inline]
     pub fn i16x8_add_sat_u(lhs: V128, rhs: V128) -> V128 {
         u16::vector_of(u16::lanes_of(lhs).saturating_add(u16::lanes_of(rhs)))
@@ -934,7 +1007,8 @@ pub mod simd {
     /// ensures: result ≡ vector.sub_sat_s w8 lhs rhs
     /// ```
     ///
-    /// Definitions: [`sub_sat_s`](crate::specs::lanewise::VectorTable#sub_sat_s).
+    /// Definitions: [`sub_sat_s`](crate::specs::lanewise::VectorTableSpecs#sub_sat_s).
+    #[must_use]
     #[inline]
     pub fn i8x16_sub_sat_s(lhs: V128, rhs: V128) -> V128 {
         on_vectors::binary::<I8x16, _>(lhs, rhs, |x, y| clamped_i8(i16::from(x) - i16::from(y)))
@@ -948,7 +1022,8 @@ pub mod simd {
     /// ensures: result ≡ vector.sub_sat_u w8 lhs rhs
     /// ```
     ///
-    /// Definitions: [`sub_sat_u`](crate::specs::lanewise::VectorTable#sub_sat_u).
+    /// Definitions: [`sub_sat_u`](crate::specs::lanewise::VectorTableSpecs#sub_sat_u).
+    #[must_use]
     #[inline]
     pub fn i8x16_sub_sat_u(lhs: V128, rhs: V128) -> V128 {
         u8::vector_of(u8::lanes_of(lhs).saturating_sub(u8::lanes_of(rhs)))
@@ -962,7 +1037,8 @@ pub mod simd {
     /// ensures: result ≡ vector.sub_sat_s w16 lhs rhs
     /// ```
     ///
-    /// Definitions: [`sub_sat_s`](crate::specs::lanewise::VectorTable#sub_sat_s).
+    /// Definitions: [`sub_sat_s`](crate::specs::lanewise::VectorTableSpecs#sub_sat_s).
+    #[must_use]
     #[inline]
     pub fn i16x8_sub_sat_s(lhs: V128, rhs: V128) -> V128 {
         on_vectors::binary::<I16x8, _>(lhs, rhs, |x, y| clamped_i16(i32::from(x) - i32::from(y)))
@@ -976,7 +1052,8 @@ pub mod simd {
     /// ensures: result ≡ vector.sub_sat_u w16 lhs rhs
     /// ```
     ///
-    /// Definitions: [`sub_sat_u`](crate::specs::lanewise::VectorTable#sub_sat_u).
+    /// Definitions: [`sub_sat_u`](crate::specs::lanewise::VectorTableSpecs#sub_sat_u).
+    #[must_use]
     #[inline]
     pub fn i16x8_sub_sat_u(lhs: V128, rhs: V128) -> V128 {
         u16::vector_of(u16::lanes_of(lhs).saturating_sub(u16::lanes_of(rhs)))
@@ -993,7 +1070,8 @@ pub mod simd {
     /// ensures: result ≡ vector.q15mulr_sat_s lhs rhs
     /// ```
     ///
-    /// Definitions: [`q15mulr_sat_s`](crate::specs::lanewise::VectorTable#q15mulr_sat_s).
+    /// Definitions: [`q15mulr_sat_s`](crate::specs::lanewise::VectorTableSpecs#q15mulr_sat_s).
+    #[must_use]
     #[inline]
     pub fn i16x8_q15mulr_sat_s(lhs: V128, rhs: V128) -> V128 {
         let x = u16::lanes_of(lhs);
@@ -1053,7 +1131,8 @@ pub mod simd {
     /// ensures: result ≡ vector.min_s w8 lhs rhs
     /// ```
     ///
-    /// Definitions: [`min_s`](crate::specs::lanewise::VectorTable#min_s).
+    /// Definitions: [`min_s`](crate::specs::lanewise::VectorTableSpecs#min_s).
+    #[must_use]
     #[inline]
     pub fn i8x16_min_s(lhs: V128, rhs: V128) -> V128 {
         order::smaller_s::<u8>(lhs, rhs)
@@ -1067,7 +1146,8 @@ pub mod simd {
     /// ensures: result ≡ vector.min_u w8 lhs rhs
     /// ```
     ///
-    /// Definitions: [`min_u`](crate::specs::lanewise::VectorTable#min_u).
+    /// Definitions: [`min_u`](crate::specs::lanewise::VectorTableSpecs#min_u).
+    #[must_use]
     #[inline]
     pub fn i8x16_min_u(lhs: V128, rhs: V128) -> V128 {
         order::smaller_u::<u8>(lhs, rhs)
@@ -1081,7 +1161,8 @@ pub mod simd {
     /// ensures: result ≡ vector.min_s w16 lhs rhs
     /// ```
     ///
-    /// Definitions: [`min_s`](crate::specs::lanewise::VectorTable#min_s).
+    /// Definitions: [`min_s`](crate::specs::lanewise::VectorTableSpecs#min_s).
+    #[must_use]
     #[inline]
     pub fn i16x8_min_s(lhs: V128, rhs: V128) -> V128 {
         order::smaller_s::<u16>(lhs, rhs)
@@ -1095,7 +1176,8 @@ pub mod simd {
     /// ensures: result ≡ vector.min_u w16 lhs rhs
     /// ```
     ///
-    /// Definitions: [`min_u`](crate::specs::lanewise::VectorTable#min_u).
+    /// Definitions: [`min_u`](crate::specs::lanewise::VectorTableSpecs#min_u).
+    #[must_use]
     #[inline]
     pub fn i16x8_min_u(lhs: V128, rhs: V128) -> V128 {
         order::smaller_u::<u16>(lhs, rhs)
@@ -1109,7 +1191,8 @@ pub mod simd {
     /// ensures: result ≡ vector.min_s w32 lhs rhs
     /// ```
     ///
-    /// Definitions: [`min_s`](crate::specs::lanewise::VectorTable#min_s).
+    /// Definitions: [`min_s`](crate::specs::lanewise::VectorTableSpecs#min_s).
+    #[must_use]
     #[inline]
     pub fn i32x4_min_s(lhs: V128, rhs: V128) -> V128 {
         order::smaller_s::<u32>(lhs, rhs)
@@ -1123,7 +1206,8 @@ pub mod simd {
     /// ensures: result ≡ vector.min_u w32 lhs rhs
     /// ```
     ///
-    /// Definitions: [`min_u`](crate::specs::lanewise::VectorTable#min_u).
+    /// Definitions: [`min_u`](crate::specs::lanewise::VectorTableSpecs#min_u).
+    #[must_use]
     #[inline]
     pub fn i32x4_min_u(lhs: V128, rhs: V128) -> V128 {
         order::smaller_u::<u32>(lhs, rhs)
@@ -1137,7 +1221,8 @@ pub mod simd {
     /// ensures: result ≡ vector.max_s w8 lhs rhs
     /// ```
     ///
-    /// Definitions: [`max_s`](crate::specs::lanewise::VectorTable#max_s).
+    /// Definitions: [`max_s`](crate::specs::lanewise::VectorTableSpecs#max_s).
+    #[must_use]
     #[inline]
     pub fn i8x16_max_s(lhs: V128, rhs: V128) -> V128 {
         order::larger_s::<u8>(lhs, rhs)
@@ -1151,7 +1236,8 @@ pub mod simd {
     /// ensures: result ≡ vector.max_u w8 lhs rhs
     /// ```
     ///
-    /// Definitions: [`max_u`](crate::specs::lanewise::VectorTable#max_u).
+    /// Definitions: [`max_u`](crate::specs::lanewise::VectorTableSpecs#max_u).
+    #[must_use]
     #[inline]
     pub fn i8x16_max_u(lhs: V128, rhs: V128) -> V128 {
         order::larger_u::<u8>(lhs, rhs)
@@ -1165,7 +1251,8 @@ pub mod simd {
     /// ensures: result ≡ vector.max_s w16 lhs rhs
     /// ```
     ///
-    /// Definitions: [`max_s`](crate::specs::lanewise::VectorTable#max_s).
+    /// Definitions: [`max_s`](crate::specs::lanewise::VectorTableSpecs#max_s).
+    #[must_use]
     #[inline]
     pub fn i16x8_max_s(lhs: V128, rhs: V128) -> V128 {
         order::larger_s::<u16>(lhs, rhs)
@@ -1179,7 +1266,8 @@ pub mod simd {
     /// ensures: result ≡ vector.max_u w16 lhs rhs
     /// ```
     ///
-    /// Definitions: [`max_u`](crate::specs::lanewise::VectorTable#max_u).
+    /// Definitions: [`max_u`](crate::specs::lanewise::VectorTableSpecs#max_u).
+    #[must_use]
     #[inline]
     pub fn i16x8_max_u(lhs: V128, rhs: V128) -> V128 {
         order::larger_u::<u16>(lhs, rhs)
@@ -1193,7 +1281,8 @@ pub mod simd {
     /// ensures: result ≡ vector.max_s w32 lhs rhs
     /// ```
     ///
-    /// Definitions: [`max_s`](crate::specs::lanewise::VectorTable#max_s).
+    /// Definitions: [`max_s`](crate::specs::lanewise::VectorTableSpecs#max_s).
+    #[must_use]
     #[inline]
     pub fn i32x4_max_s(lhs: V128, rhs: V128) -> V128 {
         order::larger_s::<u32>(lhs, rhs)
@@ -1207,7 +1296,8 @@ pub mod simd {
     /// ensures: result ≡ vector.max_u w32 lhs rhs
     /// ```
     ///
-    /// Definitions: [`max_u`](crate::specs::lanewise::VectorTable#max_u).
+    /// Definitions: [`max_u`](crate::specs::lanewise::VectorTableSpecs#max_u).
+    #[must_use]
     #[inline]
     pub fn i32x4_max_u(lhs: V128, rhs: V128) -> V128 {
         order::larger_u::<u32>(lhs, rhs)
@@ -1221,7 +1311,8 @@ pub mod simd {
     /// ensures: result ≡ vector.avgr_u w8 lhs rhs
     /// ```
     ///
-    /// Definitions: [`avgr_u`](crate::specs::lanewise::VectorTable#avgr_u).
+    /// Definitions: [`avgr_u`](crate::specs::lanewise::VectorTableSpecs#avgr_u).
+    #[must_use]
     #[inline]
     pub fn i8x16_avgr_u(lhs: V128, rhs: V128) -> V128 {
         words::averages::<u8>(lhs, rhs)
@@ -1235,7 +1326,8 @@ pub mod simd {
     /// ensures: result ≡ vector.avgr_u w16 lhs rhs
     /// ```
     ///
-    /// Definitions: [`avgr_u`](crate::specs::lanewise::VectorTable#avgr_u).
+    /// Definitions: [`avgr_u`](crate::specs::lanewise::VectorTableSpecs#avgr_u).
+    #[must_use]
     #[inline]
     pub fn i16x8_avgr_u(lhs: V128, rhs: V128) -> V128 {
         words::averages::<u16>(lhs, rhs)
@@ -1251,7 +1343,8 @@ pub mod simd {
     /// ensures: result ≡ vector.eq w8 lhs rhs
     /// ```
     ///
-    /// Definitions: [`eq`](crate::specs::lanewise::VectorTable#eq).
+    /// Definitions: [`eq`](crate::specs::lanewise::VectorTableSpecs#eq).
+    #[must_use]
     #[inline]
     pub fn i8x16_eq(lhs: V128, rhs: V128) -> V128 {
         words::equal::<u8>(lhs, rhs)
@@ -1265,7 +1358,8 @@ pub mod simd {
     /// ensures: result ≡ vector.eq w16 lhs rhs
     /// ```
     ///
-    /// Definitions: [`eq`](crate::specs::lanewise::VectorTable#eq).
+    /// Definitions: [`eq`](crate::specs::lanewise::VectorTableSpecs#eq).
+    #[must_use]
     #[inline]
     pub fn i16x8_eq(lhs: V128, rhs: V128) -> V128 {
         words::equal::<u16>(lhs, rhs)
@@ -1279,7 +1373,8 @@ pub mod simd {
     /// ensures: result ≡ vector.eq w32 lhs rhs
     /// ```
     ///
-    /// Definitions: [`eq`](crate::specs::lanewise::VectorTable#eq).
+    /// Definitions: [`eq`](crate::specs::lanewise::VectorTableSpecs#eq).
+    #[must_use]
     #[inline]
     pub fn i32x4_eq(lhs: V128, rhs: V128) -> V128 {
         words::equal::<u32>(lhs, rhs)
@@ -1293,7 +1388,8 @@ pub mod simd {
     /// ensures: result ≡ vector.eq w64 lhs rhs
     /// ```
     ///
-    /// Definitions: [`eq`](crate::specs::lanewise::VectorTable#eq).
+    /// Definitions: [`eq`](crate::specs::lanewise::VectorTableSpecs#eq).
+    #[must_use]
     #[inline]
     pub fn i64x2_eq(lhs: V128, rhs: V128) -> V128 {
         let (a_low, a_high) = lhs.words();
@@ -1309,7 +1405,8 @@ pub mod simd {
     /// ensures: result ≡ vector.ne w8 lhs rhs
     /// ```
     ///
-    /// Definitions: [`ne`](crate::specs::lanewise::VectorTable#ne).
+    /// Definitions: [`ne`](crate::specs::lanewise::VectorTableSpecs#ne).
+    #[must_use]
     #[inline]
     pub fn i8x16_ne(lhs: V128, rhs: V128) -> V128 {
         words::different::<u8>(lhs, rhs)
@@ -1323,7 +1420,8 @@ pub mod simd {
     /// ensures: result ≡ vector.ne w16 lhs rhs
     /// ```
     ///
-    /// Definitions: [`ne`](crate::specs::lanewise::VectorTable#ne).
+    /// Definitions: [`ne`](crate::specs::lanewise::VectorTableSpecs#ne).
+    #[must_use]
     #[inline]
     pub fn i16x8_ne(lhs: V128, rhs: V128) -> V128 {
         words::different::<u16>(lhs, rhs)
@@ -1337,7 +1435,8 @@ pub mod simd {
     /// ensures: result ≡ vector.ne w32 lhs rhs
     /// ```
     ///
-    /// Definitions: [`ne`](crate::specs::lanewise::VectorTable#ne).
+    /// Definitions: [`ne`](crate::specs::lanewise::VectorTableSpecs#ne).
+    #[must_use]
     #[inline]
     pub fn i32x4_ne(lhs: V128, rhs: V128) -> V128 {
         words::different::<u32>(lhs, rhs)
@@ -1351,7 +1450,8 @@ pub mod simd {
     /// ensures: result ≡ vector.ne w64 lhs rhs
     /// ```
     ///
-    /// Definitions: [`ne`](crate::specs::lanewise::VectorTable#ne).
+    /// Definitions: [`ne`](crate::specs::lanewise::VectorTableSpecs#ne).
+    #[must_use]
     #[inline]
     pub fn i64x2_ne(lhs: V128, rhs: V128) -> V128 {
         let (a_low, a_high) = lhs.words();
@@ -1383,7 +1483,8 @@ pub mod simd {
     /// ensures: result ≡ vector.lt_s w8 lhs rhs
     /// ```
     ///
-    /// Definitions: [`lt_s`](crate::specs::lanewise::VectorTable#lt_s).
+    /// Definitions: [`lt_s`](crate::specs::lanewise::VectorTableSpecs#lt_s).
+    #[must_use]
     #[inline]
     pub fn i8x16_lt_s(lhs: V128, rhs: V128) -> V128 {
         order::less_s::<u8>(lhs, rhs)
@@ -1397,7 +1498,8 @@ pub mod simd {
     /// ensures: result ≡ vector.lt_s w16 lhs rhs
     /// ```
     ///
-    /// Definitions: [`lt_s`](crate::specs::lanewise::VectorTable#lt_s).
+    /// Definitions: [`lt_s`](crate::specs::lanewise::VectorTableSpecs#lt_s).
+    #[must_use]
     #[inline]
     pub fn i16x8_lt_s(lhs: V128, rhs: V128) -> V128 {
         order::less_s::<u16>(lhs, rhs)
@@ -1411,7 +1513,8 @@ pub mod simd {
     /// ensures: result ≡ vector.lt_s w32 lhs rhs
     /// ```
     ///
-    /// Definitions: [`lt_s`](crate::specs::lanewise::VectorTable#lt_s).
+    /// Definitions: [`lt_s`](crate::specs::lanewise::VectorTableSpecs#lt_s).
+    #[must_use]
     #[inline]
     pub fn i32x4_lt_s(lhs: V128, rhs: V128) -> V128 {
         order::less_s::<u32>(lhs, rhs)
@@ -1425,7 +1528,8 @@ pub mod simd {
     /// ensures: result ≡ vector.lt_s w64 lhs rhs
     /// ```
     ///
-    /// Definitions: [`lt_s`](crate::specs::lanewise::VectorTable#lt_s).
+    /// Definitions: [`lt_s`](crate::specs::lanewise::VectorTableSpecs#lt_s).
+    #[must_use]
     #[inline]
     pub fn i64x2_lt_s(lhs: V128, rhs: V128) -> V128 {
         order::less_s::<u64>(lhs, rhs)
@@ -1439,7 +1543,8 @@ pub mod simd {
     /// ensures: result ≡ vector.lt_u w8 lhs rhs
     /// ```
     ///
-    /// Definitions: [`lt_u`](crate::specs::lanewise::VectorTable#lt_u).
+    /// Definitions: [`lt_u`](crate::specs::lanewise::VectorTableSpecs#lt_u).
+    #[must_use]
     #[inline]
     pub fn i8x16_lt_u(lhs: V128, rhs: V128) -> V128 {
         order::less_u::<u8>(lhs, rhs)
@@ -1453,7 +1558,8 @@ pub mod simd {
     /// ensures: result ≡ vector.lt_u w16 lhs rhs
     /// ```
     ///
-    /// Definitions: [`lt_u`](crate::specs::lanewise::VectorTable#lt_u).
+    /// Definitions: [`lt_u`](crate::specs::lanewise::VectorTableSpecs#lt_u).
+    #[must_use]
     #[inline]
     pub fn i16x8_lt_u(lhs: V128, rhs: V128) -> V128 {
         order::less_u::<u16>(lhs, rhs)
@@ -1467,7 +1573,8 @@ pub mod simd {
     /// ensures: result ≡ vector.lt_u w32 lhs rhs
     /// ```
     ///
-    /// Definitions: [`lt_u`](crate::specs::lanewise::VectorTable#lt_u).
+    /// Definitions: [`lt_u`](crate::specs::lanewise::VectorTableSpecs#lt_u).
+    #[must_use]
     #[inline]
     pub fn i32x4_lt_u(lhs: V128, rhs: V128) -> V128 {
         order::less_u::<u32>(lhs, rhs)
@@ -1481,7 +1588,8 @@ pub mod simd {
     /// ensures: result ≡ vector.le_s w8 lhs rhs
     /// ```
     ///
-    /// Definitions: [`le_s`](crate::specs::lanewise::VectorTable#le_s).
+    /// Definitions: [`le_s`](crate::specs::lanewise::VectorTableSpecs#le_s).
+    #[must_use]
     #[inline]
     pub fn i8x16_le_s(lhs: V128, rhs: V128) -> V128 {
         order::at_most_s::<u8>(lhs, rhs)
@@ -1495,7 +1603,8 @@ pub mod simd {
     /// ensures: result ≡ vector.le_s w16 lhs rhs
     /// ```
     ///
-    /// Definitions: [`le_s`](crate::specs::lanewise::VectorTable#le_s).
+    /// Definitions: [`le_s`](crate::specs::lanewise::VectorTableSpecs#le_s).
+    #[must_use]
     #[inline]
     pub fn i16x8_le_s(lhs: V128, rhs: V128) -> V128 {
         order::at_most_s::<u16>(lhs, rhs)
@@ -1509,7 +1618,8 @@ pub mod simd {
     /// ensures: result ≡ vector.le_s w32 lhs rhs
     /// ```
     ///
-    /// Definitions: [`le_s`](crate::specs::lanewise::VectorTable#le_s).
+    /// Definitions: [`le_s`](crate::specs::lanewise::VectorTableSpecs#le_s).
+    #[must_use]
     #[inline]
     pub fn i32x4_le_s(lhs: V128, rhs: V128) -> V128 {
         order::at_most_s::<u32>(lhs, rhs)
@@ -1523,7 +1633,8 @@ pub mod simd {
     /// ensures: result ≡ vector.le_s w64 lhs rhs
     /// ```
     ///
-    /// Definitions: [`le_s`](crate::specs::lanewise::VectorTable#le_s).
+    /// Definitions: [`le_s`](crate::specs::lanewise::VectorTableSpecs#le_s).
+    #[must_use]
     #[inline]
     pub fn i64x2_le_s(lhs: V128, rhs: V128) -> V128 {
         order::at_most_s::<u64>(lhs, rhs)
@@ -1537,7 +1648,8 @@ pub mod simd {
     /// ensures: result ≡ vector.le_u w8 lhs rhs
     /// ```
     ///
-    /// Definitions: [`le_u`](crate::specs::lanewise::VectorTable#le_u).
+    /// Definitions: [`le_u`](crate::specs::lanewise::VectorTableSpecs#le_u).
+    #[must_use]
     #[inline]
     pub fn i8x16_le_u(lhs: V128, rhs: V128) -> V128 {
         order::at_most_u::<u8>(lhs, rhs)
@@ -1551,7 +1663,8 @@ pub mod simd {
     /// ensures: result ≡ vector.le_u w16 lhs rhs
     /// ```
     ///
-    /// Definitions: [`le_u`](crate::specs::lanewise::VectorTable#le_u).
+    /// Definitions: [`le_u`](crate::specs::lanewise::VectorTableSpecs#le_u).
+    #[must_use]
     #[inline]
     pub fn i16x8_le_u(lhs: V128, rhs: V128) -> V128 {
         order::at_most_u::<u16>(lhs, rhs)
@@ -1565,7 +1678,8 @@ pub mod simd {
     /// ensures: result ≡ vector.le_u w32 lhs rhs
     /// ```
     ///
-    /// Definitions: [`le_u`](crate::specs::lanewise::VectorTable#le_u).
+    /// Definitions: [`le_u`](crate::specs::lanewise::VectorTableSpecs#le_u).
+    #[must_use]
     #[inline]
     pub fn i32x4_le_u(lhs: V128, rhs: V128) -> V128 {
         order::at_most_u::<u32>(lhs, rhs)
@@ -1579,7 +1693,8 @@ pub mod simd {
     /// ensures: result ≡ vector.gt_s w8 lhs rhs
     /// ```
     ///
-    /// Definitions: [`gt_s`](crate::specs::lanewise::VectorTable#gt_s).
+    /// Definitions: [`gt_s`](crate::specs::lanewise::VectorTableSpecs#gt_s).
+    #[must_use]
     #[inline]
     pub fn i8x16_gt_s(lhs: V128, rhs: V128) -> V128 {
         order::less_s::<u8>(rhs, lhs)
@@ -1593,7 +1708,8 @@ pub mod simd {
     /// ensures: result ≡ vector.gt_s w16 lhs rhs
     /// ```
     ///
-    /// Definitions: [`gt_s`](crate::specs::lanewise::VectorTable#gt_s).
+    /// Definitions: [`gt_s`](crate::specs::lanewise::VectorTableSpecs#gt_s).
+    #[must_use]
     #[inline]
     pub fn i16x8_gt_s(lhs: V128, rhs: V128) -> V128 {
         order::less_s::<u16>(rhs, lhs)
@@ -1607,7 +1723,8 @@ pub mod simd {
     /// ensures: result ≡ vector.gt_s w32 lhs rhs
     /// ```
     ///
-    /// Definitions: [`gt_s`](crate::specs::lanewise::VectorTable#gt_s).
+    /// Definitions: [`gt_s`](crate::specs::lanewise::VectorTableSpecs#gt_s).
+    #[must_use]
     #[inline]
     pub fn i32x4_gt_s(lhs: V128, rhs: V128) -> V128 {
         order::less_s::<u32>(rhs, lhs)
@@ -1621,7 +1738,8 @@ pub mod simd {
     /// ensures: result ≡ vector.gt_s w64 lhs rhs
     /// ```
     ///
-    /// Definitions: [`gt_s`](crate::specs::lanewise::VectorTable#gt_s).
+    /// Definitions: [`gt_s`](crate::specs::lanewise::VectorTableSpecs#gt_s).
+    #[must_use]
     #[inline]
     pub fn i64x2_gt_s(lhs: V128, rhs: V128) -> V128 {
         order::less_s::<u64>(rhs, lhs)
@@ -1635,7 +1753,8 @@ pub mod simd {
     /// ensures: result ≡ vector.gt_u w8 lhs rhs
     /// ```
     ///
-    /// Definitions: [`gt_u`](crate::specs::lanewise::VectorTable#gt_u).
+    /// Definitions: [`gt_u`](crate::specs::lanewise::VectorTableSpecs#gt_u).
+    #[must_use]
     #[inline]
     pub fn i8x16_gt_u(lhs: V128, rhs: V128) -> V128 {
         order::less_u::<u8>(rhs, lhs)
@@ -1649,7 +1768,8 @@ pub mod simd {
     /// ensures: result ≡ vector.gt_u w16 lhs rhs
     /// ```
     ///
-    /// Definitions: [`gt_u`](crate::specs::lanewise::VectorTable#gt_u).
+    /// Definitions: [`gt_u`](crate::specs::lanewise::VectorTableSpecs#gt_u).
+    #[must_use]
     #[inline]
     pub fn i16x8_gt_u(lhs: V128, rhs: V128) -> V128 {
         order::less_u::<u16>(rhs, lhs)
@@ -1663,7 +1783,8 @@ pub mod simd {
     /// ensures: result ≡ vector.gt_u w32 lhs rhs
     /// ```
     ///
-    /// Definitions: [`gt_u`](crate::specs::lanewise::VectorTable#gt_u).
+    /// Definitions: [`gt_u`](crate::specs::lanewise::VectorTableSpecs#gt_u).
+    #[must_use]
     #[inline]
     pub fn i32x4_gt_u(lhs: V128, rhs: V128) -> V128 {
         order::less_u::<u32>(rhs, lhs)
@@ -1677,7 +1798,8 @@ pub mod simd {
     /// ensures: result ≡ vector.ge_s w8 lhs rhs
     /// ```
     ///
-    /// Definitions: [`ge_s`](crate::specs::lanewise::VectorTable#ge_s).
+    /// Definitions: [`ge_s`](crate::specs::lanewise::VectorTableSpecs#ge_s).
+    #[must_use]
     #[inline]
     pub fn i8x16_ge_s(lhs: V128, rhs: V128) -> V128 {
         order::at_most_s::<u8>(rhs, lhs)
@@ -1691,7 +1813,8 @@ pub mod simd {
     /// ensures: result ≡ vector.ge_s w16 lhs rhs
     /// ```
     ///
-    /// Definitions: [`ge_s`](crate::specs::lanewise::VectorTable#ge_s).
+    /// Definitions: [`ge_s`](crate::specs::lanewise::VectorTableSpecs#ge_s).
+    #[must_use]
     #[inline]
     pub fn i16x8_ge_s(lhs: V128, rhs: V128) -> V128 {
         order::at_most_s::<u16>(rhs, lhs)
@@ -1705,7 +1828,8 @@ pub mod simd {
     /// ensures: result ≡ vector.ge_s w32 lhs rhs
     /// ```
     ///
-    /// Definitions: [`ge_s`](crate::specs::lanewise::VectorTable#ge_s).
+    /// Definitions: [`ge_s`](crate::specs::lanewise::VectorTableSpecs#ge_s).
+    #[must_use]
     #[inline]
     pub fn i32x4_ge_s(lhs: V128, rhs: V128) -> V128 {
         order::at_most_s::<u32>(rhs, lhs)
@@ -1719,7 +1843,8 @@ pub mod simd {
     /// ensures: result ≡ vector.ge_s w64 lhs rhs
     /// ```
     ///
-    /// Definitions: [`ge_s`](crate::specs::lanewise::VectorTable#ge_s).
+    /// Definitions: [`ge_s`](crate::specs::lanewise::VectorTableSpecs#ge_s).
+    #[must_use]
     #[inline]
     pub fn i64x2_ge_s(lhs: V128, rhs: V128) -> V128 {
         order::at_most_s::<u64>(rhs, lhs)
@@ -1733,7 +1858,8 @@ pub mod simd {
     /// ensures: result ≡ vector.ge_u w8 lhs rhs
     /// ```
     ///
-    /// Definitions: [`ge_u`](crate::specs::lanewise::VectorTable#ge_u).
+    /// Definitions: [`ge_u`](crate::specs::lanewise::VectorTableSpecs#ge_u).
+    #[must_use]
     #[inline]
     pub fn i8x16_ge_u(lhs: V128, rhs: V128) -> V128 {
         order::at_most_u::<u8>(rhs, lhs)
@@ -1747,7 +1873,8 @@ pub mod simd {
     /// ensures: result ≡ vector.ge_u w16 lhs rhs
     /// ```
     ///
-    /// Definitions: [`ge_u`](crate::specs::lanewise::VectorTable#ge_u).
+    /// Definitions: [`ge_u`](crate::specs::lanewise::VectorTableSpecs#ge_u).
+    #[must_use]
     #[inline]
     pub fn i16x8_ge_u(lhs: V128, rhs: V128) -> V128 {
         order::at_most_u::<u16>(rhs, lhs)
@@ -1761,7 +1888,8 @@ pub mod simd {
     /// ensures: result ≡ vector.ge_u w32 lhs rhs
     /// ```
     ///
-    /// Definitions: [`ge_u`](crate::specs::lanewise::VectorTable#ge_u).
+    /// Definitions: [`ge_u`](crate::specs::lanewise::VectorTableSpecs#ge_u).
+    #[must_use]
     #[inline]
     pub fn i32x4_ge_u(lhs: V128, rhs: V128) -> V128 {
         order::at_most_u::<u32>(rhs, lhs)
@@ -1778,7 +1906,8 @@ pub mod simd {
     /// ensures: result ≡ vector.splat w8 item
     /// ```
     ///
-    /// Definitions: [`splat`](crate::specs::lanewise::VectorTable#splat).
+    /// Definitions: [`splat`](crate::specs::lanewise::VectorTableSpecs#splat).
+    #[must_use]
     #[inline]
     pub fn i8x16_splat(item: i8) -> V128 {
         on_vectors::splat::<I8x16>(item)
@@ -1792,7 +1921,8 @@ pub mod simd {
     /// ensures: result ≡ vector.splat w16 item
     /// ```
     ///
-    /// Definitions: [`splat`](crate::specs::lanewise::VectorTable#splat).
+    /// Definitions: [`splat`](crate::specs::lanewise::VectorTableSpecs#splat).
+    #[must_use]
     #[inline]
     pub fn i16x8_splat(item: i16) -> V128 {
         // By a `core::simd` vector: LLVM puts eight plain lanes together by shifts.
@@ -1807,7 +1937,8 @@ pub mod simd {
     /// ensures: result ≡ vector.splat w32 item
     /// ```
     ///
-    /// Definitions: [`splat`](crate::specs::lanewise::VectorTable#splat).
+    /// Definitions: [`splat`](crate::specs::lanewise::VectorTableSpecs#splat).
+    #[must_use]
     #[inline]
     pub fn i32x4_splat(item: i32) -> V128 {
         on_vectors::splat::<I32x4>(item)
@@ -1821,7 +1952,8 @@ pub mod simd {
     /// ensures: result ≡ vector.splat w64 item
     /// ```
     ///
-    /// Definitions: [`splat`](crate::specs::lanewise::VectorTable#splat).
+    /// Definitions: [`splat`](crate::specs::lanewise::VectorTableSpecs#splat).
+    #[must_use]
     #[inline]
     pub fn i64x2_splat(item: i64) -> V128 {
         // By lanes of 32 bits: of one word in two places LLVM makes two stores.
@@ -1837,7 +1969,8 @@ pub mod simd {
     /// ensures: result ≡ vector.extract_lane_s w8 v lane
     /// ```
     ///
-    /// Definitions: [`extract_lane_s`](crate::specs::lanewise::VectorTable#extract_lane_s).
+    /// Definitions: [`extract_lane_s`](crate::specs::lanewise::VectorTableSpecs#extract_lane_s).
+    #[must_use]
     #[inline]
     pub fn i8x16_extract_lane_s(v: V128, lane: ImmLaneIdx16) -> i32 {
         i32::from(u8::lane_at(v, lane).cast_signed())
@@ -1851,7 +1984,8 @@ pub mod simd {
     /// ensures: result ≡ vector.extract_lane_u w8 v lane
     /// ```
     ///
-    /// Definitions: [`extract_lane_u`](crate::specs::lanewise::VectorTable#extract_lane_u).
+    /// Definitions: [`extract_lane_u`](crate::specs::lanewise::VectorTableSpecs#extract_lane_u).
+    #[must_use]
     #[inline]
     pub fn i8x16_extract_lane_u(v: V128, lane: ImmLaneIdx16) -> u32 {
         u32::from(u8::lane_at(v, lane))
@@ -1865,7 +1999,8 @@ pub mod simd {
     /// ensures: result ≡ vector.extract_lane_s w16 v lane
     /// ```
     ///
-    /// Definitions: [`extract_lane_s`](crate::specs::lanewise::VectorTable#extract_lane_s).
+    /// Definitions: [`extract_lane_s`](crate::specs::lanewise::VectorTableSpecs#extract_lane_s).
+    #[must_use]
     #[inline]
     pub fn i16x8_extract_lane_s(v: V128, lane: ImmLaneIdx8) -> i32 {
         i32::from(u16::lane_at(v, lane).cast_signed())
@@ -1879,7 +2014,8 @@ pub mod simd {
     /// ensures: result ≡ vector.extract_lane_u w16 v lane
     /// ```
     ///
-    /// Definitions: [`extract_lane_u`](crate::specs::lanewise::VectorTable#extract_lane_u).
+    /// Definitions: [`extract_lane_u`](crate::specs::lanewise::VectorTableSpecs#extract_lane_u).
+    #[must_use]
     #[inline]
     pub fn i16x8_extract_lane_u(v: V128, lane: ImmLaneIdx8) -> u32 {
         u32::from(u16::lane_at(v, lane))
@@ -1893,7 +2029,8 @@ pub mod simd {
     /// ensures: result ≡ vector.extract_lane_s w32 v lane
     /// ```
     ///
-    /// Definitions: [`extract_lane_s`](crate::specs::lanewise::VectorTable#extract_lane_s).
+    /// Definitions: [`extract_lane_s`](crate::specs::lanewise::VectorTableSpecs#extract_lane_s).
+    #[must_use]
     #[inline]
     pub fn i32x4_extract_lane(v: V128, lane: ImmLaneIdx4) -> i32 {
         u32::lane_at(v, lane).cast_signed()
@@ -1907,7 +2044,8 @@ pub mod simd {
     /// ensures: result ≡ vector.extract_lane_s w64 v lane
     /// ```
     ///
-    /// Definitions: [`extract_lane_s`](crate::specs::lanewise::VectorTable#extract_lane_s).
+    /// Definitions: [`extract_lane_s`](crate::specs::lanewise::VectorTableSpecs#extract_lane_s).
+    #[must_use]
     #[inline]
     pub fn i64x2_extract_lane(v: V128, lane: ImmLaneIdx2) -> i64 {
         u64::lane_at(v, lane).cast_signed()
@@ -1921,7 +2059,8 @@ pub mod simd {
     /// ensures: result ≡ vector.replace_lane w8 v lane item
     /// ```
     ///
-    /// Definitions: [`replace_lane`](crate::specs::lanewise::VectorTable#replace_lane).
+    /// Definitions: [`replace_lane`](crate::specs::lanewise::VectorTableSpecs#replace_lane).
+    #[must_use]
     #[inline]
     pub fn i8x16_replace_lane(v: V128, lane: ImmLaneIdx16, item: i8) -> V128 {
         u8::with_lane(v, lane, item.cast_unsigned())
@@ -1935,7 +2074,8 @@ pub mod simd {
     /// ensures: result ≡ vector.replace_lane w16 v lane item
     /// ```
     ///
-    /// Definitions: [`replace_lane`](crate::specs::lanewise::VectorTable#replace_lane).
+    /// Definitions: [`replace_lane`](crate::specs::lanewise::VectorTableSpecs#replace_lane).
+    #[must_use]
     #[inline]
     pub fn i16x8_replace_lane(v: V128, lane: ImmLaneIdx8, item: i16) -> V128 {
         u16::with_lane(v, lane, item.cast_unsigned())
@@ -1949,7 +2089,8 @@ pub mod simd {
     /// ensures: result ≡ vector.replace_lane w32 v lane item
     /// ```
     ///
-    /// Definitions: [`replace_lane`](crate::specs::lanewise::VectorTable#replace_lane).
+    /// Definitions: [`replace_lane`](crate::specs::lanewise::VectorTableSpecs#replace_lane).
+    #[must_use]
     #[inline]
     pub fn i32x4_replace_lane(v: V128, lane: ImmLaneIdx4, item: i32) -> V128 {
         u32::with_lane(v, lane, item.cast_unsigned())
@@ -1963,7 +2104,8 @@ pub mod simd {
     /// ensures: result ≡ vector.replace_lane w64 v lane item
     /// ```
     ///
-    /// Definitions: [`replace_lane`](crate::specs::lanewise::VectorTable#replace_lane).
+    /// Definitions: [`replace_lane`](crate::specs::lanewise::VectorTableSpecs#replace_lane).
+    #[must_use]
     #[inline]
     pub fn i64x2_replace_lane(v: V128, lane: ImmLaneIdx2, item: i64) -> V128 {
         u64::with_lane(v, lane, item.cast_unsigned())
@@ -1977,7 +2119,8 @@ pub mod simd {
     /// ensures: result ≡ vector.shuffle a b s
     /// ```
     ///
-    /// Definitions: [`shuffle`](crate::specs::lanewise::VectorTable#shuffle).
+    /// Definitions: [`shuffle`](crate::specs::lanewise::VectorTableSpecs#shuffle).
+    #[must_use]
     #[inline]
     pub fn i8x16_shuffle(a: V128, b: V128, s: [ImmLaneIdx32; 16]) -> V128 {
         let indices = bytes_of_indices(s);
@@ -1994,7 +2137,8 @@ pub mod simd {
     /// ensures: result ≡ vector.swizzle a s
     /// ```
     ///
-    /// Definitions: [`swizzle`](crate::specs::lanewise::VectorTable#swizzle).
+    /// Definitions: [`swizzle`](crate::specs::lanewise::VectorTableSpecs#swizzle).
+    #[must_use]
     #[inline]
     pub fn i8x16_swizzle(a: V128, s: V128) -> V128 {
         // An index above 15 becomes 128 or more, at which the processor's instruction gives 0. LLVM

@@ -14,7 +14,9 @@ use crate::proved::machine::{Quota, ResourceLimiter, laws};
 /// ensures calls: RunsOfCallsAreCut (optional_rules L.rules)
 /// ```
 ///
-/// Definitions: [`RunsAreCut`](crate::specs::laws::Runs#RunsAreCut), [`optional_rules`](crate::specs::meter::Limiter#optional_rules), [`RunsOfCallsAreCut`](crate::specs::laws::Runs#RunsOfCallsAreCut).
+/// Definitions: [`RunsAreCut`](crate::specs::laws::RunsSpecs#RunsAreCut), [`optional_rules`](crate::specs::meter::LimiterSpecs#optional_rules), [`RunsOfCallsAreCut`](crate::specs::laws::RunsSpecs#RunsOfCallsAreCut).
+///
+/// `L` is the type of the limiter, a [`ResourceLimiter`](crate::machine::ResourceLimiter#contract).
 #[inline]
 pub fn runs_are_cut<L: ResourceLimiter>() {}
 
@@ -28,7 +30,9 @@ pub fn runs_are_cut<L: ResourceLimiter>() {}
 /// ensures totals: TotalsNeverShrink (optional_rules L.rules)
 /// ```
 ///
-/// Definitions: [`SizesNeverShrink`](crate::specs::laws::Runs#SizesNeverShrink), [`optional_rules`](crate::specs::meter::Limiter#optional_rules), [`TotalsNeverShrink`](crate::specs::laws::Runs#TotalsNeverShrink).
+/// Definitions: [`SizesNeverShrink`](crate::specs::laws::RunsSpecs#SizesNeverShrink), [`optional_rules`](crate::specs::meter::LimiterSpecs#optional_rules), [`TotalsNeverShrink`](crate::specs::laws::RunsSpecs#TotalsNeverShrink).
+///
+/// `L` is the type of the limiter, a [`ResourceLimiter`](crate::machine::ResourceLimiter#contract).
 #[inline]
 pub fn sizes_never_shrink<L: ResourceLimiter>() {}
 
@@ -45,7 +49,9 @@ pub fn sizes_never_shrink<L: ResourceLimiter>() {}
 /// ensures run: PlainlyRefusedRunsChangeNothing (optional_rules L.rules)
 /// ```
 ///
-/// Definitions: [`PlainRefusalsChangeNothing`](crate::specs::laws::Runs#PlainRefusalsChangeNothing), [`optional_rules`](crate::specs::meter::Limiter#optional_rules), [`OtherRefusalsChangeNothing`](crate::specs::laws::Runs#OtherRefusalsChangeNothing), [`PlainlyRefusedRunsChangeNothing`](crate::specs::laws::Runs#PlainlyRefusedRunsChangeNothing).
+/// Definitions: [`PlainRefusalsChangeNothing`](crate::specs::laws::RunsSpecs#PlainRefusalsChangeNothing), [`optional_rules`](crate::specs::meter::LimiterSpecs#optional_rules), [`OtherRefusalsChangeNothing`](crate::specs::laws::RunsSpecs#OtherRefusalsChangeNothing), [`PlainlyRefusedRunsChangeNothing`](crate::specs::laws::RunsSpecs#PlainlyRefusedRunsChangeNothing).
+///
+/// `L` is the type of the limiter, a [`ResourceLimiter`](crate::machine::ResourceLimiter#contract).
 #[inline]
 pub fn plain_refusals_change_nothing<L: ResourceLimiter>() {}
 
@@ -58,7 +64,7 @@ pub fn plain_refusals_change_nothing<L: ResourceLimiter>() {}
 /// ensures: CapsHoldInRuns
 /// ```
 ///
-/// Definitions: [`CapsHoldInRuns`](crate::specs::laws::Runs#CapsHoldInRuns).
+/// Definitions: [`CapsHoldInRuns`](crate::specs::laws::RunsSpecs#CapsHoldInRuns).
 #[inline]
 pub fn caps_hold_in_runs() {
     laws::totals_are_held::<Quota>();
@@ -76,7 +82,9 @@ pub fn caps_hold_in_runs() {
 /// ensures fuel: FuelNeverRises (optional_rules L.rules)
 /// ```
 ///
-/// Definitions: [`CostsAreKept`](crate::specs::laws::Runs#CostsAreKept), [`optional_rules`](crate::specs::meter::Limiter#optional_rules), [`SwitchIsKept`](crate::specs::laws::Runs#SwitchIsKept), [`FuelNeverRises`](crate::specs::laws::Runs#FuelNeverRises).
+/// Definitions: [`CostsAreKept`](crate::specs::laws::RunsSpecs#CostsAreKept), [`optional_rules`](crate::specs::meter::LimiterSpecs#optional_rules), [`SwitchIsKept`](crate::specs::laws::RunsSpecs#SwitchIsKept), [`FuelNeverRises`](crate::specs::laws::RunsSpecs#FuelNeverRises).
+///
+/// `L` is the type of the limiter, a [`ResourceLimiter`](crate::machine::ResourceLimiter#contract).
 #[inline]
 pub fn meters_are_kept<L: ResourceLimiter>() {}
 
@@ -90,7 +98,9 @@ pub fn meters_are_kept<L: ResourceLimiter>() {}
 /// ensures: MoreFuelChangesNothing L.rules
 /// ```
 ///
-/// Definitions: [`MoreFuelChangesNothing`](crate::specs::laws::Runs#MoreFuelChangesNothing).
+/// Definitions: [`MoreFuelChangesNothing`](crate::specs::laws::RunsSpecs#MoreFuelChangesNothing).
+///
+/// `L` is the type of the limiter, a [`ResourceLimiter`](crate::machine::ResourceLimiter#contract).
 #[inline]
 pub fn more_fuel_changes_nothing<L: ResourceLimiter>() {}
 
@@ -105,7 +115,9 @@ pub fn more_fuel_changes_nothing<L: ResourceLimiter>() {}
 /// ensures run: OthersStayInRuns (optional_rules L.rules)
 /// ```
 ///
-/// Definitions: [`OthersStay`](crate::specs::laws::Places#OthersStay), [`optional_rules`](crate::specs::meter::Limiter#optional_rules), [`OthersStayInRuns`](crate::specs::laws::Places#OthersStayInRuns).
+/// Definitions: [`OthersStay`](crate::specs::laws::PlacesSpecs#OthersStay), [`optional_rules`](crate::specs::meter::LimiterSpecs#optional_rules), [`OthersStayInRuns`](crate::specs::laws::PlacesSpecs#OthersStayInRuns).
+///
+/// `L` is the type of the limiter, a [`ResourceLimiter`](crate::machine::ResourceLimiter#contract).
 #[inline]
 pub fn others_stay<L: ResourceLimiter>() {}
 
@@ -122,7 +134,9 @@ pub fn others_stay<L: ResourceLimiter>() {}
 /// ensures live: LiveUntilDropped (optional_rules L.rules)
 /// ```
 ///
-/// Definitions: [`IndicesLast`](crate::specs::laws::Places#IndicesLast), [`optional_rules`](crate::specs::meter::Limiter#optional_rules), [`LiveUntilDropped`](crate::specs::laws::Places#LiveUntilDropped).
+/// Definitions: [`IndicesLast`](crate::specs::laws::PlacesSpecs#IndicesLast), [`optional_rules`](crate::specs::meter::LimiterSpecs#optional_rules), [`LiveUntilDropped`](crate::specs::laws::PlacesSpecs#LiveUntilDropped).
+///
+/// `L` is the type of the limiter, a [`ResourceLimiter`](crate::machine::ResourceLimiter#contract).
 #[inline]
 pub fn indices_last<L: ResourceLimiter>() {}
 
@@ -137,7 +151,9 @@ pub fn indices_last<L: ResourceLimiter>() {}
 /// ensures others: StoresKeepOtherBytes (optional_rules L.rules)
 /// ```
 ///
-/// Definitions: [`StoresAreReadBack`](crate::specs::laws::Places#StoresAreReadBack), [`optional_rules`](crate::specs::meter::Limiter#optional_rules), [`StoresKeepOtherBytes`](crate::specs::laws::Places#StoresKeepOtherBytes).
+/// Definitions: [`StoresAreReadBack`](crate::specs::laws::PlacesSpecs#StoresAreReadBack), [`optional_rules`](crate::specs::meter::LimiterSpecs#optional_rules), [`StoresKeepOtherBytes`](crate::specs::laws::PlacesSpecs#StoresKeepOtherBytes).
+///
+/// `L` is the type of the limiter, a [`ResourceLimiter`](crate::machine::ResourceLimiter#contract).
 #[inline]
 pub fn stores_are_read_back<L: ResourceLimiter>() {}
 
@@ -151,7 +167,9 @@ pub fn stores_are_read_back<L: ResourceLimiter>() {}
 /// ensures: IndependentTurnsSwap (optional_rules L.rules)
 /// ```
 ///
-/// Definitions: [`IndependentTurnsSwap`](crate::specs::laws::Places#IndependentTurnsSwap), [`optional_rules`](crate::specs::meter::Limiter#optional_rules).
+/// Definitions: [`IndependentTurnsSwap`](crate::specs::laws::PlacesSpecs#IndependentTurnsSwap), [`optional_rules`](crate::specs::meter::LimiterSpecs#optional_rules).
+///
+/// `L` is the type of the limiter, a [`ResourceLimiter`](crate::machine::ResourceLimiter#contract).
 #[inline]
 pub fn independent_calls_commute<L: ResourceLimiter>() {}
 
@@ -168,6 +186,8 @@ pub fn independent_calls_commute<L: ResourceLimiter>() {}
 /// ensures memories_write: MemoriesWriteAlike (optional_rules L.rules)
 /// ```
 ///
-/// Definitions: [`MemoriesGrowAlike`](crate::specs::laws::Places#MemoriesGrowAlike), [`optional_rules`](crate::specs::meter::Limiter#optional_rules), [`TablesGrowAlike`](crate::specs::laws::Places#TablesGrowAlike), [`MemoriesReadAlike`](crate::specs::laws::Places#MemoriesReadAlike), [`MemoriesWriteAlike`](crate::specs::laws::Places#MemoriesWriteAlike).
+/// Definitions: [`MemoriesGrowAlike`](crate::specs::laws::PlacesSpecs#MemoriesGrowAlike), [`optional_rules`](crate::specs::meter::LimiterSpecs#optional_rules), [`TablesGrowAlike`](crate::specs::laws::PlacesSpecs#TablesGrowAlike), [`MemoriesReadAlike`](crate::specs::laws::PlacesSpecs#MemoriesReadAlike), [`MemoriesWriteAlike`](crate::specs::laws::PlacesSpecs#MemoriesWriteAlike).
+///
+/// `L` is the type of the limiter, a [`ResourceLimiter`](crate::machine::ResourceLimiter#contract).
 #[inline]
 pub fn machines_do_alike<L: ResourceLimiter>() {}

@@ -249,7 +249,8 @@ mod calls {
         /// ensures: MatchBool result (SetsNoFuel self.now → ⊥) (SetsNoFuel self.now)
         /// ```
         ///
-        /// Definitions: [`SetsNoFuel`](crate::specs::machine::Account#SetsNoFuel).
+        /// Definitions: [`SetsNoFuel`](crate::specs::machine::AccountSpecs#SetsNoFuel).
+        #[must_use]
         #[inline]
         pub fn sets_fuel(&self) -> bool {
             matches!(self, Call::SetFuel(_))
@@ -263,7 +264,7 @@ mod calls {
         /// ensures: IsValidCall self.now
         /// ```
         ///
-        /// Definitions: [`IsValidCall`](crate::specs::machine::State#IsValidCall).
+        /// Definitions: [`IsValidCall`](crate::specs::machine::StateSpecs#IsValidCall).
         #[inline(always)]
         pub(crate) fn tell_valid(&self) {
             match self {
@@ -350,6 +351,7 @@ mod calls {
         /// ```text
         /// ensures: result.now ≡ self.now
         /// ```
+        #[must_use]
         #[inline]
         pub fn as_slice(&self) -> &[u8] {
             self.bytes.as_slice()
@@ -390,7 +392,9 @@ pub mod laws {
     /// ensures calls: RunsOfCallsJoin (optional_rules L.rules)
     /// ```
     ///
-    /// Definitions: [`RunsJoin`](crate::specs::machine::Laws#RunsJoin), [`optional_rules`](crate::specs::meter::Limiter#optional_rules), [`RunsOfCallsJoin`](crate::specs::machine::Laws#RunsOfCallsJoin).
+    /// Definitions: [`RunsJoin`](crate::specs::machine::LawsSpecs#RunsJoin), [`optional_rules`](crate::specs::meter::LimiterSpecs#optional_rules), [`RunsOfCallsJoin`](crate::specs::machine::LawsSpecs#RunsOfCallsJoin).
+    ///
+    /// `L` is the type of the limiter, a [`ResourceLimiter`](crate::machine::ResourceLimiter#contract).
     #[inline]
     pub fn runs_join<L: ResourceLimiter>() {}
 
@@ -408,7 +412,9 @@ pub mod laws {
     /// ensures all_refused: RefusedRunsKeepContents (optional_rules L.rules)
     /// ```
     ///
-    /// Definitions: [`RefusalsKeepContents`](crate::specs::machine::Laws#RefusalsKeepContents), [`optional_rules`](crate::specs::meter::Limiter#optional_rules), [`RefusalsInRunsKeepContents`](crate::specs::machine::Laws#RefusalsInRunsKeepContents), [`RefusedRunsKeepContents`](crate::specs::machine::Laws#RefusedRunsKeepContents).
+    /// Definitions: [`RefusalsKeepContents`](crate::specs::machine::LawsSpecs#RefusalsKeepContents), [`optional_rules`](crate::specs::meter::LimiterSpecs#optional_rules), [`RefusalsInRunsKeepContents`](crate::specs::machine::LawsSpecs#RefusalsInRunsKeepContents), [`RefusedRunsKeepContents`](crate::specs::machine::LawsSpecs#RefusedRunsKeepContents).
+    ///
+    /// `L` is the type of the limiter, a [`ResourceLimiter`](crate::machine::ResourceLimiter#contract).
     #[inline]
     pub fn refusals_keep_contents<L: ResourceLimiter>() {}
 
@@ -428,7 +434,9 @@ pub mod laws {
     /// ensures run: RunsGrowAsPermitted (optional_rules L.rules)
     /// ```
     ///
-    /// Definitions: [`GrowsAsPermitted`](crate::specs::machine::Laws#GrowsAsPermitted), [`optional_rules`](crate::specs::meter::Limiter#optional_rules), [`RunsGrowAsPermitted`](crate::specs::machine::Laws#RunsGrowAsPermitted).
+    /// Definitions: [`GrowsAsPermitted`](crate::specs::machine::LawsSpecs#GrowsAsPermitted), [`optional_rules`](crate::specs::meter::LimiterSpecs#optional_rules), [`RunsGrowAsPermitted`](crate::specs::machine::LawsSpecs#RunsGrowAsPermitted).
+    ///
+    /// `L` is the type of the limiter, a [`ResourceLimiter`](crate::machine::ResourceLimiter#contract).
     #[inline]
     pub fn growths_are_permitted<L: ResourceLimiter>() {}
 
@@ -441,7 +449,9 @@ pub mod laws {
     /// ensures: FuelBalances (optional_rules L.rules)
     /// ```
     ///
-    /// Definitions: [`FuelBalances`](crate::specs::machine::Laws#FuelBalances), [`optional_rules`](crate::specs::meter::Limiter#optional_rules).
+    /// Definitions: [`FuelBalances`](crate::specs::machine::LawsSpecs#FuelBalances), [`optional_rules`](crate::specs::meter::LimiterSpecs#optional_rules).
+    ///
+    /// `L` is the type of the limiter, a [`ResourceLimiter`](crate::machine::ResourceLimiter#contract).
     #[inline]
     pub fn fuel_balances<L: ResourceLimiter>() {}
 
@@ -456,7 +466,9 @@ pub mod laws {
     /// ensures: ChargesAreSpent (optional_rules L.rules)
     /// ```
     ///
-    /// Definitions: [`ChargesAreSpent`](crate::specs::machine::Laws#ChargesAreSpent), [`optional_rules`](crate::specs::meter::Limiter#optional_rules).
+    /// Definitions: [`ChargesAreSpent`](crate::specs::machine::LawsSpecs#ChargesAreSpent), [`optional_rules`](crate::specs::meter::LimiterSpecs#optional_rules).
+    ///
+    /// `L` is the type of the limiter, a [`ResourceLimiter`](crate::machine::ResourceLimiter#contract).
     #[inline]
     pub fn charges_are_spent<L: ResourceLimiter>() {}
 
@@ -470,7 +482,7 @@ pub mod laws {
     /// ensures: IsValid machine.now
     /// ```
     ///
-    /// Definitions: [`IsValid`](crate::specs::machine::State#IsValid).
+    /// Definitions: [`IsValid`](crate::specs::machine::StateSpecs#IsValid).
     #[inline]
     pub fn states_are_valid(machine: &Machine) {
         machine.tell_valid();
@@ -484,7 +496,9 @@ pub mod laws {
     /// ensures: RunsKeepValidity (optional_rules L.rules)
     /// ```
     ///
-    /// Definitions: [`RunsKeepValidity`](crate::specs::machine::Laws#RunsKeepValidity), [`optional_rules`](crate::specs::meter::Limiter#optional_rules).
+    /// Definitions: [`RunsKeepValidity`](crate::specs::machine::LawsSpecs#RunsKeepValidity), [`optional_rules`](crate::specs::meter::LimiterSpecs#optional_rules).
+    ///
+    /// `L` is the type of the limiter, a [`ResourceLimiter`](crate::machine::ResourceLimiter#contract).
     #[inline]
     pub fn runs_keep_validity<L: ResourceLimiter>() {}
 
@@ -497,7 +511,9 @@ pub mod laws {
     /// ensures: RepliesPermit (optional_rules L.rules)
     /// ```
     ///
-    /// Definitions: [`RepliesPermit`](crate::specs::machine::Laws#RepliesPermit), [`optional_rules`](crate::specs::meter::Limiter#optional_rules).
+    /// Definitions: [`RepliesPermit`](crate::specs::machine::LawsSpecs#RepliesPermit), [`optional_rules`](crate::specs::meter::LimiterSpecs#optional_rules).
+    ///
+    /// `L` is the type of the limiter, a [`ResourceLimiter`](crate::machine::ResourceLimiter#contract).
     #[inline]
     pub fn replies_permit<L: ResourceLimiter>() {}
 
@@ -509,7 +525,7 @@ pub mod laws {
     /// ensures: QuotasStayWithin
     /// ```
     ///
-    /// Definitions: [`QuotasStayWithin`](crate::specs::machine::Laws#QuotasStayWithin).
+    /// Definitions: [`QuotasStayWithin`](crate::specs::machine::LawsSpecs#QuotasStayWithin).
     #[inline]
     pub fn quotas_stay_within() {}
 
@@ -524,7 +540,7 @@ pub mod laws {
     /// ensures reply: RepliesKeepKind
     /// ```
     ///
-    /// Definitions: [`RunsKeepKind`](crate::specs::machine::Determinism#RunsKeepKind), [`RunsOfCallsKeepKind`](crate::specs::machine::Determinism#RunsOfCallsKeepKind), [`RepliesKeepKind`](crate::specs::machine::Determinism#RepliesKeepKind).
+    /// Definitions: [`RunsKeepKind`](crate::specs::machine::DeterminismSpecs#RunsKeepKind), [`RunsOfCallsKeepKind`](crate::specs::machine::DeterminismSpecs#RunsOfCallsKeepKind), [`RepliesKeepKind`](crate::specs::machine::DeterminismSpecs#RepliesKeepKind).
     #[inline]
     pub fn kinds_stay() {}
 
@@ -536,7 +552,9 @@ pub mod laws {
     /// ensures: HoldsTotalsAlways L.rules L.Reserving.holdings
     /// ```
     ///
-    /// Definitions: [`HoldsTotalsAlways`](crate::specs::machine::Laws#HoldsTotalsAlways).
+    /// Definitions: [`HoldsTotalsAlways`](crate::specs::machine::LawsSpecs#HoldsTotalsAlways).
+    ///
+    /// `L` is the type of the limiter, a [`Reserving`](crate::machine::Reserving#contract).
     #[inline]
     pub fn totals_are_held<L: Reserving>() {}
 
@@ -550,7 +568,9 @@ pub mod laws {
     /// ensures: FuelBoundsWriting (optional_rules L.rules)
     /// ```
     ///
-    /// Definitions: [`FuelBoundsWriting`](crate::specs::machine::Laws#FuelBoundsWriting), [`optional_rules`](crate::specs::meter::Limiter#optional_rules).
+    /// Definitions: [`FuelBoundsWriting`](crate::specs::machine::LawsSpecs#FuelBoundsWriting), [`optional_rules`](crate::specs::meter::LimiterSpecs#optional_rules).
+    ///
+    /// `L` is the type of the limiter, a [`ResourceLimiter`](crate::machine::ResourceLimiter#contract).
     #[inline]
     pub fn fuel_bounds_writing<L: ResourceLimiter>() {}
 
@@ -564,7 +584,9 @@ pub mod laws {
     /// ensures: LentRunsAreOwned (optional_rules L.rules)
     /// ```
     ///
-    /// Definitions: [`LentRunsAreOwned`](crate::specs::machine::Laws#LentRunsAreOwned), [`optional_rules`](crate::specs::meter::Limiter#optional_rules).
+    /// Definitions: [`LentRunsAreOwned`](crate::specs::machine::LawsSpecs#LentRunsAreOwned), [`optional_rules`](crate::specs::meter::LimiterSpecs#optional_rules).
+    ///
+    /// `L` is the type of the limiter, a [`ResourceLimiter`](crate::machine::ResourceLimiter#contract).
     #[inline]
     pub fn lent_runs_are_owned<L: ResourceLimiter>() {}
 
@@ -577,7 +599,9 @@ pub mod laws {
     /// ensures: LentCreationsAreOwned (optional_rules L.rules)
     /// ```
     ///
-    /// Definitions: [`LentCreationsAreOwned`](crate::specs::machine::Laws#LentCreationsAreOwned), [`optional_rules`](crate::specs::meter::Limiter#optional_rules).
+    /// Definitions: [`LentCreationsAreOwned`](crate::specs::machine::LawsSpecs#LentCreationsAreOwned), [`optional_rules`](crate::specs::meter::LimiterSpecs#optional_rules).
+    ///
+    /// `L` is the type of the limiter, a [`ResourceLimiter`](crate::machine::ResourceLimiter#contract).
     #[inline]
     pub fn lent_creations_are_owned<L: ResourceLimiter>() {}
 
@@ -590,7 +614,9 @@ pub mod laws {
     /// ensures: LentGrowthsSucceed (optional_rules L.rules)
     /// ```
     ///
-    /// Definitions: [`LentGrowthsSucceed`](crate::specs::machine::Laws#LentGrowthsSucceed), [`optional_rules`](crate::specs::meter::Limiter#optional_rules).
+    /// Definitions: [`LentGrowthsSucceed`](crate::specs::machine::LawsSpecs#LentGrowthsSucceed), [`optional_rules`](crate::specs::meter::LimiterSpecs#optional_rules).
+    ///
+    /// `L` is the type of the limiter, a [`ResourceLimiter`](crate::machine::ResourceLimiter#contract).
     #[inline]
     pub fn lent_growths_succeed<L: ResourceLimiter>() {}
 
@@ -603,7 +629,9 @@ pub mod laws {
     /// ensures: RunsAreOne L.rules
     /// ```
     ///
-    /// Definitions: [`RunsAreOne`](crate::specs::machine::Laws#RunsAreOne).
+    /// Definitions: [`RunsAreOne`](crate::specs::machine::LawsSpecs#RunsAreOne).
+    ///
+    /// `L` is the type of the limiter, a [`ResourceLimiter`](crate::machine::ResourceLimiter#contract).
     #[inline]
     pub fn runs_are_one<L: ResourceLimiter>() {}
 
@@ -616,7 +644,9 @@ pub mod laws {
     /// ensures: RepliesTell L.rules
     /// ```
     ///
-    /// Definitions: [`RepliesTell`](crate::specs::machine::Laws#RepliesTell).
+    /// Definitions: [`RepliesTell`](crate::specs::machine::LawsSpecs#RepliesTell).
+    ///
+    /// `L` is the type of the limiter, a [`ResourceLimiter`](crate::machine::ResourceLimiter#contract).
     #[inline]
     pub fn replies_tell<L: ResourceLimiter>() {}
 
@@ -630,7 +660,9 @@ pub mod laws {
     /// ensures: RepliesAreOne L.rules
     /// ```
     ///
-    /// Definitions: [`RepliesAreOne`](crate::specs::machine::Laws#RepliesAreOne).
+    /// Definitions: [`RepliesAreOne`](crate::specs::machine::LawsSpecs#RepliesAreOne).
+    ///
+    /// `L` is the type of the limiter, a [`ResourceLimiter`](crate::machine::ResourceLimiter#contract).
     #[inline]
     pub fn replies_are_one<L: ResourceLimiter>() {}
 
@@ -643,7 +675,7 @@ pub mod laws {
     /// ensures quota: AcceptsNotices quota_rules
     /// ```
     ///
-    /// Definitions: [`AcceptsNotices`](crate::specs::machine::Determinism#AcceptsNotices), [`unlimited_rules`](crate::specs::meter::Limiter#unlimited_rules), [`quota_rules`](crate::specs::meter::Capped#quota_rules).
+    /// Definitions: [`AcceptsNotices`](crate::specs::machine::DeterminismSpecs#AcceptsNotices), [`unlimited_rules`](crate::specs::meter::LimiterSpecs#unlimited_rules), [`quota_rules`](crate::specs::meter::CappedSpecs#quota_rules).
     #[inline]
     pub fn limiters_accept_notices() {}
 
@@ -656,7 +688,7 @@ pub mod laws {
     /// ensures quota: IsDeterministic quota_rules
     /// ```
     ///
-    /// Definitions: [`IsDeterministic`](crate::specs::machine::Determinism#IsDeterministic), [`unlimited_rules`](crate::specs::meter::Limiter#unlimited_rules), [`quota_rules`](crate::specs::meter::Capped#quota_rules).
+    /// Definitions: [`IsDeterministic`](crate::specs::machine::DeterminismSpecs#IsDeterministic), [`unlimited_rules`](crate::specs::meter::LimiterSpecs#unlimited_rules), [`quota_rules`](crate::specs::meter::CappedSpecs#quota_rules).
     #[inline]
     pub fn limiters_leave_no_choice() {}
 }
@@ -691,7 +723,7 @@ mod machine {
     /// invariant = λ m. IsValid m.store
     /// ```
     ///
-    /// Definitions: [`State`](crate::specs::machine::State#State), [`IsValid`](crate::specs::machine::State#IsValid).
+    /// Definitions: [`State`](crate::specs::machine::StateSpecs#State), [`IsValid`](crate::specs::machine::StateSpecs#IsValid).
     #[doc = examples!(machine Machine)]
     pub struct Machine<'r> {
         pub(crate) store: MachineStore<'r>,
@@ -714,7 +746,8 @@ mod machine {
         /// ensures: result ≡ new_state fuel
         /// ```
         ///
-        /// Definitions: [`new_state`](crate::specs::machine::State#new_state).
+        /// Definitions: [`new_state`](crate::specs::machine::StateSpecs#new_state).
+        #[must_use]
         #[inline]
         pub fn new(fuel: Fuel) -> Machine<'r> {
             Machine::empty(fuel, None)
@@ -728,7 +761,8 @@ mod machine {
         /// ensures: result ≡ with_spare (new_state fuel) region.entry.now
         /// ```
         ///
-        /// Definitions: [`with_spare`](crate::specs::machine::State#with_spare), [`new_state`](crate::specs::machine::State#new_state).
+        /// Definitions: [`with_spare`](crate::specs::machine::StateSpecs#with_spare), [`new_state`](crate::specs::machine::StateSpecs#new_state).
+        #[must_use]
         #[inline]
         pub fn with_region(fuel: Fuel, region: &'r mut [u8]) -> Machine<'r> {
             Machine::empty(fuel, Some(region))
@@ -742,7 +776,7 @@ mod machine {
         /// ensures: result ≡ record (new_state fuel) { spare = option_copied_mut spare.entry }
         /// ```
         ///
-        /// Definitions: [`new_state`](crate::specs::machine::State#new_state).
+        /// Definitions: [`new_state`](crate::specs::machine::StateSpecs#new_state).
         #[inline]
         fn empty(fuel: Fuel, spare: Option<&'r mut [u8]>) -> Machine<'r> {
             let store = MachineStore {
@@ -764,16 +798,21 @@ mod machine {
         /// ```text
         /// ensures: result.now ≡ self.now.meter
         /// ```
+        #[must_use]
         #[inline]
         pub fn fuel(&self) -> &Fuel {
             &self.store.fuel
         }
 
-        /// Takes an amount of fuel, and returns what is left. The error is `FuelMeteringDisabled` if
-        /// the meter is off, and `OutOfFuel` with the amount if less is left; then nothing is taken.
+        /// Takes an amount of fuel, and returns what is left.
         ///
         /// It isn't a call, so a run has no turn for it: an interpreter pays by it for the instructions
         /// that it executes between calls.
+        ///
+        /// # Errors
+        ///
+        /// [`FuelMeteringDisabled`](crate::FuelError::FuelMeteringDisabled) if the meter is off; [`OutOfFuel`](crate::FuelError::OutOfFuel) with the amount if less is left.
+        /// Then nothing is taken.
         ///
         /// # Contract
         ///
@@ -791,7 +830,7 @@ mod machine {
         ///     (λ error. self.new ≡ self.old)
         /// ```
         ///
-        /// Definitions: [`ConsumesFuel`](crate::specs::meter::Meter#ConsumesFuel), [`amount_left`](crate::specs::meter::Meter#amount_left), [`meter_after`](crate::specs::meter::Meter#meter_after).
+        /// Definitions: [`ConsumesFuel`](crate::specs::meter::MeterSpecs#ConsumesFuel), [`amount_left`](crate::specs::meter::MeterSpecs#amount_left), [`meter_after`](crate::specs::meter::MeterSpecs#meter_after).
         #[inline]
         pub fn consume_fuel(&mut self, amount: u64) -> Result<u64, FuelError> {
             self.store.fuel.get_fuel()?;
@@ -806,7 +845,8 @@ mod machine {
         /// ensures: option_copied result ≡ live_at self.now.memories index
         /// ```
         ///
-        /// Definitions: [`live_at`](crate::specs::machine::State#live_at).
+        /// Definitions: [`live_at`](crate::specs::machine::StateSpecs#live_at).
+        #[must_use]
         #[inline]
         pub fn memory(&self, index: usize) -> Option<&Memory<'r>> {
             self.store.memories.live(index)
@@ -824,7 +864,7 @@ mod machine {
         /// ensures rest: self.new ≡ with_memories self.old self.new.memories
         /// ```
         ///
-        /// Definitions: [`StoresMemoryAt`](crate::specs::machine::MemoryEffects#StoresMemoryAt), [`stored_bytes`](crate::specs::ops::ScalarOps#stored_bytes), [`with_memories`](crate::specs::machine::State#with_memories).
+        /// Definitions: [`StoresMemoryAt`](crate::specs::machine::MemoryEffectsSpecs#StoresMemoryAt), [`stored_bytes`](crate::specs::ops::ScalarOpsSpecs#stored_bytes), [`with_memories`](crate::specs::machine::StateSpecs#with_memories).
         #[inline(always)]
         pub fn store_item(
             &mut self,
@@ -847,7 +887,8 @@ mod machine {
         /// ensures: option_copied result ≡ live_at self.now.tables index
         /// ```
         ///
-        /// Definitions: [`live_at`](crate::specs::machine::State#live_at).
+        /// Definitions: [`live_at`](crate::specs::machine::StateSpecs#live_at).
+        #[must_use]
         #[inline]
         pub fn table(&self, index: usize) -> Option<&Table> {
             self.store.tables.live(index)
@@ -860,6 +901,7 @@ mod machine {
         /// ```text
         /// ensures: option_copied result ≡ slice_get self.now.segments index
         /// ```
+        #[must_use]
         #[inline]
         pub fn segment(&self, index: usize) -> Option<&ElementSegment> {
             self.store.segments.get(index)
@@ -872,6 +914,7 @@ mod machine {
         /// ```text
         /// ensures: option_copied result ≡ slice_get self.now.globals index
         /// ```
+        #[must_use]
         #[inline]
         pub fn global(&self, index: usize) -> Option<&Global> {
             self.store.globals.get(index)
@@ -886,6 +929,7 @@ mod machine {
         /// ensures count: length self.now.registers ≡ 16
         /// ensures there: IsSome result ↔ (register < 16)
         /// ```
+        #[must_use]
         #[inline]
         pub fn register(&self, register: u8) -> Option<RawVal> {
             self.store.registers.get(register)
@@ -900,7 +944,8 @@ mod machine {
         /// ensures: result ≡ total self.now Bytes
         /// ```
         ///
-        /// Definitions: [`total`](crate::specs::machine::State#total).
+        /// Definitions: [`total`](crate::specs::machine::StateSpecs#total).
+        #[must_use]
         #[inline]
         pub fn total_bytes(&self) -> u128 {
             self.store.memories.total()
@@ -914,7 +959,8 @@ mod machine {
         /// ensures: result ≡ total self.now Elements
         /// ```
         ///
-        /// Definitions: [`total`](crate::specs::machine::State#total).
+        /// Definitions: [`total`](crate::specs::machine::StateSpecs#total).
+        #[must_use]
         #[inline]
         pub fn total_elements(&self) -> u128 {
             self.store.tables.total()
@@ -928,7 +974,7 @@ mod machine {
         /// ensures: IsValid self.now
         /// ```
         ///
-        /// Definitions: [`IsValid`](crate::specs::machine::State#IsValid).
+        /// Definitions: [`IsValid`](crate::specs::machine::StateSpecs#IsValid).
         #[inline(always)]
         pub(crate) fn tell_valid(&self) {
             let _ = &self.store;
@@ -961,7 +1007,9 @@ mod memories {
         ///     (lent_limiter limiter.old) result self.new.slots.items (lent_limiter limiter.new)
         /// ```
         ///
-        /// Definitions: [`KeepsLoan`](crate::specs::meter::Limiter#KeepsLoan), [`Creates`](crate::specs::machine::Effects#Creates), [`MakesMemory`](crate::specs::store::Memory#MakesMemory), [`optional_rules`](crate::specs::meter::Limiter#optional_rules), [`Owned`](crate::specs::store::Buffer#Owned), [`lent_limiter`](crate::specs::meter::Limiter#lent_limiter).
+        /// Definitions: [`KeepsLoan`](crate::specs::meter::LimiterSpecs#KeepsLoan), [`Creates`](crate::specs::machine::EffectsSpecs#Creates), [`MakesMemory`](crate::specs::store::MemorySpecs#MakesMemory), [`optional_rules`](crate::specs::meter::LimiterSpecs#optional_rules), [`Owned`](crate::specs::store::BufferSpecs#Owned), [`lent_limiter`](crate::specs::meter::LimiterSpecs#lent_limiter).
+        ///
+        /// `L` is the type of the limiter, a [`ResourceLimiter`](crate::machine::ResourceLimiter#contract).
         #[inline(always)]
         pub(crate) fn create<L: ResourceLimiter>(
             &mut self,
@@ -991,7 +1039,9 @@ mod memories {
         ///     (lent_limiter limiter.new)
         /// ```
         ///
-        /// Definitions: [`KeepsLoan`](crate::specs::meter::Limiter#KeepsLoan), [`CreatesLent`](crate::specs::machine::MemoryEffects#CreatesLent), [`optional_rules`](crate::specs::meter::Limiter#optional_rules), [`lent_limiter`](crate::specs::meter::Limiter#lent_limiter).
+        /// Definitions: [`KeepsLoan`](crate::specs::meter::LimiterSpecs#KeepsLoan), [`CreatesLent`](crate::specs::machine::MemoryEffectsSpecs#CreatesLent), [`optional_rules`](crate::specs::meter::LimiterSpecs#optional_rules), [`lent_limiter`](crate::specs::meter::LimiterSpecs#lent_limiter).
+        ///
+        /// `L` is the type of the limiter, a [`ResourceLimiter`](crate::machine::ResourceLimiter#contract).
         #[inline(always)]
         pub(crate) fn create_lent<L: ResourceLimiter>(
             &mut self,
@@ -1022,7 +1072,7 @@ mod memories {
         ///     (reply_or_no_such result) self.new.slots.items
         /// ```
         ///
-        /// Definitions: [`WritesMemoryAt`](crate::specs::machine::MemoryEffects#WritesMemoryAt), [`reply_or_no_such`](crate::specs::machine::Effects#reply_or_no_such).
+        /// Definitions: [`WritesMemoryAt`](crate::specs::machine::MemoryEffectsSpecs#WritesMemoryAt), [`reply_or_no_such`](crate::specs::machine::EffectsSpecs#reply_or_no_such).
         #[inline(always)]
         pub(crate) fn write(&mut self, index: usize, offset: usize, bytes: &[u8]) -> Option<Reply> {
             let memory = self.live_mut(index)?;
@@ -1041,7 +1091,7 @@ mod memories {
         ///     (reply_or_no_such result) self.new.slots.items
         /// ```
         ///
-        /// Definitions: [`StoresMemoryAt`](crate::specs::machine::MemoryEffects#StoresMemoryAt), [`bytes_of_stored`](crate::specs::machine::MemoryEffects#bytes_of_stored), [`reply_or_no_such`](crate::specs::machine::Effects#reply_or_no_such).
+        /// Definitions: [`StoresMemoryAt`](crate::specs::machine::MemoryEffectsSpecs#StoresMemoryAt), [`bytes_of_stored`](crate::specs::machine::MemoryEffectsSpecs#bytes_of_stored), [`reply_or_no_such`](crate::specs::machine::EffectsSpecs#reply_or_no_such).
         #[inline(always)]
         pub(crate) fn store(
             &mut self,
@@ -1072,7 +1122,7 @@ mod memories {
     /// ensures: ReadsBytes (at memory.now offset len) result
     /// ```
     ///
-    /// Definitions: [`ReadsBytes`](crate::specs::machine::MemoryEffects#ReadsBytes), [`at`](crate::specs::types::Access#at).
+    /// Definitions: [`ReadsBytes`](crate::specs::machine::MemoryEffectsSpecs#ReadsBytes), [`at`](crate::specs::types::AccessSpecs#at).
     #[inline(always)]
     pub(crate) fn bytes_reply(memory: &[u8], offset: usize, len: usize) -> Reply {
         if !lies_within(memory, offset as u64, len as u64) {
@@ -1093,7 +1143,7 @@ mod memories {
     /// ensures: StoresMemory memory.old (ptr + offset) (bytes_of_stored stored) result memory.new
     /// ```
     ///
-    /// Definitions: [`StoresMemory`](crate::specs::machine::MemoryEffects#StoresMemory), [`bytes_of_stored`](crate::specs::machine::MemoryEffects#bytes_of_stored).
+    /// Definitions: [`StoresMemory`](crate::specs::machine::MemoryEffectsSpecs#StoresMemory), [`bytes_of_stored`](crate::specs::machine::MemoryEffectsSpecs#bytes_of_stored).
     #[inline(always)]
     fn store(memory: &mut Memory, ptr: u64, offset: u64, stored: Stored) -> Result<(), TrapCode> {
         match stored {
@@ -1139,7 +1189,7 @@ mod registers {
         /// ensures: result ≡ vector_at self.now.values register
         /// ```
         ///
-        /// Definitions: [`vector_at`](crate::specs::machine::RegisterEffects#vector_at).
+        /// Definitions: [`vector_at`](crate::specs::machine::RegisterEffectsSpecs#vector_at).
         #[inline]
         pub(crate) fn vector(&self, register: u8) -> Option<V128> {
             self.get(register).map(|raw| raw.read_as())
@@ -1154,7 +1204,7 @@ mod registers {
         ///     self.new.values
         /// ```
         ///
-        /// Definitions: [`SetsRegister`](crate::specs::machine::RegisterEffects#SetsRegister), [`reply_or_no_such`](crate::specs::machine::Effects#reply_or_no_such).
+        /// Definitions: [`SetsRegister`](crate::specs::machine::RegisterEffectsSpecs#SetsRegister), [`reply_or_no_such`](crate::specs::machine::EffectsSpecs#reply_or_no_such).
         #[inline(always)]
         pub(crate) fn set(&mut self, dst: u8, value: RawVal) -> Option<Reply> {
             let index = usize::from(dst);
@@ -1174,7 +1224,7 @@ mod registers {
         ///     (reply_or_no_such result) self.new.values
         /// ```
         ///
-        /// Definitions: [`SetsRegister`](crate::specs::machine::RegisterEffects#SetsRegister), [`as_raw`](crate::specs::ops::ScalarOps#as_raw), [`raw_of_vector`](crate::specs::raw::RawVal#raw_of_vector), [`reply_or_no_such`](crate::specs::machine::Effects#reply_or_no_such).
+        /// Definitions: [`SetsRegister`](crate::specs::machine::RegisterEffectsSpecs#SetsRegister), [`as_raw`](crate::specs::ops::ScalarOpsSpecs#as_raw), [`raw_of_vector`](crate::specs::raw::RawValSpecs#raw_of_vector), [`reply_or_no_such`](crate::specs::machine::EffectsSpecs#reply_or_no_such).
         #[inline(always)]
         pub(crate) fn set_loaded(
             &mut self,
@@ -1197,7 +1247,7 @@ mod registers {
         ///     (reply_or_no_such result) self.new.values
         /// ```
         ///
-        /// Definitions: [`MakesVector`](crate::specs::machine::Steps#MakesVector), [`SetsRegister`](crate::specs::machine::RegisterEffects#SetsRegister), [`vector_given`](crate::specs::machine::Steps#vector_given), [`reply_or_no_such`](crate::specs::machine::Effects#reply_or_no_such).
+        /// Definitions: [`MakesVector`](crate::specs::machine::StepsSpecs#MakesVector), [`SetsRegister`](crate::specs::machine::RegisterEffectsSpecs#SetsRegister), [`vector_given`](crate::specs::machine::StepsSpecs#vector_given), [`reply_or_no_such`](crate::specs::machine::EffectsSpecs#reply_or_no_such).
         #[inline(always)]
         pub(crate) fn set_made(&mut self, dst: u8, call: &Call) -> Option<Reply> {
             let vector = self.made_vector(call)?;
@@ -1213,7 +1263,7 @@ mod registers {
         /// ensures vector: option_map given_vector result ≡ vector_given self.now.values call.now
         /// ```
         ///
-        /// Definitions: [`MakesVector`](crate::specs::machine::Steps#MakesVector), [`given_vector`](crate::specs::machine::RegisterEffects#given_vector), [`vector_given`](crate::specs::machine::Steps#vector_given).
+        /// Definitions: [`MakesVector`](crate::specs::machine::StepsSpecs#MakesVector), [`given_vector`](crate::specs::machine::RegisterEffectsSpecs#given_vector), [`vector_given`](crate::specs::machine::StepsSpecs#vector_given).
         #[inline(always)]
         fn made_vector(&self, call: &Call) -> Option<V128> {
             match call {
@@ -1257,7 +1307,9 @@ mod running {
         /// ensures valid: IsValid self.new
         /// ```
         ///
-        /// Definitions: [`KeepsLoan`](crate::specs::meter::Limiter#KeepsLoan), [`RepliesWith`](crate::specs::machine::Steps#RepliesWith), [`optional_rules`](crate::specs::meter::Limiter#optional_rules), [`world`](crate::specs::machine::State#world), [`lent_limiter`](crate::specs::meter::Limiter#lent_limiter), [`IsValid`](crate::specs::machine::State#IsValid).
+        /// Definitions: [`KeepsLoan`](crate::specs::meter::LimiterSpecs#KeepsLoan), [`RepliesWith`](crate::specs::machine::StepsSpecs#RepliesWith), [`optional_rules`](crate::specs::meter::LimiterSpecs#optional_rules), [`world`](crate::specs::machine::StateSpecs#world), [`lent_limiter`](crate::specs::meter::LimiterSpecs#lent_limiter), [`IsValid`](crate::specs::machine::StateSpecs#IsValid).
+        ///
+        /// `L` is the type of the limiter, a [`ResourceLimiter`](crate::machine::ResourceLimiter#contract).
         #[inline(always)]
         pub fn step<L: ResourceLimiter>(
             &mut self,
@@ -1280,7 +1332,9 @@ mod running {
         /// ensures valid: IsValid self.new
         /// ```
         ///
-        /// Definitions: [`RepliesWith`](crate::specs::machine::Steps#RepliesWith), [`optional_rules`](crate::specs::meter::Limiter#optional_rules), [`world`](crate::specs::machine::State#world), [`IsValid`](crate::specs::machine::State#IsValid).
+        /// Definitions: [`RepliesWith`](crate::specs::machine::StepsSpecs#RepliesWith), [`optional_rules`](crate::specs::meter::LimiterSpecs#optional_rules), [`world`](crate::specs::machine::StateSpecs#world), [`IsValid`](crate::specs::machine::StateSpecs#IsValid).
+        ///
+        /// `L` is the type of the limiter, a [`ResourceLimiter`](crate::machine::ResourceLimiter#contract).
         #[inline(always)]
         pub fn grow_memory_lending<L: ResourceLimiter>(
             &mut self,
@@ -1305,7 +1359,9 @@ mod running {
         /// ensures valid: IsValid self.new
         /// ```
         ///
-        /// Definitions: [`RepliesWith`](crate::specs::machine::Steps#RepliesWith), [`optional_rules`](crate::specs::meter::Limiter#optional_rules), [`world`](crate::specs::machine::State#world), [`IsValid`](crate::specs::machine::State#IsValid).
+        /// Definitions: [`RepliesWith`](crate::specs::machine::StepsSpecs#RepliesWith), [`optional_rules`](crate::specs::meter::LimiterSpecs#optional_rules), [`world`](crate::specs::machine::StateSpecs#world), [`IsValid`](crate::specs::machine::StateSpecs#IsValid).
+        ///
+        /// `L` is the type of the limiter, a [`ResourceLimiter`](crate::machine::ResourceLimiter#contract).
         #[inline(always)]
         pub fn step_lending<L: ResourceLimiter>(&mut self, call: &Call, limiter: &mut L) -> Reply {
             let mut lent = ResourceLimiterRef::from(limiter);
@@ -1315,8 +1371,12 @@ mod running {
         }
     }
 
-    /// Executes calls one after another. Memory for the replies is allocated first; if that fails,
-    /// nothing has happened.
+    /// Executes calls one after another.
+    ///
+    /// # Errors
+    ///
+    /// `AllocError` if memory for the replies, which is allocated first, is refused; then nothing has
+    /// happened.
     ///
     /// # Contract
     ///
@@ -1329,7 +1389,9 @@ mod running {
     /// ensures valid: IsValid machine.new
     /// ```
     ///
-    /// Definitions: [`KeepsLoan`](crate::specs::meter::Limiter#KeepsLoan), [`IsRunOf`](crate::specs::machine::Steps#IsRunOf), [`optional_rules`](crate::specs::meter::Limiter#optional_rules), [`world`](crate::specs::machine::State#world), [`lent_limiter`](crate::specs::meter::Limiter#lent_limiter), [`IsValid`](crate::specs::machine::State#IsValid).
+    /// Definitions: [`KeepsLoan`](crate::specs::meter::LimiterSpecs#KeepsLoan), [`IsRunOf`](crate::specs::machine::StepsSpecs#IsRunOf), [`optional_rules`](crate::specs::meter::LimiterSpecs#optional_rules), [`world`](crate::specs::machine::StateSpecs#world), [`lent_limiter`](crate::specs::meter::LimiterSpecs#lent_limiter), [`IsValid`](crate::specs::machine::StateSpecs#IsValid).
+    ///
+    /// `L` is the type of the limiter, a [`ResourceLimiter`](crate::machine::ResourceLimiter#contract).
     #[inline]
     pub fn run<L: ResourceLimiter>(
         machine: &mut Machine,
@@ -1348,6 +1410,10 @@ mod running {
     /// Executes calls, as `run`, but borrows the limiter for this run alone, so that its state
     /// afterwards is known.
     ///
+    /// # Errors
+    ///
+    /// That of `run`.
+    ///
     /// # Contract
     ///
     /// ```text
@@ -1358,7 +1424,9 @@ mod running {
     /// ensures valid: IsValid machine.new
     /// ```
     ///
-    /// Definitions: [`IsRunOf`](crate::specs::machine::Steps#IsRunOf), [`optional_rules`](crate::specs::meter::Limiter#optional_rules), [`world`](crate::specs::machine::State#world), [`IsValid`](crate::specs::machine::State#IsValid).
+    /// Definitions: [`IsRunOf`](crate::specs::machine::StepsSpecs#IsRunOf), [`optional_rules`](crate::specs::meter::LimiterSpecs#optional_rules), [`world`](crate::specs::machine::StateSpecs#world), [`IsValid`](crate::specs::machine::StateSpecs#IsValid).
+    ///
+    /// `L` is the type of the limiter, a [`ResourceLimiter`](crate::machine::ResourceLimiter#contract).
     #[inline]
     pub fn run_lending<L: ResourceLimiter>(
         machine: &mut Machine,
@@ -1373,6 +1441,10 @@ mod running {
 
     /// Executes calls, as `run`, under a limiter that holds exactly what the machine has, and does so
     /// again afterwards.
+    ///
+    /// # Errors
+    ///
+    /// That of `run`.
     ///
     /// # Panics
     ///
@@ -1390,7 +1462,9 @@ mod running {
     /// ensures valid: IsValid machine.new
     /// ```
     ///
-    /// Definitions: [`HoldsTotals`](crate::specs::machine::State#HoldsTotals), [`IsRunOf`](crate::specs::machine::Steps#IsRunOf), [`optional_rules`](crate::specs::meter::Limiter#optional_rules), [`world`](crate::specs::machine::State#world), [`IsValid`](crate::specs::machine::State#IsValid).
+    /// Definitions: [`HoldsTotals`](crate::specs::machine::StateSpecs#HoldsTotals), [`IsRunOf`](crate::specs::machine::StepsSpecs#IsRunOf), [`optional_rules`](crate::specs::meter::LimiterSpecs#optional_rules), [`world`](crate::specs::machine::StateSpecs#world), [`IsValid`](crate::specs::machine::StateSpecs#IsValid).
+    ///
+    /// `L` is the type of the limiter, a [`Reserving`](crate::machine::Reserving#contract).
     #[inline]
     pub fn run_reserving<L: Reserving>(
         machine: &mut Machine,
@@ -1534,7 +1608,9 @@ mod slots {
         /// ensures value: live_value self.old ≡ Some result.now
         /// ```
         ///
-        /// Definitions: [`live_value`](crate::specs::machine::State#live_value).
+        /// Definitions: [`live_value`](crate::specs::machine::StateSpecs#live_value).
+        ///
+        /// `T` is any type.
         #[inline]
         fn value_mut(&mut self) -> &mut T {
             match self {
@@ -1551,7 +1627,9 @@ mod slots {
         /// ensures: result ≡ slot_count T.Counted.count self.now
         /// ```
         ///
-        /// Definitions: [`slot_count`](crate::specs::machine::State#slot_count).
+        /// Definitions: [`slot_count`](crate::specs::machine::StateSpecs#slot_count).
+        ///
+        /// `T` is a type with the trait `Counted`.
         #[inline]
         fn count(&self) -> usize
         where
@@ -1590,7 +1668,7 @@ mod slots {
         /// ensures: option_copied result ≡ live_at self.now.slots.items index
         /// ```
         ///
-        /// Definitions: [`live_at`](crate::specs::machine::State#live_at).
+        /// Definitions: [`live_at`](crate::specs::machine::StateSpecs#live_at).
         #[inline]
         pub(crate) fn live(&self, index: usize) -> Option<&T> {
             match self.slots.get(index) {
@@ -1609,7 +1687,9 @@ mod slots {
         /// ensures value: option_copied_mut result ≡ live_at self.old.slots.items index
         /// ```
         ///
-        /// Definitions: [`with_live`](crate::specs::machine::State#with_live), [`live_at`](crate::specs::machine::State#live_at).
+        /// Definitions: [`with_live`](crate::specs::machine::StateSpecs#with_live), [`live_at`](crate::specs::machine::StateSpecs#live_at).
+        ///
+        /// `T` is any type.
         #[inline]
         pub(crate) fn live_mut(&mut self, index: usize) -> Option<&mut T> {
             if self.live(index).is_some() {
@@ -1628,7 +1708,9 @@ mod slots {
         /// ensures value: live_at self.old.slots.items index ≡ Some result.now
         /// ```
         ///
-        /// Definitions: [`live_at`](crate::specs::machine::State#live_at), [`with_live`](crate::specs::machine::State#with_live).
+        /// Definitions: [`live_at`](crate::specs::machine::StateSpecs#live_at), [`with_live`](crate::specs::machine::StateSpecs#with_live).
+        ///
+        /// `T` is any type.
         #[inline]
         fn value_mut(&mut self, index: usize) -> &mut T {
             self.slots[index].value_mut()
@@ -1661,7 +1743,9 @@ mod slots {
         ///     self.new.slots.items
         /// ```
         ///
-        /// Definitions: [`DropsAt`](crate::specs::machine::Effects#DropsAt), [`reply_or_no_such`](crate::specs::machine::Effects#reply_or_no_such).
+        /// Definitions: [`DropsAt`](crate::specs::machine::EffectsSpecs#DropsAt), [`reply_or_no_such`](crate::specs::machine::EffectsSpecs#reply_or_no_such).
+        ///
+        /// `T` is a type with the trait `Drop`.
         #[inline]
         pub(crate) fn drop_live(&mut self, index: usize) -> Option<Reply> {
             let last = self.live(index)?.count();
@@ -1677,7 +1761,9 @@ mod slots {
         /// ensures: result ≡ sum (map (slot_count T.Counted.count) self.now.slots.items)
         /// ```
         ///
-        /// Definitions: [`slot_count`](crate::specs::machine::State#slot_count).
+        /// Definitions: [`slot_count`](crate::specs::machine::StateSpecs#slot_count).
+        ///
+        /// `T` is a type with the trait `Counted`.
         #[inline]
         pub(crate) fn total(&self) -> u128 {
             let mut total = 0;
@@ -1724,7 +1810,7 @@ mod store {
     ///     }
     /// ```
     ///
-    /// Definitions: [`State`](crate::specs::machine::State#State).
+    /// Definitions: [`State`](crate::specs::machine::StateSpecs#State).
     pub(crate) struct MachineStore<'r> {
         pub(crate) memories: Slots<Memory<'r>>,
         pub(crate) tables: Slots<Table>,
@@ -1747,7 +1833,9 @@ mod store {
         ///     (world self.new (lent_limiter limiter.new))
         /// ```
         ///
-        /// Definitions: [`KeepsLoan`](crate::specs::meter::Limiter#KeepsLoan), [`RepliesWith`](crate::specs::machine::Steps#RepliesWith), [`optional_rules`](crate::specs::meter::Limiter#optional_rules), [`world`](crate::specs::machine::State#world), [`lent_limiter`](crate::specs::meter::Limiter#lent_limiter), [`reply_or_no_such`](crate::specs::machine::Effects#reply_or_no_such).
+        /// Definitions: [`KeepsLoan`](crate::specs::meter::LimiterSpecs#KeepsLoan), [`RepliesWith`](crate::specs::machine::StepsSpecs#RepliesWith), [`optional_rules`](crate::specs::meter::LimiterSpecs#optional_rules), [`world`](crate::specs::machine::StateSpecs#world), [`lent_limiter`](crate::specs::meter::LimiterSpecs#lent_limiter), [`reply_or_no_such`](crate::specs::machine::EffectsSpecs#reply_or_no_such).
+        ///
+        /// `L` is the type of the limiter, a [`ResourceLimiter`](crate::machine::ResourceLimiter#contract).
         #[inline(always)]
         pub(crate) fn grow_memory<L: ResourceLimiter>(
             &mut self,
@@ -1771,7 +1859,9 @@ mod store {
         ///     (world self.new (lent_limiter limiter.new))
         /// ```
         ///
-        /// Definitions: [`KeepsLoan`](crate::specs::meter::Limiter#KeepsLoan), [`RepliesWith`](crate::specs::machine::Steps#RepliesWith), [`optional_rules`](crate::specs::meter::Limiter#optional_rules), [`world`](crate::specs::machine::State#world), [`lent_limiter`](crate::specs::meter::Limiter#lent_limiter).
+        /// Definitions: [`KeepsLoan`](crate::specs::meter::LimiterSpecs#KeepsLoan), [`RepliesWith`](crate::specs::machine::StepsSpecs#RepliesWith), [`optional_rules`](crate::specs::meter::LimiterSpecs#optional_rules), [`world`](crate::specs::machine::StateSpecs#world), [`lent_limiter`](crate::specs::meter::LimiterSpecs#lent_limiter).
+        ///
+        /// `L` is the type of the limiter, a [`ResourceLimiter`](crate::machine::ResourceLimiter#contract).
         #[inline(always)]
         pub(crate) fn step<L: ResourceLimiter>(
             &mut self,
@@ -1839,7 +1929,9 @@ mod store {
         ///     (world self.new (lent_limiter limiter.new))
         /// ```
         ///
-        /// Definitions: [`subject_of`](crate::specs::machine::Steps#subject_of), [`Memories`](crate::specs::machine::Steps#Memories), [`KeepsLoan`](crate::specs::meter::Limiter#KeepsLoan), [`RepliesWith`](crate::specs::machine::Steps#RepliesWith), [`optional_rules`](crate::specs::meter::Limiter#optional_rules), [`world`](crate::specs::machine::State#world), [`lent_limiter`](crate::specs::meter::Limiter#lent_limiter), [`reply_or_no_such`](crate::specs::machine::Effects#reply_or_no_such).
+        /// Definitions: [`subject_of`](crate::specs::machine::StepsSpecs#subject_of), [`Memories`](crate::specs::machine::StepsSpecs#Memories), [`KeepsLoan`](crate::specs::meter::LimiterSpecs#KeepsLoan), [`RepliesWith`](crate::specs::machine::StepsSpecs#RepliesWith), [`optional_rules`](crate::specs::meter::LimiterSpecs#optional_rules), [`world`](crate::specs::machine::StateSpecs#world), [`lent_limiter`](crate::specs::meter::LimiterSpecs#lent_limiter), [`reply_or_no_such`](crate::specs::machine::EffectsSpecs#reply_or_no_such).
+        ///
+        /// `L` is the type of the limiter, a [`ResourceLimiter`](crate::machine::ResourceLimiter#contract).
         #[inline(always)]
         fn step_memory<L: ResourceLimiter>(
             &mut self,
@@ -1901,7 +1993,9 @@ mod store {
         ///     (world self.new (lent_limiter limiter.new))
         /// ```
         ///
-        /// Definitions: [`subject_of`](crate::specs::machine::Steps#subject_of), [`Tables`](crate::specs::machine::Steps#Tables), [`KeepsLoan`](crate::specs::meter::Limiter#KeepsLoan), [`RepliesWith`](crate::specs::machine::Steps#RepliesWith), [`optional_rules`](crate::specs::meter::Limiter#optional_rules), [`world`](crate::specs::machine::State#world), [`lent_limiter`](crate::specs::meter::Limiter#lent_limiter), [`reply_or_no_such`](crate::specs::machine::Effects#reply_or_no_such).
+        /// Definitions: [`subject_of`](crate::specs::machine::StepsSpecs#subject_of), [`Tables`](crate::specs::machine::StepsSpecs#Tables), [`KeepsLoan`](crate::specs::meter::LimiterSpecs#KeepsLoan), [`RepliesWith`](crate::specs::machine::StepsSpecs#RepliesWith), [`optional_rules`](crate::specs::meter::LimiterSpecs#optional_rules), [`world`](crate::specs::machine::StateSpecs#world), [`lent_limiter`](crate::specs::meter::LimiterSpecs#lent_limiter), [`reply_or_no_such`](crate::specs::machine::EffectsSpecs#reply_or_no_such).
+        ///
+        /// `L` is the type of the limiter, a [`ResourceLimiter`](crate::machine::ResourceLimiter#contract).
         #[inline(always)]
         fn step_table<L: ResourceLimiter>(
             &mut self,
@@ -1970,7 +2064,9 @@ mod store {
         ///     (optional_rules L.rules) call.now self.old (reply_or_no_such result) self.new
         /// ```
         ///
-        /// Definitions: [`subject_of`](crate::specs::machine::Steps#subject_of), [`RegisterFile`](crate::specs::machine::Steps#RegisterFile), [`RepliesWithoutLimiter`](crate::specs::machine::Steps#RepliesWithoutLimiter), [`optional_rules`](crate::specs::meter::Limiter#optional_rules), [`reply_or_no_such`](crate::specs::machine::Effects#reply_or_no_such).
+        /// Definitions: [`subject_of`](crate::specs::machine::StepsSpecs#subject_of), [`RegisterFile`](crate::specs::machine::StepsSpecs#RegisterFile), [`RepliesWithoutLimiter`](crate::specs::machine::StepsSpecs#RepliesWithoutLimiter), [`optional_rules`](crate::specs::meter::LimiterSpecs#optional_rules), [`reply_or_no_such`](crate::specs::machine::EffectsSpecs#reply_or_no_such).
+        ///
+        /// `L` is the type of the limiter, a [`ResourceLimiter`](crate::machine::ResourceLimiter#contract).
         #[inline(always)]
         fn step_register<L: ResourceLimiter>(&mut self, call: &Call) -> Option<Reply> {
             match call {
@@ -2000,7 +2096,9 @@ mod store {
         ///     (optional_rules L.rules) call.now self.old (reply_or_no_such result) self.new
         /// ```
         ///
-        /// Definitions: [`subject_of`](crate::specs::machine::Steps#subject_of), [`VectorAccesses`](crate::specs::machine::Steps#VectorAccesses), [`RepliesWithoutLimiter`](crate::specs::machine::Steps#RepliesWithoutLimiter), [`optional_rules`](crate::specs::meter::Limiter#optional_rules), [`reply_or_no_such`](crate::specs::machine::Effects#reply_or_no_such).
+        /// Definitions: [`subject_of`](crate::specs::machine::StepsSpecs#subject_of), [`VectorAccesses`](crate::specs::machine::StepsSpecs#VectorAccesses), [`RepliesWithoutLimiter`](crate::specs::machine::StepsSpecs#RepliesWithoutLimiter), [`optional_rules`](crate::specs::meter::LimiterSpecs#optional_rules), [`reply_or_no_such`](crate::specs::machine::EffectsSpecs#reply_or_no_such).
+        ///
+        /// `L` is the type of the limiter, a [`ResourceLimiter`](crate::machine::ResourceLimiter#contract).
         #[inline(always)]
         fn step_vector_access<L: ResourceLimiter>(&mut self, call: &Call) -> Option<Reply> {
             match call {
@@ -2072,7 +2170,9 @@ mod tables {
         ///     (lent_limiter limiter.old) result self.new.slots.items (lent_limiter limiter.new)
         /// ```
         ///
-        /// Definitions: [`KeepsLoan`](crate::specs::meter::Limiter#KeepsLoan), [`Creates`](crate::specs::machine::Effects#Creates), [`MakesTable`](crate::specs::store::Table#MakesTable), [`optional_rules`](crate::specs::meter::Limiter#optional_rules), [`lent_limiter`](crate::specs::meter::Limiter#lent_limiter).
+        /// Definitions: [`KeepsLoan`](crate::specs::meter::LimiterSpecs#KeepsLoan), [`Creates`](crate::specs::machine::EffectsSpecs#Creates), [`MakesTable`](crate::specs::store::TableSpecs#MakesTable), [`optional_rules`](crate::specs::meter::LimiterSpecs#optional_rules), [`lent_limiter`](crate::specs::meter::LimiterSpecs#lent_limiter).
+        ///
+        /// `L` is the type of the limiter, a [`ResourceLimiter`](crate::machine::ResourceLimiter#contract).
         #[inline(always)]
         pub(crate) fn create<L: ResourceLimiter>(
             &mut self,
@@ -2103,7 +2203,9 @@ mod tables {
         ///     (metered_value self.new.slots.items (Some fuel.new) (lent_limiter limiter.new))
         /// ```
         ///
-        /// Definitions: [`KeepsLoan`](crate::specs::meter::Limiter#KeepsLoan), [`WithCharge`](crate::specs::store::Growth#WithCharge), [`ActsAt`](crate::specs::machine::Effects#ActsAt), [`reply_of`](crate::specs::machine::Effects#reply_of), [`GrowsTableCharging`](crate::specs::store::Table#GrowsTableCharging), [`optional_rules`](crate::specs::meter::Limiter#optional_rules), [`metered_value`](crate::specs::store::Growth#metered_value), [`lent_limiter`](crate::specs::meter::Limiter#lent_limiter), [`reply_or_no_such`](crate::specs::machine::Effects#reply_or_no_such).
+        /// Definitions: [`KeepsLoan`](crate::specs::meter::LimiterSpecs#KeepsLoan), [`WithCharge`](crate::specs::store::GrowthSpecs#WithCharge), [`ActsAt`](crate::specs::machine::EffectsSpecs#ActsAt), [`reply_of`](crate::specs::machine::EffectsSpecs#reply_of), [`GrowsTableCharging`](crate::specs::store::TableSpecs#GrowsTableCharging), [`optional_rules`](crate::specs::meter::LimiterSpecs#optional_rules), [`metered_value`](crate::specs::store::GrowthSpecs#metered_value), [`lent_limiter`](crate::specs::meter::LimiterSpecs#lent_limiter), [`reply_or_no_such`](crate::specs::machine::EffectsSpecs#reply_or_no_such).
+        ///
+        /// `L` is the type of the limiter, a [`ResourceLimiter`](crate::machine::ResourceLimiter#contract).
         #[inline(always)]
         pub(crate) fn grow<L: ResourceLimiter>(
             &mut self,
@@ -2129,7 +2231,7 @@ mod tables {
         ///     (reply_or_no_such result) self.new.slots.items
         /// ```
         ///
-        /// Definitions: [`SetsElementAt`](crate::specs::machine::TableEffects#SetsElementAt), [`reply_or_no_such`](crate::specs::machine::Effects#reply_or_no_such).
+        /// Definitions: [`SetsElementAt`](crate::specs::machine::TableEffectsSpecs#SetsElementAt), [`reply_or_no_such`](crate::specs::machine::EffectsSpecs#reply_or_no_such).
         #[inline(always)]
         pub(crate) fn set(
             &mut self,
@@ -2151,7 +2253,7 @@ mod tables {
         ///     (metered self.new.slots.items (Some fuel.new))
         /// ```
         ///
-        /// Definitions: [`WithCharge`](crate::specs::store::Growth#WithCharge), [`WritesTableAt`](crate::specs::machine::TableEffects#WritesTableAt), [`filling_of`](crate::specs::store::Table#filling_of), [`metered`](crate::specs::store::Growth#metered), [`reply_or_no_such`](crate::specs::machine::Effects#reply_or_no_such).
+        /// Definitions: [`WithCharge`](crate::specs::store::GrowthSpecs#WithCharge), [`WritesTableAt`](crate::specs::machine::TableEffectsSpecs#WritesTableAt), [`filling_of`](crate::specs::store::TableSpecs#filling_of), [`metered`](crate::specs::store::GrowthSpecs#metered), [`reply_or_no_such`](crate::specs::machine::EffectsSpecs#reply_or_no_such).
         #[inline(always)]
         pub(crate) fn fill(
             &mut self,
@@ -2176,7 +2278,7 @@ mod tables {
         ///     (metered self.new.slots.items (Some fuel.new))
         /// ```
         ///
-        /// Definitions: [`WithCharge`](crate::specs::store::Growth#WithCharge), [`WritesTableAt`](crate::specs::machine::TableEffects#WritesTableAt), [`initialization_of`](crate::specs::store::Table#initialization_of), [`segment_of`](crate::specs::store::Segment#segment_of), [`metered`](crate::specs::store::Growth#metered), [`reply_or_no_such`](crate::specs::machine::Effects#reply_or_no_such).
+        /// Definitions: [`WithCharge`](crate::specs::store::GrowthSpecs#WithCharge), [`WritesTableAt`](crate::specs::machine::TableEffectsSpecs#WritesTableAt), [`initialization_of`](crate::specs::store::TableSpecs#initialization_of), [`segment_of`](crate::specs::store::SegmentSpecs#segment_of), [`metered`](crate::specs::store::GrowthSpecs#metered), [`reply_or_no_such`](crate::specs::machine::EffectsSpecs#reply_or_no_such).
         #[inline(always)]
         pub(crate) fn init(
             &mut self,
@@ -2205,7 +2307,7 @@ mod tables {
         ///     (metered self.new.slots.items (Some fuel.new))
         /// ```
         ///
-        /// Definitions: [`WithCharge`](crate::specs::store::Growth#WithCharge), [`WritesTableFrom`](crate::specs::machine::TableEffects#WritesTableFrom), [`live_at`](crate::specs::machine::State#live_at), [`copy_of`](crate::specs::store::Table#copy_of), [`metered`](crate::specs::store::Growth#metered), [`reply_or_no_such`](crate::specs::machine::Effects#reply_or_no_such).
+        /// Definitions: [`WithCharge`](crate::specs::store::GrowthSpecs#WithCharge), [`WritesTableFrom`](crate::specs::machine::TableEffectsSpecs#WritesTableFrom), [`live_at`](crate::specs::machine::StateSpecs#live_at), [`copy_of`](crate::specs::store::TableSpecs#copy_of), [`metered`](crate::specs::store::GrowthSpecs#metered), [`reply_or_no_such`](crate::specs::machine::EffectsSpecs#reply_or_no_such).
         #[inline(always)]
         pub(crate) fn copy(
             &mut self,
@@ -2237,7 +2339,7 @@ mod tables {
         ///     (metered self.new.slots.items (Some fuel.new))
         /// ```
         ///
-        /// Definitions: [`WithCharge`](crate::specs::store::Growth#WithCharge), [`WritesTableFrom`](crate::specs::machine::TableEffects#WritesTableFrom), [`live_at`](crate::specs::machine::State#live_at), [`copy_of`](crate::specs::store::Table#copy_of), [`metered`](crate::specs::store::Growth#metered), [`reply_or_no_such`](crate::specs::machine::Effects#reply_or_no_such).
+        /// Definitions: [`WithCharge`](crate::specs::store::GrowthSpecs#WithCharge), [`WritesTableFrom`](crate::specs::machine::TableEffectsSpecs#WritesTableFrom), [`live_at`](crate::specs::machine::StateSpecs#live_at), [`copy_of`](crate::specs::store::TableSpecs#copy_of), [`metered`](crate::specs::store::GrowthSpecs#metered), [`reply_or_no_such`](crate::specs::machine::EffectsSpecs#reply_or_no_such).
         #[inline(always)]
         fn copy_in_one(
             &mut self,
@@ -2266,7 +2368,7 @@ mod tables {
     ///     (metered slots.old (Some fuel.old)) (reply_or_no_such result) (metered slots.new (Some fuel.new))
     /// ```
     ///
-    /// Definitions: [`WithCharge`](crate::specs::store::Growth#WithCharge), [`WritesTableFrom`](crate::specs::machine::TableEffects#WritesTableFrom), [`live_at`](crate::specs::machine::State#live_at), [`copy_of`](crate::specs::store::Table#copy_of), [`metered`](crate::specs::store::Growth#metered), [`reply_or_no_such`](crate::specs::machine::Effects#reply_or_no_such).
+    /// Definitions: [`WithCharge`](crate::specs::store::GrowthSpecs#WithCharge), [`WritesTableFrom`](crate::specs::machine::TableEffectsSpecs#WritesTableFrom), [`live_at`](crate::specs::machine::StateSpecs#live_at), [`copy_of`](crate::specs::store::TableSpecs#copy_of), [`metered`](crate::specs::store::GrowthSpecs#metered), [`reply_or_no_such`](crate::specs::machine::EffectsSpecs#reply_or_no_such).
     #[inline(always)]
     fn copy_to_other(
         slots: &mut [Slot<Table>],
@@ -2295,7 +2397,7 @@ mod tables {
     ///     (metered slot.old (Some fuel.old)) (reply_or_no_such result) (metered slot.new (Some fuel.new))
     /// ```
     ///
-    /// Definitions: [`WithCharge`](crate::specs::store::Growth#WithCharge), [`CopiesSlot`](crate::specs::machine::TableEffects#CopiesSlot), [`copy_of`](crate::specs::store::Table#copy_of), [`metered`](crate::specs::store::Growth#metered), [`reply_or_no_such`](crate::specs::machine::Effects#reply_or_no_such).
+    /// Definitions: [`WithCharge`](crate::specs::store::GrowthSpecs#WithCharge), [`CopiesSlot`](crate::specs::machine::TableEffectsSpecs#CopiesSlot), [`copy_of`](crate::specs::store::TableSpecs#copy_of), [`metered`](crate::specs::store::GrowthSpecs#metered), [`reply_or_no_such`](crate::specs::machine::EffectsSpecs#reply_or_no_such).
     #[inline(always)]
     fn copy_from_slot(
         slot: &mut Slot<Table>,
@@ -2321,7 +2423,7 @@ mod tables {
     /// ensures: result ≡ reply_of (λ _. Reply.Done) Reply.Table answer
     /// ```
     ///
-    /// Definitions: [`reply_of`](crate::specs::machine::Effects#reply_of).
+    /// Definitions: [`reply_of`](crate::specs::machine::EffectsSpecs#reply_of).
     #[inline(always)]
     fn table_reply(answer: Result<(), TableError>) -> Reply {
         answer.map_or_else(Reply::Table, |()| Reply::Done)
@@ -2346,7 +2448,7 @@ mod values {
     /// ensures: CreatesSegment ty items.now segments.old.items result segments.new.items
     /// ```
     ///
-    /// Definitions: [`CreatesSegment`](crate::specs::machine::ValueEffects#CreatesSegment).
+    /// Definitions: [`CreatesSegment`](crate::specs::machine::ValueEffectsSpecs#CreatesSegment).
     #[inline(always)]
     pub(crate) fn create_segment(
         segments: &mut Vec<ElementSegment>,
@@ -2374,7 +2476,7 @@ mod values {
     /// ensures: DropsItemsAt index segments.old.items result segments.new.items
     /// ```
     ///
-    /// Definitions: [`DropsItemsAt`](crate::specs::machine::ValueEffects#DropsItemsAt).
+    /// Definitions: [`DropsItemsAt`](crate::specs::machine::ValueEffectsSpecs#DropsItemsAt).
     #[inline(always)]
     pub(crate) fn drop_items(segments: &mut Vec<ElementSegment>, index: usize) -> Reply {
         let Some(segment) = segments.get_mut(index) else {
@@ -2393,7 +2495,7 @@ mod values {
     ///     (record { value = value; ty = ty }) globals.old.items result globals.new.items
     /// ```
     ///
-    /// Definitions: [`CreatesGlobal`](crate::specs::machine::ValueEffects#CreatesGlobal).
+    /// Definitions: [`CreatesGlobal`](crate::specs::machine::ValueEffectsSpecs#CreatesGlobal).
     #[inline(always)]
     pub(crate) fn create_global(globals: &mut Vec<Global>, value: RawVal, ty: GlobalType) -> Reply {
         if globals.try_reserve(1).is_err() {
@@ -2412,7 +2514,7 @@ mod values {
     /// ensures: SetsGlobalAt index value globals.old.items result globals.new.items
     /// ```
     ///
-    /// Definitions: [`SetsGlobalAt`](crate::specs::machine::ValueEffects#SetsGlobalAt).
+    /// Definitions: [`SetsGlobalAt`](crate::specs::machine::ValueEffectsSpecs#SetsGlobalAt).
     #[inline(always)]
     pub(crate) fn set_global(globals: &mut Vec<Global>, index: usize, value: TypedRawVal) -> Reply {
         let Some(global) = globals.get_mut(index) else {
@@ -2432,7 +2534,7 @@ mod values {
     /// ensures: GetsGlobalAt index globals.now result
     /// ```
     ///
-    /// Definitions: [`GetsGlobalAt`](crate::specs::machine::ValueEffects#GetsGlobalAt).
+    /// Definitions: [`GetsGlobalAt`](crate::specs::machine::ValueEffectsSpecs#GetsGlobalAt).
     #[inline(always)]
     pub(crate) fn get_global(globals: &[Global], index: usize) -> Reply {
         globals

@@ -22,7 +22,8 @@ mod amounts {
         /// ensures: result ≡ amount_of self.now kind
         /// ```
         ///
-        /// Definitions: [`amount_of`](crate::specs::meter::Capped#amount_of).
+        /// Definitions: [`amount_of`](crate::specs::meter::CappedSpecs#amount_of).
+        #[must_use]
         #[inline]
         pub fn of(&self, kind: Kind) -> u64 {
             match kind {
@@ -64,7 +65,7 @@ mod answer_list {
     ///     record { ahead = drop list.taken list.answers.items; last = list.last }
     /// ```
     ///
-    /// Definitions: [`AnswersAhead`](crate::specs::meter::AnswerList#AnswersAhead).
+    /// Definitions: [`AnswersAhead`](crate::specs::meter::AnswerListSpecs#AnswersAhead).
     #[derive(Debug)]
     pub struct AnswerList {
         /// The answers, one for each question.
@@ -84,7 +85,8 @@ mod answer_list {
         /// ensures: result ≡ new_answers answers.items
         /// ```
         ///
-        /// Definitions: [`new_answers`](crate::specs::meter::AnswerList#new_answers).
+        /// Definitions: [`new_answers`](crate::specs::meter::AnswerListSpecs#new_answers).
+        #[must_use]
         #[inline]
         pub fn new(answers: Vec<LimiterAnswer>) -> Self {
             AnswerList {
@@ -101,7 +103,7 @@ mod answer_list {
     /// kind_rules = answer_list_rules
     /// ```
     ///
-    /// Definitions: [`answer_list_rules`](crate::specs::meter::AnswerList#answer_list_rules).
+    /// Definitions: [`answer_list_rules`](crate::specs::meter::AnswerListSpecs#answer_list_rules).
     impl LimiterByKind for AnswerList {
         #[inline]
         fn growing(&mut self, _: Kind, _: usize, _: usize) -> Result<bool, LimiterError> {
@@ -154,7 +156,7 @@ mod any_limiter {
     /// kind_rules = any_limiter_rules
     /// ```
     ///
-    /// Definitions: [`any_limiter_rules`](crate::specs::meter::AnyLimiter#any_limiter_rules).
+    /// Definitions: [`any_limiter_rules`](crate::specs::meter::AnyLimiterSpecs#any_limiter_rules).
     impl LimiterByKind for AnyLimiter {
         /// # Panics
         ///
@@ -204,7 +206,9 @@ mod capped {
     ///     → GivesBack (kind_of failure) (holdings l) (holdings l')
     /// ```
     ///
-    /// Definitions: [`Question`](crate::specs::meter::Limiter#Question), [`Answer`](crate::specs::meter::Limiter#Answer), [`Reserves`](crate::specs::meter::Capped#Reserves), [`Failure`](crate::specs::meter::Limiter#Failure), [`NoticeAnswer`](crate::specs::meter::Limiter#NoticeAnswer), [`GivesBack`](crate::specs::meter::Capped#GivesBack), [`kind_of`](crate::specs::meter::Limiter#kind_of).
+    /// Definitions: [`Question`](crate::specs::meter::LimiterSpecs#Question), [`Answer`](crate::specs::meter::LimiterSpecs#Answer), [`Reserves`](crate::specs::meter::CappedSpecs#Reserves), [`Failure`](crate::specs::meter::LimiterSpecs#Failure), [`NoticeAnswer`](crate::specs::meter::LimiterSpecs#NoticeAnswer), [`GivesBack`](crate::specs::meter::CappedSpecs#GivesBack), [`kind_of`](crate::specs::meter::LimiterSpecs#kind_of).
+    ///
+    /// `A` is any type.
     pub trait Reserving: ResourceLimiter {
         /// The bytes that it permitted and that weren't given back.
         ///
@@ -236,7 +240,7 @@ mod capped {
     /// capped: Capped Self
     /// ```
     ///
-    /// Definitions: [`Capped`](crate::specs::meter::Capped#Capped).
+    /// Definitions: [`Capped`](crate::specs::meter::CappedSpecs#Capped).
     pub trait CappedLimiter {
         /// What it holds of each kind, with the last difference that it permitted.
         ///
@@ -256,7 +260,7 @@ mod capped {
         /// ensures: HoldsMore capped self.old kind difference result self.new
         /// ```
         ///
-        /// Definitions: [`HoldsMore`](crate::specs::meter::Capped#HoldsMore).
+        /// Definitions: [`HoldsMore`](crate::specs::meter::CappedSpecs#HoldsMore).
         fn take(&mut self, kind: Kind, difference: u64) -> bool;
 
         /// Gives back what was taken last, if that is of this kind.
@@ -268,7 +272,7 @@ mod capped {
         /// ensures rest: self.new ≡ capped.with_holdings self.old (capped.holdings self.new)
         /// ```
         ///
-        /// Definitions: [`without_last`](crate::specs::meter::Capped#without_last).
+        /// Definitions: [`without_last`](crate::specs::meter::CappedSpecs#without_last).
         fn give_back(&mut self, kind: Kind);
     }
 
@@ -278,7 +282,9 @@ mod capped {
     /// kind_rules = capped_rules L.capped
     /// ```
     ///
-    /// Definitions: [`capped_rules`](crate::specs::meter::Capped#capped_rules).
+    /// Definitions: [`capped_rules`](crate::specs::meter::CappedSpecs#capped_rules).
+    ///
+    /// `L` is the type of the limiter, a [`CappedLimiter`](crate::machine::CappedLimiter#contract).
     impl<L: CappedLimiter> LimiterByKind for L {
         /// # Panics
         ///
@@ -301,6 +307,8 @@ mod capped {
     /// ```text
     /// holdings = L.capped.holdings
     /// ```
+    ///
+    /// `L` is the type of the limiter, a [`CappedLimiter`](crate::machine::CappedLimiter#contract).
     impl<L: CappedLimiter> Reserving for L {
         #[inline]
         fn held_bytes(&self) -> u64 {
@@ -334,7 +342,7 @@ mod error {
     /// output = λ error. Some (limiter_error_text error)
     /// ```
     ///
-    /// Definitions: [`limiter_error_text`](crate::specs::meter::Texts#limiter_error_text).
+    /// Definitions: [`limiter_error_text`](crate::specs::meter::TextsSpecs#limiter_error_text).
     impl fmt::Display for LimiterError {
         #[inline]
         fn fmt(&self, f: &mut fmt::Formatter<'_>) -> fmt::Result {
@@ -382,7 +390,8 @@ mod error {
         /// ensures: numbered result.0.now result.1 ≡ memory_error_text self.now
         /// ```
         ///
-        /// Definitions: [`numbered`](crate::specs::meter::Texts#numbered), [`memory_error_text`](crate::specs::meter::Texts#memory_error_text).
+        /// Definitions: [`numbered`](crate::specs::meter::TextsSpecs#numbered), [`memory_error_text`](crate::specs::meter::TextsSpecs#memory_error_text).
+        #[must_use]
         #[inline]
         pub(crate) fn words(&self) -> (&'static str, Option<u64>) {
             let words = match self {
@@ -416,7 +425,7 @@ mod error {
     /// output = λ error. Some (memory_error_text error)
     /// ```
     ///
-    /// Definitions: [`memory_error_text`](crate::specs::meter::Texts#memory_error_text).
+    /// Definitions: [`memory_error_text`](crate::specs::meter::TextsSpecs#memory_error_text).
     impl fmt::Display for MemoryError {
         #[inline]
         fn fmt(&self, f: &mut fmt::Formatter<'_>) -> fmt::Result {
@@ -472,7 +481,8 @@ mod error {
         /// ensures: numbered result.0.now result.1 ≡ table_error_text self.now
         /// ```
         ///
-        /// Definitions: [`numbered`](crate::specs::meter::Texts#numbered), [`table_error_text`](crate::specs::meter::Texts#table_error_text).
+        /// Definitions: [`numbered`](crate::specs::meter::TextsSpecs#numbered), [`table_error_text`](crate::specs::meter::TextsSpecs#table_error_text).
+        #[must_use]
         #[inline]
         pub(crate) fn words(&self) -> (&'static str, Option<u64>) {
             let words = match self {
@@ -504,7 +514,7 @@ mod error {
     /// output = λ error. Some (table_error_text error)
     /// ```
     ///
-    /// Definitions: [`table_error_text`](crate::specs::meter::Texts#table_error_text).
+    /// Definitions: [`table_error_text`](crate::specs::meter::TextsSpecs#table_error_text).
     impl fmt::Display for TableError {
         #[inline]
         fn fmt(&self, f: &mut fmt::Formatter<'_>) -> fmt::Result {
@@ -547,7 +557,7 @@ mod error {
     /// try_from_gives = IsOfFuel
     /// ```
     ///
-    /// Definitions: [`IsOfFuel`](crate::specs::meter::Meter#IsOfFuel).
+    /// Definitions: [`IsOfFuel`](crate::specs::meter::MeterSpecs#IsOfFuel).
     impl TableError {
         // The error of a meter that is off is handed back. Upstream panics there.
         #[inline]
@@ -686,7 +696,8 @@ mod fuel {
         /// ensures: costs_of result ≡ custom
         /// ```
         ///
-        /// Definitions: [`costs_of`](crate::specs::meter::Meter#costs_of).
+        /// Definitions: [`costs_of`](crate::specs::meter::MeterSpecs#costs_of).
+        #[must_use]
         #[inline]
         pub fn custom(custom: CustomFuelCosts) -> Self {
             FuelCostsProvider {
@@ -702,7 +713,7 @@ mod fuel {
         /// ensures: result ≡ costs_of self.now
         /// ```
         ///
-        /// Definitions: [`costs_of`](crate::specs::meter::Meter#costs_of).
+        /// Definitions: [`costs_of`](crate::specs::meter::MeterSpecs#costs_of).
         #[inline]
         pub(crate) fn costs(&self) -> CustomFuelCosts {
             self.custom.unwrap_or(DEFAULT_COSTS)
@@ -716,7 +727,8 @@ mod fuel {
         /// ensures: result ≡ cut_product len_bytes (costs_of self.now).fuel_per_bytes_translated
         /// ```
         ///
-        /// Definitions: [`cut_product`](crate::specs::meter::Meter#cut_product), [`costs_of`](crate::specs::meter::Meter#costs_of).
+        /// Definitions: [`cut_product`](crate::specs::meter::MeterSpecs#cut_product), [`costs_of`](crate::specs::meter::MeterSpecs#costs_of).
+        #[must_use]
         #[inline]
         pub fn fuel_for_translating_bytes(&self, len_bytes: u64) -> u64 {
             len_bytes.saturating_mul(u64::from(self.costs().fuel_per_bytes_translated))
@@ -730,7 +742,8 @@ mod fuel {
         /// ensures: result ≡ cut_product len_bytes (costs_of self.now).fuel_per_bytes_validated
         /// ```
         ///
-        /// Definitions: [`cut_product`](crate::specs::meter::Meter#cut_product), [`costs_of`](crate::specs::meter::Meter#costs_of).
+        /// Definitions: [`cut_product`](crate::specs::meter::MeterSpecs#cut_product), [`costs_of`](crate::specs::meter::MeterSpecs#costs_of).
+        #[must_use]
         #[inline]
         pub fn fuel_for_validating_bytes(&self, len_bytes: u64) -> u64 {
             len_bytes.saturating_mul(u64::from(self.costs().fuel_per_bytes_validated))
@@ -745,7 +758,10 @@ mod fuel {
         /// ensures: result ≡ copy_cost (costs_of self.now) len_values T.SIZE
         /// ```
         ///
-        /// Definitions: [`copy_cost`](crate::specs::meter::Meter#copy_cost), [`costs_of`](crate::specs::meter::Meter#costs_of).
+        /// Definitions: [`copy_cost`](crate::specs::meter::MeterSpecs#copy_cost), [`costs_of`](crate::specs::meter::MeterSpecs#costs_of).
+        ///
+        /// `T` is a type with the trait `ValueSize`.
+        #[must_use]
         #[inline]
         pub fn fuel_for_copying_values<T>(&self, len_values: u64) -> u64 {
             let len_bytes = len_values.saturating_mul(T::SIZE);
@@ -779,6 +795,7 @@ mod fuel {
         /// ensures: result ≡ FuelError.FuelMeteringDisabled
         /// ```
         #[cold]
+        #[must_use]
         pub fn fuel_metering_disabled() -> Self {
             FuelError::FuelMeteringDisabled
         }
@@ -791,6 +808,7 @@ mod fuel {
         /// ensures: result ≡ FuelError.OutOfFuel required_fuel
         /// ```
         #[cold]
+        #[must_use]
         pub fn out_of_fuel(required_fuel: u64) -> Self {
             FuelError::OutOfFuel { required_fuel }
         }
@@ -803,7 +821,8 @@ mod fuel {
         /// ensures: numbered result.0.now result.1 ≡ fuel_error_text self.now
         /// ```
         ///
-        /// Definitions: [`numbered`](crate::specs::meter::Texts#numbered), [`fuel_error_text`](crate::specs::meter::Texts#fuel_error_text).
+        /// Definitions: [`numbered`](crate::specs::meter::TextsSpecs#numbered), [`fuel_error_text`](crate::specs::meter::TextsSpecs#fuel_error_text).
+        #[must_use]
         #[inline]
         pub(crate) fn words(&self) -> (&'static str, Option<u64>) {
             match self {
@@ -821,7 +840,7 @@ mod fuel {
     /// output = λ error. Some (fuel_error_text error)
     /// ```
     ///
-    /// Definitions: [`fuel_error_text`](crate::specs::meter::Texts#fuel_error_text).
+    /// Definitions: [`fuel_error_text`](crate::specs::meter::TextsSpecs#fuel_error_text).
     impl fmt::Display for FuelError {
         #[inline]
         fn fmt(&self, f: &mut fmt::Formatter<'_>) -> fmt::Result {
@@ -847,7 +866,7 @@ mod fuel {
     /// invariant = λ f. f.enabled ≡ false → f.remaining ≡ 0
     /// ```
     ///
-    /// Definitions: [`Meter`](crate::specs::meter::Meter#Meter), [`costs_of`](crate::specs::meter::Meter#costs_of).
+    /// Definitions: [`Meter`](crate::specs::meter::MeterSpecs#Meter), [`costs_of`](crate::specs::meter::MeterSpecs#costs_of).
     #[doc = examples!(meter Fuel)]
     #[derive(Debug)]
     pub struct Fuel {
@@ -866,7 +885,8 @@ mod fuel {
         ///     ≡ record { left = (if enabled then Some 0 else None); costs = costs_of costs }
         /// ```
         ///
-        /// Definitions: [`costs_of`](crate::specs::meter::Meter#costs_of).
+        /// Definitions: [`costs_of`](crate::specs::meter::MeterSpecs#costs_of).
+        #[must_use]
         #[inline]
         pub fn new(enabled: bool, costs: FuelCostsProvider) -> Self {
             Fuel {
@@ -884,7 +904,8 @@ mod fuel {
         /// ensures: result ≡ record { left = None; costs = default_costs }
         /// ```
         ///
-        /// Definitions: [`default_costs`](crate::specs::meter::Meter#default_costs).
+        /// Definitions: [`default_costs`](crate::specs::meter::MeterSpecs#default_costs).
+        #[must_use]
         #[inline]
         pub(crate) fn unmetered() -> Self {
             Fuel::new(false, FuelCostsProvider::default())
@@ -904,7 +925,11 @@ mod fuel {
             Ok(())
         }
 
-        /// Sets the fuel that is left. The error is `FuelMeteringDisabled` if the meter is off.
+        /// Sets the fuel that is left.
+        ///
+        /// # Errors
+        ///
+        /// [`FuelMeteringDisabled`](crate::FuelError::FuelMeteringDisabled) if the meter is off.
         ///
         /// # Contract
         ///
@@ -915,7 +940,7 @@ mod fuel {
         ///     → (result ≡ Err FuelError.FuelMeteringDisabled) × (self.new ≡ self.old)
         /// ```
         ///
-        /// Definitions: [`meter_set`](crate::specs::meter::Meter#meter_set).
+        /// Definitions: [`meter_set`](crate::specs::meter::MeterSpecs#meter_set).
         #[inline]
         pub fn set_fuel(&mut self, fuel: u64) -> Result<(), FuelError> {
             self.check_fuel_metering_enabled()?;
@@ -923,7 +948,11 @@ mod fuel {
             Ok(())
         }
 
-        /// Returns the fuel that is left. The error is `FuelMeteringDisabled` if the meter is off.
+        /// Returns the fuel that is left.
+        ///
+        /// # Errors
+        ///
+        /// [`FuelMeteringDisabled`](crate::FuelError::FuelMeteringDisabled) if the meter is off.
         ///
         /// # Contract
         ///
@@ -932,16 +961,19 @@ mod fuel {
         /// ensures off: self.now.left ≡ None → result ≡ Err FuelError.FuelMeteringDisabled
         /// ```
         ///
-        /// Definitions: [`amount_left`](crate::specs::meter::Meter#amount_left).
+        /// Definitions: [`amount_left`](crate::specs::meter::MeterSpecs#amount_left).
         #[inline]
         pub fn get_fuel(&self) -> Result<u64, FuelError> {
             self.check_fuel_metering_enabled()?;
             Ok(self.remaining)
         }
 
-        /// Consumes `delta` fuel, and returns what is left. If less is left, the error is `OutOfFuel`
-        /// with `delta`, and nothing is consumed. It doesn't test whether the meter is on: one that is
-        /// off has no fuel left.
+        /// Consumes `delta` fuel, and returns what is left. It doesn't test whether the meter is on:
+        /// one that is off has no fuel left.
+        ///
+        /// # Errors
+        ///
+        /// [`OutOfFuel`](crate::FuelError::OutOfFuel) with `delta` if less is left; then nothing is consumed.
         ///
         /// # Contract
         ///
@@ -949,7 +981,7 @@ mod fuel {
         /// ensures: ConsumesFuel self.old delta (amount_left self.old - delta) result self.new
         /// ```
         ///
-        /// Definitions: [`ConsumesFuel`](crate::specs::meter::Meter#ConsumesFuel), [`amount_left`](crate::specs::meter::Meter#amount_left).
+        /// Definitions: [`ConsumesFuel`](crate::specs::meter::MeterSpecs#ConsumesFuel), [`amount_left`](crate::specs::meter::MeterSpecs#amount_left).
         #[inline]
         pub fn consume_fuel_unchecked(&mut self, delta: u64) -> Result<u64, FuelError> {
             let Some(left) = self.remaining.checked_sub(delta) else {
@@ -959,9 +991,12 @@ mod fuel {
             Ok(left)
         }
 
-        /// Consumes the fuel that `f` computes from the costs, and returns what is left. If the meter
-        /// is off, the error is `FuelMeteringDisabled`, and `f` isn't called. If less is left, the
-        /// error is `OutOfFuel`, and nothing is consumed.
+        /// Consumes the fuel that `f` computes from the costs, and returns what is left.
+        ///
+        /// # Errors
+        ///
+        /// [`FuelMeteringDisabled`](crate::FuelError::FuelMeteringDisabled) if the meter is off, and `f` isn't called; [`OutOfFuel`](crate::FuelError::OutOfFuel) if less is
+        /// left, and nothing is consumed.
         ///
         /// # Contract
         ///
@@ -974,7 +1009,9 @@ mod fuel {
         ///     → (result ≡ Err FuelError.FuelMeteringDisabled) × (self.new ≡ self.old)
         /// ```
         ///
-        /// Definitions: [`Computes`](crate::specs::meter::Meter#Computes), [`ConsumesFuel`](crate::specs::meter::Meter#ConsumesFuel), [`amount_left`](crate::specs::meter::Meter#amount_left).
+        /// Definitions: [`Computes`](crate::specs::meter::MeterSpecs#Computes), [`ConsumesFuel`](crate::specs::meter::MeterSpecs#ConsumesFuel), [`amount_left`](crate::specs::meter::MeterSpecs#amount_left).
+        ///
+        /// `C` is the type of the closure.
         #[inline]
         pub fn consume_fuel(
             &mut self,
@@ -986,7 +1023,11 @@ mod fuel {
         }
 
         /// Consumes the fuel that `f` computes from the costs if the meter is on. If it is off, `f`
-        /// isn't called. If less is left, the error is `OutOfFuel`, and nothing is consumed.
+        /// isn't called.
+        ///
+        /// # Errors
+        ///
+        /// [`OutOfFuel`](crate::FuelError::OutOfFuel) if less is left; then nothing is consumed.
         ///
         /// # Contract
         ///
@@ -998,7 +1039,9 @@ mod fuel {
         /// ensures off: self.old.left ≡ None → (result ≡ Ok tt) × (self.new ≡ self.old)
         /// ```
         ///
-        /// Definitions: [`Computes`](crate::specs::meter::Meter#Computes), [`ConsumesFuel`](crate::specs::meter::Meter#ConsumesFuel).
+        /// Definitions: [`Computes`](crate::specs::meter::MeterSpecs#Computes), [`ConsumesFuel`](crate::specs::meter::MeterSpecs#ConsumesFuel).
+        ///
+        /// `C` is the type of the closure.
         #[inline]
         pub fn consume_fuel_if(
             &mut self,
@@ -1035,6 +1078,7 @@ mod holdings {
         /// ```text
         /// ensures: result ≡ record { held = held; last = None }
         /// ```
+        #[must_use]
         #[inline]
         pub fn new(held: Amounts) -> Self {
             Holdings { held, last: None }
@@ -1048,6 +1092,7 @@ mod holdings {
         /// ```text
         /// ensures: result ≡ record { held = held; last = last }
         /// ```
+        #[must_use]
         #[inline]
         pub fn resume(held: Amounts, last: Option<(Kind, u64)>) -> Self {
             Holdings { held, last }
@@ -1060,6 +1105,7 @@ mod holdings {
         /// ```text
         /// ensures: result ≡ self.now.last
         /// ```
+        #[must_use]
         #[inline]
         pub fn last(&self) -> Option<(Kind, u64)> {
             self.last
@@ -1072,6 +1118,7 @@ mod holdings {
         /// ```text
         /// ensures: result ≡ self.now.held
         /// ```
+        #[must_use]
         #[inline]
         pub fn held(&self) -> Amounts {
             self.held
@@ -1086,7 +1133,7 @@ mod holdings {
         /// ensures: Takes others cap self.old kind difference result self.new
         /// ```
         ///
-        /// Definitions: [`Takes`](crate::specs::meter::Capped#Takes).
+        /// Definitions: [`Takes`](crate::specs::meter::CappedSpecs#Takes).
         #[inline]
         pub fn take(&mut self, kind: Kind, difference: u64, others: u64, cap: u64) -> bool {
             let together = others as u128 + self.held.of(kind) as u128;
@@ -1109,7 +1156,7 @@ mod holdings {
         /// ensures: self.new ≡ without_last kind self.old
         /// ```
         ///
-        /// Definitions: [`without_last`](crate::specs::meter::Capped#without_last).
+        /// Definitions: [`without_last`](crate::specs::meter::CappedSpecs#without_last).
         #[inline]
         pub fn give_back(&mut self, kind: Kind) {
             match (kind, self.last) {
@@ -1169,10 +1216,14 @@ mod limiter {
     /// rules: Rules Self
     /// ```
     ///
-    /// Definitions: [`Rules`](crate::specs::meter::Limiter#Rules).
+    /// Definitions: [`Rules`](crate::specs::meter::LimiterSpecs#Rules).
     pub trait ResourceLimiter {
         /// May a memory grow from `current` to `desired` bytes? `maximum`, in bytes, is the most that
         /// its type allows. `Ok(true)` permits; `Ok(false)` and `Err` deny.
+        ///
+        /// # Errors
+        ///
+        /// An implementation's own. The call then returns `ResourceLimiterDeniedAllocation`.
         ///
         /// # Contract
         ///
@@ -1192,6 +1243,10 @@ mod limiter {
         /// May a table grow from `current` to `desired` elements? `maximum` is the most that its type
         /// allows. `Ok(true)` permits; `Ok(false)` and `Err` deny.
         ///
+        /// # Errors
+        ///
+        /// An implementation's own. The call then returns `ResourceLimiterDeniedAllocation`.
+        ///
         /// # Contract
         ///
         /// ```text
@@ -1208,7 +1263,11 @@ mod limiter {
         ) -> Result<bool, LimiterError>;
 
         /// A memory was permitted to grow and did not, because of this error. After `Ok(())` the call
-        /// returns this error; after `Err` it returns `ResourceLimiterDeniedAllocation`.
+        /// returns this error.
+        ///
+        /// # Errors
+        ///
+        /// An implementation's own. The call then returns `ResourceLimiterDeniedAllocation`.
         ///
         /// # Contract
         ///
@@ -1216,11 +1275,15 @@ mod limiter {
         /// ensures: rules.noticed self.old (MemoryFailure error.now) result self.new
         /// ```
         ///
-        /// Definitions: [`MemoryFailure`](crate::specs::meter::Limiter#MemoryFailure).
+        /// Definitions: [`MemoryFailure`](crate::specs::meter::LimiterSpecs#MemoryFailure).
         fn memory_grow_failed(&mut self, error: &MemoryError) -> Result<(), LimiterError>;
 
         /// A table was permitted to grow and did not, because of this error. After `Ok(())` the call
-        /// returns this error; after `Err` it returns `ResourceLimiterDeniedAllocation`.
+        /// returns this error.
+        ///
+        /// # Errors
+        ///
+        /// An implementation's own. The call then returns `ResourceLimiterDeniedAllocation`.
         ///
         /// # Contract
         ///
@@ -1228,7 +1291,7 @@ mod limiter {
         /// ensures: rules.noticed self.old (TableFailure error.now) result self.new
         /// ```
         ///
-        /// Definitions: [`TableFailure`](crate::specs::meter::Limiter#TableFailure).
+        /// Definitions: [`TableFailure`](crate::specs::meter::LimiterSpecs#TableFailure).
         fn table_grow_failed(&mut self, error: &TableError) -> Result<(), LimiterError>;
 
         /// The greatest number of instances of a store. Nothing in this library calls it.
@@ -1250,7 +1313,9 @@ mod limiter {
     /// rules = optional_rules L.rules
     /// ```
     ///
-    /// Definitions: [`optional_rules`](crate::specs::meter::Limiter#optional_rules).
+    /// Definitions: [`optional_rules`](crate::specs::meter::LimiterSpecs#optional_rules).
+    ///
+    /// `L` is the type of the limiter, a [`ResourceLimiter`](crate::machine::ResourceLimiter#contract).
     impl<L: ResourceLimiter> ResourceLimiter for Option<L> {
         #[inline]
         fn memory_growing(
@@ -1337,12 +1402,16 @@ mod limiter {
     /// kind_rules: Rules Self
     /// ```
     ///
-    /// Definitions: [`Rules`](crate::specs::meter::Limiter#Rules).
+    /// Definitions: [`Rules`](crate::specs::meter::LimiterSpecs#Rules).
     #[doc = examples!(meter LimiterByKind)]
     pub trait LimiterByKind {
         /// May something of this kind grow from `current` to `desired`, in bytes or elements? The
         /// answers have the meaning that they have for a [`ResourceLimiter`]: `Ok(true)` permits, and
         /// nothing else does.
+        ///
+        /// # Errors
+        ///
+        /// An implementation's own. The call then returns `ResourceLimiterDeniedAllocation`.
         ///
         /// # Contract
         ///
@@ -1359,8 +1428,12 @@ mod limiter {
             desired: usize,
         ) -> Result<bool, LimiterError>;
 
-        /// Something of this kind was permitted to grow and did not. After `Err` the call returns
-        /// `ResourceLimiterDeniedAllocation` instead of its error.
+        /// Something of this kind was permitted to grow and did not. After `Ok(())` the call returns
+        /// its error.
+        ///
+        /// # Errors
+        ///
+        /// An implementation's own. The call then returns `ResourceLimiterDeniedAllocation`.
         ///
         /// # Contract
         ///
@@ -1369,7 +1442,7 @@ mod limiter {
         ///     → kind_rules.noticed self.old failure result self.new
         /// ```
         ///
-        /// Definitions: [`Failure`](crate::specs::meter::Limiter#Failure), [`kind_of`](crate::specs::meter::Limiter#kind_of).
+        /// Definitions: [`Failure`](crate::specs::meter::LimiterSpecs#Failure), [`kind_of`](crate::specs::meter::LimiterSpecs#kind_of).
         fn grow_failed(&mut self, kind: Kind) -> Result<(), LimiterError>;
     }
 
@@ -1378,6 +1451,8 @@ mod limiter {
     /// ```text
     /// rules = L.kind_rules
     /// ```
+    ///
+    /// `L` is the type of the limiter, a [`LimiterByKind`](crate::machine::LimiterByKind#contract).
     impl<L: LimiterByKind> ResourceLimiter for L {
         #[inline]
         fn memory_growing(
@@ -1450,7 +1525,7 @@ mod limiter {
     /// kind_rules = unlimited_rules
     /// ```
     ///
-    /// Definitions: [`unlimited_rules`](crate::specs::meter::Limiter#unlimited_rules).
+    /// Definitions: [`unlimited_rules`](crate::specs::meter::LimiterSpecs#unlimited_rules).
     impl LimiterByKind for NoLimits {
         #[inline]
         fn growing(&mut self, _: Kind, _: usize, _: usize) -> Result<bool, LimiterError> {
@@ -1489,7 +1564,7 @@ mod limiter_ref {
     /// last: Self → Self.Lent → Self
     /// ```
     ///
-    /// Definitions: [`loan`](crate::specs::meter::Limiter#loan).
+    /// Definitions: [`loan`](crate::specs::meter::LimiterSpecs#loan).
     pub trait Lender: sealed::Sealed {
         /// The type of what is lent.
         type Lent;
@@ -1550,7 +1625,7 @@ mod limiter_ref {
     /// is_default = λ r. loan r ≡ None
     /// ```
     ///
-    /// Definitions: [`loan`](crate::specs::meter::Limiter#loan).
+    /// Definitions: [`loan`](crate::specs::meter::LimiterSpecs#loan).
     impl<'a, L> Default for LimiterRef<&'a mut L> {
         #[inline]
         fn default() -> Self {
@@ -1564,7 +1639,7 @@ mod limiter_ref {
     /// from_gives = λ l r. loan r ≡ Some l
     /// ```
     ///
-    /// Definitions: [`loan`](crate::specs::meter::Limiter#loan).
+    /// Definitions: [`loan`](crate::specs::meter::LimiterSpecs#loan).
     impl<'a, L> From<&'a mut L> for LimiterRef<&'a mut L> {
         #[inline]
         fn from(limiter: &'a mut L) -> Self {
@@ -1584,7 +1659,8 @@ mod limiter_ref {
         /// ensures: result ≡ loan self
         /// ```
         ///
-        /// Definitions: [`loan`](crate::specs::meter::Limiter#loan).
+        /// Definitions: [`loan`](crate::specs::meter::LimiterSpecs#loan).
+        #[must_use]
         #[inline]
         pub fn into_resource_limiter(self) -> Option<R> {
             self.limiter
@@ -1605,7 +1681,8 @@ mod limiter_ref {
         /// ensures value: loan self ≡ Some result
         /// ```
         ///
-        /// Definitions: [`loan`](crate::specs::meter::Limiter#loan).
+        /// Definitions: [`loan`](crate::specs::meter::LimiterSpecs#loan).
+        #[must_use]
         #[inline]
         pub fn into_limiter(self) -> R {
             assert!(self.limiter.is_some(), "the reference lends no limiter");
@@ -1622,7 +1699,9 @@ mod limiter_ref {
         /// ensures value: option_copied_mut result ≡ shown_of R.Lender.shown (loan self.old)
         /// ```
         ///
-        /// Definitions: [`LendsLimiter`](crate::specs::meter::Limiter#LendsLimiter), [`shown_of`](crate::specs::meter::Limiter#shown_of), [`loan`](crate::specs::meter::Limiter#loan).
+        /// Definitions: [`LendsLimiter`](crate::specs::meter::LimiterSpecs#LendsLimiter), [`shown_of`](crate::specs::meter::LimiterSpecs#shown_of), [`loan`](crate::specs::meter::LimiterSpecs#loan).
+        ///
+        /// `R` is the type of what lends the limiter, a [`Lender`](crate::machine::Lender#contract).
         #[inline]
         pub fn as_resource_limiter(&mut self) -> Option<&mut R::Lent>
         where
@@ -1638,6 +1717,10 @@ mod limiter_ref {
     impl<'a, L: ResourceLimiter> LimiterRef<&'a mut L> {
         /// Asks the limiter whether a memory may grow from `current` to `desired` bytes.
         ///
+        /// # Errors
+        ///
+        /// The limiter's. Without a limiter there is none.
+        ///
         /// # Panics
         ///
         /// Panics if the desired size is below the current one.
@@ -1652,7 +1735,9 @@ mod limiter_ref {
         ///     result (lent_limiter self.new)
         /// ```
         ///
-        /// Definitions: [`loan`](crate::specs::meter::Limiter#loan), [`KeepsLoan`](crate::specs::meter::Limiter#KeepsLoan), [`optional_rules`](crate::specs::meter::Limiter#optional_rules), [`lent_limiter`](crate::specs::meter::Limiter#lent_limiter).
+        /// Definitions: [`loan`](crate::specs::meter::LimiterSpecs#loan), [`KeepsLoan`](crate::specs::meter::LimiterSpecs#KeepsLoan), [`optional_rules`](crate::specs::meter::LimiterSpecs#optional_rules), [`lent_limiter`](crate::specs::meter::LimiterSpecs#lent_limiter).
+        ///
+        /// `L` is the type of the limiter, a [`ResourceLimiter`](crate::machine::ResourceLimiter#contract).
         #[inline]
         pub fn memory_growing(
             &mut self,
@@ -1672,6 +1757,10 @@ mod limiter_ref {
 
         /// Asks the limiter whether a table may grow from `current` to `desired` elements.
         ///
+        /// # Errors
+        ///
+        /// The limiter's. Without a limiter there is none.
+        ///
         /// # Panics
         ///
         /// Panics if the desired size is below the current one.
@@ -1686,7 +1775,9 @@ mod limiter_ref {
         ///     result (lent_limiter self.new)
         /// ```
         ///
-        /// Definitions: [`loan`](crate::specs::meter::Limiter#loan), [`KeepsLoan`](crate::specs::meter::Limiter#KeepsLoan), [`optional_rules`](crate::specs::meter::Limiter#optional_rules), [`lent_limiter`](crate::specs::meter::Limiter#lent_limiter).
+        /// Definitions: [`loan`](crate::specs::meter::LimiterSpecs#loan), [`KeepsLoan`](crate::specs::meter::LimiterSpecs#KeepsLoan), [`optional_rules`](crate::specs::meter::LimiterSpecs#optional_rules), [`lent_limiter`](crate::specs::meter::LimiterSpecs#lent_limiter).
+        ///
+        /// `L` is the type of the limiter, a [`ResourceLimiter`](crate::machine::ResourceLimiter#contract).
         #[inline]
         pub fn table_growing(
             &mut self,
@@ -1706,6 +1797,10 @@ mod limiter_ref {
 
         /// Notifies the limiter that a memory which it permitted to grow did not.
         ///
+        /// # Errors
+        ///
+        /// The limiter's. Without a limiter there is none.
+        ///
         /// # Contract
         ///
         /// ```text
@@ -1714,7 +1809,9 @@ mod limiter_ref {
         ///     (MemoryFailure error.now) result (lent_limiter self.new)
         /// ```
         ///
-        /// Definitions: [`loan`](crate::specs::meter::Limiter#loan), [`KeepsLoan`](crate::specs::meter::Limiter#KeepsLoan), [`optional_rules`](crate::specs::meter::Limiter#optional_rules), [`lent_limiter`](crate::specs::meter::Limiter#lent_limiter), [`MemoryFailure`](crate::specs::meter::Limiter#MemoryFailure).
+        /// Definitions: [`loan`](crate::specs::meter::LimiterSpecs#loan), [`KeepsLoan`](crate::specs::meter::LimiterSpecs#KeepsLoan), [`optional_rules`](crate::specs::meter::LimiterSpecs#optional_rules), [`lent_limiter`](crate::specs::meter::LimiterSpecs#lent_limiter), [`MemoryFailure`](crate::specs::meter::LimiterSpecs#MemoryFailure).
+        ///
+        /// `L` is the type of the limiter, a [`ResourceLimiter`](crate::machine::ResourceLimiter#contract).
         #[inline]
         pub fn memory_grow_failed(&mut self, error: &MemoryError) -> Result<(), LimiterError> {
             match &mut self.limiter {
@@ -1725,6 +1822,10 @@ mod limiter_ref {
 
         /// Notifies the limiter that a table which it permitted to grow did not.
         ///
+        /// # Errors
+        ///
+        /// The limiter's. Without a limiter there is none.
+        ///
         /// # Contract
         ///
         /// ```text
@@ -1733,7 +1834,9 @@ mod limiter_ref {
         ///     (TableFailure error.now) result (lent_limiter self.new)
         /// ```
         ///
-        /// Definitions: [`loan`](crate::specs::meter::Limiter#loan), [`KeepsLoan`](crate::specs::meter::Limiter#KeepsLoan), [`optional_rules`](crate::specs::meter::Limiter#optional_rules), [`lent_limiter`](crate::specs::meter::Limiter#lent_limiter), [`TableFailure`](crate::specs::meter::Limiter#TableFailure).
+        /// Definitions: [`loan`](crate::specs::meter::LimiterSpecs#loan), [`KeepsLoan`](crate::specs::meter::LimiterSpecs#KeepsLoan), [`optional_rules`](crate::specs::meter::LimiterSpecs#optional_rules), [`lent_limiter`](crate::specs::meter::LimiterSpecs#lent_limiter), [`TableFailure`](crate::specs::meter::LimiterSpecs#TableFailure).
+        ///
+        /// `L` is the type of the limiter, a [`ResourceLimiter`](crate::machine::ResourceLimiter#contract).
         #[inline]
         pub fn table_grow_failed(&mut self, error: &TableError) -> Result<(), LimiterError> {
             match &mut self.limiter {
@@ -1773,7 +1876,8 @@ mod quota {
         /// ensures within: IsWithinCaps result
         /// ```
         ///
-        /// Definitions: [`cap_of`](crate::specs::meter::Capped#cap_of), [`holdings`](crate::specs::meter::Capped#holdings), [`nothing`](crate::specs::meter::Capped#nothing), [`IsWithinCaps`](crate::specs::meter::Capped#IsWithinCaps).
+        /// Definitions: [`cap_of`](crate::specs::meter::CappedSpecs#cap_of), [`holdings`](crate::specs::meter::CappedSpecs#holdings), [`nothing`](crate::specs::meter::CappedSpecs#nothing), [`IsWithinCaps`](crate::specs::meter::CappedSpecs#IsWithinCaps).
+        #[must_use]
         #[inline]
         pub fn new(bytes: u64, elements: u64) -> Self {
             Quota {
@@ -1791,7 +1895,8 @@ mod quota {
         /// ensures: result ≡ record { caps = caps; holdings = holdings }
         /// ```
         ///
-        /// Definitions: [`holdings`](crate::specs::meter::Capped#holdings).
+        /// Definitions: [`holdings`](crate::specs::meter::CappedSpecs#holdings).
+        #[must_use]
         #[inline]
         pub fn resume(caps: Amounts, holdings: Holdings) -> Self {
             Quota { caps, holdings }
@@ -1804,6 +1909,7 @@ mod quota {
         /// ```text
         /// ensures: result ≡ self.now.caps
         /// ```
+        #[must_use]
         #[inline]
         pub fn caps(&self) -> Amounts {
             self.caps
@@ -1817,7 +1923,8 @@ mod quota {
         /// ensures: result ≡ holdings self.now
         /// ```
         ///
-        /// Definitions: [`holdings`](crate::specs::meter::Capped#holdings).
+        /// Definitions: [`holdings`](crate::specs::meter::CappedSpecs#holdings).
+        #[must_use]
         #[inline]
         pub fn holdings(&self) -> Holdings {
             self.holdings
@@ -1831,7 +1938,8 @@ mod quota {
         /// ensures: result ≡ (holdings self.now).held.bytes
         /// ```
         ///
-        /// Definitions: [`holdings`](crate::specs::meter::Capped#holdings).
+        /// Definitions: [`holdings`](crate::specs::meter::CappedSpecs#holdings).
+        #[must_use]
         #[inline]
         pub fn held_bytes(&self) -> u64 {
             self.holdings.held().bytes
@@ -1845,7 +1953,8 @@ mod quota {
         /// ensures: result ≡ (holdings self.now).held.elements
         /// ```
         ///
-        /// Definitions: [`holdings`](crate::specs::meter::Capped#holdings).
+        /// Definitions: [`holdings`](crate::specs::meter::CappedSpecs#holdings).
+        #[must_use]
         #[inline]
         pub fn held_elements(&self) -> u64 {
             self.holdings.held().elements
@@ -1858,7 +1967,7 @@ mod quota {
     /// capped = capped_quota
     /// ```
     ///
-    /// Definitions: [`capped_quota`](crate::specs::meter::Capped#capped_quota).
+    /// Definitions: [`capped_quota`](crate::specs::meter::CappedSpecs#capped_quota).
     impl CappedLimiter for Quota {
         #[inline]
         fn holdings(&self) -> Holdings {

@@ -17,7 +17,9 @@ mod decimal {
     ///     → (error : T.Error) × T.try_from_gives (decimal_value word.now) (Err error))
     /// ```
     ///
-    /// Definitions: [`IsDecimal`](crate::specs::operands::LineWords#IsDecimal), [`decimal_value`](crate::specs::operands::LineWords#decimal_value).
+    /// Definitions: [`IsDecimal`](crate::specs::operands::LineWordsSpecs#IsDecimal), [`decimal_value`](crate::specs::operands::LineWordsSpecs#decimal_value).
+    ///
+    /// `T` is a type with the trait `TryFrom`.
     #[inline]
     pub fn number<T: TryFrom<u64>>(word: &str) -> Result<T, LineError> {
         T::try_from(decimal(word)?).map_err(|_| LineError::BadCommand)
@@ -33,7 +35,7 @@ mod decimal {
     /// ensures refused: IfErr result (λ error. error ≡ LineError.BadCommand)
     /// ```
     ///
-    /// Definitions: [`IsDecimal`](crate::specs::operands::LineWords#IsDecimal), [`decimal_value`](crate::specs::operands::LineWords#decimal_value).
+    /// Definitions: [`IsDecimal`](crate::specs::operands::LineWordsSpecs#IsDecimal), [`decimal_value`](crate::specs::operands::LineWordsSpecs#decimal_value).
     #[inline]
     fn decimal(word: &str) -> Result<u64, LineError> {
         if word.is_empty() {
@@ -56,7 +58,7 @@ mod decimal {
     ///     (number * 10 + digit_value byte)
     /// ```
     ///
-    /// Definitions: [`IsInRange`](crate::specs::raw::Number#IsInRange).
+    /// Definitions: [`IsInRange`](crate::specs::raw::NumberSpecs#IsInRange).
     #[inline(always)]
     fn appended(number: u64, byte: u8) -> Option<u64> {
         let digit = byte.wrapping_sub(b'0');
@@ -110,7 +112,7 @@ pub mod lane {
     /// ensures: Accepts result (NamesLane ops.extract_name ops.extract_op name.now lane.now)
     /// ```
     ///
-    /// Definitions: [`Accepts`](crate::specs::operands::LineWords#Accepts), [`NamesLane`](crate::specs::operands::Names#NamesLane), [`extract_name`](crate::specs::ops::LaneOps#extract_name), [`extract_op`](crate::specs::ops::LaneOps#extract_op).
+    /// Definitions: [`Accepts`](crate::specs::operands::LineWordsSpecs#Accepts), [`NamesLane`](crate::specs::operands::NamesSpecs#NamesLane), [`extract_name`](crate::specs::ops::LaneOpsSpecs#extract_name), [`extract_op`](crate::specs::ops::LaneOpsSpecs#extract_op).
     #[inline]
     pub fn extract_op(name: &str, lane: &str) -> Result<ExtractOp, LineError> {
         let kind = ExtractKind::from_word(name)?;
@@ -126,7 +128,7 @@ pub mod lane {
     /// ensures: Accepts result (NamesLane ops.replace_name ops.replace_op name.now lane.now)
     /// ```
     ///
-    /// Definitions: [`Accepts`](crate::specs::operands::LineWords#Accepts), [`NamesLane`](crate::specs::operands::Names#NamesLane), [`replace_name`](crate::specs::ops::LaneOps#replace_name), [`replace_op`](crate::specs::ops::LaneOps#replace_op).
+    /// Definitions: [`Accepts`](crate::specs::operands::LineWordsSpecs#Accepts), [`NamesLane`](crate::specs::operands::NamesSpecs#NamesLane), [`replace_name`](crate::specs::ops::LaneOpsSpecs#replace_name), [`replace_op`](crate::specs::ops::LaneOpsSpecs#replace_op).
     #[inline]
     pub fn replace_op(name: &str, lane: &str) -> Result<ReplaceOp, LineError> {
         let kind = ReplaceKind::from_word(name)?;
@@ -142,7 +144,7 @@ pub mod lane {
     /// ensures: Accepts result (NamesLane ops.load_lane_name ops.load_lane_op name.now lane.now)
     /// ```
     ///
-    /// Definitions: [`Accepts`](crate::specs::operands::LineWords#Accepts), [`NamesLane`](crate::specs::operands::Names#NamesLane), [`load_lane_name`](crate::specs::ops::LaneOps#load_lane_name), [`load_lane_op`](crate::specs::ops::LaneOps#load_lane_op).
+    /// Definitions: [`Accepts`](crate::specs::operands::LineWordsSpecs#Accepts), [`NamesLane`](crate::specs::operands::NamesSpecs#NamesLane), [`load_lane_name`](crate::specs::ops::LaneOpsSpecs#load_lane_name), [`load_lane_op`](crate::specs::ops::LaneOpsSpecs#load_lane_op).
     #[inline]
     pub fn load_lane_op(name: &str, lane: &str) -> Result<LoadLaneOp, LineError> {
         let kind = LoadLaneKind::from_word(name)?;
@@ -158,7 +160,7 @@ pub mod lane {
     /// ensures: Accepts result (NamesLane ops.store_lane_name ops.store_lane_op name.now lane.now)
     /// ```
     ///
-    /// Definitions: [`Accepts`](crate::specs::operands::LineWords#Accepts), [`NamesLane`](crate::specs::operands::Names#NamesLane), [`store_lane_name`](crate::specs::ops::LaneOps#store_lane_name), [`store_lane_op`](crate::specs::ops::LaneOps#store_lane_op).
+    /// Definitions: [`Accepts`](crate::specs::operands::LineWordsSpecs#Accepts), [`NamesLane`](crate::specs::operands::NamesSpecs#NamesLane), [`store_lane_name`](crate::specs::ops::LaneOpsSpecs#store_lane_name), [`store_lane_op`](crate::specs::ops::LaneOpsSpecs#store_lane_op).
     #[inline]
     pub fn store_lane_op(name: &str, lane: &str) -> Result<StoreLaneOp, LineError> {
         let kind = StoreLaneKind::from_word(name)?;
@@ -200,7 +202,7 @@ pub mod operand {
         /// ensures: Accepts result (writes word.now)
         /// ```
         ///
-        /// Definitions: [`Accepts`](crate::specs::operands::LineWords#Accepts).
+        /// Definitions: [`Accepts`](crate::specs::operands::LineWordsSpecs#Accepts).
         fn from_word(word: &str) -> Result<Self, LineError>;
     }
 
@@ -210,7 +212,7 @@ pub mod operand {
     /// writes = WritesNumber 64
     /// ```
     ///
-    /// Definitions: [`WritesNumber`](crate::specs::operands::LineWords#WritesNumber).
+    /// Definitions: [`WritesNumber`](crate::specs::operands::LineWordsSpecs#WritesNumber).
     impl Operand for u64 {
         #[inline]
         fn from_word(word: &str) -> Result<Self, LineError> {
@@ -224,7 +226,7 @@ pub mod operand {
     /// writes = WritesNumber 64
     /// ```
     ///
-    /// Definitions: [`WritesNumber`](crate::specs::operands::LineWords#WritesNumber).
+    /// Definitions: [`WritesNumber`](crate::specs::operands::LineWordsSpecs#WritesNumber).
     impl Operand for usize {
         #[inline]
         fn from_word(word: &str) -> Result<Self, LineError> {
@@ -238,7 +240,7 @@ pub mod operand {
     /// writes = WritesNumber 32
     /// ```
     ///
-    /// Definitions: [`WritesNumber`](crate::specs::operands::LineWords#WritesNumber).
+    /// Definitions: [`WritesNumber`](crate::specs::operands::LineWordsSpecs#WritesNumber).
     impl Operand for u32 {
         #[inline]
         fn from_word(word: &str) -> Result<Self, LineError> {
@@ -252,7 +254,7 @@ pub mod operand {
     /// writes = WritesNumber 8
     /// ```
     ///
-    /// Definitions: [`WritesNumber`](crate::specs::operands::LineWords#WritesNumber).
+    /// Definitions: [`WritesNumber`](crate::specs::operands::LineWordsSpecs#WritesNumber).
     impl Operand for u8 {
         #[inline]
         fn from_word(word: &str) -> Result<Self, LineError> {
@@ -266,7 +268,7 @@ pub mod operand {
     /// writes = WritesNumber 32
     /// ```
     ///
-    /// Definitions: [`WritesNumber`](crate::specs::operands::LineWords#WritesNumber).
+    /// Definitions: [`WritesNumber`](crate::specs::operands::LineWordsSpecs#WritesNumber).
     impl Operand for RawRef {
         #[inline]
         fn from_word(word: &str) -> Result<Self, LineError> {
@@ -280,7 +282,7 @@ pub mod operand {
     /// writes = λ word index. word ≡ width_word index
     /// ```
     ///
-    /// Definitions: [`width_word`](crate::specs::operands::Names#width_word).
+    /// Definitions: [`width_word`](crate::specs::operands::NamesSpecs#width_word).
     impl Operand for IndexType {
         #[inline]
         fn from_word(word: &str) -> Result<Self, LineError> {
@@ -298,7 +300,7 @@ pub mod operand {
     /// writes = WritesLimit
     /// ```
     ///
-    /// Definitions: [`WritesLimit`](crate::specs::operands::LineWords#WritesLimit).
+    /// Definitions: [`WritesLimit`](crate::specs::operands::LineWordsSpecs#WritesLimit).
     impl Operand for Option<u64> {
         #[inline]
         fn from_word(word: &str) -> Result<Self, LineError> {
@@ -315,7 +317,7 @@ pub mod operand {
     /// writes = WritesNumber 5
     /// ```
     ///
-    /// Definitions: [`WritesNumber`](crate::specs::operands::LineWords#WritesNumber).
+    /// Definitions: [`WritesNumber`](crate::specs::operands::LineWordsSpecs#WritesNumber).
     impl Operand for ImmLaneIdx32 {
         #[inline]
         fn from_word(word: &str) -> Result<Self, LineError> {
@@ -329,7 +331,7 @@ pub mod operand {
     /// writes = λ word ty. word ≡ reference_word ty
     /// ```
     ///
-    /// Definitions: [`reference_word`](crate::specs::operands::Names#reference_word).
+    /// Definitions: [`reference_word`](crate::specs::operands::NamesSpecs#reference_word).
     impl Operand for RefType {
         #[inline]
         fn from_word(word: &str) -> Result<Self, LineError> {
@@ -347,7 +349,7 @@ pub mod operand {
     /// writes = λ word ty. word ≡ value_word ty
     /// ```
     ///
-    /// Definitions: [`value_word`](crate::specs::operands::Names#value_word).
+    /// Definitions: [`value_word`](crate::specs::operands::NamesSpecs#value_word).
     impl Operand for ValType {
         #[inline]
         fn from_word(word: &str) -> Result<Self, LineError> {
@@ -370,7 +372,7 @@ pub mod operand {
     /// writes = λ word mutability. word ≡ mutability_word mutability
     /// ```
     ///
-    /// Definitions: [`mutability_word`](crate::specs::operands::Names#mutability_word).
+    /// Definitions: [`mutability_word`](crate::specs::operands::NamesSpecs#mutability_word).
     impl Operand for Mutability {
         #[inline]
         fn from_word(word: &str) -> Result<Self, LineError> {
@@ -388,7 +390,7 @@ pub mod operand {
     /// writes = WritesAnswer
     /// ```
     ///
-    /// Definitions: [`WritesAnswer`](crate::specs::operands::Names#WritesAnswer).
+    /// Definitions: [`WritesAnswer`](crate::specs::operands::NamesSpecs#WritesAnswer).
     impl Operand for LimiterAnswer {
         #[inline]
         fn from_word(word: &str) -> Result<Self, LineError> {
@@ -408,7 +410,7 @@ pub mod operand {
     /// writes = IsName load_name
     /// ```
     ///
-    /// Definitions: [`IsName`](crate::specs::operands::Names#IsName), [`load_name`](crate::specs::ops::ScalarOps#load_name).
+    /// Definitions: [`IsName`](crate::specs::operands::NamesSpecs#IsName), [`load_name`](crate::specs::ops::ScalarOpsSpecs#load_name).
     impl Operand for LoadOp {
         #[inline]
         fn from_word(word: &str) -> Result<Self, LineError> {
@@ -422,7 +424,7 @@ pub mod operand {
     /// writes = IsName store_name
     /// ```
     ///
-    /// Definitions: [`IsName`](crate::specs::operands::Names#IsName), [`store_name`](crate::specs::ops::ScalarOps#store_name).
+    /// Definitions: [`IsName`](crate::specs::operands::NamesSpecs#IsName), [`store_name`](crate::specs::ops::ScalarOpsSpecs#store_name).
     impl Operand for StoreOp {
         #[inline]
         fn from_word(word: &str) -> Result<Self, LineError> {
@@ -436,7 +438,7 @@ pub mod operand {
     /// writes = IsName make_name
     /// ```
     ///
-    /// Definitions: [`IsName`](crate::specs::operands::Names#IsName), [`make_name`](crate::specs::ops::VectorOps#make_name).
+    /// Definitions: [`IsName`](crate::specs::operands::NamesSpecs#IsName), [`make_name`](crate::specs::ops::VectorOpsSpecs#make_name).
     impl Operand for MakeOp {
         #[inline]
         fn from_word(word: &str) -> Result<Self, LineError> {
@@ -450,7 +452,7 @@ pub mod operand {
     /// writes = IsName unary_name
     /// ```
     ///
-    /// Definitions: [`IsName`](crate::specs::operands::Names#IsName), [`unary_name`](crate::specs::ops::VectorOps#unary_name).
+    /// Definitions: [`IsName`](crate::specs::operands::NamesSpecs#IsName), [`unary_name`](crate::specs::ops::VectorOpsSpecs#unary_name).
     impl Operand for UnaryOp {
         #[inline]
         fn from_word(word: &str) -> Result<Self, LineError> {
@@ -464,7 +466,7 @@ pub mod operand {
     /// writes = IsName binary_name
     /// ```
     ///
-    /// Definitions: [`IsName`](crate::specs::operands::Names#IsName), [`binary_name`](crate::specs::ops::VectorOps#binary_name).
+    /// Definitions: [`IsName`](crate::specs::operands::NamesSpecs#IsName), [`binary_name`](crate::specs::ops::VectorOpsSpecs#binary_name).
     impl Operand for BinaryOp {
         #[inline]
         fn from_word(word: &str) -> Result<Self, LineError> {
@@ -478,7 +480,7 @@ pub mod operand {
     /// writes = IsName ternary_name
     /// ```
     ///
-    /// Definitions: [`IsName`](crate::specs::operands::Names#IsName), [`ternary_name`](crate::specs::ops::VectorOps#ternary_name).
+    /// Definitions: [`IsName`](crate::specs::operands::NamesSpecs#IsName), [`ternary_name`](crate::specs::ops::VectorOpsSpecs#ternary_name).
     impl Operand for TernaryOp {
         #[inline]
         fn from_word(word: &str) -> Result<Self, LineError> {
@@ -492,7 +494,7 @@ pub mod operand {
     /// writes = IsName shift_name
     /// ```
     ///
-    /// Definitions: [`IsName`](crate::specs::operands::Names#IsName), [`shift_name`](crate::specs::ops::VectorOps#shift_name).
+    /// Definitions: [`IsName`](crate::specs::operands::NamesSpecs#IsName), [`shift_name`](crate::specs::ops::VectorOpsSpecs#shift_name).
     impl Operand for ShiftOp {
         #[inline]
         fn from_word(word: &str) -> Result<Self, LineError> {
@@ -506,7 +508,7 @@ pub mod operand {
     /// writes = IsName test_name
     /// ```
     ///
-    /// Definitions: [`IsName`](crate::specs::operands::Names#IsName), [`test_name`](crate::specs::ops::VectorOps#test_name).
+    /// Definitions: [`IsName`](crate::specs::operands::NamesSpecs#IsName), [`test_name`](crate::specs::ops::VectorOpsSpecs#test_name).
     impl Operand for TestOp {
         #[inline]
         fn from_word(word: &str) -> Result<Self, LineError> {
@@ -520,7 +522,7 @@ pub mod operand {
     /// writes = IsName extract_name
     /// ```
     ///
-    /// Definitions: [`IsName`](crate::specs::operands::Names#IsName), [`extract_name`](crate::specs::ops::LaneOps#extract_name).
+    /// Definitions: [`IsName`](crate::specs::operands::NamesSpecs#IsName), [`extract_name`](crate::specs::ops::LaneOpsSpecs#extract_name).
     impl Operand for ExtractKind {
         #[inline]
         fn from_word(word: &str) -> Result<Self, LineError> {
@@ -534,7 +536,7 @@ pub mod operand {
     /// writes = IsName replace_name
     /// ```
     ///
-    /// Definitions: [`IsName`](crate::specs::operands::Names#IsName), [`replace_name`](crate::specs::ops::LaneOps#replace_name).
+    /// Definitions: [`IsName`](crate::specs::operands::NamesSpecs#IsName), [`replace_name`](crate::specs::ops::LaneOpsSpecs#replace_name).
     impl Operand for ReplaceKind {
         #[inline]
         fn from_word(word: &str) -> Result<Self, LineError> {
@@ -548,7 +550,7 @@ pub mod operand {
     /// writes = IsName vector_load_name
     /// ```
     ///
-    /// Definitions: [`IsName`](crate::specs::operands::Names#IsName), [`vector_load_name`](crate::specs::ops::VectorOps#vector_load_name).
+    /// Definitions: [`IsName`](crate::specs::operands::NamesSpecs#IsName), [`vector_load_name`](crate::specs::ops::VectorOpsSpecs#vector_load_name).
     impl Operand for VectorLoadOp {
         #[inline]
         fn from_word(word: &str) -> Result<Self, LineError> {
@@ -562,7 +564,7 @@ pub mod operand {
     /// writes = IsName load_lane_name
     /// ```
     ///
-    /// Definitions: [`IsName`](crate::specs::operands::Names#IsName), [`load_lane_name`](crate::specs::ops::LaneOps#load_lane_name).
+    /// Definitions: [`IsName`](crate::specs::operands::NamesSpecs#IsName), [`load_lane_name`](crate::specs::ops::LaneOpsSpecs#load_lane_name).
     impl Operand for LoadLaneKind {
         #[inline]
         fn from_word(word: &str) -> Result<Self, LineError> {
@@ -576,7 +578,7 @@ pub mod operand {
     /// writes = IsName store_lane_name
     /// ```
     ///
-    /// Definitions: [`IsName`](crate::specs::operands::Names#IsName), [`store_lane_name`](crate::specs::ops::LaneOps#store_lane_name).
+    /// Definitions: [`IsName`](crate::specs::operands::NamesSpecs#IsName), [`store_lane_name`](crate::specs::ops::LaneOpsSpecs#store_lane_name).
     impl Operand for StoreLaneKind {
         #[inline]
         fn from_word(word: &str) -> Result<Self, LineError> {
@@ -592,7 +594,7 @@ pub mod operand {
     /// ensures: Accepts result (IsNamed (map (λ entry. (entry.0.now, entry.1)) names.now) name.now)
     /// ```
     ///
-    /// Definitions: [`Accepts`](crate::specs::operands::LineWords#Accepts), [`IsNamed`](crate::specs::operands::Names#IsNamed).
+    /// Definitions: [`Accepts`](crate::specs::operands::LineWordsSpecs#Accepts), [`IsNamed`](crate::specs::operands::NamesSpecs#IsNamed).
     #[inline]
     fn op_named<T: Copy>(names: &[(&str, T)], name: &str) -> Result<T, LineError> {
         let entry = names.iter().find(|(known, _)| *known == name);
@@ -607,7 +609,9 @@ pub mod operand {
     /// ensures: Accepts result (λ a. (length words.now ≡ 1) × A.writes (word_at words.now 0) a)
     /// ```
     ///
-    /// Definitions: [`Accepts`](crate::specs::operands::LineWords#Accepts), [`word_at`](crate::specs::operands::LineWords#word_at).
+    /// Definitions: [`Accepts`](crate::specs::operands::LineWordsSpecs#Accepts), [`word_at`](crate::specs::operands::LineWordsSpecs#word_at).
+    ///
+    /// `A` is a type with the trait `Operand`.
     #[inline]
     pub fn one<A: Operand>(words: &[&str]) -> Result<A, LineError> {
         let &[a] = words else {
@@ -625,7 +629,9 @@ pub mod operand {
     ///     × B.writes (word_at words.now 1) all.1)
     /// ```
     ///
-    /// Definitions: [`Accepts`](crate::specs::operands::LineWords#Accepts), [`word_at`](crate::specs::operands::LineWords#word_at).
+    /// Definitions: [`Accepts`](crate::specs::operands::LineWordsSpecs#Accepts), [`word_at`](crate::specs::operands::LineWordsSpecs#word_at).
+    ///
+    /// `A` is a type with the trait `Operand`. `B` is a type with the trait `Operand`.
     #[inline]
     pub fn two<A: Operand, B: Operand>(words: &[&str]) -> Result<(A, B), LineError> {
         let &[a, b] = words else {
@@ -646,7 +652,9 @@ pub mod operand {
     ///     × B.writes (word_at words.now 1) all.1 × C.writes (word_at words.now 2) all.2)
     /// ```
     ///
-    /// Definitions: [`Accepts`](crate::specs::operands::LineWords#Accepts), [`word_at`](crate::specs::operands::LineWords#word_at).
+    /// Definitions: [`Accepts`](crate::specs::operands::LineWordsSpecs#Accepts), [`word_at`](crate::specs::operands::LineWordsSpecs#word_at).
+    ///
+    /// `A` is a type with the trait `Operand`. `B` is a type with the trait `Operand`. `C` is a type with the trait `Operand`.
     #[inline]
     pub fn three<A: Operand, B: Operand, C: Operand>(
         words: &[&str],
@@ -670,7 +678,9 @@ pub mod operand {
     ///     × D.writes (word_at words.now 3) all.3)
     /// ```
     ///
-    /// Definitions: [`Accepts`](crate::specs::operands::LineWords#Accepts), [`word_at`](crate::specs::operands::LineWords#word_at).
+    /// Definitions: [`Accepts`](crate::specs::operands::LineWordsSpecs#Accepts), [`word_at`](crate::specs::operands::LineWordsSpecs#word_at).
+    ///
+    /// `A` is a type with the trait `Operand`. `B` is a type with the trait `Operand`. `C` is a type with the trait `Operand`. `D` is a type with the trait `Operand`.
     #[inline]
     pub fn four<A: Operand, B: Operand, C: Operand, D: Operand>(
         words: &[&str],
@@ -699,7 +709,9 @@ pub mod operand {
     ///     × D.writes (word_at words.now 3) all.3 × E.writes (word_at words.now 4) all.4)
     /// ```
     ///
-    /// Definitions: [`Accepts`](crate::specs::operands::LineWords#Accepts), [`word_at`](crate::specs::operands::LineWords#word_at).
+    /// Definitions: [`Accepts`](crate::specs::operands::LineWordsSpecs#Accepts), [`word_at`](crate::specs::operands::LineWordsSpecs#word_at).
+    ///
+    /// `A` is a type with the trait `Operand`. `B` is a type with the trait `Operand`. `C` is a type with the trait `Operand`. `D` is a type with the trait `Operand`. `E` is a type with the trait `Operand`.
     #[inline]
     pub fn five<A: Operand, B: Operand, C: Operand, D: Operand, E: Operand>(
         words: &[&str],
@@ -727,7 +739,9 @@ pub mod operand {
     /// ensures: AcceptsWithMemory result (λ list. WritesEach T.writes words.now list.items)
     /// ```
     ///
-    /// Definitions: [`AcceptsWithMemory`](crate::specs::operands::LineWords#AcceptsWithMemory), [`WritesEach`](crate::specs::operands::LineWords#WritesEach).
+    /// Definitions: [`AcceptsWithMemory`](crate::specs::operands::LineWordsSpecs#AcceptsWithMemory), [`WritesEach`](crate::specs::operands::LineWordsSpecs#WritesEach).
+    ///
+    /// `T` is a type with the trait `Operand`.
     #[inline]
     pub fn list_of<T: Operand>(words: &[&str]) -> Result<Vec<T>, LineError> {
         let mut list = Vec::with_capacity(words.len())?;
@@ -751,7 +765,7 @@ mod words {
     /// ensures: OnOk result (map (λ word. word.now) words.new.items ≡ words_in line.now)
     /// ```
     ///
-    /// Definitions: [`words_in`](crate::specs::operands::LineWords#words_in).
+    /// Definitions: [`words_in`](crate::specs::operands::LineWordsSpecs#words_in).
     #[inline]
     pub fn read_words<'a>(line: &'a str, words: &mut Vec<&'a str>) -> Result<(), AllocError> {
         words.clear();

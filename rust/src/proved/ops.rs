@@ -79,7 +79,8 @@ mod scalar {
         /// ensures: result ≡ raw_of_vector (add128 (vector_in lhs) (vector_in rhs))
         /// ```
         ///
-        /// Definitions: [`raw_of_vector`](crate::specs::raw::RawVal#raw_of_vector), [`add128`](crate::specs::scalar::Numerics#add128), [`vector_in`](crate::specs::raw::RawVal#vector_in).
+        /// Definitions: [`raw_of_vector`](crate::specs::raw::RawValSpecs#raw_of_vector), [`add128`](crate::specs::scalar::NumericsSpecs#add128), [`vector_in`](crate::specs::raw::RawValSpecs#vector_in).
+        #[must_use]
         #[inline]
         pub fn i64_add128(lhs: RawVal, rhs: RawVal) -> RawVal {
             let (lhs_lo, lhs_hi) = words(lhs);
@@ -95,7 +96,8 @@ mod scalar {
         /// ensures: result ≡ raw_of_vector (sub128 (vector_in lhs) (vector_in rhs))
         /// ```
         ///
-        /// Definitions: [`raw_of_vector`](crate::specs::raw::RawVal#raw_of_vector), [`sub128`](crate::specs::scalar::Numerics#sub128), [`vector_in`](crate::specs::raw::RawVal#vector_in).
+        /// Definitions: [`raw_of_vector`](crate::specs::raw::RawValSpecs#raw_of_vector), [`sub128`](crate::specs::scalar::NumericsSpecs#sub128), [`vector_in`](crate::specs::raw::RawValSpecs#vector_in).
+        #[must_use]
         #[inline]
         pub fn i64_sub128(lhs: RawVal, rhs: RawVal) -> RawVal {
             let (lhs_lo, lhs_hi) = words(lhs);
@@ -111,7 +113,8 @@ mod scalar {
         /// ensures: result ≡ raw_of_vector (cast_unsigned w128 (lhs *ℤ rhs))
         /// ```
         ///
-        /// Definitions: [`raw_of_vector`](crate::specs::raw::RawVal#raw_of_vector).
+        /// Definitions: [`raw_of_vector`](crate::specs::raw::RawValSpecs#raw_of_vector).
+        #[must_use]
         #[inline]
         pub fn i64_mul_wide_s(lhs: i64, rhs: i64) -> RawVal {
             of_words(wasm::i64_mul_wide_s(lhs, rhs))
@@ -125,7 +128,8 @@ mod scalar {
         /// ensures: result ≡ raw_of_vector (cast_unsigned w64 lhs * cast_unsigned w64 rhs)
         /// ```
         ///
-        /// Definitions: [`raw_of_vector`](crate::specs::raw::RawVal#raw_of_vector).
+        /// Definitions: [`raw_of_vector`](crate::specs::raw::RawValSpecs#raw_of_vector).
+        #[must_use]
         #[inline]
         pub fn i64_mul_wide_u(lhs: i64, rhs: i64) -> RawVal {
             of_words(wasm::i64_mul_wide_u(lhs, rhs))
@@ -139,7 +143,7 @@ mod scalar {
         /// ensures: unsigned_of result.0 result.1 ≡ vector_in raw
         /// ```
         ///
-        /// Definitions: [`unsigned_of`](crate::specs::scalar::Numerics#unsigned_of), [`vector_in`](crate::specs::raw::RawVal#vector_in).
+        /// Definitions: [`unsigned_of`](crate::specs::scalar::NumericsSpecs#unsigned_of), [`vector_in`](crate::specs::raw::RawValSpecs#vector_in).
         #[inline]
         fn words(raw: RawVal) -> (i64, i64) {
             (raw.lo.cast_signed(), raw.hi.cast_signed())
@@ -153,7 +157,7 @@ mod scalar {
         /// ensures: result ≡ raw_of_vector (unsigned_of pair.0 pair.1)
         /// ```
         ///
-        /// Definitions: [`raw_of_vector`](crate::specs::raw::RawVal#raw_of_vector), [`unsigned_of`](crate::specs::scalar::Numerics#unsigned_of).
+        /// Definitions: [`raw_of_vector`](crate::specs::raw::RawValSpecs#raw_of_vector), [`unsigned_of`](crate::specs::scalar::NumericsSpecs#unsigned_of).
         #[inline]
         fn of_words(pair: (i64, i64)) -> RawVal {
             RawVal::from(V128::from_word_pair(
@@ -229,7 +233,8 @@ mod scalar {
         /// ensures: result ≡ unary_raw self raw
         /// ```
         ///
-        /// Definitions: [`unary_raw`](crate::specs::ops::ScalarOps#unary_raw).
+        /// Definitions: [`unary_raw`](crate::specs::ops::ScalarOpsSpecs#unary_raw).
+        #[must_use]
         #[inline]
         pub fn apply(self, raw: RawVal) -> RawVal {
             scalar_unaries!(calls! self(raw.read_as()))
@@ -390,8 +395,10 @@ mod scalar {
         /// The result for two operands in raw values. A Boolean is 0 or 1; the operands of 128 bits,
         /// and results of them, are the two words of a raw value.
         ///
-        /// Divisions and remainders alone can trap: by zero with `IntegerDivisionByZero`, and a signed
-        /// division of the least number by -1 with `IntegerOverflow`.
+        /// # Errors
+        ///
+        /// Divisions and remainders alone can trap: by zero with [`IntegerDivisionByZero`](crate::TrapCode::IntegerDivisionByZero), and a signed
+        /// division of the least number by -1 with [`IntegerOverflow`](crate::TrapCode::IntegerOverflow).
         ///
         /// # Contract
         ///
@@ -399,7 +406,7 @@ mod scalar {
         /// ensures: result ≡ binary_raw self lhs rhs
         /// ```
         ///
-        /// Definitions: [`binary_raw`](crate::specs::ops::ScalarOps#binary_raw).
+        /// Definitions: [`binary_raw`](crate::specs::ops::ScalarOpsSpecs#binary_raw).
         #[inline]
         pub fn apply(self, lhs: RawVal, rhs: RawVal) -> Result<RawVal, TrapCode> {
             Ok(scalar_binaries!(calls! self(lhs.read_as(), rhs.read_as())))
@@ -450,7 +457,11 @@ mod scalar {
     pub const LOADS: [(&str, LoadOp); 12] = loads!(names! LoadOp);
 
     impl LoadOp {
-        /// Loads from `ptr + offset`. The only error is `MemoryOutOfBounds`.
+        /// Loads from `ptr + offset`.
+        ///
+        /// # Errors
+        ///
+        /// [`MemoryOutOfBounds`](crate::TrapCode::MemoryOutOfBounds) if the bytes end past the memory.
         ///
         /// # Contract
         ///
@@ -458,7 +469,7 @@ mod scalar {
         /// ensures: result ≡ loaded_raw self memory.now (ptr + offset)
         /// ```
         ///
-        /// Definitions: [`loaded_raw`](crate::specs::ops::ScalarOps#loaded_raw).
+        /// Definitions: [`loaded_raw`](crate::specs::ops::ScalarOpsSpecs#loaded_raw).
         #[inline(always)]
         pub fn load(self, memory: &[u8], ptr: u64, offset: u64) -> Result<RawVal, TrapCode> {
             // The address is tested once, and not in the arm of each load.
@@ -477,7 +488,7 @@ mod scalar {
         /// ensures: result ≡ loaded_raw self bytes.now 0
         /// ```
         ///
-        /// Definitions: [`loaded_raw`](crate::specs::ops::ScalarOps#loaded_raw).
+        /// Definitions: [`loaded_raw`](crate::specs::ops::ScalarOpsSpecs#loaded_raw).
         #[inline(always)]
         fn load_front(self, bytes: &[u8]) -> Result<RawVal, TrapCode> {
             Ok(loads!(calls! self(bytes, 0, 0)))
@@ -515,8 +526,15 @@ mod scalar {
     pub const STORES: [(&str, StoreOp); 7] = stores!(names! StoreOp);
 
     impl StoreOp {
-        /// Stores a value at `ptr + offset`. The only error is `MemoryOutOfBounds`, and then nothing is
-        /// written.
+        /// Stores a value at `ptr + offset`.
+        ///
+        /// # Errors
+        ///
+        /// [`MemoryOutOfBounds`](crate::TrapCode::MemoryOutOfBounds) if the bytes end past the memory; then nothing is written.
+        ///
+        /// # Errors
+        ///
+        /// [`MemoryOutOfBounds`](crate::TrapCode::MemoryOutOfBounds) if the bytes would end past the memory; then nothing is written.
         ///
         /// # Contract
         ///
@@ -524,7 +542,7 @@ mod scalar {
         /// ensures: IsStore memory.old (ptr + offset) (stored_bytes self value) memory.new result
         /// ```
         ///
-        /// Definitions: [`IsStore`](crate::specs::accesses::LoadStore#IsStore), [`stored_bytes`](crate::specs::ops::ScalarOps#stored_bytes).
+        /// Definitions: [`IsStore`](crate::specs::accesses::LoadStoreSpecs#IsStore), [`stored_bytes`](crate::specs::ops::ScalarOpsSpecs#stored_bytes).
         #[inline(always)]
         pub fn store(
             self,
@@ -606,7 +624,8 @@ mod vector {
         /// ensures: result ≡ made_vector self raw
         /// ```
         ///
-        /// Definitions: [`made_vector`](crate::specs::ops::VectorOps#made_vector).
+        /// Definitions: [`made_vector`](crate::specs::ops::VectorOpsSpecs#made_vector).
+        #[must_use]
         #[inline]
         pub fn apply(self, raw: RawVal) -> V128 {
             makes!(calls! self(raw.read_as()))
@@ -711,7 +730,8 @@ mod vector {
         /// ensures: result ≡ unary_vector self a
         /// ```
         ///
-        /// Definitions: [`unary_vector`](crate::specs::ops::VectorOps#unary_vector).
+        /// Definitions: [`unary_vector`](crate::specs::ops::VectorOpsSpecs#unary_vector).
+        #[must_use]
         #[inline]
         pub fn apply(self, a: V128) -> V128 {
             unaries!(calls! self(a))
@@ -978,7 +998,8 @@ mod vector {
         /// ensures: result ≡ binary_vector self a b
         /// ```
         ///
-        /// Definitions: [`binary_vector`](crate::specs::ops::VectorOps#binary_vector).
+        /// Definitions: [`binary_vector`](crate::specs::ops::VectorOpsSpecs#binary_vector).
+        #[must_use]
         #[inline]
         pub fn apply(self, a: V128, b: V128) -> V128 {
             binaries!(calls! self(a, b))
@@ -1029,7 +1050,8 @@ mod vector {
         /// ensures: result ≡ ternary_vector self a b c
         /// ```
         ///
-        /// Definitions: [`ternary_vector`](crate::specs::ops::VectorOps#ternary_vector).
+        /// Definitions: [`ternary_vector`](crate::specs::ops::VectorOpsSpecs#ternary_vector).
+        #[must_use]
         #[inline]
         pub fn apply(self, a: V128, b: V128, c: V128) -> V128 {
             ternaries!(calls! self(a, b, c))
@@ -1086,7 +1108,8 @@ mod vector {
         /// ensures: result ≡ shifted_vector self a amount
         /// ```
         ///
-        /// Definitions: [`shifted_vector`](crate::specs::ops::VectorOps#shifted_vector).
+        /// Definitions: [`shifted_vector`](crate::specs::ops::VectorOpsSpecs#shifted_vector).
+        #[must_use]
         #[inline]
         pub fn apply(self, a: V128, amount: u32) -> V128 {
             shifts!(calls! self(a, amount))
@@ -1138,7 +1161,8 @@ mod vector {
         /// ensures: result ≡ tested_raw self a
         /// ```
         ///
-        /// Definitions: [`tested_raw`](crate::specs::ops::VectorOps#tested_raw).
+        /// Definitions: [`tested_raw`](crate::specs::ops::VectorOpsSpecs#tested_raw).
+        #[must_use]
         #[inline]
         pub fn apply(self, a: V128) -> RawVal {
             tests!(calls! self(a))
@@ -1180,7 +1204,8 @@ mod vector {
         /// ensures: result ≡ extracted_raw self a
         /// ```
         ///
-        /// Definitions: [`extracted_raw`](crate::specs::ops::LaneOps#extracted_raw).
+        /// Definitions: [`extracted_raw`](crate::specs::ops::LaneOpsSpecs#extracted_raw).
+        #[must_use]
         #[inline]
         pub fn apply(self, a: V128) -> RawVal {
             extractions!(calls! self(lane) (a, lane))
@@ -1216,7 +1241,8 @@ mod vector {
         /// ensures: result ≡ extract_op self lane
         /// ```
         ///
-        /// Definitions: [`extract_op`](crate::specs::ops::LaneOps#extract_op).
+        /// Definitions: [`extract_op`](crate::specs::ops::LaneOpsSpecs#extract_op).
+        #[must_use]
         #[inline]
         pub fn on(self, lane: u8) -> Option<ExtractOp> {
             extractions!(on_lane! self ExtractOp lane)
@@ -1252,7 +1278,8 @@ mod vector {
         /// ensures: result ≡ replaced_vector self a raw
         /// ```
         ///
-        /// Definitions: [`replaced_vector`](crate::specs::ops::LaneOps#replaced_vector).
+        /// Definitions: [`replaced_vector`](crate::specs::ops::LaneOpsSpecs#replaced_vector).
+        #[must_use]
         #[inline]
         pub fn apply(self, a: V128, raw: RawVal) -> V128 {
             replacements!(calls! self(lane) (a, lane, raw.read_as()))
@@ -1284,7 +1311,8 @@ mod vector {
         /// ensures: result ≡ replace_op self lane
         /// ```
         ///
-        /// Definitions: [`replace_op`](crate::specs::ops::LaneOps#replace_op).
+        /// Definitions: [`replace_op`](crate::specs::ops::LaneOpsSpecs#replace_op).
+        #[must_use]
         #[inline]
         pub fn on(self, lane: u8) -> Option<ReplaceOp> {
             replacements!(on_lane! self ReplaceOp lane)
@@ -1337,7 +1365,11 @@ mod vector {
     pub const VECTOR_LOADS: [(&str, VectorLoadOp); 13] = vector_loads!(names! VectorLoadOp);
 
     impl VectorLoadOp {
-        /// Loads from `ptr + offset`. The only error is `MemoryOutOfBounds`.
+        /// Loads from `ptr + offset`.
+        ///
+        /// # Errors
+        ///
+        /// [`MemoryOutOfBounds`](crate::TrapCode::MemoryOutOfBounds) if the bytes end past the memory.
         ///
         /// # Contract
         ///
@@ -1345,7 +1377,7 @@ mod vector {
         /// ensures: result ≡ loaded_vector self memory.now (ptr + offset)
         /// ```
         ///
-        /// Definitions: [`loaded_vector`](crate::specs::ops::VectorOps#loaded_vector).
+        /// Definitions: [`loaded_vector`](crate::specs::ops::VectorOpsSpecs#loaded_vector).
         #[inline]
         pub fn load(self, memory: &[u8], ptr: u64, offset: u64) -> Result<V128, TrapCode> {
             vector_loads!(calls! self(memory, ptr, offset))
@@ -1373,7 +1405,11 @@ mod vector {
 }
 
     impl LoadLaneOp {
-        /// The vector with the lane loaded from `ptr + offset`. The only error is `MemoryOutOfBounds`.
+        /// The vector with the lane loaded from `ptr + offset`.
+        ///
+        /// # Errors
+        ///
+        /// [`MemoryOutOfBounds`](crate::TrapCode::MemoryOutOfBounds) if the bytes end past the memory.
         ///
         /// # Contract
         ///
@@ -1381,7 +1417,7 @@ mod vector {
         /// ensures: result ≡ loaded_lane self vector memory.now (ptr + offset)
         /// ```
         ///
-        /// Definitions: [`loaded_lane`](crate::specs::ops::VectorOps#loaded_lane).
+        /// Definitions: [`loaded_lane`](crate::specs::ops::VectorOpsSpecs#loaded_lane).
         #[inline]
         pub fn load(
             self,
@@ -1419,7 +1455,8 @@ mod vector {
         /// ensures: result ≡ load_lane_op self lane
         /// ```
         ///
-        /// Definitions: [`load_lane_op`](crate::specs::ops::LaneOps#load_lane_op).
+        /// Definitions: [`load_lane_op`](crate::specs::ops::LaneOpsSpecs#load_lane_op).
+        #[must_use]
         #[inline]
         pub fn on(self, lane: u8) -> Option<LoadLaneOp> {
             lane_loads!(on_lane! self LoadLaneOp lane)
@@ -1447,8 +1484,15 @@ mod vector {
 }
 
     impl StoreLaneOp {
-        /// Stores the lane at `ptr + offset`. The only error is `MemoryOutOfBounds`, and then nothing
-        /// is written.
+        /// Stores the lane at `ptr + offset`.
+        ///
+        /// # Errors
+        ///
+        /// [`MemoryOutOfBounds`](crate::TrapCode::MemoryOutOfBounds) if the bytes end past the memory; then nothing is written.
+        ///
+        /// # Errors
+        ///
+        /// [`MemoryOutOfBounds`](crate::TrapCode::MemoryOutOfBounds) if the bytes would end past the memory; then nothing is written.
         ///
         /// # Contract
         ///
@@ -1456,7 +1500,7 @@ mod vector {
         /// ensures: IsStore memory.old (ptr + offset) (stored_lane self vector) memory.new result
         /// ```
         ///
-        /// Definitions: [`IsStore`](crate::specs::accesses::LoadStore#IsStore), [`stored_lane`](crate::specs::ops::VectorOps#stored_lane).
+        /// Definitions: [`IsStore`](crate::specs::accesses::LoadStoreSpecs#IsStore), [`stored_lane`](crate::specs::ops::VectorOpsSpecs#stored_lane).
         #[inline]
         pub fn store(
             self,
@@ -1494,7 +1538,8 @@ mod vector {
         /// ensures: result ≡ store_lane_op self lane
         /// ```
         ///
-        /// Definitions: [`store_lane_op`](crate::specs::ops::LaneOps#store_lane_op).
+        /// Definitions: [`store_lane_op`](crate::specs::ops::LaneOpsSpecs#store_lane_op).
+        #[must_use]
         #[inline]
         pub fn on(self, lane: u8) -> Option<StoreLaneOp> {
             lane_stores!(on_lane! self StoreLaneOp lane)

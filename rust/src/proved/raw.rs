@@ -13,7 +13,7 @@ mod convert {
     /// from_gives = λ raw value. value ≡ signed_in w8 raw
     /// ```
     ///
-    /// Definitions: [`signed_in`](crate::specs::raw::RawVal#signed_in).
+    /// Definitions: [`signed_in`](crate::specs::raw::RawValSpecs#signed_in).
     impl From<RawVal> for i8 {
         #[inline]
         fn from(raw: RawVal) -> i8 {
@@ -27,7 +27,7 @@ mod convert {
     /// from_gives = λ raw value. value ≡ signed_in w16 raw
     /// ```
     ///
-    /// Definitions: [`signed_in`](crate::specs::raw::RawVal#signed_in).
+    /// Definitions: [`signed_in`](crate::specs::raw::RawValSpecs#signed_in).
     impl From<RawVal> for i16 {
         #[inline]
         fn from(raw: RawVal) -> i16 {
@@ -41,7 +41,7 @@ mod convert {
     /// from_gives = λ raw value. value ≡ signed_in w32 raw
     /// ```
     ///
-    /// Definitions: [`signed_in`](crate::specs::raw::RawVal#signed_in).
+    /// Definitions: [`signed_in`](crate::specs::raw::RawValSpecs#signed_in).
     impl From<RawVal> for i32 {
         #[inline]
         fn from(raw: RawVal) -> i32 {
@@ -55,7 +55,7 @@ mod convert {
     /// from_gives = λ raw value. value ≡ signed_in w64 raw
     /// ```
     ///
-    /// Definitions: [`signed_in`](crate::specs::raw::RawVal#signed_in).
+    /// Definitions: [`signed_in`](crate::specs::raw::RawValSpecs#signed_in).
     impl From<RawVal> for i64 {
         #[inline]
         fn from(raw: RawVal) -> i64 {
@@ -69,7 +69,7 @@ mod convert {
     /// from_gives = λ raw value. value ≡ unsigned_in w8 raw
     /// ```
     ///
-    /// Definitions: [`unsigned_in`](crate::specs::raw::RawVal#unsigned_in).
+    /// Definitions: [`unsigned_in`](crate::specs::raw::RawValSpecs#unsigned_in).
     impl From<RawVal> for u8 {
         #[inline]
         fn from(raw: RawVal) -> u8 {
@@ -83,7 +83,7 @@ mod convert {
     /// from_gives = λ raw value. value ≡ unsigned_in w16 raw
     /// ```
     ///
-    /// Definitions: [`unsigned_in`](crate::specs::raw::RawVal#unsigned_in).
+    /// Definitions: [`unsigned_in`](crate::specs::raw::RawValSpecs#unsigned_in).
     impl From<RawVal> for u16 {
         #[inline]
         fn from(raw: RawVal) -> u16 {
@@ -97,7 +97,7 @@ mod convert {
     /// from_gives = λ raw value. value ≡ unsigned_in w32 raw
     /// ```
     ///
-    /// Definitions: [`unsigned_in`](crate::specs::raw::RawVal#unsigned_in).
+    /// Definitions: [`unsigned_in`](crate::specs::raw::RawValSpecs#unsigned_in).
     impl From<RawVal> for u32 {
         #[inline]
         fn from(raw: RawVal) -> u32 {
@@ -111,7 +111,7 @@ mod convert {
     /// from_gives = λ raw value. value ≡ unsigned_in w64 raw
     /// ```
     ///
-    /// Definitions: [`unsigned_in`](crate::specs::raw::RawVal#unsigned_in).
+    /// Definitions: [`unsigned_in`](crate::specs::raw::RawValSpecs#unsigned_in).
     impl From<RawVal> for u64 {
         #[inline]
         fn from(raw: RawVal) -> u64 {
@@ -125,7 +125,7 @@ mod convert {
     /// from_gives = λ raw value. value ≡ bool_in raw
     /// ```
     ///
-    /// Definitions: [`bool_in`](crate::specs::raw::RawVal#bool_in).
+    /// Definitions: [`bool_in`](crate::specs::raw::RawValSpecs#bool_in).
     impl From<RawVal> for bool {
         #[inline]
         fn from(raw: RawVal) -> bool {
@@ -139,7 +139,7 @@ mod convert {
     /// from_gives = λ raw value. value ≡ unsigned_in w32 raw
     /// ```
     ///
-    /// Definitions: [`unsigned_in`](crate::specs::raw::RawVal#unsigned_in).
+    /// Definitions: [`unsigned_in`](crate::specs::raw::RawValSpecs#unsigned_in).
     impl From<RawVal> for F32 {
         #[inline]
         fn from(raw: RawVal) -> F32 {
@@ -153,7 +153,7 @@ mod convert {
     /// from_gives = λ raw value. value ≡ unsigned_in w64 raw
     /// ```
     ///
-    /// Definitions: [`unsigned_in`](crate::specs::raw::RawVal#unsigned_in).
+    /// Definitions: [`unsigned_in`](crate::specs::raw::RawValSpecs#unsigned_in).
     impl From<RawVal> for F64 {
         #[inline]
         fn from(raw: RawVal) -> F64 {
@@ -167,7 +167,7 @@ mod convert {
     /// from_gives = λ raw value. value ≡ vector_in raw
     /// ```
     ///
-    /// Definitions: [`vector_in`](crate::specs::raw::RawVal#vector_in).
+    /// Definitions: [`vector_in`](crate::specs::raw::RawValSpecs#vector_in).
     impl From<RawVal> for V128 {
         #[inline]
         fn from(raw: RawVal) -> V128 {
@@ -182,7 +182,7 @@ mod convert {
     /// from_gives = λ value raw. (raw ≡ raw_of_vector value) × (vector_in raw ≡ value)
     /// ```
     ///
-    /// Definitions: [`raw_of_vector`](crate::specs::raw::RawVal#raw_of_vector), [`vector_in`](crate::specs::raw::RawVal#vector_in).
+    /// Definitions: [`raw_of_vector`](crate::specs::raw::RawValSpecs#raw_of_vector), [`vector_in`](crate::specs::raw::RawValSpecs#vector_in).
     impl From<V128> for RawVal {
         #[inline]
         fn from(value: V128) -> RawVal {
@@ -200,7 +200,9 @@ mod convert {
     /// from_gives = λ value raw. raw ≡ ⟦<RawVal as WriteAs<T>>⟧.written (raw_of 0) value
     /// ```
     ///
-    /// Definitions: [`raw_of`](crate::specs::raw::RawVal#raw_of).
+    /// Definitions: [`raw_of`](crate::specs::raw::RawValSpecs#raw_of).
+    ///
+    /// `T` is a type with the trait `OneWord`.
     impl<T: OneWord> From<T> for RawVal
     where
         RawVal: WriteAs<T>,
@@ -219,7 +221,7 @@ mod convert {
     /// from_gives = λ value raw. raw ≡ raw_of value
     /// ```
     ///
-    /// Definitions: [`raw_of`](crate::specs::raw::RawVal#raw_of).
+    /// Definitions: [`raw_of`](crate::specs::raw::RawValSpecs#raw_of).
     impl From<F32> for RawVal {
         #[inline]
         fn from(value: F32) -> RawVal {
@@ -233,7 +235,7 @@ mod convert {
     /// from_gives = λ value raw. raw ≡ raw_of value
     /// ```
     ///
-    /// Definitions: [`raw_of`](crate::specs::raw::RawVal#raw_of).
+    /// Definitions: [`raw_of`](crate::specs::raw::RawValSpecs#raw_of).
     impl From<F64> for RawVal {
         #[inline]
         fn from(value: F64) -> RawVal {
@@ -268,6 +270,7 @@ mod float {
         /// ```text
         /// ensures: result ≡ bits
         /// ```
+        #[must_use]
         #[inline]
         pub fn from_bits(bits: u32) -> F32 {
             F32 { bits }
@@ -280,6 +283,7 @@ mod float {
         /// ```text
         /// ensures: result ≡ self
         /// ```
+        #[must_use]
         #[inline]
         pub fn to_bits(self) -> u32 {
             self.bits
@@ -310,6 +314,7 @@ mod float {
         /// ```text
         /// ensures: result ≡ bits
         /// ```
+        #[must_use]
         #[inline]
         pub fn from_bits(bits: u64) -> F64 {
             F64 { bits }
@@ -322,6 +327,7 @@ mod float {
         /// ```text
         /// ensures: result ≡ self
         /// ```
+        #[must_use]
         #[inline]
         pub fn to_bits(self) -> u64 {
             self.bits
@@ -341,6 +347,8 @@ pub mod laws {
     /// ```text
     /// ensures: result ≡ T.read_back value
     /// ```
+    ///
+    /// `T` is a type with the trait `ReadBack`.
     #[inline]
     pub fn written_value_is_read<T: ReadBack, P: WriteAs<T>>(place: &mut P, value: T) -> T::Read {
         place.write_as(value);
@@ -358,7 +366,7 @@ mod number {
         /// numbers: NumberType Self
         /// ```
         ///
-        /// Definitions: [`NumberType`](crate::specs::raw::Number#NumberType).
+        /// Definitions: [`NumberType`](crate::specs::raw::NumberSpecs#NumberType).
         pub trait Sealed {}
 
         impl Sealed for i8 {}
@@ -403,7 +411,9 @@ mod number {
     /// laws: AreNumbers is_signed width number of_number
     /// ```
     ///
-    /// Definitions: [`AreNumbers`](crate::specs::raw::Number#AreNumbers).
+    /// Definitions: [`AreNumbers`](crate::specs::raw::NumberSpecs#AreNumbers).
+    ///
+    /// `A` is any type.
     pub trait Number: sealed::Sealed {}
 
     /// # Contract
@@ -414,6 +424,8 @@ mod number {
     /// number = T.numbers.number
     /// of_number = T.numbers.of_number
     /// ```
+    ///
+    /// `T` is a type with the trait `Sealed`.
     impl<T: sealed::Sealed> Number for T {}
 }
 mod raw {
@@ -423,6 +435,13 @@ mod raw {
     ///
     /// A value of up to 64 bits stands in `lo`, and a vector in both words. The order is that of `lo`,
     /// then of `hi`. C has it as a struct of the two. Upstream: `wasmi_core::RawVal`.
+    ///
+    /// # Fields in contracts
+    ///
+    /// Contracts see these fields:
+    ///
+    /// - `lo`: Bits 0 to 63.
+    /// - `hi`: Bits 64 to 127.
     #[doc = examples!(raw RawVal)]
     #[repr(C)]
     #[derive(Clone, Copy, Default, PartialEq, Eq, PartialOrd, Ord)]
@@ -442,7 +461,8 @@ mod raw {
         /// ensures: result ≡ raw_of lo
         /// ```
         ///
-        /// Definitions: [`raw_of`](crate::specs::raw::RawVal#raw_of).
+        /// Definitions: [`raw_of`](crate::specs::raw::RawValSpecs#raw_of).
+        #[must_use]
         #[inline]
         pub const fn from_bits64(lo: u64) -> RawVal {
             RawVal { lo, hi: 0 }
@@ -455,6 +475,7 @@ mod raw {
         /// ```text
         /// ensures: result ≡ self.lo
         /// ```
+        #[must_use]
         #[inline]
         pub const fn to_bits64(self) -> u64 {
             self.lo
@@ -472,6 +493,8 @@ mod raw {
     /// -- The `T` that `self` is read as.
     /// read: Self → T
     /// ```
+    ///
+    /// `T` is any type.
     pub trait ReadAs<T> {
         /// Reads `self` as a `T`.
         ///
@@ -511,6 +534,8 @@ mod raw {
     /// -- What `self` becomes when the `T` is written to it.
     /// written: Self → T → Self
     /// ```
+    ///
+    /// `T` is a type with the trait `ReadBack`.
     pub trait WriteAs<T: ReadBack>: ReadAs<T::Read> {
         /// Writes `value` to `self`.
         ///
@@ -520,6 +545,8 @@ mod raw {
         /// ensures written: self.new ≡ written self.old value
         /// ensures read_back: Self.read self.new ≡ T.read_back value
         /// ```
+        ///
+        /// `T` is a type with the trait `ReadBack`.
         fn write_as(&mut self, value: T);
     }
 
@@ -556,6 +583,7 @@ mod raw_ref {
         /// ```text
         /// ensures: result ≡ 0
         /// ```
+        #[must_use]
         #[inline]
         pub fn null() -> Self {
             RawRef { bits: 0 }
@@ -568,6 +596,7 @@ mod raw_ref {
         /// ```text
         /// ensures: IsTrue result ↔ (self ≡ 0)
         /// ```
+        #[must_use]
         #[inline]
         pub fn is_null(self) -> bool {
             self.bits == 0
@@ -604,7 +633,7 @@ mod raw_ref {
     /// from_gives = λ raw reference. reference ≡ unsigned_in w32 raw
     /// ```
     ///
-    /// Definitions: [`unsigned_in`](crate::specs::raw::RawVal#unsigned_in).
+    /// Definitions: [`unsigned_in`](crate::specs::raw::RawValSpecs#unsigned_in).
     impl From<RawVal> for RawRef {
         #[inline]
         fn from(raw: RawVal) -> RawRef {
@@ -618,7 +647,7 @@ mod raw_ref {
     /// read = unsigned_in w32
     /// ```
     ///
-    /// Definitions: [`unsigned_in`](crate::specs::raw::RawVal#unsigned_in).
+    /// Definitions: [`unsigned_in`](crate::specs::raw::RawValSpecs#unsigned_in).
     impl ReadAs<RawRef> for RawVal {
         #[inline]
         fn read_as(&self) -> RawRef {
@@ -644,7 +673,7 @@ mod raw_ref {
     /// written = with_low
     /// ```
     ///
-    /// Definitions: [`with_low`](crate::specs::raw::RawVal#with_low).
+    /// Definitions: [`with_low`](crate::specs::raw::RawValSpecs#with_low).
     impl WriteAs<RawRef> for RawVal {
         #[inline]
         fn write_as(&mut self, value: RawRef) {
@@ -678,7 +707,7 @@ mod read_write {
     /// read = signed_in w8
     /// ```
     ///
-    /// Definitions: [`signed_in`](crate::specs::raw::RawVal#signed_in).
+    /// Definitions: [`signed_in`](crate::specs::raw::RawValSpecs#signed_in).
     impl ReadAs<i8> for RawVal {
         #[inline]
         fn read_as(&self) -> i8 {
@@ -693,7 +722,7 @@ mod read_write {
     /// read = signed_in w16
     /// ```
     ///
-    /// Definitions: [`signed_in`](crate::specs::raw::RawVal#signed_in).
+    /// Definitions: [`signed_in`](crate::specs::raw::RawValSpecs#signed_in).
     impl ReadAs<i16> for RawVal {
         #[inline]
         fn read_as(&self) -> i16 {
@@ -708,7 +737,7 @@ mod read_write {
     /// read = signed_in w32
     /// ```
     ///
-    /// Definitions: [`signed_in`](crate::specs::raw::RawVal#signed_in).
+    /// Definitions: [`signed_in`](crate::specs::raw::RawValSpecs#signed_in).
     impl ReadAs<i32> for RawVal {
         #[inline]
         fn read_as(&self) -> i32 {
@@ -723,7 +752,7 @@ mod read_write {
     /// read = signed_in w64
     /// ```
     ///
-    /// Definitions: [`signed_in`](crate::specs::raw::RawVal#signed_in).
+    /// Definitions: [`signed_in`](crate::specs::raw::RawValSpecs#signed_in).
     impl ReadAs<i64> for RawVal {
         #[inline]
         fn read_as(&self) -> i64 {
@@ -738,7 +767,7 @@ mod read_write {
     /// read = unsigned_in w8
     /// ```
     ///
-    /// Definitions: [`unsigned_in`](crate::specs::raw::RawVal#unsigned_in).
+    /// Definitions: [`unsigned_in`](crate::specs::raw::RawValSpecs#unsigned_in).
     impl ReadAs<u8> for RawVal {
         #[inline]
         fn read_as(&self) -> u8 {
@@ -752,7 +781,7 @@ mod read_write {
     /// read = unsigned_in w16
     /// ```
     ///
-    /// Definitions: [`unsigned_in`](crate::specs::raw::RawVal#unsigned_in).
+    /// Definitions: [`unsigned_in`](crate::specs::raw::RawValSpecs#unsigned_in).
     impl ReadAs<u16> for RawVal {
         #[inline]
         fn read_as(&self) -> u16 {
@@ -766,7 +795,7 @@ mod read_write {
     /// read = unsigned_in w32
     /// ```
     ///
-    /// Definitions: [`unsigned_in`](crate::specs::raw::RawVal#unsigned_in).
+    /// Definitions: [`unsigned_in`](crate::specs::raw::RawValSpecs#unsigned_in).
     impl ReadAs<u32> for RawVal {
         #[inline]
         fn read_as(&self) -> u32 {
@@ -780,7 +809,7 @@ mod read_write {
     /// read = unsigned_in w64
     /// ```
     ///
-    /// Definitions: [`unsigned_in`](crate::specs::raw::RawVal#unsigned_in).
+    /// Definitions: [`unsigned_in`](crate::specs::raw::RawValSpecs#unsigned_in).
     impl ReadAs<u64> for RawVal {
         #[inline]
         fn read_as(&self) -> u64 {
@@ -794,7 +823,7 @@ mod read_write {
     /// read = vector_in
     /// ```
     ///
-    /// Definitions: [`vector_in`](crate::specs::raw::RawVal#vector_in).
+    /// Definitions: [`vector_in`](crate::specs::raw::RawValSpecs#vector_in).
     impl ReadAs<V128> for RawVal {
         #[inline]
         fn read_as(&self) -> V128 {
@@ -808,7 +837,7 @@ mod read_write {
     /// read = bool_in
     /// ```
     ///
-    /// Definitions: [`bool_in`](crate::specs::raw::RawVal#bool_in).
+    /// Definitions: [`bool_in`](crate::specs::raw::RawValSpecs#bool_in).
     impl ReadAs<bool> for RawVal {
         #[inline]
         fn read_as(&self) -> bool {
@@ -963,7 +992,7 @@ mod read_write {
     /// written = λ raw value. with_low raw (cast_unsigned w8 value)
     /// ```
     ///
-    /// Definitions: [`with_low`](crate::specs::raw::RawVal#with_low).
+    /// Definitions: [`with_low`](crate::specs::raw::RawValSpecs#with_low).
     impl WriteAs<i8> for RawVal {
         #[inline]
         fn write_as(&mut self, value: i8) {
@@ -977,7 +1006,7 @@ mod read_write {
     /// written = λ raw value. with_low raw (cast_unsigned w8 (non_zero_i8_get value))
     /// ```
     ///
-    /// Definitions: [`with_low`](crate::specs::raw::RawVal#with_low).
+    /// Definitions: [`with_low`](crate::specs::raw::RawValSpecs#with_low).
     impl WriteAs<NonZero<i8>> for RawVal {
         #[inline]
         fn write_as(&mut self, value: NonZero<i8>) {
@@ -991,7 +1020,7 @@ mod read_write {
     /// written = λ raw value. with_low raw (cast_unsigned w16 value)
     /// ```
     ///
-    /// Definitions: [`with_low`](crate::specs::raw::RawVal#with_low).
+    /// Definitions: [`with_low`](crate::specs::raw::RawValSpecs#with_low).
     impl WriteAs<i16> for RawVal {
         #[inline]
         fn write_as(&mut self, value: i16) {
@@ -1005,7 +1034,7 @@ mod read_write {
     /// written = λ raw value. with_low raw (cast_unsigned w16 (non_zero_i16_get value))
     /// ```
     ///
-    /// Definitions: [`with_low`](crate::specs::raw::RawVal#with_low).
+    /// Definitions: [`with_low`](crate::specs::raw::RawValSpecs#with_low).
     impl WriteAs<NonZero<i16>> for RawVal {
         #[inline]
         fn write_as(&mut self, value: NonZero<i16>) {
@@ -1019,7 +1048,7 @@ mod read_write {
     /// written = λ raw value. with_low raw (cast_unsigned w32 value)
     /// ```
     ///
-    /// Definitions: [`with_low`](crate::specs::raw::RawVal#with_low).
+    /// Definitions: [`with_low`](crate::specs::raw::RawValSpecs#with_low).
     impl WriteAs<i32> for RawVal {
         #[inline]
         fn write_as(&mut self, value: i32) {
@@ -1033,7 +1062,7 @@ mod read_write {
     /// written = λ raw value. with_low raw (cast_unsigned w32 (non_zero_i32_get value))
     /// ```
     ///
-    /// Definitions: [`with_low`](crate::specs::raw::RawVal#with_low).
+    /// Definitions: [`with_low`](crate::specs::raw::RawValSpecs#with_low).
     impl WriteAs<NonZero<i32>> for RawVal {
         #[inline]
         fn write_as(&mut self, value: NonZero<i32>) {
@@ -1047,7 +1076,7 @@ mod read_write {
     /// written = λ raw value. with_low raw (cast_unsigned w64 value)
     /// ```
     ///
-    /// Definitions: [`with_low`](crate::specs::raw::RawVal#with_low).
+    /// Definitions: [`with_low`](crate::specs::raw::RawValSpecs#with_low).
     impl WriteAs<i64> for RawVal {
         #[inline]
         fn write_as(&mut self, value: i64) {
@@ -1061,7 +1090,7 @@ mod read_write {
     /// written = λ raw value. with_low raw (cast_unsigned w64 (non_zero_i64_get value))
     /// ```
     ///
-    /// Definitions: [`with_low`](crate::specs::raw::RawVal#with_low).
+    /// Definitions: [`with_low`](crate::specs::raw::RawValSpecs#with_low).
     impl WriteAs<NonZero<i64>> for RawVal {
         #[inline]
         fn write_as(&mut self, value: NonZero<i64>) {
@@ -1075,7 +1104,7 @@ mod read_write {
     /// written = with_low
     /// ```
     ///
-    /// Definitions: [`with_low`](crate::specs::raw::RawVal#with_low).
+    /// Definitions: [`with_low`](crate::specs::raw::RawValSpecs#with_low).
     impl WriteAs<u8> for RawVal {
         #[inline]
         fn write_as(&mut self, value: u8) {
@@ -1089,7 +1118,7 @@ mod read_write {
     /// written = λ raw value. with_low raw (non_zero_u8_get value)
     /// ```
     ///
-    /// Definitions: [`with_low`](crate::specs::raw::RawVal#with_low).
+    /// Definitions: [`with_low`](crate::specs::raw::RawValSpecs#with_low).
     impl WriteAs<NonZero<u8>> for RawVal {
         #[inline]
         fn write_as(&mut self, value: NonZero<u8>) {
@@ -1103,7 +1132,7 @@ mod read_write {
     /// written = with_low
     /// ```
     ///
-    /// Definitions: [`with_low`](crate::specs::raw::RawVal#with_low).
+    /// Definitions: [`with_low`](crate::specs::raw::RawValSpecs#with_low).
     impl WriteAs<u16> for RawVal {
         #[inline]
         fn write_as(&mut self, value: u16) {
@@ -1117,7 +1146,7 @@ mod read_write {
     /// written = λ raw value. with_low raw (non_zero_u16_get value)
     /// ```
     ///
-    /// Definitions: [`with_low`](crate::specs::raw::RawVal#with_low).
+    /// Definitions: [`with_low`](crate::specs::raw::RawValSpecs#with_low).
     impl WriteAs<NonZero<u16>> for RawVal {
         #[inline]
         fn write_as(&mut self, value: NonZero<u16>) {
@@ -1131,7 +1160,7 @@ mod read_write {
     /// written = with_low
     /// ```
     ///
-    /// Definitions: [`with_low`](crate::specs::raw::RawVal#with_low).
+    /// Definitions: [`with_low`](crate::specs::raw::RawValSpecs#with_low).
     impl WriteAs<u32> for RawVal {
         #[inline]
         fn write_as(&mut self, value: u32) {
@@ -1145,7 +1174,7 @@ mod read_write {
     /// written = λ raw value. with_low raw (non_zero_u32_get value)
     /// ```
     ///
-    /// Definitions: [`with_low`](crate::specs::raw::RawVal#with_low).
+    /// Definitions: [`with_low`](crate::specs::raw::RawValSpecs#with_low).
     impl WriteAs<NonZero<u32>> for RawVal {
         #[inline]
         fn write_as(&mut self, value: NonZero<u32>) {
@@ -1159,7 +1188,7 @@ mod read_write {
     /// written = with_low
     /// ```
     ///
-    /// Definitions: [`with_low`](crate::specs::raw::RawVal#with_low).
+    /// Definitions: [`with_low`](crate::specs::raw::RawValSpecs#with_low).
     impl WriteAs<u64> for RawVal {
         #[inline]
         fn write_as(&mut self, value: u64) {
@@ -1173,7 +1202,7 @@ mod read_write {
     /// written = λ raw value. with_low raw (non_zero_u64_get value)
     /// ```
     ///
-    /// Definitions: [`with_low`](crate::specs::raw::RawVal#with_low).
+    /// Definitions: [`with_low`](crate::specs::raw::RawValSpecs#with_low).
     impl WriteAs<NonZero<u64>> for RawVal {
         #[inline]
         fn write_as(&mut self, value: NonZero<u64>) {
@@ -1187,7 +1216,7 @@ mod read_write {
     /// written = λ raw value. with_low raw (from_bool value)
     /// ```
     ///
-    /// Definitions: [`with_low`](crate::specs::raw::RawVal#with_low).
+    /// Definitions: [`with_low`](crate::specs::raw::RawValSpecs#with_low).
     impl WriteAs<bool> for RawVal {
         #[inline]
         fn write_as(&mut self, value: bool) {
@@ -1201,7 +1230,7 @@ mod read_write {
     /// written = λ _ value. raw_of_vector value
     /// ```
     ///
-    /// Definitions: [`raw_of_vector`](crate::specs::raw::RawVal#raw_of_vector).
+    /// Definitions: [`raw_of_vector`](crate::specs::raw::RawValSpecs#raw_of_vector).
     impl WriteAs<V128> for RawVal {
         #[inline]
         fn write_as(&mut self, value: V128) {
@@ -1225,7 +1254,7 @@ mod vector {
     /// inverse = λ number. record { low = number % 2 ^ 64; high = number / 2 ^ 64 }
     /// ```
     ///
-    /// Definitions: [`vector_of`](crate::specs::raw::RawVal#vector_of).
+    /// Definitions: [`vector_of`](crate::specs::raw::RawValSpecs#vector_of).
     #[doc = examples!(raw V128)]
     #[derive(Clone, Copy, PartialEq, Eq)]
     pub struct V128 {
@@ -1242,7 +1271,8 @@ mod vector {
         /// ensures: result ≡ vector_of low high
         /// ```
         ///
-        /// Definitions: [`vector_of`](crate::specs::raw::RawVal#vector_of).
+        /// Definitions: [`vector_of`](crate::specs::raw::RawValSpecs#vector_of).
+        #[must_use]
         #[inline]
         pub(crate) fn from_word_pair(low: u64, high: u64) -> V128 {
             V128 { low, high }
@@ -1258,7 +1288,8 @@ mod vector {
         /// ensures high: result.1 ≡ self / 2 ^ 64
         /// ```
         ///
-        /// Definitions: [`vector_of`](crate::specs::raw::RawVal#vector_of).
+        /// Definitions: [`vector_of`](crate::specs::raw::RawValSpecs#vector_of).
+        #[must_use]
         #[inline]
         pub(crate) fn words(self) -> (u64, u64) {
             (self.low, self.high)
@@ -1272,6 +1303,7 @@ mod vector {
         /// ensures value: result ≡ self
         /// ensures in_range: self < 2 ^ 128
         /// ```
+        #[must_use]
         #[inline]
         pub fn as_u128(&self) -> u128 {
             (u128::from(self.high) << 64) | u128::from(self.low)

@@ -15,7 +15,9 @@ pub mod laws {
     /// ensures: TableCreationsSucceed (optional_rules L.rules)
     /// ```
     ///
-    /// Definitions: [`TableCreationsSucceed`](crate::specs::region::Laws#TableCreationsSucceed), [`optional_rules`](crate::specs::meter::Limiter#optional_rules).
+    /// Definitions: [`TableCreationsSucceed`](crate::specs::region::LawsSpecs#TableCreationsSucceed), [`optional_rules`](crate::specs::meter::LimiterSpecs#optional_rules).
+    ///
+    /// `L` is the type of the limiter, a [`ResourceLimiter`](crate::machine::ResourceLimiter#contract).
     #[inline]
     pub fn table_creations_succeed<L: ResourceLimiter>() {}
 
@@ -28,7 +30,9 @@ pub mod laws {
     /// ensures: TableGrowthsSucceed (optional_rules L.rules)
     /// ```
     ///
-    /// Definitions: [`TableGrowthsSucceed`](crate::specs::region::Laws#TableGrowthsSucceed), [`optional_rules`](crate::specs::meter::Limiter#optional_rules).
+    /// Definitions: [`TableGrowthsSucceed`](crate::specs::region::LawsSpecs#TableGrowthsSucceed), [`optional_rules`](crate::specs::meter::LimiterSpecs#optional_rules).
+    ///
+    /// `L` is the type of the limiter, a [`ResourceLimiter`](crate::machine::ResourceLimiter#contract).
     #[inline]
     pub fn table_growths_succeed<L: ResourceLimiter>() {}
 
@@ -41,7 +45,9 @@ pub mod laws {
     /// ensures growths: GrowthsAreTables (optional_rules L.rules)
     /// ```
     ///
-    /// Definitions: [`CreationsAreTables`](crate::specs::region::Laws#CreationsAreTables), [`optional_rules`](crate::specs::meter::Limiter#optional_rules), [`GrowthsAreTables`](crate::specs::region::Laws#GrowthsAreTables).
+    /// Definitions: [`CreationsAreTables`](crate::specs::region::LawsSpecs#CreationsAreTables), [`optional_rules`](crate::specs::meter::LimiterSpecs#optional_rules), [`GrowthsAreTables`](crate::specs::region::LawsSpecs#GrowthsAreTables).
+    ///
+    /// `L` is the type of the limiter, a [`ResourceLimiter`](crate::machine::ResourceLimiter#contract).
     #[inline]
     pub fn region_tables_are_tables<L: ResourceLimiter>() {}
 }
@@ -71,7 +77,8 @@ pub mod memory {
     /// ensures: (result ≡ true → IsSized ty size) × (IsSized ty size → result ≡ true)
     /// ```
     ///
-    /// Definitions: [`IsSized`](crate::specs::store::Memory#IsSized).
+    /// Definitions: [`IsSized`](crate::specs::store::MemorySpecs#IsSized).
+    #[must_use]
     #[inline]
     pub fn is_sized(ty: MemoryType, size: usize) -> bool {
         let pages = ty.pages_in(size);
@@ -86,7 +93,8 @@ pub mod memory {
     /// ensures: result ≡ size / page_bytes ty.page
     /// ```
     ///
-    /// Definitions: [`page_bytes`](crate::specs::store::Memory#page_bytes).
+    /// Definitions: [`page_bytes`](crate::specs::store::MemorySpecs#page_bytes).
+    #[must_use]
     #[inline]
     pub fn pages(ty: MemoryType, size: usize) -> u64 {
         ty.pages_in(size)
@@ -95,8 +103,10 @@ pub mod memory {
     /// Makes a memory of zeros at the front of a region, at the minimum of its type, and returns its
     /// size in bytes. It takes no fuel, and leaves the bytes past the minimum alone.
     ///
-    /// Errors, in the order of the tests: `MinimumSizeOverflow` if the minimum has 2^64 bytes or more;
-    /// `ResourceLimiterDeniedAllocation` if the limiter doesn't permit it; `InvalidStaticBufferSize` if
+    /// # Errors
+    ///
+    /// In the order of the tests: [`MinimumSizeOverflow`](crate::MemoryError::MinimumSizeOverflow) if the minimum has 2^64 bytes or more;
+    /// [`ResourceLimiterDeniedAllocation`](crate::MemoryError::ResourceLimiterDeniedAllocation) if the limiter doesn't permit it; [`InvalidStaticBufferSize`](crate::MemoryError::InvalidStaticBufferSize) if
     /// the region is shorter than the minimum, of which the limiter is notified. After an error the
     /// bytes of the region are unchanged.
     ///
@@ -112,7 +122,9 @@ pub mod memory {
     /// ensures len: length region.new ≡ length region.old
     /// ```
     ///
-    /// Definitions: [`KeepsLoan`](crate::specs::meter::Limiter#KeepsLoan), [`MakesMemory`](crate::specs::store::Memory#MakesMemory), [`optional_rules`](crate::specs::meter::Limiter#optional_rules), [`Lent`](crate::specs::store::Buffer#Lent), [`lent_limiter`](crate::specs::meter::Limiter#lent_limiter), [`made_in`](crate::specs::region::Memory#made_in), [`IsSized`](crate::specs::store::Memory#IsSized).
+    /// Definitions: [`KeepsLoan`](crate::specs::meter::LimiterSpecs#KeepsLoan), [`MakesMemory`](crate::specs::store::MemorySpecs#MakesMemory), [`optional_rules`](crate::specs::meter::LimiterSpecs#optional_rules), [`Lent`](crate::specs::store::BufferSpecs#Lent), [`lent_limiter`](crate::specs::meter::LimiterSpecs#lent_limiter), [`made_in`](crate::specs::region::MemorySpecs#made_in), [`IsSized`](crate::specs::store::MemorySpecs#IsSized).
+    ///
+    /// `L` is the type of the limiter, a [`ResourceLimiter`](crate::machine::ResourceLimiter#contract).
     #[doc = examples!(region make)]
     #[inline]
     pub fn make<L: ResourceLimiter>(
@@ -131,8 +143,11 @@ pub mod memory {
 
     /// Grows a memory of `size` bytes at the front of a region by `additional` pages of zeros, and
     /// returns the old size in pages; `size` becomes the new size in bytes. A growth by 0 pages changes
-    /// nothing and asks no limiter. The errors are those of [`LinearMemory::grow`](crate::proved::store::LinearMemory::grow) on a
-    /// lent region.
+    /// nothing and asks no limiter.
+    ///
+    /// # Errors
+    ///
+    /// Those of [`LinearMemory::grow`](crate::proved::store::LinearMemory::grow) on a lent region.
     ///
     /// # Panics
     ///
@@ -157,7 +172,9 @@ pub mod memory {
     /// ensures size: OnErr result (size.new ≡ size.old)
     /// ```
     ///
-    /// Definitions: [`IsSized`](crate::specs::store::Memory#IsSized), [`KeepsLoan`](crate::specs::meter::Limiter#KeepsLoan), [`GrowsMemory`](crate::specs::store::Memory#GrowsMemory), [`optional_rules`](crate::specs::meter::Limiter#optional_rules), [`metered_value`](crate::specs::store::Growth#metered_value), [`memory_in`](crate::specs::region::Memory#memory_in), [`lent_limiter`](crate::specs::meter::Limiter#lent_limiter).
+    /// Definitions: [`IsSized`](crate::specs::store::MemorySpecs#IsSized), [`KeepsLoan`](crate::specs::meter::LimiterSpecs#KeepsLoan), [`GrowsMemory`](crate::specs::store::MemorySpecs#GrowsMemory), [`optional_rules`](crate::specs::meter::LimiterSpecs#optional_rules), [`metered_value`](crate::specs::store::GrowthSpecs#metered_value), [`memory_in`](crate::specs::region::MemorySpecs#memory_in), [`lent_limiter`](crate::specs::meter::LimiterSpecs#lent_limiter).
+    ///
+    /// `L` is the type of the limiter, a [`ResourceLimiter`](crate::machine::ResourceLimiter#contract).
     #[inline]
     pub fn grow<L: ResourceLimiter>(
         ty: MemoryType,
@@ -205,7 +222,8 @@ pub mod memory {
     ///     × (asked.0 ≡ size + additional * page_bytes ty.page) × (asked.1 ≡ maximum_bytes ty))
     /// ```
     ///
-    /// Definitions: [`IsSized`](crate::specs::store::Memory#IsSized), [`in_bounds`](crate::specs::store::Memory#in_bounds), [`page_bytes`](crate::specs::store::Memory#page_bytes), [`maximum_bytes`](crate::specs::store::Memory#maximum_bytes).
+    /// Definitions: [`IsSized`](crate::specs::store::MemorySpecs#IsSized), [`in_bounds`](crate::specs::store::MemorySpecs#in_bounds), [`page_bytes`](crate::specs::store::MemorySpecs#page_bytes), [`maximum_bytes`](crate::specs::store::MemorySpecs#maximum_bytes).
+    #[must_use]
     #[inline]
     pub fn question(
         ty: MemoryType,
@@ -219,6 +237,10 @@ pub mod memory {
 
     /// Fills bytes of a memory, as [`LinearMemory::fill`](crate::proved::store::LinearMemory::fill) does.
     ///
+    /// # Errors
+    ///
+    /// The same.
+    ///
     /// # Contract
     ///
     /// ```text
@@ -226,7 +248,7 @@ pub mod memory {
     ///     (metered bytes.old (Some fuel.old)) result (metered bytes.new (Some fuel.new))
     /// ```
     ///
-    /// Definitions: [`BulkWrites`](crate::specs::store::Growth#BulkWrites), [`filled`](crate::specs::store::Growth#filled), [`metered`](crate::specs::store::Growth#metered).
+    /// Definitions: [`BulkWrites`](crate::specs::store::GrowthSpecs#BulkWrites), [`filled`](crate::specs::store::GrowthSpecs#filled), [`metered`](crate::specs::store::GrowthSpecs#metered).
     #[inline]
     pub fn fill(
         bytes: &mut [u8],
@@ -240,6 +262,10 @@ pub mod memory {
 
     /// Copies bytes of a memory, as [`LinearMemory::copy_within`](crate::proved::store::LinearMemory::copy_within) does.
     ///
+    /// # Errors
+    ///
+    /// The same.
+    ///
     /// # Contract
     ///
     /// ```text
@@ -247,7 +273,7 @@ pub mod memory {
     ///     (metered bytes.old (Some fuel.old)) result (metered bytes.new (Some fuel.new))
     /// ```
     ///
-    /// Definitions: [`BulkWrites`](crate::specs::store::Growth#BulkWrites), [`copied`](crate::specs::store::Growth#copied), [`metered`](crate::specs::store::Growth#metered).
+    /// Definitions: [`BulkWrites`](crate::specs::store::GrowthSpecs#BulkWrites), [`copied`](crate::specs::store::GrowthSpecs#copied), [`metered`](crate::specs::store::GrowthSpecs#metered).
     #[inline]
     pub fn copy_within(
         bytes: &mut [u8],
@@ -261,6 +287,10 @@ pub mod memory {
 
     /// Copies bytes to a memory, as [`LinearMemory::copy`](crate::proved::store::LinearMemory::copy) does.
     ///
+    /// # Errors
+    ///
+    /// The same.
+    ///
     /// # Contract
     ///
     /// ```text
@@ -268,7 +298,7 @@ pub mod memory {
     ///     (metered bytes.old (Some fuel.old)) result (metered bytes.new (Some fuel.new))
     /// ```
     ///
-    /// Definitions: [`BulkWrites`](crate::specs::store::Growth#BulkWrites), [`copied`](crate::specs::store::Growth#copied), [`metered`](crate::specs::store::Growth#metered).
+    /// Definitions: [`BulkWrites`](crate::specs::store::GrowthSpecs#BulkWrites), [`copied`](crate::specs::store::GrowthSpecs#copied), [`metered`](crate::specs::store::GrowthSpecs#metered).
     #[inline]
     pub fn copy(
         bytes: &mut [u8],
@@ -283,6 +313,10 @@ pub mod memory {
 
     /// Copies a segment to a memory, as [`LinearMemory::init`](crate::proved::store::LinearMemory::init) does.
     ///
+    /// # Errors
+    ///
+    /// The same.
+    ///
     /// # Contract
     ///
     /// ```text
@@ -290,7 +324,7 @@ pub mod memory {
     ///     (metered bytes.old (Some fuel.old)) result (metered bytes.new (Some fuel.new))
     /// ```
     ///
-    /// Definitions: [`BulkWrites`](crate::specs::store::Growth#BulkWrites), [`copied`](crate::specs::store::Growth#copied), [`metered`](crate::specs::store::Growth#metered).
+    /// Definitions: [`BulkWrites`](crate::specs::store::GrowthSpecs#BulkWrites), [`copied`](crate::specs::store::GrowthSpecs#copied), [`metered`](crate::specs::store::GrowthSpecs#metered).
     #[inline]
     pub fn init(
         bytes: &mut [u8],
@@ -333,7 +367,8 @@ pub mod table {
     /// ensures: (result ≡ true → IsSized ty size) × (IsSized ty size → result ≡ true)
     /// ```
     ///
-    /// Definitions: [`IsSized`](crate::specs::store::Table#IsSized).
+    /// Definitions: [`IsSized`](crate::specs::store::TableSpecs#IsSized).
+    #[must_use]
     #[inline]
     pub fn is_sized(ty: TableType, size: usize) -> bool {
         ty.minimum() <= size as u64 && ty.indexes_size(size) && ty.allows_size(size)
@@ -342,9 +377,11 @@ pub mod table {
     /// Makes a table with one reference in each place at the front of a region, at the minimum of its
     /// type, and returns its size. It takes no fuel, and leaves the elements past the minimum alone.
     ///
-    /// Errors, in the order of the tests: `ResourceLimiterDeniedAllocation` if the limiter doesn't
-    /// permit it; `OutOfSystemMemory` if the region is shorter than the minimum, of which the limiter
-    /// is notified. After an error the region is unchanged.
+    /// # Errors
+    ///
+    /// In the order of the tests: [`ResourceLimiterDeniedAllocation`](crate::TableError::ResourceLimiterDeniedAllocation) if the limiter doesn't permit it;
+    /// [`OutOfSystemMemory`](crate::TableError::OutOfSystemMemory) if the region is shorter than the minimum, of which the limiter is notified.
+    /// After an error the region is unchanged.
     ///
     /// # Contract
     ///
@@ -358,7 +395,9 @@ pub mod table {
     /// ensures len: length region.new ≡ length region.old
     /// ```
     ///
-    /// Definitions: [`KeepsLoan`](crate::specs::meter::Limiter#KeepsLoan), [`MakesTableIn`](crate::specs::region::Table#MakesTableIn), [`optional_rules`](crate::specs::meter::Limiter#optional_rules), [`lent_limiter`](crate::specs::meter::Limiter#lent_limiter), [`made_in`](crate::specs::region::Table#made_in), [`IsSized`](crate::specs::store::Table#IsSized).
+    /// Definitions: [`KeepsLoan`](crate::specs::meter::LimiterSpecs#KeepsLoan), [`MakesTableIn`](crate::specs::region::TableSpecs#MakesTableIn), [`optional_rules`](crate::specs::meter::LimiterSpecs#optional_rules), [`lent_limiter`](crate::specs::meter::LimiterSpecs#lent_limiter), [`made_in`](crate::specs::region::TableSpecs#made_in), [`IsSized`](crate::specs::store::TableSpecs#IsSized).
+    ///
+    /// `L` is the type of the limiter, a [`ResourceLimiter`](crate::machine::ResourceLimiter#contract).
     #[inline]
     pub fn make<L: ResourceLimiter>(
         ty: TableType,
@@ -379,9 +418,12 @@ pub mod table {
 
     /// Grows a table of `size` elements at the front of a region by `delta`, each the given reference,
     /// and returns the old size; `size` becomes the new one. A growth by 0 changes nothing and asks no
-    /// limiter. The errors are those of [`Table::grow_raw`](crate::proved::store::Table::grow_raw), of which `OutOfSystemMemory`
-    /// comes only if the region is shorter than the new size. What lies past the table is unchanged, and
-    /// after an error the whole region is.
+    /// limiter. What lies past the table is unchanged.
+    ///
+    /// # Errors
+    ///
+    /// Those of [`Table::grow_raw`](crate::proved::store::Table::grow_raw), of which [`OutOfSystemMemory`](crate::TableError::OutOfSystemMemory) comes only if the region
+    /// is shorter than the new size. After an error the whole region is unchanged.
     ///
     /// # Panics
     ///
@@ -406,7 +448,9 @@ pub mod table {
     /// ensures size: OnErr result (size.new ≡ size.old)
     /// ```
     ///
-    /// Definitions: [`IsSized`](crate::specs::store::Table#IsSized), [`KeepsLoan`](crate::specs::meter::Limiter#KeepsLoan), [`GrowsTableIn`](crate::specs::region::Table#GrowsTableIn), [`optional_rules`](crate::specs::meter::Limiter#optional_rules), [`metered_value`](crate::specs::store::Growth#metered_value), [`table_in`](crate::specs::region::Table#table_in), [`lent_limiter`](crate::specs::meter::Limiter#lent_limiter).
+    /// Definitions: [`IsSized`](crate::specs::store::TableSpecs#IsSized), [`KeepsLoan`](crate::specs::meter::LimiterSpecs#KeepsLoan), [`GrowsTableIn`](crate::specs::region::TableSpecs#GrowsTableIn), [`optional_rules`](crate::specs::meter::LimiterSpecs#optional_rules), [`metered_value`](crate::specs::store::GrowthSpecs#metered_value), [`table_in`](crate::specs::region::TableSpecs#table_in), [`lent_limiter`](crate::specs::meter::LimiterSpecs#lent_limiter).
+    ///
+    /// `L` is the type of the limiter, a [`ResourceLimiter`](crate::machine::ResourceLimiter#contract).
     #[inline]
     pub fn grow<L: ResourceLimiter>(
         ty: TableType,
@@ -461,14 +505,19 @@ pub mod table {
     ///     × (asked.0 ≡ size + delta) × (asked.1 ≡ ty.maximum))
     /// ```
     ///
-    /// Definitions: [`is_indexable`](crate::specs::store::Table#is_indexable).
+    /// Definitions: [`is_indexable`](crate::specs::store::TableSpecs#is_indexable).
+    #[must_use]
     #[inline]
     pub fn question(ty: TableType, size: usize, delta: u64) -> Option<(usize, Option<usize>)> {
         let desired = ty.grown_size(size as u64, delta)?;
         Some((desired, ty.maximum_size()))
     }
 
-    /// Sets the element at an index. The error is `SetOutOfBounds` past the end.
+    /// Sets the element at an index.
+    ///
+    /// # Errors
+    ///
+    /// [`SetOutOfBounds`](crate::TableError::SetOutOfBounds) past the end.
     ///
     /// # Contract
     ///
@@ -477,7 +526,7 @@ pub mod table {
     ///     (table_of ty elements.new)
     /// ```
     ///
-    /// Definitions: [`SetsTableRaw`](crate::specs::store::Table#SetsTableRaw), [`table_of`](crate::specs::store::Table#table_of).
+    /// Definitions: [`SetsTableRaw`](crate::specs::store::TableSpecs#SetsTableRaw), [`table_of`](crate::specs::store::TableSpecs#table_of).
     #[inline]
     pub fn set(
         ty: TableType,
@@ -493,8 +542,11 @@ pub mod table {
         Ok(())
     }
 
-    /// Fills `len` elements from `dst` on with a reference. The errors are those of
-    /// [`Table::fill_raw`](crate::proved::store::Table::fill_raw).
+    /// Fills `len` elements from `dst` on with a reference.
+    ///
+    /// # Errors
+    ///
+    /// Those of [`Table::fill_raw`](crate::proved::store::Table::fill_raw).
     ///
     /// # Contract
     ///
@@ -504,7 +556,7 @@ pub mod table {
     ///     (metered (table_of ty elements.new) (Some fuel.new))
     /// ```
     ///
-    /// Definitions: [`WritesTable`](crate::specs::store::Table#WritesTable), [`raw_filling_of`](crate::specs::store::Table#raw_filling_of), [`metered`](crate::specs::store::Growth#metered), [`table_of`](crate::specs::store::Table#table_of).
+    /// Definitions: [`WritesTable`](crate::specs::store::TableSpecs#WritesTable), [`raw_filling_of`](crate::specs::store::TableSpecs#raw_filling_of), [`metered`](crate::specs::store::GrowthSpecs#metered), [`table_of`](crate::specs::store::TableSpecs#table_of).
     #[inline]
     pub fn fill(
         ty: TableType,
@@ -518,8 +570,11 @@ pub mod table {
         fill_items(elements, dst, reference, len, outside, fuel)
     }
 
-    /// Copies `len` elements from `src` on over those from `dst` on. The errors are those of
-    /// [`Table::copy_within`](crate::proved::store::Table::copy_within).
+    /// Copies `len` elements from `src` on over those from `dst` on.
+    ///
+    /// # Errors
+    ///
+    /// Those of [`Table::copy_within`](crate::proved::store::Table::copy_within).
     ///
     /// # Contract
     ///
@@ -529,7 +584,7 @@ pub mod table {
     ///     (metered (table_of ty elements.new) (Some fuel.new))
     /// ```
     ///
-    /// Definitions: [`WritesTable`](crate::specs::store::Table#WritesTable), [`copy_of`](crate::specs::store::Table#copy_of), [`table_of`](crate::specs::store::Table#table_of), [`metered`](crate::specs::store::Growth#metered).
+    /// Definitions: [`WritesTable`](crate::specs::store::TableSpecs#WritesTable), [`copy_of`](crate::specs::store::TableSpecs#copy_of), [`table_of`](crate::specs::store::TableSpecs#table_of), [`metered`](crate::specs::store::GrowthSpecs#metered).
     #[inline]
     pub fn copy_within(
         ty: TableType,
@@ -544,7 +599,10 @@ pub mod table {
     }
 
     /// Copies `len` items of a table, from `src` on, over the elements of another table from `dst` on.
-    /// The errors are those of [`Table::copy`](crate::proved::store::Table::copy).
+    ///
+    /// # Errors
+    ///
+    /// Those of [`Table::copy`](crate::proved::store::Table::copy).
     ///
     /// # Contract
     ///
@@ -554,7 +612,7 @@ pub mod table {
     ///     (metered (table_of ty elements.new) (Some fuel.new))
     /// ```
     ///
-    /// Definitions: [`WritesTable`](crate::specs::store::Table#WritesTable), [`copy_of`](crate::specs::store::Table#copy_of), [`table_of`](crate::specs::store::Table#table_of), [`metered`](crate::specs::store::Growth#metered).
+    /// Definitions: [`WritesTable`](crate::specs::store::TableSpecs#WritesTable), [`copy_of`](crate::specs::store::TableSpecs#copy_of), [`table_of`](crate::specs::store::TableSpecs#table_of), [`metered`](crate::specs::store::GrowthSpecs#metered).
     #[inline]
     pub fn copy(
         ty: TableType,
@@ -572,7 +630,11 @@ pub mod table {
     }
 
     /// Copies `len` items of the type of a table's elements, from `src` on, over the elements from
-    /// `dst` on. The errors are those of [`Table::init`](crate::proved::store::Table::init).
+    /// `dst` on.
+    ///
+    /// # Errors
+    ///
+    /// Those of [`Table::init`](crate::proved::store::Table::init).
     ///
     /// # Contract
     ///
@@ -582,7 +644,7 @@ pub mod table {
     ///     (metered (table_of ty elements.new) (Some fuel.new))
     /// ```
     ///
-    /// Definitions: [`WritesTable`](crate::specs::store::Table#WritesTable), [`initialization_of`](crate::specs::store::Table#initialization_of), [`items_of`](crate::specs::region::Table#items_of), [`metered`](crate::specs::store::Growth#metered), [`table_of`](crate::specs::store::Table#table_of).
+    /// Definitions: [`WritesTable`](crate::specs::store::TableSpecs#WritesTable), [`initialization_of`](crate::specs::store::TableSpecs#initialization_of), [`items_of`](crate::specs::region::TableSpecs#items_of), [`metered`](crate::specs::store::GrowthSpecs#metered), [`table_of`](crate::specs::store::TableSpecs#table_of).
     #[inline]
     pub fn init(
         ty: TableType,

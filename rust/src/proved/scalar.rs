@@ -17,6 +17,8 @@ pub mod value {
         /// ```text
         /// ensures: result ≡ Self.of_number (int_wrap T.width (Self.number self))
         /// ```
+        ///
+        /// `T` is a type with the trait `Number`.
         fn sign_extend_from(self) -> Self;
     }
 
@@ -54,7 +56,7 @@ pub mod value {
         /// ensures: result ≡ ieqz (Self.number self)
         /// ```
         ///
-        /// Definitions: [`ieqz`](crate::specs::scalar::Numerics#ieqz).
+        /// Definitions: [`ieqz`](crate::specs::scalar::NumericsSpecs#ieqz).
         fn is_zero(self) -> bool;
 
         /// The zeros above the highest bit that is set, the width for 0.
@@ -65,7 +67,7 @@ pub mod value {
         /// ensures: Self.number result ≡ iclz Self.width (Self.number self)
         /// ```
         ///
-        /// Definitions: [`iclz`](crate::specs::scalar::Numerics#iclz).
+        /// Definitions: [`iclz`](crate::specs::scalar::NumericsSpecs#iclz).
         fn leading_zeros(self) -> Self;
 
         /// The zeros below the lowest bit that is set, the width for 0.
@@ -76,7 +78,7 @@ pub mod value {
         /// ensures: Self.number result ≡ ictz Self.width (Self.number self)
         /// ```
         ///
-        /// Definitions: [`ictz`](crate::specs::scalar::Numerics#ictz).
+        /// Definitions: [`ictz`](crate::specs::scalar::NumericsSpecs#ictz).
         fn trailing_zeros(self) -> Self;
 
         /// The bits that are set.
@@ -87,7 +89,7 @@ pub mod value {
         /// ensures: Self.number result ≡ ipopcnt Self.width (Self.number self)
         /// ```
         ///
-        /// Definitions: [`ipopcnt`](crate::specs::scalar::Numerics#ipopcnt).
+        /// Definitions: [`ipopcnt`](crate::specs::scalar::NumericsSpecs#ipopcnt).
         fn count_ones(self) -> Self;
 
         /// Shifts to the left by `rhs` modulo the width, filling with zeros.
@@ -98,7 +100,7 @@ pub mod value {
         /// ensures: Self.number result ≡ ishl Self.width (Self.number lhs) (Self.number rhs)
         /// ```
         ///
-        /// Definitions: [`ishl`](crate::specs::scalar::Numerics#ishl).
+        /// Definitions: [`ishl`](crate::specs::scalar::NumericsSpecs#ishl).
         fn shl(lhs: Self, rhs: Self) -> Self;
 
         /// Shifts to the right by `rhs` modulo the width, filling with the highest bit.
@@ -109,7 +111,7 @@ pub mod value {
         /// ensures: Self.number result ≡ ishr_s Self.width (Self.number lhs) (Self.number rhs)
         /// ```
         ///
-        /// Definitions: [`ishr_s`](crate::specs::scalar::Numerics#ishr_s).
+        /// Definitions: [`ishr_s`](crate::specs::scalar::NumericsSpecs#ishr_s).
         fn shr_s(lhs: Self, rhs: Self) -> Self;
 
         /// Shifts to the right by `rhs` modulo the width, filling with zeros.
@@ -122,7 +124,7 @@ pub mod value {
         ///     (unsigned_abs (Self.Uint.number rhs))
         /// ```
         ///
-        /// Definitions: [`ishr_u`](crate::specs::scalar::Numerics#ishr_u).
+        /// Definitions: [`ishr_u`](crate::specs::scalar::NumericsSpecs#ishr_u).
         fn shr_u(lhs: Self::Uint, rhs: Self::Uint) -> Self::Uint;
 
         /// Rotates to the left by `rhs` modulo the width: the bits that leave at the top come in at the
@@ -134,7 +136,7 @@ pub mod value {
         /// ensures: Self.number result ≡ irotl Self.width (Self.number lhs) (Self.number rhs)
         /// ```
         ///
-        /// Definitions: [`irotl`](crate::specs::scalar::Numerics#irotl).
+        /// Definitions: [`irotl`](crate::specs::scalar::NumericsSpecs#irotl).
         fn rotl(lhs: Self, rhs: Self) -> Self;
 
         /// Rotates to the right by `rhs` modulo the width: the bits that leave at the bottom come in at
@@ -146,7 +148,7 @@ pub mod value {
         /// ensures: Self.number result ≡ irotr Self.width (Self.number lhs) (Self.number rhs)
         /// ```
         ///
-        /// Definitions: [`irotr`](crate::specs::scalar::Numerics#irotr).
+        /// Definitions: [`irotr`](crate::specs::scalar::NumericsSpecs#irotr).
         fn rotr(lhs: Self, rhs: Self) -> Self;
 
         /// The quotient towards zero; `IntegerDivisionByZero` for a divisor of 0, then
@@ -159,7 +161,7 @@ pub mod value {
         ///     (idiv_s Self.width (Self.number lhs) (Self.number rhs))
         /// ```
         ///
-        /// Definitions: [`GivesNumber`](crate::specs::accesses::LoadStore#GivesNumber), [`idiv_s`](crate::specs::scalar::Numerics#idiv_s).
+        /// Definitions: [`GivesNumber`](crate::specs::accesses::LoadStoreSpecs#GivesNumber), [`idiv_s`](crate::specs::scalar::NumericsSpecs#idiv_s).
         fn div_s(lhs: Self, rhs: Self) -> Result<Self, TrapCode>;
 
         /// The quotient, or `IntegerDivisionByZero` for a divisor of 0.
@@ -171,7 +173,7 @@ pub mod value {
         ///     (idiv_u (unsigned_abs (Self.Uint.number lhs)) (unsigned_abs (Self.Uint.number rhs)))
         /// ```
         ///
-        /// Definitions: [`GivesNumber`](crate::specs::accesses::LoadStore#GivesNumber), [`idiv_u`](crate::specs::scalar::Numerics#idiv_u).
+        /// Definitions: [`GivesNumber`](crate::specs::accesses::LoadStoreSpecs#GivesNumber), [`idiv_u`](crate::specs::scalar::NumericsSpecs#idiv_u).
         fn div_u(lhs: Self::Uint, rhs: Self::Uint) -> Result<Self::Uint, TrapCode>;
 
         /// The remainder, with the sign of the dividend: 0 for the least number by -1; or
@@ -183,7 +185,7 @@ pub mod value {
         /// ensures: GivesNumber Self.number result (irem_s (Self.number lhs) (Self.number rhs))
         /// ```
         ///
-        /// Definitions: [`GivesNumber`](crate::specs::accesses::LoadStore#GivesNumber), [`irem_s`](crate::specs::scalar::Numerics#irem_s).
+        /// Definitions: [`GivesNumber`](crate::specs::accesses::LoadStoreSpecs#GivesNumber), [`irem_s`](crate::specs::scalar::NumericsSpecs#irem_s).
         fn rem_s(lhs: Self, rhs: Self) -> Result<Self, TrapCode>;
 
         /// The remainder, or `IntegerDivisionByZero` for a divisor of 0.
@@ -195,7 +197,7 @@ pub mod value {
         ///     (irem_u (unsigned_abs (Self.Uint.number lhs)) (unsigned_abs (Self.Uint.number rhs)))
         /// ```
         ///
-        /// Definitions: [`GivesNumber`](crate::specs::accesses::LoadStore#GivesNumber), [`irem_u`](crate::specs::scalar::Numerics#irem_u).
+        /// Definitions: [`GivesNumber`](crate::specs::accesses::LoadStoreSpecs#GivesNumber), [`irem_u`](crate::specs::scalar::NumericsSpecs#irem_u).
         fn rem_u(lhs: Self::Uint, rhs: Self::Uint) -> Result<Self::Uint, TrapCode>;
     }
 
@@ -352,7 +354,7 @@ pub mod value {
     /// ensures: result ≡ amount_modulo w64 rhs
     /// ```
     ///
-    /// Definitions: [`amount_modulo`](crate::specs::scalar::Numerics#amount_modulo).
+    /// Definitions: [`amount_modulo`](crate::specs::scalar::NumericsSpecs#amount_modulo).
     #[inline(always)]
     fn amount(rhs: i64) -> u32 {
         (rhs.cast_unsigned() % 64) as u32
@@ -400,6 +402,9 @@ pub mod wasm {
     //! `bitxor` are `and`, `or` and `xor`. Core specification: numeric instructions; of `i64_add128`,
     //! `i64_sub128`, `i64_mul_wide_s` and `i64_mul_wide_u`: the wide-arithmetic proposal. Upstream:
     //! `wasmi_core::wasm`.
+    //!
+    //! Divisions and remainders alone have errors: `IntegerDivisionByZero` if the divisor is 0, and those
+    //! of `div_s` then `IntegerOverflow` for the least number by -1.
 
     use crate::proved::accesses::access::{ExtendInto, WrapInto};
     use crate::proved::scalar::value::{Integer, SignExtendFrom};
@@ -413,7 +418,8 @@ pub mod wasm {
     /// ensures: result ≡ iadd w32 lhs rhs
     /// ```
     ///
-    /// Definitions: [`iadd`](crate::specs::scalar::Numerics#iadd).
+    /// Definitions: [`iadd`](crate::specs::scalar::NumericsSpecs#iadd).
+    #[must_use]
     #[inline]
     pub fn i32_add(lhs: i32, rhs: i32) -> i32 {
         lhs.wrapping_add(rhs)
@@ -427,7 +433,8 @@ pub mod wasm {
     /// ensures: result ≡ isub w32 lhs rhs
     /// ```
     ///
-    /// Definitions: [`isub`](crate::specs::scalar::Numerics#isub).
+    /// Definitions: [`isub`](crate::specs::scalar::NumericsSpecs#isub).
+    #[must_use]
     #[inline]
     pub fn i32_sub(lhs: i32, rhs: i32) -> i32 {
         lhs.wrapping_sub(rhs)
@@ -441,7 +448,8 @@ pub mod wasm {
     /// ensures: result ≡ imul w32 lhs rhs
     /// ```
     ///
-    /// Definitions: [`imul`](crate::specs::scalar::Numerics#imul).
+    /// Definitions: [`imul`](crate::specs::scalar::NumericsSpecs#imul).
+    #[must_use]
     #[inline]
     pub fn i32_mul(lhs: i32, rhs: i32) -> i32 {
         lhs.wrapping_mul(rhs)
@@ -455,7 +463,8 @@ pub mod wasm {
     /// ensures: result ≡ iand w32 lhs rhs
     /// ```
     ///
-    /// Definitions: [`iand`](crate::specs::scalar::Numerics#iand).
+    /// Definitions: [`iand`](crate::specs::scalar::NumericsSpecs#iand).
+    #[must_use]
     #[inline]
     pub fn i32_bitand(lhs: i32, rhs: i32) -> i32 {
         lhs & rhs
@@ -469,7 +478,8 @@ pub mod wasm {
     /// ensures: result ≡ ior w32 lhs rhs
     /// ```
     ///
-    /// Definitions: [`ior`](crate::specs::scalar::Numerics#ior).
+    /// Definitions: [`ior`](crate::specs::scalar::NumericsSpecs#ior).
+    #[must_use]
     #[inline]
     pub fn i32_bitor(lhs: i32, rhs: i32) -> i32 {
         lhs | rhs
@@ -483,7 +493,8 @@ pub mod wasm {
     /// ensures: result ≡ ixor w32 lhs rhs
     /// ```
     ///
-    /// Definitions: [`ixor`](crate::specs::scalar::Numerics#ixor).
+    /// Definitions: [`ixor`](crate::specs::scalar::NumericsSpecs#ixor).
+    #[must_use]
     #[inline]
     pub fn i32_bitxor(lhs: i32, rhs: i32) -> i32 {
         lhs ^ rhs
@@ -497,7 +508,8 @@ pub mod wasm {
     /// ensures: result ≡ ishl w32 lhs rhs
     /// ```
     ///
-    /// Definitions: [`ishl`](crate::specs::scalar::Numerics#ishl).
+    /// Definitions: [`ishl`](crate::specs::scalar::NumericsSpecs#ishl).
+    #[must_use]
     #[inline]
     pub fn i32_shl(lhs: i32, rhs: i32) -> i32 {
         Integer::shl(lhs, rhs)
@@ -511,7 +523,8 @@ pub mod wasm {
     /// ensures: result ≡ ishr_s w32 lhs rhs
     /// ```
     ///
-    /// Definitions: [`ishr_s`](crate::specs::scalar::Numerics#ishr_s).
+    /// Definitions: [`ishr_s`](crate::specs::scalar::NumericsSpecs#ishr_s).
+    #[must_use]
     #[inline]
     pub fn i32_shr_s(lhs: i32, rhs: i32) -> i32 {
         Integer::shr_s(lhs, rhs)
@@ -525,7 +538,8 @@ pub mod wasm {
     /// ensures: result ≡ ishr_u w32 lhs rhs
     /// ```
     ///
-    /// Definitions: [`ishr_u`](crate::specs::scalar::Numerics#ishr_u).
+    /// Definitions: [`ishr_u`](crate::specs::scalar::NumericsSpecs#ishr_u).
+    #[must_use]
     #[inline]
     pub fn i32_shr_u(lhs: u32, rhs: u32) -> u32 {
         <i32 as Integer>::shr_u(lhs, rhs)
@@ -539,7 +553,8 @@ pub mod wasm {
     /// ensures: result ≡ irotl w32 lhs rhs
     /// ```
     ///
-    /// Definitions: [`irotl`](crate::specs::scalar::Numerics#irotl).
+    /// Definitions: [`irotl`](crate::specs::scalar::NumericsSpecs#irotl).
+    #[must_use]
     #[inline]
     pub fn i32_rotl(lhs: i32, rhs: i32) -> i32 {
         Integer::rotl(lhs, rhs)
@@ -553,14 +568,18 @@ pub mod wasm {
     /// ensures: result ≡ irotr w32 lhs rhs
     /// ```
     ///
-    /// Definitions: [`irotr`](crate::specs::scalar::Numerics#irotr).
+    /// Definitions: [`irotr`](crate::specs::scalar::NumericsSpecs#irotr).
+    #[must_use]
     #[inline]
     pub fn i32_rotr(lhs: i32, rhs: i32) -> i32 {
         Integer::rotr(lhs, rhs)
     }
 
-    /// The quotient towards zero; `IntegerDivisionByZero` for a divisor of 0, then `IntegerOverflow` for
-    /// the least number by -1.
+    /// The quotient towards zero.
+    ///
+    /// # Errors
+    ///
+    /// In the order of the tests: [`IntegerDivisionByZero`](crate::TrapCode::IntegerDivisionByZero) if the divisor is 0; [`IntegerOverflow`](crate::TrapCode::IntegerOverflow) for the least number by -1.
     ///
     /// # Contract
     ///
@@ -568,13 +587,17 @@ pub mod wasm {
     /// ensures: result ≡ idiv_s w32 lhs rhs
     /// ```
     ///
-    /// Definitions: [`idiv_s`](crate::specs::scalar::Numerics#idiv_s).
+    /// Definitions: [`idiv_s`](crate::specs::scalar::NumericsSpecs#idiv_s).
     #[inline]
     pub fn i32_div_s(lhs: i32, rhs: i32) -> Result<i32, TrapCode> {
         Integer::div_s(lhs, rhs)
     }
 
-    /// The quotient, or `IntegerDivisionByZero` for a divisor of 0.
+    /// The quotient.
+    ///
+    /// # Errors
+    ///
+    /// [`IntegerDivisionByZero`](crate::TrapCode::IntegerDivisionByZero) if the divisor is 0.
     ///
     /// # Contract
     ///
@@ -582,14 +605,17 @@ pub mod wasm {
     /// ensures: result ≡ idiv_u lhs rhs
     /// ```
     ///
-    /// Definitions: [`idiv_u`](crate::specs::scalar::Numerics#idiv_u).
+    /// Definitions: [`idiv_u`](crate::specs::scalar::NumericsSpecs#idiv_u).
     #[inline]
     pub fn i32_div_u(lhs: u32, rhs: u32) -> Result<u32, TrapCode> {
         <i32 as Integer>::div_u(lhs, rhs)
     }
 
-    /// The remainder, with the sign of `lhs`: 0 for the least number by -1; or `IntegerDivisionByZero`
-    /// for a divisor of 0.
+    /// The remainder, with the sign of `lhs`: 0 for the least number by -1.
+    ///
+    /// # Errors
+    ///
+    /// [`IntegerDivisionByZero`](crate::TrapCode::IntegerDivisionByZero) if the divisor is 0.
     ///
     /// # Contract
     ///
@@ -597,13 +623,17 @@ pub mod wasm {
     /// ensures: result ≡ irem_s lhs rhs
     /// ```
     ///
-    /// Definitions: [`irem_s`](crate::specs::scalar::Numerics#irem_s).
+    /// Definitions: [`irem_s`](crate::specs::scalar::NumericsSpecs#irem_s).
     #[inline]
     pub fn i32_rem_s(lhs: i32, rhs: i32) -> Result<i32, TrapCode> {
         Integer::rem_s(lhs, rhs)
     }
 
-    /// The remainder, or `IntegerDivisionByZero` for a divisor of 0.
+    /// The remainder.
+    ///
+    /// # Errors
+    ///
+    /// [`IntegerDivisionByZero`](crate::TrapCode::IntegerDivisionByZero) if the divisor is 0.
     ///
     /// # Contract
     ///
@@ -611,7 +641,7 @@ pub mod wasm {
     /// ensures: result ≡ irem_u lhs rhs
     /// ```
     ///
-    /// Definitions: [`irem_u`](crate::specs::scalar::Numerics#irem_u).
+    /// Definitions: [`irem_u`](crate::specs::scalar::NumericsSpecs#irem_u).
     #[inline]
     pub fn i32_rem_u(lhs: u32, rhs: u32) -> Result<u32, TrapCode> {
         <i32 as Integer>::rem_u(lhs, rhs)
@@ -625,7 +655,8 @@ pub mod wasm {
     /// ensures: result ≡ iclz w32 value
     /// ```
     ///
-    /// Definitions: [`iclz`](crate::specs::scalar::Numerics#iclz).
+    /// Definitions: [`iclz`](crate::specs::scalar::NumericsSpecs#iclz).
+    #[must_use]
     #[inline]
     pub fn i32_clz(value: i32) -> i32 {
         Integer::leading_zeros(value)
@@ -639,7 +670,8 @@ pub mod wasm {
     /// ensures: result ≡ ictz w32 value
     /// ```
     ///
-    /// Definitions: [`ictz`](crate::specs::scalar::Numerics#ictz).
+    /// Definitions: [`ictz`](crate::specs::scalar::NumericsSpecs#ictz).
+    #[must_use]
     #[inline]
     pub fn i32_ctz(value: i32) -> i32 {
         Integer::trailing_zeros(value)
@@ -653,7 +685,8 @@ pub mod wasm {
     /// ensures: result ≡ ipopcnt w32 value
     /// ```
     ///
-    /// Definitions: [`ipopcnt`](crate::specs::scalar::Numerics#ipopcnt).
+    /// Definitions: [`ipopcnt`](crate::specs::scalar::NumericsSpecs#ipopcnt).
+    #[must_use]
     #[inline]
     pub fn i32_popcnt(value: i32) -> i32 {
         Integer::count_ones(value)
@@ -667,7 +700,8 @@ pub mod wasm {
     /// ensures: result ≡ ieqz value
     /// ```
     ///
-    /// Definitions: [`ieqz`](crate::specs::scalar::Numerics#ieqz).
+    /// Definitions: [`ieqz`](crate::specs::scalar::NumericsSpecs#ieqz).
+    #[must_use]
     #[inline]
     pub fn i32_eqz(value: i32) -> bool {
         Integer::is_zero(value)
@@ -681,7 +715,8 @@ pub mod wasm {
     /// ensures: result ≡ ieq lhs rhs
     /// ```
     ///
-    /// Definitions: [`ieq`](crate::specs::scalar::Numerics#ieq).
+    /// Definitions: [`ieq`](crate::specs::scalar::NumericsSpecs#ieq).
+    #[must_use]
     #[inline]
     pub fn i32_eq(lhs: i32, rhs: i32) -> bool {
         lhs == rhs
@@ -695,7 +730,8 @@ pub mod wasm {
     /// ensures: result ≡ ine lhs rhs
     /// ```
     ///
-    /// Definitions: [`ine`](crate::specs::scalar::Numerics#ine).
+    /// Definitions: [`ine`](crate::specs::scalar::NumericsSpecs#ine).
+    #[must_use]
     #[inline]
     pub fn i32_ne(lhs: i32, rhs: i32) -> bool {
         lhs != rhs
@@ -709,7 +745,8 @@ pub mod wasm {
     /// ensures: result ≡ ilt_s lhs rhs
     /// ```
     ///
-    /// Definitions: [`ilt_s`](crate::specs::scalar::Numerics#ilt_s).
+    /// Definitions: [`ilt_s`](crate::specs::scalar::NumericsSpecs#ilt_s).
+    #[must_use]
     #[inline]
     pub fn i32_lt_s(lhs: i32, rhs: i32) -> bool {
         lhs < rhs
@@ -723,7 +760,8 @@ pub mod wasm {
     /// ensures: result ≡ ilt_u lhs rhs
     /// ```
     ///
-    /// Definitions: [`ilt_u`](crate::specs::scalar::Numerics#ilt_u).
+    /// Definitions: [`ilt_u`](crate::specs::scalar::NumericsSpecs#ilt_u).
+    #[must_use]
     #[inline]
     pub fn i32_lt_u(lhs: u32, rhs: u32) -> bool {
         lhs < rhs
@@ -737,7 +775,8 @@ pub mod wasm {
     /// ensures: result ≡ ile_s lhs rhs
     /// ```
     ///
-    /// Definitions: [`ile_s`](crate::specs::scalar::Numerics#ile_s).
+    /// Definitions: [`ile_s`](crate::specs::scalar::NumericsSpecs#ile_s).
+    #[must_use]
     #[inline]
     pub fn i32_le_s(lhs: i32, rhs: i32) -> bool {
         lhs <= rhs
@@ -751,7 +790,8 @@ pub mod wasm {
     /// ensures: result ≡ ile_u lhs rhs
     /// ```
     ///
-    /// Definitions: [`ile_u`](crate::specs::scalar::Numerics#ile_u).
+    /// Definitions: [`ile_u`](crate::specs::scalar::NumericsSpecs#ile_u).
+    #[must_use]
     #[inline]
     pub fn i32_le_u(lhs: u32, rhs: u32) -> bool {
         lhs <= rhs
@@ -765,7 +805,8 @@ pub mod wasm {
     /// ensures: result ≡ igt_s lhs rhs
     /// ```
     ///
-    /// Definitions: [`igt_s`](crate::specs::scalar::Numerics#igt_s).
+    /// Definitions: [`igt_s`](crate::specs::scalar::NumericsSpecs#igt_s).
+    #[must_use]
     #[inline]
     pub fn i32_gt_s(lhs: i32, rhs: i32) -> bool {
         lhs > rhs
@@ -779,7 +820,8 @@ pub mod wasm {
     /// ensures: result ≡ igt_u lhs rhs
     /// ```
     ///
-    /// Definitions: [`igt_u`](crate::specs::scalar::Numerics#igt_u).
+    /// Definitions: [`igt_u`](crate::specs::scalar::NumericsSpecs#igt_u).
+    #[must_use]
     #[inline]
     pub fn i32_gt_u(lhs: u32, rhs: u32) -> bool {
         lhs > rhs
@@ -793,7 +835,8 @@ pub mod wasm {
     /// ensures: result ≡ ige_s lhs rhs
     /// ```
     ///
-    /// Definitions: [`ige_s`](crate::specs::scalar::Numerics#ige_s).
+    /// Definitions: [`ige_s`](crate::specs::scalar::NumericsSpecs#ige_s).
+    #[must_use]
     #[inline]
     pub fn i32_ge_s(lhs: i32, rhs: i32) -> bool {
         lhs >= rhs
@@ -807,7 +850,8 @@ pub mod wasm {
     /// ensures: result ≡ ige_u lhs rhs
     /// ```
     ///
-    /// Definitions: [`ige_u`](crate::specs::scalar::Numerics#ige_u).
+    /// Definitions: [`ige_u`](crate::specs::scalar::NumericsSpecs#ige_u).
+    #[must_use]
     #[inline]
     pub fn i32_ge_u(lhs: u32, rhs: u32) -> bool {
         lhs >= rhs
@@ -821,7 +865,8 @@ pub mod wasm {
     /// ensures: result ≡ iadd w64 lhs rhs
     /// ```
     ///
-    /// Definitions: [`iadd`](crate::specs::scalar::Numerics#iadd).
+    /// Definitions: [`iadd`](crate::specs::scalar::NumericsSpecs#iadd).
+    #[must_use]
     #[inline]
     pub fn i64_add(lhs: i64, rhs: i64) -> i64 {
         lhs.wrapping_add(rhs)
@@ -835,7 +880,8 @@ pub mod wasm {
     /// ensures: result ≡ isub w64 lhs rhs
     /// ```
     ///
-    /// Definitions: [`isub`](crate::specs::scalar::Numerics#isub).
+    /// Definitions: [`isub`](crate::specs::scalar::NumericsSpecs#isub).
+    #[must_use]
     #[inline]
     pub fn i64_sub(lhs: i64, rhs: i64) -> i64 {
         lhs.wrapping_sub(rhs)
@@ -849,7 +895,8 @@ pub mod wasm {
     /// ensures: result ≡ imul w64 lhs rhs
     /// ```
     ///
-    /// Definitions: [`imul`](crate::specs::scalar::Numerics#imul).
+    /// Definitions: [`imul`](crate::specs::scalar::NumericsSpecs#imul).
+    #[must_use]
     #[inline]
     pub fn i64_mul(lhs: i64, rhs: i64) -> i64 {
         lhs.wrapping_mul(rhs)
@@ -863,7 +910,8 @@ pub mod wasm {
     /// ensures: result ≡ iand w64 lhs rhs
     /// ```
     ///
-    /// Definitions: [`iand`](crate::specs::scalar::Numerics#iand).
+    /// Definitions: [`iand`](crate::specs::scalar::NumericsSpecs#iand).
+    #[must_use]
     #[inline]
     pub fn i64_bitand(lhs: i64, rhs: i64) -> i64 {
         lhs & rhs
@@ -877,7 +925,8 @@ pub mod wasm {
     /// ensures: result ≡ ior w64 lhs rhs
     /// ```
     ///
-    /// Definitions: [`ior`](crate::specs::scalar::Numerics#ior).
+    /// Definitions: [`ior`](crate::specs::scalar::NumericsSpecs#ior).
+    #[must_use]
     #[inline]
     pub fn i64_bitor(lhs: i64, rhs: i64) -> i64 {
         lhs | rhs
@@ -891,7 +940,8 @@ pub mod wasm {
     /// ensures: result ≡ ixor w64 lhs rhs
     /// ```
     ///
-    /// Definitions: [`ixor`](crate::specs::scalar::Numerics#ixor).
+    /// Definitions: [`ixor`](crate::specs::scalar::NumericsSpecs#ixor).
+    #[must_use]
     #[inline]
     pub fn i64_bitxor(lhs: i64, rhs: i64) -> i64 {
         lhs ^ rhs
@@ -905,7 +955,8 @@ pub mod wasm {
     /// ensures: result ≡ ishl w64 lhs rhs
     /// ```
     ///
-    /// Definitions: [`ishl`](crate::specs::scalar::Numerics#ishl).
+    /// Definitions: [`ishl`](crate::specs::scalar::NumericsSpecs#ishl).
+    #[must_use]
     #[inline]
     pub fn i64_shl(lhs: i64, rhs: i64) -> i64 {
         Integer::shl(lhs, rhs)
@@ -919,7 +970,8 @@ pub mod wasm {
     /// ensures: result ≡ ishr_s w64 lhs rhs
     /// ```
     ///
-    /// Definitions: [`ishr_s`](crate::specs::scalar::Numerics#ishr_s).
+    /// Definitions: [`ishr_s`](crate::specs::scalar::NumericsSpecs#ishr_s).
+    #[must_use]
     #[inline]
     pub fn i64_shr_s(lhs: i64, rhs: i64) -> i64 {
         Integer::shr_s(lhs, rhs)
@@ -933,7 +985,8 @@ pub mod wasm {
     /// ensures: result ≡ ishr_u w64 lhs rhs
     /// ```
     ///
-    /// Definitions: [`ishr_u`](crate::specs::scalar::Numerics#ishr_u).
+    /// Definitions: [`ishr_u`](crate::specs::scalar::NumericsSpecs#ishr_u).
+    #[must_use]
     #[inline]
     pub fn i64_shr_u(lhs: u64, rhs: u64) -> u64 {
         <i64 as Integer>::shr_u(lhs, rhs)
@@ -947,7 +1000,8 @@ pub mod wasm {
     /// ensures: result ≡ irotl w64 lhs rhs
     /// ```
     ///
-    /// Definitions: [`irotl`](crate::specs::scalar::Numerics#irotl).
+    /// Definitions: [`irotl`](crate::specs::scalar::NumericsSpecs#irotl).
+    #[must_use]
     #[inline]
     pub fn i64_rotl(lhs: i64, rhs: i64) -> i64 {
         Integer::rotl(lhs, rhs)
@@ -961,14 +1015,18 @@ pub mod wasm {
     /// ensures: result ≡ irotr w64 lhs rhs
     /// ```
     ///
-    /// Definitions: [`irotr`](crate::specs::scalar::Numerics#irotr).
+    /// Definitions: [`irotr`](crate::specs::scalar::NumericsSpecs#irotr).
+    #[must_use]
     #[inline]
     pub fn i64_rotr(lhs: i64, rhs: i64) -> i64 {
         Integer::rotr(lhs, rhs)
     }
 
-    /// The quotient towards zero; `IntegerDivisionByZero` for a divisor of 0, then `IntegerOverflow` for
-    /// the least number by -1.
+    /// The quotient towards zero.
+    ///
+    /// # Errors
+    ///
+    /// In the order of the tests: [`IntegerDivisionByZero`](crate::TrapCode::IntegerDivisionByZero) if the divisor is 0; [`IntegerOverflow`](crate::TrapCode::IntegerOverflow) for the least number by -1.
     ///
     /// # Contract
     ///
@@ -976,13 +1034,17 @@ pub mod wasm {
     /// ensures: result ≡ idiv_s w64 lhs rhs
     /// ```
     ///
-    /// Definitions: [`idiv_s`](crate::specs::scalar::Numerics#idiv_s).
+    /// Definitions: [`idiv_s`](crate::specs::scalar::NumericsSpecs#idiv_s).
     #[inline]
     pub fn i64_div_s(lhs: i64, rhs: i64) -> Result<i64, TrapCode> {
         Integer::div_s(lhs, rhs)
     }
 
-    /// The quotient, or `IntegerDivisionByZero` for a divisor of 0.
+    /// The quotient.
+    ///
+    /// # Errors
+    ///
+    /// [`IntegerDivisionByZero`](crate::TrapCode::IntegerDivisionByZero) if the divisor is 0.
     ///
     /// # Contract
     ///
@@ -990,14 +1052,17 @@ pub mod wasm {
     /// ensures: result ≡ idiv_u lhs rhs
     /// ```
     ///
-    /// Definitions: [`idiv_u`](crate::specs::scalar::Numerics#idiv_u).
+    /// Definitions: [`idiv_u`](crate::specs::scalar::NumericsSpecs#idiv_u).
     #[inline]
     pub fn i64_div_u(lhs: u64, rhs: u64) -> Result<u64, TrapCode> {
         <i64 as Integer>::div_u(lhs, rhs)
     }
 
-    /// The remainder, with the sign of `lhs`: 0 for the least number by -1; or `IntegerDivisionByZero`
-    /// for a divisor of 0.
+    /// The remainder, with the sign of `lhs`: 0 for the least number by -1.
+    ///
+    /// # Errors
+    ///
+    /// [`IntegerDivisionByZero`](crate::TrapCode::IntegerDivisionByZero) if the divisor is 0.
     ///
     /// # Contract
     ///
@@ -1005,13 +1070,17 @@ pub mod wasm {
     /// ensures: result ≡ irem_s lhs rhs
     /// ```
     ///
-    /// Definitions: [`irem_s`](crate::specs::scalar::Numerics#irem_s).
+    /// Definitions: [`irem_s`](crate::specs::scalar::NumericsSpecs#irem_s).
     #[inline]
     pub fn i64_rem_s(lhs: i64, rhs: i64) -> Result<i64, TrapCode> {
         Integer::rem_s(lhs, rhs)
     }
 
-    /// The remainder, or `IntegerDivisionByZero` for a divisor of 0.
+    /// The remainder.
+    ///
+    /// # Errors
+    ///
+    /// [`IntegerDivisionByZero`](crate::TrapCode::IntegerDivisionByZero) if the divisor is 0.
     ///
     /// # Contract
     ///
@@ -1019,7 +1088,7 @@ pub mod wasm {
     /// ensures: result ≡ irem_u lhs rhs
     /// ```
     ///
-    /// Definitions: [`irem_u`](crate::specs::scalar::Numerics#irem_u).
+    /// Definitions: [`irem_u`](crate::specs::scalar::NumericsSpecs#irem_u).
     #[inline]
     pub fn i64_rem_u(lhs: u64, rhs: u64) -> Result<u64, TrapCode> {
         <i64 as Integer>::rem_u(lhs, rhs)
@@ -1033,7 +1102,8 @@ pub mod wasm {
     /// ensures: result ≡ iclz w64 value
     /// ```
     ///
-    /// Definitions: [`iclz`](crate::specs::scalar::Numerics#iclz).
+    /// Definitions: [`iclz`](crate::specs::scalar::NumericsSpecs#iclz).
+    #[must_use]
     #[inline]
     pub fn i64_clz(value: i64) -> i64 {
         Integer::leading_zeros(value)
@@ -1047,7 +1117,8 @@ pub mod wasm {
     /// ensures: result ≡ ictz w64 value
     /// ```
     ///
-    /// Definitions: [`ictz`](crate::specs::scalar::Numerics#ictz).
+    /// Definitions: [`ictz`](crate::specs::scalar::NumericsSpecs#ictz).
+    #[must_use]
     #[inline]
     pub fn i64_ctz(value: i64) -> i64 {
         Integer::trailing_zeros(value)
@@ -1061,7 +1132,8 @@ pub mod wasm {
     /// ensures: result ≡ ipopcnt w64 value
     /// ```
     ///
-    /// Definitions: [`ipopcnt`](crate::specs::scalar::Numerics#ipopcnt).
+    /// Definitions: [`ipopcnt`](crate::specs::scalar::NumericsSpecs#ipopcnt).
+    #[must_use]
     #[inline]
     pub fn i64_popcnt(value: i64) -> i64 {
         Integer::count_ones(value)
@@ -1075,7 +1147,8 @@ pub mod wasm {
     /// ensures: result ≡ ieqz value
     /// ```
     ///
-    /// Definitions: [`ieqz`](crate::specs::scalar::Numerics#ieqz).
+    /// Definitions: [`ieqz`](crate::specs::scalar::NumericsSpecs#ieqz).
+    #[must_use]
     #[inline]
     pub fn i64_eqz(value: i64) -> bool {
         Integer::is_zero(value)
@@ -1089,7 +1162,8 @@ pub mod wasm {
     /// ensures: result ≡ ieq lhs rhs
     /// ```
     ///
-    /// Definitions: [`ieq`](crate::specs::scalar::Numerics#ieq).
+    /// Definitions: [`ieq`](crate::specs::scalar::NumericsSpecs#ieq).
+    #[must_use]
     #[inline]
     pub fn i64_eq(lhs: i64, rhs: i64) -> bool {
         lhs == rhs
@@ -1103,7 +1177,8 @@ pub mod wasm {
     /// ensures: result ≡ ine lhs rhs
     /// ```
     ///
-    /// Definitions: [`ine`](crate::specs::scalar::Numerics#ine).
+    /// Definitions: [`ine`](crate::specs::scalar::NumericsSpecs#ine).
+    #[must_use]
     #[inline]
     pub fn i64_ne(lhs: i64, rhs: i64) -> bool {
         lhs != rhs
@@ -1117,7 +1192,8 @@ pub mod wasm {
     /// ensures: result ≡ ilt_s lhs rhs
     /// ```
     ///
-    /// Definitions: [`ilt_s`](crate::specs::scalar::Numerics#ilt_s).
+    /// Definitions: [`ilt_s`](crate::specs::scalar::NumericsSpecs#ilt_s).
+    #[must_use]
     #[inline]
     pub fn i64_lt_s(lhs: i64, rhs: i64) -> bool {
         lhs < rhs
@@ -1131,7 +1207,8 @@ pub mod wasm {
     /// ensures: result ≡ ilt_u lhs rhs
     /// ```
     ///
-    /// Definitions: [`ilt_u`](crate::specs::scalar::Numerics#ilt_u).
+    /// Definitions: [`ilt_u`](crate::specs::scalar::NumericsSpecs#ilt_u).
+    #[must_use]
     #[inline]
     pub fn i64_lt_u(lhs: u64, rhs: u64) -> bool {
         lhs < rhs
@@ -1145,7 +1222,8 @@ pub mod wasm {
     /// ensures: result ≡ ile_s lhs rhs
     /// ```
     ///
-    /// Definitions: [`ile_s`](crate::specs::scalar::Numerics#ile_s).
+    /// Definitions: [`ile_s`](crate::specs::scalar::NumericsSpecs#ile_s).
+    #[must_use]
     #[inline]
     pub fn i64_le_s(lhs: i64, rhs: i64) -> bool {
         lhs <= rhs
@@ -1159,7 +1237,8 @@ pub mod wasm {
     /// ensures: result ≡ ile_u lhs rhs
     /// ```
     ///
-    /// Definitions: [`ile_u`](crate::specs::scalar::Numerics#ile_u).
+    /// Definitions: [`ile_u`](crate::specs::scalar::NumericsSpecs#ile_u).
+    #[must_use]
     #[inline]
     pub fn i64_le_u(lhs: u64, rhs: u64) -> bool {
         lhs <= rhs
@@ -1173,7 +1252,8 @@ pub mod wasm {
     /// ensures: result ≡ igt_s lhs rhs
     /// ```
     ///
-    /// Definitions: [`igt_s`](crate::specs::scalar::Numerics#igt_s).
+    /// Definitions: [`igt_s`](crate::specs::scalar::NumericsSpecs#igt_s).
+    #[must_use]
     #[inline]
     pub fn i64_gt_s(lhs: i64, rhs: i64) -> bool {
         lhs > rhs
@@ -1187,7 +1267,8 @@ pub mod wasm {
     /// ensures: result ≡ igt_u lhs rhs
     /// ```
     ///
-    /// Definitions: [`igt_u`](crate::specs::scalar::Numerics#igt_u).
+    /// Definitions: [`igt_u`](crate::specs::scalar::NumericsSpecs#igt_u).
+    #[must_use]
     #[inline]
     pub fn i64_gt_u(lhs: u64, rhs: u64) -> bool {
         lhs > rhs
@@ -1201,7 +1282,8 @@ pub mod wasm {
     /// ensures: result ≡ ige_s lhs rhs
     /// ```
     ///
-    /// Definitions: [`ige_s`](crate::specs::scalar::Numerics#ige_s).
+    /// Definitions: [`ige_s`](crate::specs::scalar::NumericsSpecs#ige_s).
+    #[must_use]
     #[inline]
     pub fn i64_ge_s(lhs: i64, rhs: i64) -> bool {
         lhs >= rhs
@@ -1215,7 +1297,8 @@ pub mod wasm {
     /// ensures: result ≡ ige_u lhs rhs
     /// ```
     ///
-    /// Definitions: [`ige_u`](crate::specs::scalar::Numerics#ige_u).
+    /// Definitions: [`ige_u`](crate::specs::scalar::NumericsSpecs#ige_u).
+    #[must_use]
     #[inline]
     pub fn i64_ge_u(lhs: u64, rhs: u64) -> bool {
         lhs >= rhs
@@ -1228,6 +1311,7 @@ pub mod wasm {
     /// ```text
     /// ensures: result ≡ int_wrap w32 value
     /// ```
+    #[must_use]
     #[inline]
     pub fn i32_wrap_i64(value: i64) -> i32 {
         value.wrap_into()
@@ -1240,6 +1324,7 @@ pub mod wasm {
     /// ```text
     /// ensures: result ≡ value
     /// ```
+    #[must_use]
     #[inline]
     pub fn i64_extend_i32_s(value: i32) -> i64 {
         value.extend_into()
@@ -1252,6 +1337,7 @@ pub mod wasm {
     /// ```text
     /// ensures: result ≡ value
     /// ```
+    #[must_use]
     #[inline]
     pub fn i64_extend_i32_u(value: u32) -> u64 {
         value.extend_into()
@@ -1264,6 +1350,7 @@ pub mod wasm {
     /// ```text
     /// ensures: result ≡ int_wrap w8 value
     /// ```
+    #[must_use]
     #[inline]
     pub fn i32_extend8_s(value: i32) -> i32 {
         <i32 as SignExtendFrom<i8>>::sign_extend_from(value)
@@ -1276,6 +1363,7 @@ pub mod wasm {
     /// ```text
     /// ensures: result ≡ int_wrap w16 value
     /// ```
+    #[must_use]
     #[inline]
     pub fn i32_extend16_s(value: i32) -> i32 {
         <i32 as SignExtendFrom<i16>>::sign_extend_from(value)
@@ -1288,6 +1376,7 @@ pub mod wasm {
     /// ```text
     /// ensures: result ≡ int_wrap w8 value
     /// ```
+    #[must_use]
     #[inline]
     pub fn i64_extend8_s(value: i64) -> i64 {
         <i64 as SignExtendFrom<i8>>::sign_extend_from(value)
@@ -1300,6 +1389,7 @@ pub mod wasm {
     /// ```text
     /// ensures: result ≡ int_wrap w16 value
     /// ```
+    #[must_use]
     #[inline]
     pub fn i64_extend16_s(value: i64) -> i64 {
         <i64 as SignExtendFrom<i16>>::sign_extend_from(value)
@@ -1312,6 +1402,7 @@ pub mod wasm {
     /// ```text
     /// ensures: result ≡ int_wrap w32 value
     /// ```
+    #[must_use]
     #[inline]
     pub fn i64_extend32_s(value: i64) -> i64 {
         <i64 as SignExtendFrom<i32>>::sign_extend_from(value)
@@ -1324,7 +1415,7 @@ pub mod wasm {
     /// ensures: result ≡ unsigned_of lo hi
     /// ```
     ///
-    /// Definitions: [`unsigned_of`](crate::specs::scalar::Numerics#unsigned_of).
+    /// Definitions: [`unsigned_of`](crate::specs::scalar::NumericsSpecs#unsigned_of).
     #[inline]
     fn combine128(lo: i64, hi: i64) -> u128 {
         hi.cast_unsigned() as u128 * 0x1_0000_0000_0000_0000 + lo.cast_unsigned() as u128
@@ -1336,7 +1427,7 @@ pub mod wasm {
     /// ensures: unsigned_of result.0 result.1 ≡ value
     /// ```
     ///
-    /// Definitions: [`unsigned_of`](crate::specs::scalar::Numerics#unsigned_of).
+    /// Definitions: [`unsigned_of`](crate::specs::scalar::NumericsSpecs#unsigned_of).
     #[inline]
     fn split128(value: u128) -> (i64, i64) {
         let lo = (value % 0x1_0000_0000_0000_0000) as u64;
@@ -1353,7 +1444,8 @@ pub mod wasm {
     ///     ≡ add128 (unsigned_of lhs_lo lhs_hi) (unsigned_of rhs_lo rhs_hi)
     /// ```
     ///
-    /// Definitions: [`unsigned_of`](crate::specs::scalar::Numerics#unsigned_of), [`add128`](crate::specs::scalar::Numerics#add128).
+    /// Definitions: [`unsigned_of`](crate::specs::scalar::NumericsSpecs#unsigned_of), [`add128`](crate::specs::scalar::NumericsSpecs#add128).
+    #[must_use]
     #[inline]
     pub fn i64_add128(lhs_lo: i64, lhs_hi: i64, rhs_lo: i64, rhs_hi: i64) -> (i64, i64) {
         split128(combine128(lhs_lo, lhs_hi).wrapping_add(combine128(rhs_lo, rhs_hi)))
@@ -1368,7 +1460,8 @@ pub mod wasm {
     ///     ≡ sub128 (unsigned_of lhs_lo lhs_hi) (unsigned_of rhs_lo rhs_hi)
     /// ```
     ///
-    /// Definitions: [`unsigned_of`](crate::specs::scalar::Numerics#unsigned_of), [`sub128`](crate::specs::scalar::Numerics#sub128).
+    /// Definitions: [`unsigned_of`](crate::specs::scalar::NumericsSpecs#unsigned_of), [`sub128`](crate::specs::scalar::NumericsSpecs#sub128).
+    #[must_use]
     #[inline]
     pub fn i64_sub128(lhs_lo: i64, lhs_hi: i64, rhs_lo: i64, rhs_hi: i64) -> (i64, i64) {
         split128(combine128(lhs_lo, lhs_hi).wrapping_sub(combine128(rhs_lo, rhs_hi)))
@@ -1382,7 +1475,8 @@ pub mod wasm {
     /// ensures: signed_of result.0 result.1 ≡ lhs *ℤ rhs
     /// ```
     ///
-    /// Definitions: [`signed_of`](crate::specs::scalar::Numerics#signed_of).
+    /// Definitions: [`signed_of`](crate::specs::scalar::NumericsSpecs#signed_of).
+    #[must_use]
     #[inline]
     pub fn i64_mul_wide_s(lhs: i64, rhs: i64) -> (i64, i64) {
         split128((lhs as i128 * rhs as i128).cast_unsigned())
@@ -1396,7 +1490,8 @@ pub mod wasm {
     /// ensures: unsigned_of result.0 result.1 ≡ cast_unsigned w64 lhs * cast_unsigned w64 rhs
     /// ```
     ///
-    /// Definitions: [`unsigned_of`](crate::specs::scalar::Numerics#unsigned_of).
+    /// Definitions: [`unsigned_of`](crate::specs::scalar::NumericsSpecs#unsigned_of).
+    #[must_use]
     #[inline]
     pub fn i64_mul_wide_u(lhs: i64, rhs: i64) -> (i64, i64) {
         split128(lhs.cast_unsigned() as u128 * rhs.cast_unsigned() as u128)

@@ -23,7 +23,7 @@ mod error {
     /// output = λ error. Some (error_text error)
     /// ```
     ///
-    /// Definitions: [`error_text`](crate::specs::script::Texts#error_text).
+    /// Definitions: [`error_text`](crate::specs::script::TextsSpecs#error_text).
     impl fmt::Display for ReplayError {
         #[inline]
         fn fmt(&self, f: &mut fmt::Formatter<'_>) -> fmt::Result {
@@ -85,7 +85,7 @@ pub mod laws {
     /// ensures replies: QuietListsDecideReplies
     /// ```
     ///
-    /// Definitions: [`IsDeterministic`](crate::specs::machine::Determinism#IsDeterministic), [`answer_list_rules`](crate::specs::meter::AnswerList#answer_list_rules), [`QuietListsAcceptNotices`](crate::specs::script::Decided#QuietListsAcceptNotices), [`QuietListsDecideReplies`](crate::specs::script::Decided#QuietListsDecideReplies).
+    /// Definitions: [`IsDeterministic`](crate::specs::machine::DeterminismSpecs#IsDeterministic), [`answer_list_rules`](crate::specs::meter::AnswerListSpecs#answer_list_rules), [`QuietListsAcceptNotices`](crate::specs::script::DecidedSpecs#QuietListsAcceptNotices), [`QuietListsDecideReplies`](crate::specs::script::DecidedSpecs#QuietListsDecideReplies).
     #[inline]
     pub fn quiet_lists_decide_replies() {}
 
@@ -99,7 +99,7 @@ pub mod laws {
     /// ensures: OutcomesAreOne
     /// ```
     ///
-    /// Definitions: [`OutcomesAreOne`](crate::specs::script::Decided#OutcomesAreOne).
+    /// Definitions: [`OutcomesAreOne`](crate::specs::script::DecidedSpecs#OutcomesAreOne).
     #[inline]
     pub fn outcomes_are_one() {
         tenants_leave_no_choice();
@@ -122,7 +122,7 @@ mod lines {
     /// ensures length: result ≡ min (length (replies_text calls.now replies.now)) (2 ^ 64 - 1)
     /// ```
     ///
-    /// Definitions: [`FillsFront`](crate::specs::script::Printing#FillsFront), [`replies_text`](crate::specs::script::Outcomes#replies_text).
+    /// Definitions: [`FillsFront`](crate::specs::script::PrintingSpecs#FillsFront), [`replies_text`](crate::specs::script::OutcomesSpecs#replies_text).
     #[inline]
     pub fn write_lines(bytes: &mut [u8], calls: &[Call], replies: &[Reply]) -> usize {
         let mut end = 0;
@@ -141,7 +141,7 @@ mod lines {
     ///     result
     /// ```
     ///
-    /// Definitions: [`AddsToFront`](crate::specs::script::Printing#AddsToFront), [`line`](crate::specs::script::Printing#line), [`reply_text`](crate::specs::script::Texts#reply_text).
+    /// Definitions: [`AddsToFront`](crate::specs::script::PrintingSpecs#AddsToFront), [`line`](crate::specs::script::PrintingSpecs#line), [`reply_text`](crate::specs::script::TextsSpecs#reply_text).
     #[inline]
     fn put_line(bytes: &mut [u8], written: usize, call: &Call, reply: &Reply) -> usize {
         let worded = Wording::of(call, reply).put(bytes, written);
@@ -157,7 +157,7 @@ mod lines {
     /// ensures: AddsToFront (bytes_text told.now) bytes.old written bytes.new result
     /// ```
     ///
-    /// Definitions: [`AddsToFront`](crate::specs::script::Printing#AddsToFront), [`bytes_text`](crate::specs::script::Texts#bytes_text).
+    /// Definitions: [`AddsToFront`](crate::specs::script::PrintingSpecs#AddsToFront), [`bytes_text`](crate::specs::script::TextsSpecs#bytes_text).
     #[inline]
     fn put_bytes(bytes: &mut [u8], written: usize, told: &[u8]) -> usize {
         let mut end = written;
@@ -177,7 +177,7 @@ mod lines {
     /// ensures: AddsToFront text.now bytes.old written bytes.new result
     /// ```
     ///
-    /// Definitions: [`AddsToFront`](crate::specs::script::Printing#AddsToFront).
+    /// Definitions: [`AddsToFront`](crate::specs::script::PrintingSpecs#AddsToFront).
     #[inline]
     pub fn put(bytes: &mut [u8], written: usize, text: &[u8]) -> usize {
         let start = written.min(bytes.len());
@@ -194,7 +194,7 @@ mod lines {
     /// ensures: AddsToFront (decimal number) bytes.old written bytes.new result
     /// ```
     ///
-    /// Definitions: [`AddsToFront`](crate::specs::script::Printing#AddsToFront).
+    /// Definitions: [`AddsToFront`](crate::specs::script::PrintingSpecs#AddsToFront).
     #[inline]
     pub fn put_number(bytes: &mut [u8], written: usize, number: u64) -> usize {
         let digit = [b'0' + (number % 10) as u8];
@@ -213,7 +213,7 @@ mod lines {
     /// ensures: AddsToFront (number_text before.now number) bytes.old written bytes.new result
     /// ```
     ///
-    /// Definitions: [`AddsToFront`](crate::specs::script::Printing#AddsToFront), [`number_text`](crate::specs::script::Printing#number_text).
+    /// Definitions: [`AddsToFront`](crate::specs::script::PrintingSpecs#AddsToFront), [`number_text`](crate::specs::script::PrintingSpecs#number_text).
     #[inline]
     pub fn put_optional(
         bytes: &mut [u8],
@@ -269,7 +269,9 @@ mod printing {
     ///     (AppendsFront (W.contents writer.old) (W.contents writer.new) (outcome_text outcome.now))
     /// ```
     ///
-    /// Definitions: [`outcome_text`](crate::specs::script::Outcomes#outcome_text), [`AppendsFront`](crate::specs::script::Printing#AppendsFront).
+    /// Definitions: [`outcome_text`](crate::specs::script::OutcomesSpecs#outcome_text), [`AppendsFront`](crate::specs::script::PrintingSpecs#AppendsFront).
+    ///
+    /// `W` is the type of the writer.
     #[inline]
     pub fn print<W: io::Write>(
         writer: &mut W,
@@ -288,6 +290,10 @@ mod printing {
 
     /// Prints a line for each call with its reply, to the last byte.
     ///
+    /// # Errors
+    ///
+    /// That of the writer, after which nothing more is printed.
+    ///
     /// # Contract
     ///
     /// ```text
@@ -297,7 +303,9 @@ mod printing {
     ///     (replies_text calls.now replies.now))
     /// ```
     ///
-    /// Definitions: [`replies_text`](crate::specs::script::Outcomes#replies_text), [`AppendsFront`](crate::specs::script::Printing#AppendsFront).
+    /// Definitions: [`replies_text`](crate::specs::script::OutcomesSpecs#replies_text), [`AppendsFront`](crate::specs::script::PrintingSpecs#AppendsFront).
+    ///
+    /// `W` is the type of the writer.
     #[inline]
     pub fn print_lines<W: io::Write>(
         writer: &mut W,
@@ -323,7 +331,9 @@ mod printing {
     /// ensures: PrintsText W.contents (outcome_text outcome.now) printer.old result printer.new
     /// ```
     ///
-    /// Definitions: [`PrintsText`](crate::specs::script::Printing#PrintsText), [`outcome_text`](crate::specs::script::Outcomes#outcome_text).
+    /// Definitions: [`PrintsText`](crate::specs::script::PrintingSpecs#PrintsText), [`outcome_text`](crate::specs::script::OutcomesSpecs#outcome_text).
+    ///
+    /// `W` is the type of the writer.
     #[inline]
     fn print_outcome<W: io::Write>(
         printer: &mut Printer<'_, W>,
@@ -348,7 +358,9 @@ mod printing {
     ///     printer.new
     /// ```
     ///
-    /// Definitions: [`PrintsText`](crate::specs::script::Printing#PrintsText), [`replies_text`](crate::specs::script::Outcomes#replies_text).
+    /// Definitions: [`PrintsText`](crate::specs::script::PrintingSpecs#PrintsText), [`replies_text`](crate::specs::script::OutcomesSpecs#replies_text).
+    ///
+    /// `W` is the type of the writer.
     #[inline]
     fn print_replies<W: io::Write>(
         printer: &mut Printer<'_, W>,
@@ -370,7 +382,9 @@ mod printing {
     ///     printer.new
     /// ```
     ///
-    /// Definitions: [`PrintsText`](crate::specs::script::Printing#PrintsText), [`line`](crate::specs::script::Printing#line), [`reply_text`](crate::specs::script::Texts#reply_text).
+    /// Definitions: [`PrintsText`](crate::specs::script::PrintingSpecs#PrintsText), [`line`](crate::specs::script::PrintingSpecs#line), [`reply_text`](crate::specs::script::TextsSpecs#reply_text).
+    ///
+    /// `W` is the type of the writer.
     #[inline]
     fn print_reply<W: io::Write>(
         printer: &mut Printer<'_, W>,
@@ -392,7 +406,8 @@ mod printing {
     /// ensures: result.now ≡ bytes_in reply.now
     /// ```
     ///
-    /// Definitions: [`bytes_in`](crate::specs::script::Texts#bytes_in).
+    /// Definitions: [`bytes_in`](crate::specs::script::TextsSpecs#bytes_in).
+    #[must_use]
     #[inline]
     pub fn bytes_of(reply: &Reply) -> &[u8] {
         match reply {
@@ -409,7 +424,9 @@ mod printing {
     /// ensures: PrintsText W.contents (held_text held.now) printer.old result printer.new
     /// ```
     ///
-    /// Definitions: [`PrintsText`](crate::specs::script::Printing#PrintsText), [`held_text`](crate::specs::script::Outcomes#held_text).
+    /// Definitions: [`PrintsText`](crate::specs::script::PrintingSpecs#PrintsText), [`held_text`](crate::specs::script::OutcomesSpecs#held_text).
+    ///
+    /// `W` is the type of the writer.
     #[inline]
     fn print_held<W: io::Write>(printer: &mut Printer<'_, W>, held: &Held) -> fmt::Result {
         match held {
@@ -430,7 +447,9 @@ mod printing {
     ///     printer.new
     /// ```
     ///
-    /// Definitions: [`PrintsText`](crate::specs::script::Printing#PrintsText), [`tenants_text`](crate::specs::script::Outcomes#tenants_text).
+    /// Definitions: [`PrintsText`](crate::specs::script::PrintingSpecs#PrintsText), [`tenants_text`](crate::specs::script::OutcomesSpecs#tenants_text).
+    ///
+    /// `W` is the type of the writer.
     #[inline]
     fn print_tenants<W: io::Write>(printer: &mut Printer<'_, W>, pool: &Pool) -> fmt::Result {
         for index in 0..pool.len() {
@@ -456,8 +475,7 @@ mod printing {
     /// output = λ head. Some (head_text head.call.now head.reply.now)
     /// ```
     ///
-    /// Definitions: [`head_text`](crate::specs::script::Texts#head_text).
-
+    /// Definitions: [`head_text`](crate::specs::script::TextsSpecs#head_text).
     impl fmt::Display for ReplyHead<'_> {
         fn fmt(&self, f: &mut fmt::Formatter<'_>) -> fmt::Result {
             self.show(f)
@@ -498,7 +516,9 @@ mod printing {
         ///     (IfSome (D.output text) (λ bytes. PrintsFront W.contents self.old self.new bytes))
         /// ```
         ///
-        /// Definitions: [`IsShort`](crate::specs::script::Printing#IsShort), [`Prints`](crate::specs::script::Printing#Prints), [`PrintsFront`](crate::specs::script::Printing#PrintsFront).
+        /// Definitions: [`IsShort`](crate::specs::script::PrintingSpecs#IsShort), [`Prints`](crate::specs::script::PrintingSpecs#Prints), [`PrintsFront`](crate::specs::script::PrintingSpecs#PrintsFront).
+        ///
+        /// `D` is a type with the trait `Display`. `W` is the type of the writer.
         #[inline]
         pub fn print<D: Show>(&mut self, text: D) -> fmt::Result {
             self.make_room()?;
@@ -518,7 +538,9 @@ mod printing {
         ///     (λ bytes. PrintsFront W.contents self.old self.new (line bytes)))
         /// ```
         ///
-        /// Definitions: [`IsShort`](crate::specs::script::Printing#IsShort), [`Prints`](crate::specs::script::Printing#Prints), [`line`](crate::specs::script::Printing#line), [`PrintsFront`](crate::specs::script::Printing#PrintsFront).
+        /// Definitions: [`IsShort`](crate::specs::script::PrintingSpecs#IsShort), [`Prints`](crate::specs::script::PrintingSpecs#Prints), [`line`](crate::specs::script::PrintingSpecs#line), [`PrintsFront`](crate::specs::script::PrintingSpecs#PrintsFront).
+        ///
+        /// `D` is a type with the trait `Display`. `W` is the type of the writer.
         #[inline]
         pub fn print_line<D: Show>(&mut self, text: D) -> fmt::Result {
             self.make_room()?;
@@ -535,7 +557,9 @@ mod printing {
         /// ensures room: OnOk result (length self.new.chunk.bytes + LONGEST ≤ CHUNK)
         /// ```
         ///
-        /// Definitions: [`Prints`](crate::specs::script::Printing#Prints), [`SendsFront`](crate::specs::script::Printing#SendsFront).
+        /// Definitions: [`Prints`](crate::specs::script::PrintingSpecs#Prints), [`SendsFront`](crate::specs::script::PrintingSpecs#SendsFront).
+        ///
+        /// `W` is the type of the writer.
         #[inline]
         fn make_room(&mut self) -> fmt::Result {
             if self.chunk.remaining_capacity() < LONGEST {
@@ -552,7 +576,9 @@ mod printing {
         /// ensures: Flushes W.contents printed self.old result self.new
         /// ```
         ///
-        /// Definitions: [`Flushes`](crate::specs::script::Printing#Flushes).
+        /// Definitions: [`Flushes`](crate::specs::script::PrintingSpecs#Flushes).
+        ///
+        /// `W` is the type of the writer.
         #[inline]
         pub fn flush(&mut self, printed: fmt::Result) -> fmt::Result {
             printed?;
@@ -570,7 +596,9 @@ mod printing {
         /// ensures front: OnErr result (SendsFront W.contents self.old self.new)
         /// ```
         ///
-        /// Definitions: [`Sends`](crate::specs::script::Printing#Sends), [`SendsFront`](crate::specs::script::Printing#SendsFront).
+        /// Definitions: [`Sends`](crate::specs::script::PrintingSpecs#Sends), [`SendsFront`](crate::specs::script::PrintingSpecs#SendsFront).
+        ///
+        /// `W` is the type of the writer.
         #[inline]
         fn send(&mut self) -> fmt::Result {
             send_all(self.writer, self.chunk.as_str())?;
@@ -588,7 +616,9 @@ mod printing {
     /// ensures front: AppendsFront (W.contents writer.old) (W.contents writer.new) text.now
     /// ```
     ///
-    /// Definitions: [`AppendsFront`](crate::specs::script::Printing#AppendsFront).
+    /// Definitions: [`AppendsFront`](crate::specs::script::PrintingSpecs#AppendsFront).
+    ///
+    /// `W` is the type of the writer.
     #[inline]
     fn send_all<W: io::Write>(writer: &mut W, text: &str) -> fmt::Result {
         let mut rest = text.as_bytes();
@@ -637,7 +667,8 @@ mod replaying {
         /// ensures: result ≡ status_number self
         /// ```
         ///
-        /// Definitions: [`status_number`](crate::specs::script::Outcomes#status_number).
+        /// Definitions: [`status_number`](crate::specs::script::OutcomesSpecs#status_number).
+        #[must_use]
         #[inline]
         pub fn code(self) -> u8 {
             match self {
@@ -659,7 +690,9 @@ mod replaying {
     ///     (W.contents writer.new) result
     /// ```
     ///
-    /// Definitions: [`Replays`](crate::specs::script::Outcomes#Replays).
+    /// Definitions: [`Replays`](crate::specs::script::OutcomesSpecs#Replays).
+    ///
+    /// `R` is the type of the reader. `W` is the type of the writer.
     #[doc = examples!(script replay)]
     #[inline]
     pub fn replay<R: io::Read, W: io::Write>(reader: &mut R, writer: &mut W) -> Status {
@@ -678,7 +711,9 @@ mod replaying {
     /// ensures outcome: IsOutcomeOfReader (R.remaining reader.old) result
     /// ```
     ///
-    /// Definitions: [`IsOutcomeOfReader`](crate::specs::script::Outcomes#IsOutcomeOfReader).
+    /// Definitions: [`IsOutcomeOfReader`](crate::specs::script::OutcomesSpecs#IsOutcomeOfReader).
+    ///
+    /// `R` is the type of the reader.
     #[inline]
     fn outcome_of<R: io::Read>(reader: &mut R) -> Result<Replayed, ReplayError> {
         let bytes = read(&mut CountedReader { reader, taken: 0 })?;
@@ -695,7 +730,7 @@ mod replaying {
     /// ensures: result ≡ status_after outcome.now
     /// ```
     ///
-    /// Definitions: [`status_after`](crate::specs::script::Outcomes#status_after).
+    /// Definitions: [`status_after`](crate::specs::script::OutcomesSpecs#status_after).
     #[inline]
     fn status_of(outcome: &Result<Replayed, ReplayError>) -> Status {
         match outcome {
@@ -728,7 +763,9 @@ mod replaying {
         ///     (R.remaining self.new.reader.now) result buffer.new
         /// ```
         ///
-        /// Definitions: [`script_limit`](crate::specs::script::Outcomes#script_limit).
+        /// Definitions: [`script_limit`](crate::specs::script::OutcomesSpecs#script_limit).
+        ///
+        /// `R` is the type of the reader.
         #[inline]
         fn turn(&mut self, buffer: &mut [u8]) -> io::Result<usize> {
             self.taken += 1;
@@ -749,7 +786,9 @@ mod replaying {
     /// ensures turns: reader.new.taken ≤ script_limit + 1
     /// ```
     ///
-    /// Definitions: [`IsReadError`](crate::specs::script::Outcomes#IsReadError), [`script_limit`](crate::specs::script::Outcomes#script_limit).
+    /// Definitions: [`IsReadError`](crate::specs::script::OutcomesSpecs#IsReadError), [`script_limit`](crate::specs::script::OutcomesSpecs#script_limit).
+    ///
+    /// `R` is the type of the reader.
     #[inline]
     fn read<R: io::Read>(reader: &mut CountedReader<'_, R>) -> Result<Vec<u8>, ReplayError> {
         let mut script = Vec::new();
@@ -808,7 +847,7 @@ mod running {
     /// ensures: IfOk result (IsReplayOf script.now)
     /// ```
     ///
-    /// Definitions: [`IsReplayOf`](crate::specs::script::ScriptRuns#IsReplayOf).
+    /// Definitions: [`IsReplayOf`](crate::specs::script::ScriptRunsSpecs#IsReplayOf).
     #[inline]
     pub fn run_script(script: &Script) -> Result<Ran, AllocError> {
         let header = &script.header;
@@ -829,7 +868,7 @@ mod running {
     /// ensures: result ≡ meter_of header.now
     /// ```
     ///
-    /// Definitions: [`meter_of`](crate::specs::grammar::Headers#meter_of).
+    /// Definitions: [`meter_of`](crate::specs::grammar::HeadersSpecs#meter_of).
     #[inline]
     fn fuel_of(header: &Header) -> Fuel {
         match header.meter {
@@ -854,7 +893,7 @@ mod running {
     ///     ≡ option_map region_bytes header.now.region)
     /// ```
     ///
-    /// Definitions: [`region_bytes`](crate::specs::grammar::Headers#region_bytes).
+    /// Definitions: [`region_bytes`](crate::specs::grammar::HeadersSpecs#region_bytes).
     #[inline]
     fn region_of(header: &Header) -> Result<Option<Vec<u8>>, AllocError> {
         match header.region {
@@ -872,7 +911,7 @@ mod running {
     ///     { spare = option_map (λ bytes. bytes.items) (option_copied_mut region.entry) }
     /// ```
     ///
-    /// Definitions: [`new_state`](crate::specs::machine::State#new_state), [`meter_of`](crate::specs::grammar::Headers#meter_of).
+    /// Definitions: [`new_state`](crate::specs::machine::StateSpecs#new_state), [`meter_of`](crate::specs::grammar::HeadersSpecs#meter_of).
     #[inline]
     fn machine_of<'r>(header: &Header, region: Option<&'r mut Vec<u8>>) -> Machine<'r> {
         let fuel = fuel_of(header);
@@ -890,7 +929,7 @@ mod running {
     /// ensures: IfOk result (IsReplayOnOne None header.now calls.now)
     /// ```
     ///
-    /// Definitions: [`IsReplayOnOne`](crate::specs::script::ScriptRuns#IsReplayOnOne).
+    /// Definitions: [`IsReplayOnOne`](crate::specs::script::ScriptRunsSpecs#IsReplayOnOne).
     #[inline]
     fn run_freely(header: &Header, calls: &[Call]) -> Result<Ran, AllocError> {
         let mut region = region_of(header)?;
@@ -909,7 +948,7 @@ mod running {
     /// ensures: IfOk result (IsReplayOnOne (Some (LimiterLine.Quota caps)) header.now calls.now)
     /// ```
     ///
-    /// Definitions: [`IsReplayOnOne`](crate::specs::script::ScriptRuns#IsReplayOnOne).
+    /// Definitions: [`IsReplayOnOne`](crate::specs::script::ScriptRunsSpecs#IsReplayOnOne).
     #[inline]
     fn run_under_quota(header: &Header, calls: &[Call], caps: Amounts) -> Result<Ran, AllocError> {
         let mut region = region_of(header)?;
@@ -932,7 +971,7 @@ mod running {
     ///     IsListedReplay answers.now (start_of header.now) calls.now ran.replies.items ran.held)
     /// ```
     ///
-    /// Definitions: [`IsListedReplay`](crate::specs::script::ScriptRuns#IsListedReplay), [`start_of`](crate::specs::grammar::Headers#start_of).
+    /// Definitions: [`IsListedReplay`](crate::specs::script::ScriptRunsSpecs#IsListedReplay), [`start_of`](crate::specs::grammar::HeadersSpecs#start_of).
     #[inline]
     fn run_answered(
         header: &Header,
@@ -955,7 +994,7 @@ mod running {
     /// ensures: IfOk result (IsPoolReplay line script.now)
     /// ```
     ///
-    /// Definitions: [`IsPoolReplay`](crate::specs::script::ScriptRuns#IsPoolReplay).
+    /// Definitions: [`IsPoolReplay`](crate::specs::script::ScriptRunsSpecs#IsPoolReplay).
     #[inline]
     fn run_pool(script: &Script, line: TenantsLine) -> Result<Ran, AllocError> {
         let mut pool = pool_of(&script.header, line)?;
@@ -981,7 +1020,7 @@ mod running {
     /// ensures: IfOk result (λ pool. pool ≡ new_pool line (new_state (meter_of header.now)))
     /// ```
     ///
-    /// Definitions: [`new_pool`](crate::specs::script::ScriptRuns#new_pool), [`new_state`](crate::specs::machine::State#new_state), [`meter_of`](crate::specs::grammar::Headers#meter_of).
+    /// Definitions: [`new_pool`](crate::specs::script::ScriptRunsSpecs#new_pool), [`new_state`](crate::specs::machine::StateSpecs#new_state), [`meter_of`](crate::specs::grammar::HeadersSpecs#meter_of).
     #[inline]
     fn pool_of(header: &Header, line: TenantsLine) -> Result<Pool<'static>, AllocError> {
         let mut pool = Pool::new(line.caps.bytes, line.caps.elements);
@@ -1022,7 +1061,8 @@ mod wording {
         /// ensures: wording_text result ≡ head_text call.now reply.now
         /// ```
         ///
-        /// Definitions: [`wording_text`](crate::specs::script::Texts#wording_text), [`head_text`](crate::specs::script::Texts#head_text).
+        /// Definitions: [`wording_text`](crate::specs::script::TextsSpecs#wording_text), [`head_text`](crate::specs::script::TextsSpecs#head_text).
+        #[must_use]
         #[inline]
         pub fn of(call: &Call, reply: &Reply) -> Wording {
             match reply {
@@ -1062,7 +1102,7 @@ mod wording {
         /// ensures: wording_text result ≡ start.now ++ numbered words.now first
         /// ```
         ///
-        /// Definitions: [`wording_text`](crate::specs::script::Texts#wording_text), [`numbered`](crate::specs::meter::Texts#numbered).
+        /// Definitions: [`wording_text`](crate::specs::script::TextsSpecs#wording_text), [`numbered`](crate::specs::meter::TextsSpecs#numbered).
         #[inline]
         fn with(start: &'static str, words: &'static str, first: Option<u64>) -> Wording {
             Wording {
@@ -1079,7 +1119,7 @@ mod wording {
         /// ensures: wording_text result ≡ codes "error " ++ numbered error.entry.0.now error.entry.1
         /// ```
         ///
-        /// Definitions: [`wording_text`](crate::specs::script::Texts#wording_text), [`numbered`](crate::specs::meter::Texts#numbered).
+        /// Definitions: [`wording_text`](crate::specs::script::TextsSpecs#wording_text), [`numbered`](crate::specs::meter::TextsSpecs#numbered).
         #[inline]
         fn of_error(error: (&'static str, Option<u64>)) -> Wording {
             Wording::with("error ", error.0, error.1)
@@ -1093,7 +1133,7 @@ mod wording {
         /// ensures: AddsToFront (wording_text self) bytes.old written bytes.new result
         /// ```
         ///
-        /// Definitions: [`AddsToFront`](crate::specs::script::Printing#AddsToFront), [`wording_text`](crate::specs::script::Texts#wording_text).
+        /// Definitions: [`AddsToFront`](crate::specs::script::PrintingSpecs#AddsToFront), [`wording_text`](crate::specs::script::TextsSpecs#wording_text).
         #[inline]
         pub fn put(self, bytes: &mut [u8], written: usize) -> usize {
             let started = put(bytes, written, self.start.as_bytes());
@@ -1111,7 +1151,7 @@ mod wording {
     /// ensures: result.now ≡ kind_text call.now
     /// ```
     ///
-    /// Definitions: [`kind_text`](crate::specs::script::Texts#kind_text).
+    /// Definitions: [`kind_text`](crate::specs::script::TextsSpecs#kind_text).
     #[inline]
     fn made_word(call: &Call) -> &'static str {
         match call {

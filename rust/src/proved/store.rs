@@ -30,7 +30,9 @@ pub mod bulk {
     /// ensures len: length items.new ≡ length items.old
     /// ```
     ///
-    /// Definitions: [`WritesItems`](crate::specs::store::Growth#WritesItems), [`filled`](crate::specs::store::Growth#filled), [`item_price`](crate::specs::store::Growth#item_price), [`metered`](crate::specs::store::Growth#metered).
+    /// Definitions: [`WritesItems`](crate::specs::store::GrowthSpecs#WritesItems), [`filled`](crate::specs::store::GrowthSpecs#filled), [`item_price`](crate::specs::store::GrowthSpecs#item_price), [`metered`](crate::specs::store::GrowthSpecs#metered).
+    ///
+    /// `E` is a type with the trait `GrowthError`. `T` is a type with the trait `Copy`.
     #[inline]
     pub fn fill_items<T: Copy + ValueSize, E: GrowthError>(
         items: &mut [T],
@@ -64,7 +66,9 @@ pub mod bulk {
     /// ensures len: length items.new ≡ length items.old
     /// ```
     ///
-    /// Definitions: [`WritesItems`](crate::specs::store::Growth#WritesItems), [`copied`](crate::specs::store::Growth#copied), [`item_price`](crate::specs::store::Growth#item_price), [`metered`](crate::specs::store::Growth#metered).
+    /// Definitions: [`WritesItems`](crate::specs::store::GrowthSpecs#WritesItems), [`copied`](crate::specs::store::GrowthSpecs#copied), [`item_price`](crate::specs::store::GrowthSpecs#item_price), [`metered`](crate::specs::store::GrowthSpecs#metered).
+    ///
+    /// `E` is a type with the trait `GrowthError`. `T` is a type with the trait `Chunk`.
     #[inline]
     pub fn copy_items_within<T: Chunk + ValueSize, E: GrowthError>(
         items: &mut [T],
@@ -97,7 +101,9 @@ pub mod bulk {
     /// ensures len: length items.new ≡ length items.old
     /// ```
     ///
-    /// Definitions: [`WritesItems`](crate::specs::store::Growth#WritesItems), [`copied`](crate::specs::store::Growth#copied), [`item_price`](crate::specs::store::Growth#item_price), [`metered`](crate::specs::store::Growth#metered).
+    /// Definitions: [`WritesItems`](crate::specs::store::GrowthSpecs#WritesItems), [`copied`](crate::specs::store::GrowthSpecs#copied), [`item_price`](crate::specs::store::GrowthSpecs#item_price), [`metered`](crate::specs::store::GrowthSpecs#metered).
+    ///
+    /// `E` is a type with the trait `GrowthError`. `T` is a type with the trait `Copy`.
     #[inline]
     pub fn copy_items<T: Copy + ValueSize, E: GrowthError>(
         items: &mut [T],
@@ -132,7 +138,9 @@ pub mod bulk {
     /// ensures len: length elements.new ≡ length elements.old
     /// ```
     ///
-    /// Definitions: [`WritesItems`](crate::specs::store::Growth#WritesItems), [`copied`](crate::specs::store::Growth#copied), [`item_price`](crate::specs::store::Growth#item_price), [`metered`](crate::specs::store::Growth#metered).
+    /// Definitions: [`WritesItems`](crate::specs::store::GrowthSpecs#WritesItems), [`copied`](crate::specs::store::GrowthSpecs#copied), [`item_price`](crate::specs::store::GrowthSpecs#item_price), [`metered`](crate::specs::store::GrowthSpecs#metered).
+    ///
+    /// `T` is a type with the trait `Copy`.
     #[inline]
     pub fn init_elements<T: Copy + ValueSize>(
         elements: &mut [T],
@@ -167,8 +175,11 @@ pub mod growth {
     /// The error of a table if the limiter returns an error.
     pub const TABLE_DENIED: TableError = TableError::ResourceLimiterDeniedAllocation;
 
-    /// Returns `Ok` if the limiter permits, `denial` if it says no, and `refusal` if it returns an
-    /// error.
+    /// Returns `Ok` if the limiter permits.
+    ///
+    /// # Errors
+    ///
+    /// `denial` if the limiter says no; `refusal` if it returns an error.
     ///
     /// # Contract
     ///
@@ -176,7 +187,7 @@ pub mod growth {
     /// ensures: Permits denial refusal answer result
     /// ```
     ///
-    /// Definitions: [`Permits`](crate::specs::meter::Attempt#Permits).
+    /// Definitions: [`Permits`](crate::specs::meter::AttemptSpecs#Permits).
     #[inline]
     pub fn permission<E>(
         answer: Result<bool, LimiterError>,
@@ -201,7 +212,7 @@ pub mod growth {
     /// unpaid: ℕ → Self
     /// ```
     ///
-    /// Definitions: [`Failure`](crate::specs::meter::Limiter#Failure).
+    /// Definitions: [`Failure`](crate::specs::meter::LimiterSpecs#Failure).
     pub trait GrowthError {
         /// The error if less fuel is left than is needed.
         ///
@@ -215,6 +226,10 @@ pub mod growth {
         /// Notifies the limiter, if there is one, that a growth which it permitted failed with this
         /// error.
         ///
+        /// # Errors
+        ///
+        /// The limiter's.
+        ///
         /// # Contract
         ///
         /// ```text
@@ -224,7 +239,9 @@ pub mod growth {
         ///     (lent_limiter limiter.new)
         /// ```
         ///
-        /// Definitions: [`KeepsLoan`](crate::specs::meter::Limiter#KeepsLoan), [`optional_rules`](crate::specs::meter::Limiter#optional_rules), [`lent_limiter`](crate::specs::meter::Limiter#lent_limiter).
+        /// Definitions: [`KeepsLoan`](crate::specs::meter::LimiterSpecs#KeepsLoan), [`optional_rules`](crate::specs::meter::LimiterSpecs#optional_rules), [`lent_limiter`](crate::specs::meter::LimiterSpecs#lent_limiter).
+        ///
+        /// `L` is the type of the limiter, a [`ResourceLimiter`](crate::machine::ResourceLimiter#contract).
         fn notify<L: ResourceLimiter>(
             &self,
             limiter: &mut ResourceLimiterRef<L>,
@@ -238,7 +255,7 @@ pub mod growth {
     /// unpaid = MemoryError.OutOfFuel
     /// ```
     ///
-    /// Definitions: [`MemoryFailure`](crate::specs::meter::Limiter#MemoryFailure).
+    /// Definitions: [`MemoryFailure`](crate::specs::meter::LimiterSpecs#MemoryFailure).
     impl GrowthError for MemoryError {
         #[inline]
         fn out_of_fuel(required_fuel: u64) -> Self {
@@ -261,7 +278,7 @@ pub mod growth {
     /// unpaid = TableError.OutOfFuel
     /// ```
     ///
-    /// Definitions: [`TableFailure`](crate::specs::meter::Limiter#TableFailure).
+    /// Definitions: [`TableFailure`](crate::specs::meter::LimiterSpecs#TableFailure).
     impl GrowthError for TableError {
         #[inline]
         fn out_of_fuel(required_fuel: u64) -> Self {
@@ -290,7 +307,9 @@ pub mod growth {
     ///     × (result ≡ error_of_failure refusal cause notice_answer)
     /// ```
     ///
-    /// Definitions: [`KeepsLoan`](crate::specs::meter::Limiter#KeepsLoan), [`NoticeAnswer`](crate::specs::meter::Limiter#NoticeAnswer), [`optional_rules`](crate::specs::meter::Limiter#optional_rules), [`lent_limiter`](crate::specs::meter::Limiter#lent_limiter), [`error_of_failure`](crate::specs::meter::Attempt#error_of_failure).
+    /// Definitions: [`KeepsLoan`](crate::specs::meter::LimiterSpecs#KeepsLoan), [`NoticeAnswer`](crate::specs::meter::LimiterSpecs#NoticeAnswer), [`optional_rules`](crate::specs::meter::LimiterSpecs#optional_rules), [`lent_limiter`](crate::specs::meter::LimiterSpecs#lent_limiter), [`error_of_failure`](crate::specs::meter::AttemptSpecs#error_of_failure).
+    ///
+    /// `E` is a type with the trait `GrowthError`. `L` is the type of the limiter, a [`ResourceLimiter`](crate::machine::ResourceLimiter#contract).
     #[inline]
     pub fn tell<L: ResourceLimiter, E: GrowthError>(
         limiter: &mut ResourceLimiterRef<L>,
@@ -304,8 +323,11 @@ pub mod growth {
         }
     }
 
-    /// Takes the fuel for copying `values` values of a type. If less is left, nothing is taken, and the
-    /// error is the amount that is needed. A meter that is off takes nothing.
+    /// Takes the fuel for copying `values` values of a type. A meter that is off takes nothing.
+    ///
+    /// # Errors
+    ///
+    /// The amount that is needed, if less is left; then nothing is taken.
     ///
     /// # Contract
     ///
@@ -314,7 +336,9 @@ pub mod growth {
     ///     (due fuel.old (λ costs. copy_cost costs values T.SIZE)) result fuel.new
     /// ```
     ///
-    /// Definitions: [`Charges`](crate::specs::meter::Meter#Charges), [`due`](crate::specs::meter::Meter#due), [`copy_cost`](crate::specs::meter::Meter#copy_cost).
+    /// Definitions: [`Charges`](crate::specs::meter::MeterSpecs#Charges), [`due`](crate::specs::meter::MeterSpecs#due), [`copy_cost`](crate::specs::meter::MeterSpecs#copy_cost).
+    ///
+    /// `T` is a type with the trait `ValueSize`.
     #[inline]
     pub fn charge<T: ValueSize>(fuel: &mut Fuel, values: u64) -> Result<(), u64> {
         match fuel.consume_fuel_if(|costs| costs.fuel_for_copying_values::<T>(values)) {
@@ -325,8 +349,10 @@ pub mod growth {
 
     /// Asks whether a memory of a type may be made, and returns its minimum in bytes.
     ///
-    /// Errors, in the order of the tests: `MinimumSizeOverflow` if the minimum has 2^64 bytes or more;
-    /// `ResourceLimiterDeniedAllocation` if the limiter doesn't permit it.
+    /// # Errors
+    ///
+    /// In the order of the tests: [`MinimumSizeOverflow`](crate::MemoryError::MinimumSizeOverflow) if the minimum has 2^64 bytes or more;
+    /// [`ResourceLimiterDeniedAllocation`](crate::MemoryError::ResourceLimiterDeniedAllocation) if the limiter doesn't permit it.
     ///
     /// # Contract
     ///
@@ -337,7 +363,9 @@ pub mod growth {
     /// ensures sized: IfOk result (λ size. IsSized ty size)
     /// ```
     ///
-    /// Definitions: [`KeepsLoan`](crate::specs::meter::Limiter#KeepsLoan), [`PermitsMinimum`](crate::specs::store::Memory#PermitsMinimum), [`optional_rules`](crate::specs::meter::Limiter#optional_rules), [`lent_limiter`](crate::specs::meter::Limiter#lent_limiter), [`IsSized`](crate::specs::store::Memory#IsSized).
+    /// Definitions: [`KeepsLoan`](crate::specs::meter::LimiterSpecs#KeepsLoan), [`PermitsMinimum`](crate::specs::store::MemorySpecs#PermitsMinimum), [`optional_rules`](crate::specs::meter::LimiterSpecs#optional_rules), [`lent_limiter`](crate::specs::meter::LimiterSpecs#lent_limiter), [`IsSized`](crate::specs::store::MemorySpecs#IsSized).
+    ///
+    /// `L` is the type of the limiter, a [`ResourceLimiter`](crate::machine::ResourceLimiter#contract).
     #[inline]
     pub fn permitted_minimum<L: ResourceLimiter>(
         ty: MemoryType,
@@ -355,7 +383,9 @@ pub mod growth {
     /// is room for them, and the added ones are paid, in this order. The fuel is taken if they may; no
     /// byte is written yet, so it is the same wherever the bytes lie.
     ///
-    /// The errors are those of [`LinearMemory::grow`](crate::proved::store::LinearMemory::grow) from the limiter's denial to `OutOfFuel`.
+    /// # Errors
+    ///
+    /// Those of [`LinearMemory::grow`](crate::proved::store::LinearMemory::grow) from the limiter's denial to [`OutOfFuel`](crate::MemoryError::OutOfFuel).
     ///
     /// # Panics
     ///
@@ -379,7 +409,9 @@ pub mod growth {
     ///     (metered_value x (Some fuel.new) (lent_limiter limiter.new)))
     /// ```
     ///
-    /// Definitions: [`KeepsLoan`](crate::specs::meter::Limiter#KeepsLoan), [`optional_rules`](crate::specs::meter::Limiter#optional_rules), [`lent_limiter`](crate::specs::meter::Limiter#lent_limiter), [`size_question`](crate::specs::store::Memory#size_question), [`Charges`](crate::specs::meter::Meter#Charges), [`due`](crate::specs::meter::Meter#due), [`copy_cost`](crate::specs::meter::Meter#copy_cost), [`MemoryValue`](crate::specs::store::Memory#MemoryValue), [`IsAsked`](crate::specs::store::Growth#IsAsked), [`growth_of`](crate::specs::store::Memory#growth_of), [`fits_room`](crate::specs::store::Buffer#fits_room), [`GrowsMemory`](crate::specs::store::Memory#GrowsMemory), [`metered_value`](crate::specs::store::Growth#metered_value).
+    /// Definitions: [`KeepsLoan`](crate::specs::meter::LimiterSpecs#KeepsLoan), [`optional_rules`](crate::specs::meter::LimiterSpecs#optional_rules), [`lent_limiter`](crate::specs::meter::LimiterSpecs#lent_limiter), [`size_question`](crate::specs::store::MemorySpecs#size_question), [`Charges`](crate::specs::meter::MeterSpecs#Charges), [`due`](crate::specs::meter::MeterSpecs#due), [`copy_cost`](crate::specs::meter::MeterSpecs#copy_cost), [`MemoryValue`](crate::specs::store::MemorySpecs#MemoryValue), [`IsAsked`](crate::specs::store::GrowthSpecs#IsAsked), [`growth_of`](crate::specs::store::MemorySpecs#growth_of), [`fits_room`](crate::specs::store::BufferSpecs#fits_room), [`GrowsMemory`](crate::specs::store::MemorySpecs#GrowsMemory), [`metered_value`](crate::specs::store::GrowthSpecs#metered_value).
+    ///
+    /// `L` is the type of the limiter, a [`ResourceLimiter`](crate::machine::ResourceLimiter#contract).
     #[inline]
     pub fn decide_growth<L: ResourceLimiter>(
         old_size: usize,
@@ -429,7 +461,7 @@ pub mod laws {
     /// ensures: IsValidMemory memory.now
     /// ```
     ///
-    /// Definitions: [`IsValidMemory`](crate::specs::store::Memory#IsValidMemory).
+    /// Definitions: [`IsValidMemory`](crate::specs::store::MemorySpecs#IsValidMemory).
     #[inline]
     pub fn memories_are_valid<R: Region>(memory: &LinearMemory<R>) {
         let _minimum = memory.ty().minimum();
@@ -447,7 +479,7 @@ pub mod laws {
     /// ensures: IsValidTable table.now
     /// ```
     ///
-    /// Definitions: [`IsValidTable`](crate::specs::store::Table#IsValidTable).
+    /// Definitions: [`IsValidTable`](crate::specs::store::TableSpecs#IsValidTable).
     #[inline]
     pub fn tables_are_valid(table: &Table) {
         let _minimum = table.ty().minimum();
@@ -462,7 +494,7 @@ pub mod laws {
     /// ensures: (a : MemoryTypeValue) → IsSubtype a a
     /// ```
     ///
-    /// Definitions: [`MemoryTypeValue`](crate::specs::store::Memory#MemoryTypeValue), [`IsSubtype`](crate::specs::store::Memory#IsSubtype).
+    /// Definitions: [`MemoryTypeValue`](crate::specs::store::MemorySpecs#MemoryTypeValue), [`IsSubtype`](crate::specs::store::MemorySpecs#IsSubtype).
     #[inline]
     pub fn memory_subtyping_is_reflexive() {}
 
@@ -474,7 +506,7 @@ pub mod laws {
     /// ensures: (a b c : MemoryTypeValue) → IsSubtype a b → IsSubtype b c → IsSubtype a c
     /// ```
     ///
-    /// Definitions: [`MemoryTypeValue`](crate::specs::store::Memory#MemoryTypeValue), [`IsSubtype`](crate::specs::store::Memory#IsSubtype).
+    /// Definitions: [`MemoryTypeValue`](crate::specs::store::MemorySpecs#MemoryTypeValue), [`IsSubtype`](crate::specs::store::MemorySpecs#IsSubtype).
     #[inline]
     pub fn memory_subtyping_is_transitive() {}
 
@@ -486,7 +518,7 @@ pub mod laws {
     /// ensures: (a : table.TableTypeValue) → table.IsSubtype a a
     /// ```
     ///
-    /// Definitions: [`TableTypeValue`](crate::specs::store::Table#TableTypeValue), [`IsSubtype`](crate::specs::store::Table#IsSubtype).
+    /// Definitions: [`TableTypeValue`](crate::specs::store::TableSpecs#TableTypeValue), [`IsSubtype`](crate::specs::store::TableSpecs#IsSubtype).
     #[inline]
     pub fn table_subtyping_is_reflexive() {}
 
@@ -499,7 +531,7 @@ pub mod laws {
     ///     → table.IsSubtype a c
     /// ```
     ///
-    /// Definitions: [`TableTypeValue`](crate::specs::store::Table#TableTypeValue), [`IsSubtype`](crate::specs::store::Table#IsSubtype).
+    /// Definitions: [`TableTypeValue`](crate::specs::store::TableSpecs#TableTypeValue), [`IsSubtype`](crate::specs::store::TableSpecs#IsSubtype).
     #[inline]
     pub fn table_subtyping_is_transitive() {}
 }
@@ -533,7 +565,7 @@ mod memory {
         ///     → bytes (refilled r end ws) ≡ refilled_front (bytes r) end ws
         /// ```
         ///
-        /// Definitions: [`refilled_front`](crate::specs::store::Buffer#refilled_front).
+        /// Definitions: [`refilled_front`](crate::specs::store::BufferSpecs#refilled_front).
         pub trait Region: sealed::Sealed {
             /// All of its bytes.
             ///
@@ -564,7 +596,7 @@ mod memory {
         /// refilled = region_refilled
         /// ```
         ///
-        /// Definitions: [`region_refilled`](crate::specs::store::Buffer#region_refilled).
+        /// Definitions: [`region_refilled`](crate::specs::store::BufferSpecs#region_refilled).
         impl<'r> Region for &'r mut [u8] {
             #[inline]
             fn whole(&self) -> &[u8] {
@@ -595,7 +627,9 @@ mod memory {
             /// ensures value: result.now ≡ take end (block R.bytes self.old)
             /// ```
             ///
-            /// Definitions: [`block`](crate::specs::store::Buffer#block), [`block_refilled`](crate::specs::store::Buffer#block_refilled).
+            /// Definitions: [`block`](crate::specs::store::BufferSpecs#block), [`block_refilled`](crate::specs::store::BufferSpecs#block_refilled).
+            ///
+            /// `R` is the type of what has the bytes, a [`Region`](crate::machine::Region#contract).
             #[inline]
             fn front_mut(&mut self, end: usize) -> &mut [u8] {
                 match self {
@@ -616,7 +650,9 @@ mod memory {
         /// invariant = λ b. EndsWithin R.bytes b.storage b.len
         /// ```
         ///
-        /// Definitions: [`BufferValue`](crate::specs::store::Buffer#BufferValue), [`view_of`](crate::specs::store::Buffer#view_of), [`EndsWithin`](crate::specs::store::Buffer#EndsWithin).
+        /// Definitions: [`BufferValue`](crate::specs::store::BufferSpecs#BufferValue), [`view_of`](crate::specs::store::BufferSpecs#view_of), [`EndsWithin`](crate::specs::store::BufferSpecs#EndsWithin).
+        ///
+        /// `R` is the type of what has the bytes, a [`Region`](crate::machine::Region#contract).
         #[derive(Debug)]
         pub struct Buffer<R: Region> {
             storage: Storage<R>,
@@ -636,6 +672,7 @@ mod memory {
             /// ```text
             /// ensures: result.now ≡ self.now.bytes
             /// ```
+            #[must_use]
             #[inline]
             pub fn data(&self) -> &[u8] {
                 let block = match &self.storage {
@@ -655,7 +692,9 @@ mod memory {
             /// ensures value: result.now ≡ self.old.bytes
             /// ```
             ///
-            /// Definitions: [`with_bytes`](crate::specs::store::Buffer#with_bytes).
+            /// Definitions: [`with_bytes`](crate::specs::store::BufferSpecs#with_bytes).
+            ///
+            /// `R` is the type of what has the bytes, a [`Region`](crate::machine::Region#contract).
             #[inline]
             pub fn data_mut(&mut self) -> &mut [u8] {
                 self.storage.front_mut(self.len)
@@ -668,6 +707,7 @@ mod memory {
             /// ```text
             /// ensures: result ≡ length self.now.bytes
             /// ```
+            #[must_use]
             #[inline]
             pub fn len(&self) -> usize {
                 self.len
@@ -682,7 +722,8 @@ mod memory {
             /// ensures: result ≡ fits_room self.now.room (new_size - length self.now.bytes)
             /// ```
             ///
-            /// Definitions: [`fits_room`](crate::specs::store::Buffer#fits_room).
+            /// Definitions: [`fits_room`](crate::specs::store::BufferSpecs#fits_room).
+            #[must_use]
             #[inline]
             pub fn has_room(&self, new_size: usize) -> bool {
                 match &self.storage {
@@ -691,11 +732,13 @@ mod memory {
                 }
             }
 
-            /// Appends zeros up to `new_size` bytes, which isn't below the present number.
+            /// Appends zeros up to `new_size` bytes, which isn't below the present number. If the bytes are
+            /// borrowed, nothing is allocated, and those past the new size stay as they are.
             ///
-            /// If the bytes are owned, the only error is `OutOfSystemMemory`. If they are borrowed, the
-            /// only error is `InvalidStaticBufferSize`, if the borrowed buffer is shorter; nothing is
-            /// allocated, and the bytes past the new size stay as they are.
+            /// # Errors
+            ///
+            /// [`OutOfSystemMemory`](crate::MemoryError::OutOfSystemMemory) if the bytes are owned and memory is refused; [`InvalidStaticBufferSize`](crate::MemoryError::InvalidStaticBufferSize)
+            /// if they are borrowed and the borrowed buffer is shorter.
             ///
             /// # Panics
             ///
@@ -713,7 +756,7 @@ mod memory {
             /// ensures cause: IfErr result (CanFail self.old.room (new_size - length self.old.bytes))
             /// ```
             ///
-            /// Definitions: [`with_zeros`](crate::specs::store::Buffer#with_zeros), [`fits_room`](crate::specs::store::Buffer#fits_room), [`CanFail`](crate::specs::store::Buffer#CanFail).
+            /// Definitions: [`with_zeros`](crate::specs::store::BufferSpecs#with_zeros), [`fits_room`](crate::specs::store::BufferSpecs#fits_room), [`CanFail`](crate::specs::store::BufferSpecs#CanFail).
             #[inline]
             pub fn grow(&mut self, new_size: usize) -> Result<(), MemoryError> {
                 assert!(
@@ -738,7 +781,11 @@ mod memory {
         }
 
         impl<'r> Buffer<&'r mut [u8]> {
-            /// A buffer of `size` zeros in memory of its own. The only error is `OutOfSystemMemory`.
+            /// A buffer of `size` zeros in memory of its own.
+            ///
+            /// # Errors
+            ///
+            /// [`OutOfSystemMemory`](crate::MemoryError::OutOfSystemMemory) if memory is refused.
             ///
             /// # Contract
             ///
@@ -747,7 +794,7 @@ mod memory {
             /// ensures err: IfErr result (λ e. e ≡ MemoryError.OutOfSystemMemory)
             /// ```
             ///
-            /// Definitions: [`zeros_in`](crate::specs::store::Buffer#zeros_in), [`Owned`](crate::specs::store::Buffer#Owned).
+            /// Definitions: [`zeros_in`](crate::specs::store::BufferSpecs#zeros_in), [`Owned`](crate::specs::store::BufferSpecs#Owned).
             #[inline]
             pub fn new(size: usize) -> Result<ByteBuffer<'r>, MemoryError> {
                 let bytes = Vec::filled(0u8, size).map_err(|_| MemoryError::OutOfSystemMemory)?;
@@ -758,8 +805,10 @@ mod memory {
             /// A buffer of `size` zeros at the front of a borrowed one. It allocates nothing, and the bytes
             /// past them stay as they are.
             ///
-            /// The only error is `InvalidStaticBufferSize`, if the borrowed buffer is shorter. Then the
-            /// loan has ended, and its bytes are unchanged.
+            /// # Errors
+            ///
+            /// [`InvalidStaticBufferSize`](crate::MemoryError::InvalidStaticBufferSize) if the borrowed buffer is shorter. Then the loan has ended, and
+            /// its bytes are unchanged.
             ///
             /// # Contract
             ///
@@ -772,7 +821,7 @@ mod memory {
             ///     × (e ≡ MemoryError.InvalidStaticBufferSize))
             /// ```
             ///
-            /// Definitions: [`fits_room`](crate::specs::store::Buffer#fits_room), [`Lent`](crate::specs::store::Buffer#Lent), [`zeros_in`](crate::specs::store::Buffer#zeros_in).
+            /// Definitions: [`fits_room`](crate::specs::store::BufferSpecs#fits_room), [`Lent`](crate::specs::store::BufferSpecs#Lent), [`zeros_in`](crate::specs::store::BufferSpecs#zeros_in).
             #[inline]
             pub fn new_static(
                 region: &'r mut [u8],
@@ -808,7 +857,7 @@ mod memory {
             /// ensures: result ≡ page_of_log2 log2
             /// ```
             ///
-            /// Definitions: [`page_of_log2`](crate::specs::store::Memory#page_of_log2).
+            /// Definitions: [`page_of_log2`](crate::specs::store::MemorySpecs#page_of_log2).
             #[inline]
             fn from_log2(log2: u8) -> Option<Self> {
                 match log2 {
@@ -824,7 +873,7 @@ mod memory {
             /// ensures: result ≡ page_bytes self
             /// ```
             ///
-            /// Definitions: [`page_bytes`](crate::specs::store::Memory#page_bytes).
+            /// Definitions: [`page_bytes`](crate::specs::store::MemorySpecs#page_bytes).
             #[inline]
             fn bytes(self) -> u32 {
                 match self {
@@ -839,7 +888,7 @@ mod memory {
             /// ensures: result ≡ page_log2 self
             /// ```
             ///
-            /// Definitions: [`page_log2`](crate::specs::store::Memory#page_log2).
+            /// Definitions: [`page_log2`](crate::specs::store::MemorySpecs#page_log2).
             #[inline]
             fn log2(self) -> u8 {
                 self as u8
@@ -863,7 +912,7 @@ mod memory {
         ///     { index = t.index; page = t.page; minimum = t.minimum; maximum = t.maximum }
         /// ```
         ///
-        /// Definitions: [`MemoryTypeValue`](crate::specs::store::Memory#MemoryTypeValue), [`IsValid`](crate::specs::store::Memory#IsValid).
+        /// Definitions: [`MemoryTypeValue`](crate::specs::store::MemorySpecs#MemoryTypeValue), [`IsValid`](crate::specs::store::MemorySpecs#IsValid).
         #[doc = examples!(store MemoryType)]
         #[derive(Clone, Copy, Debug, PartialEq, Eq)]
         pub struct MemoryType {
@@ -882,7 +931,8 @@ mod memory {
             /// ensures: result ≡ default_settings
             /// ```
             ///
-            /// Definitions: [`default_settings`](crate::specs::store::Memory#default_settings).
+            /// Definitions: [`default_settings`](crate::specs::store::MemorySpecs#default_settings).
+            #[must_use]
             #[inline]
             pub fn builder() -> MemoryTypeBuilder {
                 MemoryTypeBuilder::default()
@@ -895,6 +945,7 @@ mod memory {
             /// ```text
             /// ensures: IsTrue result ↔ (self.now.index ≡ I64)
             /// ```
+            #[must_use]
             #[inline]
             pub fn is_64(&self) -> bool {
                 self.index.is_64()
@@ -907,6 +958,7 @@ mod memory {
             /// ```text
             /// ensures: result ≡ self.now.index
             /// ```
+            #[must_use]
             #[inline]
             pub fn index_ty(&self) -> IndexType {
                 self.index
@@ -921,7 +973,8 @@ mod memory {
             /// ensures valid: IsValid self
             /// ```
             ///
-            /// Definitions: [`IsValid`](crate::specs::store::Memory#IsValid).
+            /// Definitions: [`IsValid`](crate::specs::store::MemorySpecs#IsValid).
+            #[must_use]
             #[inline]
             pub fn minimum(self) -> u64 {
                 self.minimum
@@ -934,6 +987,7 @@ mod memory {
             /// ```text
             /// ensures: result ≡ self.maximum
             /// ```
+            #[must_use]
             #[inline]
             pub fn maximum(self) -> Option<u64> {
                 self.maximum
@@ -947,7 +1001,8 @@ mod memory {
             /// ensures: result ≡ page_bytes self.page
             /// ```
             ///
-            /// Definitions: [`page_bytes`](crate::specs::store::Memory#page_bytes).
+            /// Definitions: [`page_bytes`](crate::specs::store::MemorySpecs#page_bytes).
+            #[must_use]
             #[inline]
             pub fn page_size(self) -> u32 {
                 self.page.bytes()
@@ -961,7 +1016,8 @@ mod memory {
             /// ensures: result ≡ page_log2 self.page
             /// ```
             ///
-            /// Definitions: [`page_log2`](crate::specs::store::Memory#page_log2).
+            /// Definitions: [`page_log2`](crate::specs::store::MemorySpecs#page_log2).
+            #[must_use]
             #[inline]
             pub fn page_size_log2(self) -> u8 {
                 self.page.log2()
@@ -977,7 +1033,8 @@ mod memory {
             /// ensures: IsTrue result ↔ IsSubtype self.now other.now
             /// ```
             ///
-            /// Definitions: [`IsSubtype`](crate::specs::store::Memory#IsSubtype).
+            /// Definitions: [`IsSubtype`](crate::specs::store::MemorySpecs#IsSubtype).
+            #[must_use]
             #[inline]
             pub fn is_subtype_of(&self, other: &Self) -> bool {
                 self.index == other.index
@@ -995,7 +1052,7 @@ mod memory {
             /// ensures value: result ≡ record self { minimum = minimum }
             /// ```
             ///
-            /// Definitions: [`in_bounds`](crate::specs::store::Memory#in_bounds).
+            /// Definitions: [`in_bounds`](crate::specs::store::MemorySpecs#in_bounds).
             #[inline]
             pub(super) fn with_minimum(self, minimum: u64) -> Self {
                 MemoryType { minimum, ..self }
@@ -1011,7 +1068,7 @@ mod memory {
             /// ensures valid: IsValid self
             /// ```
             ///
-            /// Definitions: [`minimum_bytes`](crate::specs::store::Memory#minimum_bytes), [`IsValid`](crate::specs::store::Memory#IsValid).
+            /// Definitions: [`minimum_bytes`](crate::specs::store::MemorySpecs#minimum_bytes), [`IsValid`](crate::specs::store::MemorySpecs#IsValid).
             #[inline]
             pub(crate) fn minimum_size(self) -> Option<usize> {
                 let size = self.minimum.checked_mul(u64::from(self.page.bytes()))?;
@@ -1026,7 +1083,8 @@ mod memory {
             /// ensures: result ≡ maximum_bytes self
             /// ```
             ///
-            /// Definitions: [`maximum_bytes`](crate::specs::store::Memory#maximum_bytes).
+            /// Definitions: [`maximum_bytes`](crate::specs::store::MemorySpecs#maximum_bytes).
+            #[must_use]
             #[inline]
             pub(crate) fn maximum_size(self) -> Option<usize> {
                 self.maximum
@@ -1041,7 +1099,8 @@ mod memory {
             /// ensures: result ≡ size / page_bytes self.page
             /// ```
             ///
-            /// Definitions: [`page_bytes`](crate::specs::store::Memory#page_bytes).
+            /// Definitions: [`page_bytes`](crate::specs::store::MemorySpecs#page_bytes).
+            #[must_use]
             #[inline]
             pub(crate) fn pages_in(self, size: usize) -> u64 {
                 size as u64 >> self.page.log2()
@@ -1063,7 +1122,8 @@ mod memory {
             ///     × (grown ≡ size + additional * page_bytes self.page))
             /// ```
             ///
-            /// Definitions: [`page_bytes`](crate::specs::store::Memory#page_bytes), [`in_bounds`](crate::specs::store::Memory#in_bounds).
+            /// Definitions: [`page_bytes`](crate::specs::store::MemorySpecs#page_bytes), [`in_bounds`](crate::specs::store::MemorySpecs#in_bounds).
+            #[must_use]
             #[inline]
             pub(crate) fn grown_size(self, size: usize, additional: u64) -> Option<usize> {
                 assert!(
@@ -1084,7 +1144,8 @@ mod memory {
             ///     (λ size. (in_bounds self pages ≡ true) × (size ≡ pages * page_bytes self.page))
             /// ```
             ///
-            /// Definitions: [`in_bounds`](crate::specs::store::Memory#in_bounds), [`page_bytes`](crate::specs::store::Memory#page_bytes).
+            /// Definitions: [`in_bounds`](crate::specs::store::MemorySpecs#in_bounds), [`page_bytes`](crate::specs::store::MemorySpecs#page_bytes).
+            #[must_use]
             #[inline]
             pub(crate) fn size_of_pages(self, pages: u64) -> Option<usize> {
                 if pages > self.maximum.unwrap_or(most_pages(self.index, self.page)) {
@@ -1103,7 +1164,7 @@ mod memory {
         /// ensures: result ≡ min (2 ^ address_bits index / page_bytes page) (2 ^ 64 - 1)
         /// ```
         ///
-        /// Definitions: [`address_bits`](crate::specs::types::Value#address_bits), [`page_bytes`](crate::specs::store::Memory#page_bytes).
+        /// Definitions: [`address_bits`](crate::specs::types::ValueSpecs#address_bits), [`page_bytes`](crate::specs::store::MemorySpecs#page_bytes).
         #[inline]
         fn most_pages(index: IndexType, page: PageSize) -> u64 {
             match (index, page) {
@@ -1122,7 +1183,7 @@ mod memory {
         /// ensures: IsTrue result ↔ IsNoLooser own other
         /// ```
         ///
-        /// Definitions: [`IsNoLooser`](crate::specs::store::Memory#IsNoLooser).
+        /// Definitions: [`IsNoLooser`](crate::specs::store::MemorySpecs#IsNoLooser).
         #[inline]
         pub(crate) fn is_no_looser(own: Option<u64>, other: Option<u64>) -> bool {
             other.is_none_or(|most| own.is_some_and(|maximum| maximum <= most))
@@ -1144,7 +1205,7 @@ mod memory {
         /// is_default = λ b. b ≡ default_settings
         /// ```
         ///
-        /// Definitions: [`default_settings`](crate::specs::store::Memory#default_settings).
+        /// Definitions: [`default_settings`](crate::specs::store::MemorySpecs#default_settings).
         impl Default for MemoryTypeBuilder {
             #[inline]
             fn default() -> Self {
@@ -1218,8 +1279,12 @@ mod memory {
                 self
             }
 
-            /// Builds the type. The error is `InvalidMemoryType` for a page size other than 1 byte and 64
-            /// KiB, for limits above what the address type reaches, and for a minimum above the maximum.
+            /// Builds the type.
+            ///
+            /// # Errors
+            ///
+            /// [`InvalidMemoryType`](crate::MemoryError::InvalidMemoryType) for a page size other than 1 byte and 64 KiB, for limits above what the
+            /// address type reaches, and for a minimum above the maximum.
             ///
             /// # Contract
             ///
@@ -1230,7 +1295,7 @@ mod memory {
             ///     × ¬ (IsSomeAnd (named_type self) IsValid))
             /// ```
             ///
-            /// Definitions: [`named_type`](crate::specs::store::Memory#named_type), [`IsValid`](crate::specs::store::Memory#IsValid).
+            /// Definitions: [`named_type`](crate::specs::store::MemorySpecs#named_type), [`IsValid`](crate::specs::store::MemorySpecs#IsValid).
             #[inline]
             pub fn build(self) -> Result<MemoryType, MemoryError> {
                 if cfg!(not(feature = "memory64")) && self.index.is_64() {
@@ -1277,7 +1342,7 @@ mod memory {
     /// invariant = λ m. IsSized m.ty (length m.buffer.bytes)
     /// ```
     ///
-    /// Definitions: [`MemoryValue`](crate::specs::store::Memory#MemoryValue), [`memory_of`](crate::specs::store::Memory#memory_of), [`IsSized`](crate::specs::store::Memory#IsSized).
+    /// Definitions: [`MemoryValue`](crate::specs::store::MemorySpecs#MemoryValue), [`memory_of`](crate::specs::store::MemorySpecs#memory_of), [`IsSized`](crate::specs::store::MemorySpecs#IsSized).
     #[derive(Debug)]
     pub struct LinearMemory<R: Region> {
         buffer: Buffer<R>,
@@ -1294,9 +1359,11 @@ mod memory {
     impl<'r> LinearMemory<&'r mut [u8]> {
         /// A memory of zeros, at the minimum of its type. It takes no fuel.
         ///
-        /// Errors, in the order of the tests: `MinimumSizeOverflow` if the minimum has 2^64 bytes or
-        /// more; `ResourceLimiterDeniedAllocation` if the limiter doesn't permit it;
-        /// `OutOfSystemMemory`, of which the limiter is notified.
+        /// # Errors
+        ///
+        /// In the order of the tests: [`MinimumSizeOverflow`](crate::MemoryError::MinimumSizeOverflow) if the minimum has 2^64 bytes or more;
+        /// [`ResourceLimiterDeniedAllocation`](crate::MemoryError::ResourceLimiterDeniedAllocation) if the limiter doesn't permit it; [`OutOfSystemMemory`](crate::MemoryError::OutOfSystemMemory), of
+        /// which the limiter is notified.
         ///
         /// # Contract
         ///
@@ -1306,7 +1373,9 @@ mod memory {
         ///     (lent_limiter limiter.old) result (lent_limiter limiter.new)
         /// ```
         ///
-        /// Definitions: [`KeepsLoan`](crate::specs::meter::Limiter#KeepsLoan), [`MakesMemory`](crate::specs::store::Memory#MakesMemory), [`optional_rules`](crate::specs::meter::Limiter#optional_rules), [`Owned`](crate::specs::store::Buffer#Owned), [`lent_limiter`](crate::specs::meter::Limiter#lent_limiter).
+        /// Definitions: [`KeepsLoan`](crate::specs::meter::LimiterSpecs#KeepsLoan), [`MakesMemory`](crate::specs::store::MemorySpecs#MakesMemory), [`optional_rules`](crate::specs::meter::LimiterSpecs#optional_rules), [`Owned`](crate::specs::store::BufferSpecs#Owned), [`lent_limiter`](crate::specs::meter::LimiterSpecs#lent_limiter).
+        ///
+        /// `L` is the type of the limiter, a [`ResourceLimiter`](crate::machine::ResourceLimiter#contract).
         #[inline]
         pub fn new<L: ResourceLimiter>(
             ty: MemoryType,
@@ -1322,9 +1391,11 @@ mod memory {
         /// A memory of zeros at the front of a borrowed buffer, at the minimum of its type. It takes no
         /// fuel and allocates nothing, and the bytes past the minimum stay as they are.
         ///
-        /// Errors, in the order of the tests: `MinimumSizeOverflow` if the minimum has 2^64 bytes or
-        /// more; `ResourceLimiterDeniedAllocation` if the limiter doesn't permit it;
-        /// `InvalidStaticBufferSize` if the buffer is shorter than the minimum, of which the limiter is
+        /// # Errors
+        ///
+        /// In the order of the tests: [`MinimumSizeOverflow`](crate::MemoryError::MinimumSizeOverflow) if the minimum has 2^64 bytes or more;
+        /// [`ResourceLimiterDeniedAllocation`](crate::MemoryError::ResourceLimiterDeniedAllocation) if the limiter doesn't permit it;
+        /// [`InvalidStaticBufferSize`](crate::MemoryError::InvalidStaticBufferSize) if the buffer is shorter than the minimum, of which the limiter is
         /// notified. After an error the loan has ended, and the bytes of the buffer are unchanged.
         ///
         /// # Contract
@@ -1335,7 +1406,9 @@ mod memory {
         ///     (lent_limiter limiter.old) result (lent_limiter limiter.new)
         /// ```
         ///
-        /// Definitions: [`KeepsLoan`](crate::specs::meter::Limiter#KeepsLoan), [`MakesMemory`](crate::specs::store::Memory#MakesMemory), [`optional_rules`](crate::specs::meter::Limiter#optional_rules), [`Lent`](crate::specs::store::Buffer#Lent), [`lent_limiter`](crate::specs::meter::Limiter#lent_limiter).
+        /// Definitions: [`KeepsLoan`](crate::specs::meter::LimiterSpecs#KeepsLoan), [`MakesMemory`](crate::specs::store::MemorySpecs#MakesMemory), [`optional_rules`](crate::specs::meter::LimiterSpecs#optional_rules), [`Lent`](crate::specs::store::BufferSpecs#Lent), [`lent_limiter`](crate::specs::meter::LimiterSpecs#lent_limiter).
+        ///
+        /// `L` is the type of the limiter, a [`ResourceLimiter`](crate::machine::ResourceLimiter#contract).
         #[inline]
         pub fn new_static<L: ResourceLimiter>(
             ty: MemoryType,
@@ -1351,6 +1424,10 @@ mod memory {
 
         /// As `new`, with a limiter that is known again after this call.
         ///
+        /// # Errors
+        ///
+        /// Those of `new`.
+        ///
         /// # Contract
         ///
         /// ```text
@@ -1358,7 +1435,9 @@ mod memory {
         ///     (Some limiter.new)
         /// ```
         ///
-        /// Definitions: [`MakesMemory`](crate::specs::store::Memory#MakesMemory), [`optional_rules`](crate::specs::meter::Limiter#optional_rules), [`Owned`](crate::specs::store::Buffer#Owned).
+        /// Definitions: [`MakesMemory`](crate::specs::store::MemorySpecs#MakesMemory), [`optional_rules`](crate::specs::meter::LimiterSpecs#optional_rules), [`Owned`](crate::specs::store::BufferSpecs#Owned).
+        ///
+        /// `L` is the type of the limiter, a [`ResourceLimiter`](crate::machine::ResourceLimiter#contract).
         #[inline]
         pub fn new_lending<L: ResourceLimiter>(
             ty: MemoryType,
@@ -1379,6 +1458,7 @@ mod memory {
         /// ```text
         /// ensures: result ≡ self.now.ty
         /// ```
+        #[must_use]
         #[inline]
         pub fn ty(&self) -> MemoryType {
             self.ty
@@ -1394,7 +1474,8 @@ mod memory {
         /// ensures subtype: IsSubtype result self.now.ty
         /// ```
         ///
-        /// Definitions: [`dynamic_type`](crate::specs::store::Memory#dynamic_type), [`IsSubtype`](crate::specs::store::Memory#IsSubtype).
+        /// Definitions: [`dynamic_type`](crate::specs::store::MemorySpecs#dynamic_type), [`IsSubtype`](crate::specs::store::MemorySpecs#IsSubtype).
+        #[must_use]
         #[inline]
         pub fn dynamic_ty(&self) -> MemoryType {
             self.ty.with_minimum(self.size())
@@ -1409,7 +1490,8 @@ mod memory {
         /// ensures within: in_bounds self.now.ty result ≡ true
         /// ```
         ///
-        /// Definitions: [`pages_of`](crate::specs::store::Memory#pages_of), [`in_bounds`](crate::specs::store::Memory#in_bounds).
+        /// Definitions: [`pages_of`](crate::specs::store::MemorySpecs#pages_of), [`in_bounds`](crate::specs::store::MemorySpecs#in_bounds).
+        #[must_use]
         #[inline]
         pub fn size(&self) -> u64 {
             self.buffer.len() as u64 / u64::from(self.ty.page_size())
@@ -1424,7 +1506,8 @@ mod memory {
         /// ensures sized: IsSized self.now.ty result
         /// ```
         ///
-        /// Definitions: [`IsSized`](crate::specs::store::Memory#IsSized).
+        /// Definitions: [`IsSized`](crate::specs::store::MemorySpecs#IsSized).
+        #[must_use]
         #[inline]
         pub fn data_size(&self) -> usize {
             self.buffer.len()
@@ -1437,6 +1520,7 @@ mod memory {
         /// ```text
         /// ensures: result.now ≡ self.now.bytes
         /// ```
+        #[must_use]
         #[inline]
         pub fn data(&self) -> &[u8] {
             self.buffer.data()
@@ -1452,23 +1536,34 @@ mod memory {
         /// ensures value: result.now ≡ self.old.bytes
         /// ```
         ///
-        /// Definitions: [`memory_of`](crate::specs::store::Memory#memory_of), [`with_bytes`](crate::specs::store::Buffer#with_bytes), [`buffer_of`](crate::specs::store::Memory#buffer_of).
+        /// Definitions: [`memory_of`](crate::specs::store::MemorySpecs#memory_of), [`with_bytes`](crate::specs::store::BufferSpecs#with_bytes), [`buffer_of`](crate::specs::store::MemorySpecs#buffer_of).
+        ///
+        /// `R` is the type of what has the bytes, a [`Region`](crate::machine::Region#contract).
         #[inline]
         pub fn data_mut(&mut self) -> &mut [u8] {
             self.buffer.data_mut()
         }
 
         /// Grows by `additional` pages of zeros, and returns the old size in pages. A growth by 0 pages
-        /// changes nothing and asks no limiter.
+        /// changes nothing and asks no limiter. Bytes of a borrowed buffer past the new size stay as
+        /// they are.
         ///
-        /// Errors, in the order of the tests: `OutOfBoundsGrowth` above the greatest number of pages or
-        /// the maximum, or at 2^64 bytes or more; the limiter's denial (`OutOfBoundsGrowth` if it says
-        /// no, `ResourceLimiterDeniedAllocation` if it returns an error); `InvalidStaticBufferSize` if
-        /// a borrowed buffer is shorter than the new size, which charges nothing; `OutOfFuel` if the
-        /// meter is on and the added bytes cost more than is left; `OutOfSystemMemory`, after which the
-        /// fuel stays spent, and which doesn't occur on a borrowed buffer. The limiter is notified of
-        /// the last three, and if it returns an error, the error is `ResourceLimiterDeniedAllocation`
-        /// instead. Bytes of a borrowed buffer past the new size stay as they are.
+        /// # Errors
+        ///
+        /// In the order of the tests:
+        ///
+        /// - [`OutOfBoundsGrowth`](crate::MemoryError::OutOfBoundsGrowth) above the greatest number of pages or the maximum, or at 2^64 bytes or
+        ///   more;
+        /// - [`OutOfBoundsGrowth`](crate::MemoryError::OutOfBoundsGrowth) if the limiter says no, [`ResourceLimiterDeniedAllocation`](crate::MemoryError::ResourceLimiterDeniedAllocation) if it
+        ///   returns an error;
+        /// - [`InvalidStaticBufferSize`](crate::MemoryError::InvalidStaticBufferSize) if a borrowed buffer is shorter than the new size, which charges
+        ///   nothing;
+        /// - [`OutOfFuel`](crate::MemoryError::OutOfFuel) if the meter is on and the added bytes cost more than is left;
+        /// - [`OutOfSystemMemory`](crate::MemoryError::OutOfSystemMemory), after which the fuel stays spent, and which doesn't occur on a
+        ///   borrowed buffer.
+        ///
+        /// The limiter is notified of the last three, and if it returns an error, the error is
+        /// [`ResourceLimiterDeniedAllocation`](crate::MemoryError::ResourceLimiterDeniedAllocation) instead.
         ///
         /// # Contract
         ///
@@ -1479,7 +1574,9 @@ mod memory {
         ///     (metered_value self.new (meter_at_exit fuel.exit) (lent_limiter limiter.new))
         /// ```
         ///
-        /// Definitions: [`KeepsLoan`](crate::specs::meter::Limiter#KeepsLoan), [`GrowsMemory`](crate::specs::store::Memory#GrowsMemory), [`optional_rules`](crate::specs::meter::Limiter#optional_rules), [`metered_value`](crate::specs::store::Growth#metered_value), [`meter_at_entry`](crate::specs::meter::Meter#meter_at_entry), [`lent_limiter`](crate::specs::meter::Limiter#lent_limiter), [`meter_at_exit`](crate::specs::meter::Meter#meter_at_exit).
+        /// Definitions: [`KeepsLoan`](crate::specs::meter::LimiterSpecs#KeepsLoan), [`GrowsMemory`](crate::specs::store::MemorySpecs#GrowsMemory), [`optional_rules`](crate::specs::meter::LimiterSpecs#optional_rules), [`metered_value`](crate::specs::store::GrowthSpecs#metered_value), [`meter_at_entry`](crate::specs::meter::MeterSpecs#meter_at_entry), [`lent_limiter`](crate::specs::meter::LimiterSpecs#lent_limiter), [`meter_at_exit`](crate::specs::meter::MeterSpecs#meter_at_exit).
+        ///
+        /// `L` is the type of the limiter, a [`ResourceLimiter`](crate::machine::ResourceLimiter#contract).
         #[inline]
         pub fn grow<L: ResourceLimiter>(
             &mut self,
@@ -1492,6 +1589,10 @@ mod memory {
 
         /// As `grow`, with a meter that isn't optional.
         ///
+        /// # Errors
+        ///
+        /// Those of `grow`.
+        ///
         /// # Contract
         ///
         /// ```text
@@ -1501,7 +1602,9 @@ mod memory {
         ///     (metered_value self.new (Some fuel.new) (lent_limiter limiter.new))
         /// ```
         ///
-        /// Definitions: [`KeepsLoan`](crate::specs::meter::Limiter#KeepsLoan), [`GrowsMemory`](crate::specs::store::Memory#GrowsMemory), [`optional_rules`](crate::specs::meter::Limiter#optional_rules), [`metered_value`](crate::specs::store::Growth#metered_value), [`lent_limiter`](crate::specs::meter::Limiter#lent_limiter).
+        /// Definitions: [`KeepsLoan`](crate::specs::meter::LimiterSpecs#KeepsLoan), [`GrowsMemory`](crate::specs::store::MemorySpecs#GrowsMemory), [`optional_rules`](crate::specs::meter::LimiterSpecs#optional_rules), [`metered_value`](crate::specs::store::GrowthSpecs#metered_value), [`lent_limiter`](crate::specs::meter::LimiterSpecs#lent_limiter).
+        ///
+        /// `L` is the type of the limiter, a [`ResourceLimiter`](crate::machine::ResourceLimiter#contract).
         #[inline]
         pub fn grow_metered<L: ResourceLimiter>(
             &mut self,
@@ -1528,6 +1631,10 @@ mod memory {
 
         /// As `grow_metered`, with a limiter that is known again after this call.
         ///
+        /// # Errors
+        ///
+        /// Those of `grow`.
+        ///
         /// # Contract
         ///
         /// ```text
@@ -1536,7 +1643,9 @@ mod memory {
         ///     (metered_value self.new (Some fuel.new) (Some limiter.new))
         /// ```
         ///
-        /// Definitions: [`GrowsMemory`](crate::specs::store::Memory#GrowsMemory), [`optional_rules`](crate::specs::meter::Limiter#optional_rules), [`metered_value`](crate::specs::store::Growth#metered_value).
+        /// Definitions: [`GrowsMemory`](crate::specs::store::MemorySpecs#GrowsMemory), [`optional_rules`](crate::specs::meter::LimiterSpecs#optional_rules), [`metered_value`](crate::specs::store::GrowthSpecs#metered_value).
+        ///
+        /// `L` is the type of the limiter, a [`ResourceLimiter`](crate::machine::ResourceLimiter#contract).
         #[inline]
         pub fn grow_lending<L: ResourceLimiter>(
             &mut self,
@@ -1550,8 +1659,11 @@ mod memory {
             grown
         }
 
-        /// Fills a buffer with the bytes from an offset on. The error is `OutOfBoundsAccess` if they
-        /// end past the memory; then nothing is copied.
+        /// Fills a buffer with the bytes from an offset on.
+        ///
+        /// # Errors
+        ///
+        /// [`OutOfBoundsAccess`](crate::MemoryError::OutOfBoundsAccess) if they end past the memory; then nothing is copied.
         ///
         /// # Contract
         ///
@@ -1562,14 +1674,17 @@ mod memory {
         ///     × (at self.now.bytes offset (length buffer.old) ≡ None) × (buffer.new ≡ buffer.old))
         /// ```
         ///
-        /// Definitions: [`at`](crate::specs::types::Access#at).
+        /// Definitions: [`at`](crate::specs::types::AccessSpecs#at).
         #[inline]
         pub fn read(&self, offset: usize, buffer: &mut [u8]) -> Result<(), MemoryError> {
             read_bytes(self.buffer.data(), offset, buffer)
         }
 
-        /// Writes bytes over those from an offset on. The error is `OutOfBoundsAccess` if they would
-        /// end past the memory; then nothing is written.
+        /// Writes bytes over those from an offset on.
+        ///
+        /// # Errors
+        ///
+        /// [`OutOfBoundsAccess`](crate::MemoryError::OutOfBoundsAccess) if they would end past the memory; then nothing is written.
         ///
         /// # Contract
         ///
@@ -1577,19 +1692,21 @@ mod memory {
         /// ensures: WritesMemory self.old offset buffer.now result self.new
         /// ```
         ///
-        /// Definitions: [`WritesMemory`](crate::specs::store::Memory#WritesMemory).
+        /// Definitions: [`WritesMemory`](crate::specs::store::MemorySpecs#WritesMemory).
         #[inline]
         pub fn write(&mut self, offset: usize, buffer: &[u8]) -> Result<(), MemoryError> {
             write_bytes(self.buffer.data_mut(), offset, buffer)
         }
 
-        /// Fills `len` bytes from `dst` on with a value.
-        ///
-        /// Errors, in the order of the tests: `OutOfBoundsAccess` if they end past the memory;
-        /// `OutOfFuel`, which is tested also if no byte is filled. Then no byte is written, and no fuel
-        /// taken. It is charged as a table's `fill`, by the bytes.
+        /// Fills `len` bytes from `dst` on with a value. It is charged as a table's `fill`, by the
+        /// bytes.
         ///
         /// Core specification, memory.fill.
+        ///
+        /// # Errors
+        ///
+        /// In the order of the tests: [`OutOfBoundsAccess`](crate::MemoryError::OutOfBoundsAccess) if they end past the memory; [`OutOfFuel`](crate::MemoryError::OutOfFuel),
+        /// which is tested also if no byte is filled. Then no byte is written, and no fuel taken.
         ///
         /// # Contract
         ///
@@ -1600,7 +1717,7 @@ mod memory {
         /// ensures kept: KeepsPlace self.old self.new
         /// ```
         ///
-        /// Definitions: [`BulkWrites`](crate::specs::store::Growth#BulkWrites), [`filled`](crate::specs::store::Growth#filled), [`metered`](crate::specs::store::Growth#metered), [`meter_at_entry`](crate::specs::meter::Meter#meter_at_entry), [`meter_at_exit`](crate::specs::meter::Meter#meter_at_exit), [`KeepsPlace`](crate::specs::store::Memory#KeepsPlace).
+        /// Definitions: [`BulkWrites`](crate::specs::store::GrowthSpecs#BulkWrites), [`filled`](crate::specs::store::GrowthSpecs#filled), [`metered`](crate::specs::store::GrowthSpecs#metered), [`meter_at_entry`](crate::specs::meter::MeterSpecs#meter_at_entry), [`meter_at_exit`](crate::specs::meter::MeterSpecs#meter_at_exit), [`KeepsPlace`](crate::specs::store::MemorySpecs#KeepsPlace).
         #[inline]
         pub fn fill(
             &mut self,
@@ -1613,9 +1730,13 @@ mod memory {
         }
 
         /// Copies `len` bytes from `src` on over those from `dst` on. If the ranges overlap, the old
-        /// bytes are copied. The errors are those of `fill`, if a range ends past the memory.
+        /// bytes are copied.
         ///
         /// Core specification, memory.copy within a memory.
+        ///
+        /// # Errors
+        ///
+        /// Those of `fill`, if a range ends past the memory.
         ///
         /// # Contract
         ///
@@ -1626,7 +1747,7 @@ mod memory {
         /// ensures kept: KeepsPlace self.old self.new
         /// ```
         ///
-        /// Definitions: [`BulkWrites`](crate::specs::store::Growth#BulkWrites), [`copied`](crate::specs::store::Growth#copied), [`metered`](crate::specs::store::Growth#metered), [`meter_at_entry`](crate::specs::meter::Meter#meter_at_entry), [`meter_at_exit`](crate::specs::meter::Meter#meter_at_exit), [`KeepsPlace`](crate::specs::store::Memory#KeepsPlace).
+        /// Definitions: [`BulkWrites`](crate::specs::store::GrowthSpecs#BulkWrites), [`copied`](crate::specs::store::GrowthSpecs#copied), [`metered`](crate::specs::store::GrowthSpecs#metered), [`meter_at_entry`](crate::specs::meter::MeterSpecs#meter_at_entry), [`meter_at_exit`](crate::specs::meter::MeterSpecs#meter_at_exit), [`KeepsPlace`](crate::specs::store::MemorySpecs#KeepsPlace).
         #[inline]
         pub fn copy_within(
             &mut self,
@@ -1639,9 +1760,13 @@ mod memory {
         }
 
         /// Copies `len` bytes of another memory, from `src` on, over the bytes of a memory from `dst`
-        /// on. The errors are those of `fill`, if a range ends past its memory.
+        /// on.
         ///
         /// Core specification, memory.copy of two memories.
+        ///
+        /// # Errors
+        ///
+        /// Those of `fill`, if a range ends past its memory.
         ///
         /// # Contract
         ///
@@ -1653,7 +1778,7 @@ mod memory {
         /// ensures kept: KeepsPlace dst_memory.old dst_memory.new
         /// ```
         ///
-        /// Definitions: [`BulkWrites`](crate::specs::store::Growth#BulkWrites), [`copied`](crate::specs::store::Growth#copied), [`metered`](crate::specs::store::Growth#metered), [`meter_at_entry`](crate::specs::meter::Meter#meter_at_entry), [`meter_at_exit`](crate::specs::meter::Meter#meter_at_exit), [`KeepsPlace`](crate::specs::store::Memory#KeepsPlace).
+        /// Definitions: [`BulkWrites`](crate::specs::store::GrowthSpecs#BulkWrites), [`copied`](crate::specs::store::GrowthSpecs#copied), [`metered`](crate::specs::store::GrowthSpecs#metered), [`meter_at_entry`](crate::specs::meter::MeterSpecs#meter_at_entry), [`meter_at_exit`](crate::specs::meter::MeterSpecs#meter_at_exit), [`KeepsPlace`](crate::specs::store::MemorySpecs#KeepsPlace).
         #[inline]
         pub fn copy<S: Region>(
             dst_memory: &mut LinearMemory<R>,
@@ -1668,10 +1793,13 @@ mod memory {
         }
 
         /// Copies `len` bytes of a data segment, from `src` on, over the bytes from `dst` on. A segment
-        /// that was dropped has no bytes. The errors are those of `fill`, if a range ends past the
-        /// segment or the memory.
+        /// that was dropped has no bytes.
         ///
         /// Core specification, memory.init.
+        ///
+        /// # Errors
+        ///
+        /// Those of `fill`, if a range ends past the segment or the memory.
         ///
         /// # Contract
         ///
@@ -1682,7 +1810,7 @@ mod memory {
         /// ensures kept: KeepsPlace self.old self.new
         /// ```
         ///
-        /// Definitions: [`BulkWrites`](crate::specs::store::Growth#BulkWrites), [`copied`](crate::specs::store::Growth#copied), [`metered`](crate::specs::store::Growth#metered), [`meter_at_entry`](crate::specs::meter::Meter#meter_at_entry), [`meter_at_exit`](crate::specs::meter::Meter#meter_at_exit), [`KeepsPlace`](crate::specs::store::Memory#KeepsPlace).
+        /// Definitions: [`BulkWrites`](crate::specs::store::GrowthSpecs#BulkWrites), [`copied`](crate::specs::store::GrowthSpecs#copied), [`metered`](crate::specs::store::GrowthSpecs#metered), [`meter_at_entry`](crate::specs::meter::MeterSpecs#meter_at_entry), [`meter_at_exit`](crate::specs::meter::MeterSpecs#meter_at_exit), [`KeepsPlace`](crate::specs::store::MemorySpecs#KeepsPlace).
         #[inline]
         pub fn init(
             &mut self,
@@ -1714,14 +1842,18 @@ pub mod range {
     /// ```text
     /// ensures: result ≡ nat_le (index + len) (length items.now)
     /// ```
+    #[must_use]
     #[inline]
     pub fn lies_within<T>(items: &[T], index: u64, len: u64) -> bool {
         let size = items.len() as u64;
         index <= size && len <= size - index
     }
 
-    /// Fills a buffer with the bytes from an offset on. The error is `OutOfBoundsAccess` if they end
-    /// past the bytes; then nothing is copied.
+    /// Fills a buffer with the bytes from an offset on.
+    ///
+    /// # Errors
+    ///
+    /// [`OutOfBoundsAccess`](crate::MemoryError::OutOfBoundsAccess) if they end past the bytes; then nothing is copied.
     ///
     /// # Contract
     ///
@@ -1732,7 +1864,7 @@ pub mod range {
     ///     × (at bytes.now offset (length buffer.old) ≡ None) × (buffer.new ≡ buffer.old))
     /// ```
     ///
-    /// Definitions: [`at`](crate::specs::types::Access#at).
+    /// Definitions: [`at`](crate::specs::types::AccessSpecs#at).
     #[inline]
     pub fn read_bytes(bytes: &[u8], offset: usize, buffer: &mut [u8]) -> Result<(), MemoryError> {
         if !lies_within(bytes, offset as u64, buffer.len() as u64) {
@@ -1743,8 +1875,11 @@ pub mod range {
         Ok(())
     }
 
-    /// Writes bytes over those from an offset on. The error is `OutOfBoundsAccess` if they would end
-    /// past the bytes; then nothing is written.
+    /// Writes bytes over those from an offset on.
+    ///
+    /// # Errors
+    ///
+    /// [`OutOfBoundsAccess`](crate::MemoryError::OutOfBoundsAccess) if they would end past the bytes; then nothing is written.
     ///
     /// # Contract
     ///
@@ -1756,7 +1891,7 @@ pub mod range {
     /// ensures len: length bytes.new ≡ length bytes.old
     /// ```
     ///
-    /// Definitions: [`overwrite`](crate::specs::types::Access#overwrite).
+    /// Definitions: [`overwrite`](crate::specs::types::AccessSpecs#overwrite).
     #[inline]
     pub fn write_bytes(bytes: &mut [u8], offset: usize, buffer: &[u8]) -> Result<(), MemoryError> {
         if !lies_within(bytes, offset as u64, buffer.len() as u64) {
@@ -1776,7 +1911,7 @@ pub mod range {
     /// ensures len: length elements.new ≡ length elements.old
     /// ```
     ///
-    /// Definitions: [`overwrite`](crate::specs::types::Access#overwrite).
+    /// Definitions: [`overwrite`](crate::specs::types::AccessSpecs#overwrite).
     #[inline]
     pub fn write_range<T: Copy>(elements: &mut [T], index: usize, items: &[T]) {
         let part = &mut elements[index..][..items.len()];
@@ -1797,6 +1932,8 @@ pub mod range {
     ///     ≡ take start elements.old ++ replicate (end - start) value ++ drop end elements.old
     /// ensures len: length elements.new ≡ length elements.old
     /// ```
+    ///
+    /// `T` is a type with the trait `Copy`.
     #[inline]
     pub fn fill_range<T: Copy>(elements: &mut [T], start: usize, end: usize, value: T) {
         let part = &mut elements[start..end];
@@ -1861,7 +1998,7 @@ pub mod range {
     ///     ≡ Some elements.new
     /// ```
     ///
-    /// Definitions: [`overwrite`](crate::specs::types::Access#overwrite).
+    /// Definitions: [`overwrite`](crate::specs::types::AccessSpecs#overwrite).
     #[inline]
     pub fn copy_overlapping<T: Chunk>(elements: &mut [T], dst: usize, src: usize, len: usize) {
         if len <= CHUNK {
@@ -1915,7 +2052,8 @@ mod table {
             /// ensures: result.now ≡ segment_error_text self.now
             /// ```
             ///
-            /// Definitions: [`segment_error_text`](crate::specs::store::Segment#segment_error_text).
+            /// Definitions: [`segment_error_text`](crate::specs::store::SegmentSpecs#segment_error_text).
+            #[must_use]
             #[inline]
             pub(crate) fn words(&self) -> &'static str {
                 match self {
@@ -1931,7 +2069,7 @@ mod table {
         /// output = λ error. Some (segment_error_text error)
         /// ```
         ///
-        /// Definitions: [`segment_error_text`](crate::specs::store::Segment#segment_error_text).
+        /// Definitions: [`segment_error_text`](crate::specs::store::SegmentSpecs#segment_error_text).
         impl fmt::Display for SegmentError {
             #[inline]
             fn fmt(&self, f: &mut fmt::Formatter<'_>) -> fmt::Result {
@@ -1953,7 +2091,7 @@ mod table {
         /// invariant = λ segment. IsKept segment.items.items (vec_capacity segment.items)
         /// ```
         ///
-        /// Definitions: [`SegmentValue`](crate::specs::store::Segment#SegmentValue), [`IsKept`](crate::specs::store::Segment#IsKept).
+        /// Definitions: [`SegmentValue`](crate::specs::store::SegmentSpecs#SegmentValue), [`IsKept`](crate::specs::store::SegmentSpecs#IsKept).
         #[derive(Debug)]
         pub struct ElementSegment {
             ty: RefType,
@@ -1983,6 +2121,10 @@ mod table {
             ///
             /// Upstream: `ElementSegment::new`, which panics above 2^32 - 1 items.
             ///
+            /// # Errors
+            ///
+            /// Those of `read`.
+            ///
             /// # Contract
             ///
             /// ```text
@@ -1990,7 +2132,9 @@ mod table {
             /// ensures reading: IsReadingOf I.into_iter_gives I.IntoIter.next_gives ty items result
             /// ```
             ///
-            /// Definitions: [`EachBecomes`](crate::specs::types::Reading#EachBecomes), [`IsReadingOf`](crate::specs::store::Segment#IsReadingOf).
+            /// Definitions: [`EachBecomes`](crate::specs::types::ReadingSpecs#EachBecomes), [`IsReadingOf`](crate::specs::store::SegmentSpecs#IsReadingOf).
+            ///
+            /// `I` is the type of the items, an [`IntoIterator`].
             #[inline]
             pub fn new<I>(ty: RefType, items: I) -> Result<Self, SegmentError>
             where
@@ -2000,12 +2144,14 @@ mod table {
                 Self::read(ty, &mut items)
             }
 
-            /// Reads references of a type up to the first `None`, which counts as the end.
-            ///
-            /// It reads at most 2^32 items, and none after the end or after an error: `TooManyItems` at the
-            /// last of those items, `OutOfSystemMemory` at the item for which memory was refused.
+            /// Reads references of a type up to the first `None`, which counts as the end. It reads at most
+            /// 2^32 items, and none after the end or after an error.
             ///
             /// Own: `new` takes its iterator by value, so its contract can't say what is left of it.
+            ///
+            /// # Errors
+            ///
+            /// [`TooManyItems`](crate::machine::SegmentError::TooManyItems) at item 2^32; [`OutOfSystemMemory`](crate::machine::SegmentError::OutOfSystemMemory) at the item for which memory is refused.
             ///
             /// # Contract
             ///
@@ -2014,7 +2160,9 @@ mod table {
             /// ensures reading: IsReading I.next_gives items.old ty result items.new
             /// ```
             ///
-            /// Definitions: [`IsReading`](crate::specs::store::Segment#IsReading).
+            /// Definitions: [`IsReading`](crate::specs::store::SegmentSpecs#IsReading).
+            ///
+            /// `I` is the type of the items, an [`Iterator`].
             #[inline]
             pub fn read<I>(ty: RefType, items: &mut I) -> Result<Self, SegmentError>
             where
@@ -2043,7 +2191,8 @@ mod table {
             /// ensures: segment_of result ≡ self.now
             /// ```
             ///
-            /// Definitions: [`segment_of`](crate::specs::store::Segment#segment_of).
+            /// Definitions: [`segment_of`](crate::specs::store::SegmentSpecs#segment_of).
+            #[must_use]
             #[inline]
             pub fn as_ref(&self) -> ElementSegmentRef {
                 ElementSegmentRef::from(self)
@@ -2056,6 +2205,7 @@ mod table {
             /// ```text
             /// ensures: result ≡ self.now.ty
             /// ```
+            #[must_use]
             #[inline]
             pub fn ty(&self) -> RefType {
                 self.ty
@@ -2068,6 +2218,7 @@ mod table {
             /// ```text
             /// ensures: result.now ≡ self.now.items
             /// ```
+            #[must_use]
             #[inline]
             pub fn items(&self) -> &[RawRef] {
                 self.items.as_slice()
@@ -2080,6 +2231,7 @@ mod table {
             /// ```text
             /// ensures: result ≡ length self.now.items
             /// ```
+            #[must_use]
             #[inline]
             pub fn size(&self) -> u32 {
                 self.items.len() as u32
@@ -2093,7 +2245,7 @@ mod table {
             /// ensures: self.new ≡ dropped self.old
             /// ```
             ///
-            /// Definitions: [`dropped`](crate::specs::store::Segment#dropped).
+            /// Definitions: [`dropped`](crate::specs::store::SegmentSpecs#dropped).
             #[inline]
             pub fn drop_items(&mut self) {
                 self.items = Vec::new();
@@ -2106,7 +2258,7 @@ mod table {
         /// from_gives = λ segment shared. segment_of shared ≡ segment.now
         /// ```
         ///
-        /// Definitions: [`segment_of`](crate::specs::store::Segment#segment_of).
+        /// Definitions: [`segment_of`](crate::specs::store::SegmentSpecs#segment_of).
         impl<'a> From<&'a ElementSegment> for ElementSegmentRef<'a> {
             #[inline]
             fn from(segment: &'a ElementSegment) -> Self {
@@ -2126,7 +2278,8 @@ mod table {
             /// ensures: result ≡ (segment_of self.entry).ty
             /// ```
             ///
-            /// Definitions: [`segment_of`](crate::specs::store::Segment#segment_of).
+            /// Definitions: [`segment_of`](crate::specs::store::SegmentSpecs#segment_of).
+            #[must_use]
             #[inline]
             pub fn ty(self) -> RefType {
                 self.ty
@@ -2140,7 +2293,8 @@ mod table {
             /// ensures: result.now ≡ (segment_of self.entry).items
             /// ```
             ///
-            /// Definitions: [`segment_of`](crate::specs::store::Segment#segment_of).
+            /// Definitions: [`segment_of`](crate::specs::store::SegmentSpecs#segment_of).
+            #[must_use]
             #[inline]
             pub fn items(self) -> &'a [RawRef] {
                 self.items
@@ -2154,7 +2308,8 @@ mod table {
             /// ensures: result ≡ length (segment_of self.entry).items
             /// ```
             ///
-            /// Definitions: [`segment_of`](crate::specs::store::Segment#segment_of).
+            /// Definitions: [`segment_of`](crate::specs::store::SegmentSpecs#segment_of).
+            #[must_use]
             #[inline]
             pub fn size(self) -> u32 {
                 self.items.len() as u32
@@ -2190,7 +2345,7 @@ mod table {
         ///     { index = t.index; element = t.element; minimum = t.minimum; maximum = t.maximum }
         /// ```
         ///
-        /// Definitions: [`TableTypeValue`](crate::specs::store::Table#TableTypeValue), [`IsValid`](crate::specs::store::Table#IsValid).
+        /// Definitions: [`TableTypeValue`](crate::specs::store::TableSpecs#TableTypeValue), [`IsValid`](crate::specs::store::TableSpecs#IsValid).
         #[derive(Clone, Copy, Debug, PartialEq, Eq)]
         pub struct TableType {
             index: IndexType,
@@ -2213,6 +2368,7 @@ mod table {
             /// ensures value: result
             ///     ≡ record { index = I32; element = element; minimum = minimum; maximum = maximum }
             /// ```
+            #[must_use]
             #[inline]
             pub fn new(element: RefType, minimum: u32, maximum: Option<u32>) -> Self {
                 assert!(
@@ -2240,6 +2396,7 @@ mod table {
             /// ensures value: result
             ///     ≡ record { index = I64; element = element; minimum = minimum; maximum = maximum }
             /// ```
+            #[must_use]
             #[inline]
             pub fn new64(element: RefType, minimum: u64, maximum: Option<u64>) -> Self {
                 assert!(
@@ -2261,6 +2418,7 @@ mod table {
             /// ```text
             /// ensures: IsTrue result ↔ (self.now.index ≡ I64)
             /// ```
+            #[must_use]
             #[inline]
             pub fn is_64(&self) -> bool {
                 self.index.is_64()
@@ -2273,6 +2431,7 @@ mod table {
             /// ```text
             /// ensures: result ≡ self.now.index
             /// ```
+            #[must_use]
             #[inline]
             pub fn index_ty(&self) -> IndexType {
                 self.index
@@ -2285,6 +2444,7 @@ mod table {
             /// ```text
             /// ensures: result ≡ self.now.element
             /// ```
+            #[must_use]
             #[inline]
             pub fn element(&self) -> RefType {
                 self.element
@@ -2299,7 +2459,8 @@ mod table {
             /// ensures valid: IsValid self.now
             /// ```
             ///
-            /// Definitions: [`IsValid`](crate::specs::store::Table#IsValid).
+            /// Definitions: [`IsValid`](crate::specs::store::TableSpecs#IsValid).
+            #[must_use]
             #[inline]
             pub fn minimum(&self) -> u64 {
                 self.minimum
@@ -2312,6 +2473,7 @@ mod table {
             /// ```text
             /// ensures: result ≡ self.now.maximum
             /// ```
+            #[must_use]
             #[inline]
             pub fn maximum(&self) -> Option<u64> {
                 self.maximum
@@ -2327,7 +2489,8 @@ mod table {
             /// ensures: IsTrue result ↔ IsSubtype self.now other.now
             /// ```
             ///
-            /// Definitions: [`IsSubtype`](crate::specs::store::Table#IsSubtype).
+            /// Definitions: [`IsSubtype`](crate::specs::store::TableSpecs#IsSubtype).
+            #[must_use]
             #[inline]
             pub fn is_subtype_of(&self, other: &Self) -> bool {
                 self.index == other.index
@@ -2347,7 +2510,7 @@ mod table {
             ///     × (same_type self.element ty ≡ false))
             /// ```
             ///
-            /// Definitions: [`same_type`](crate::specs::store::Table#same_type).
+            /// Definitions: [`same_type`](crate::specs::store::TableSpecs#same_type).
             #[inline]
             pub(crate) fn ensure_element_type_matches(self, ty: RefType) -> Result<(), TableError> {
                 if self.element != ty {
@@ -2366,7 +2529,7 @@ mod table {
             /// ensures value: result ≡ record self { minimum = minimum }
             /// ```
             ///
-            /// Definitions: [`is_indexable`](crate::specs::store::Table#is_indexable), [`is_within_maximum`](crate::specs::store::Table#is_within_maximum).
+            /// Definitions: [`is_indexable`](crate::specs::store::TableSpecs#is_indexable), [`is_within_maximum`](crate::specs::store::TableSpecs#is_within_maximum).
             #[inline]
             pub(super) fn with_minimum(self, minimum: u64) -> Self {
                 TableType { minimum, ..self }
@@ -2382,7 +2545,8 @@ mod table {
             ///     (λ grown. (is_indexable self (size + delta) ≡ true) × (grown ≡ size + delta))
             /// ```
             ///
-            /// Definitions: [`is_indexable`](crate::specs::store::Table#is_indexable).
+            /// Definitions: [`is_indexable`](crate::specs::store::TableSpecs#is_indexable).
+            #[must_use]
             #[inline]
             pub(crate) fn grown_size(self, size: u64, delta: u64) -> Option<usize> {
                 let grown = size.checked_add(delta)?;
@@ -2400,7 +2564,8 @@ mod table {
             /// ensures: result ≡ is_indexable self size
             /// ```
             ///
-            /// Definitions: [`is_indexable`](crate::specs::store::Table#is_indexable).
+            /// Definitions: [`is_indexable`](crate::specs::store::TableSpecs#is_indexable).
+            #[must_use]
             #[inline]
             pub(crate) fn indexes_size(self, size: usize) -> bool {
                 size as u64 <= most_elements(self.index)
@@ -2413,6 +2578,7 @@ mod table {
             /// ```text
             /// ensures: result ≡ self.maximum
             /// ```
+            #[must_use]
             #[inline]
             pub(crate) fn maximum_size(self) -> Option<usize> {
                 self.maximum.map(|maximum| maximum as usize)
@@ -2426,7 +2592,8 @@ mod table {
             /// ensures: result ≡ is_within_maximum self size
             /// ```
             ///
-            /// Definitions: [`is_within_maximum`](crate::specs::store::Table#is_within_maximum).
+            /// Definitions: [`is_within_maximum`](crate::specs::store::TableSpecs#is_within_maximum).
+            #[must_use]
             #[inline]
             pub(crate) fn allows_size(self, size: usize) -> bool {
                 self.maximum.is_none_or(|maximum| size as u64 <= maximum)
@@ -2441,7 +2608,7 @@ mod table {
         /// ensures: result ≡ 2 ^ address_bits index - 1
         /// ```
         ///
-        /// Definitions: [`address_bits`](crate::specs::types::Value#address_bits).
+        /// Definitions: [`address_bits`](crate::specs::types::ValueSpecs#address_bits).
         #[inline]
         fn most_elements(index: IndexType) -> u64 {
             match index {
@@ -2479,7 +2646,7 @@ mod table {
     /// invariant = λ t. IsSized t.ty (length t.elements.items)
     /// ```
     ///
-    /// Definitions: [`TableValue`](crate::specs::store::Table#TableValue), [`IsSized`](crate::specs::store::Table#IsSized).
+    /// Definitions: [`TableValue`](crate::specs::store::TableSpecs#TableValue), [`IsSized`](crate::specs::store::TableSpecs#IsSized).
     #[derive(Debug)]
     pub struct Table {
         ty: TableType,
@@ -2490,8 +2657,11 @@ mod table {
         /// A table at the minimum of its type, each element of which is the given reference. It takes
         /// no fuel.
         ///
-        /// Errors, in the order of the tests: `ElementTypeMismatch`; `ResourceLimiterDeniedAllocation`
-        /// if the limiter doesn't permit it; `OutOfSystemMemory`, of which the limiter is notified.
+        /// # Errors
+        ///
+        /// In the order of the tests: [`ElementTypeMismatch`](crate::TableError::ElementTypeMismatch) if the reference is of another type;
+        /// [`ResourceLimiterDeniedAllocation`](crate::TableError::ResourceLimiterDeniedAllocation) if the limiter doesn't permit it; [`OutOfSystemMemory`](crate::TableError::OutOfSystemMemory), of
+        /// which the limiter is notified.
         ///
         /// # Contract
         ///
@@ -2501,7 +2671,9 @@ mod table {
         ///     (lent_limiter limiter.new)
         /// ```
         ///
-        /// Definitions: [`KeepsLoan`](crate::specs::meter::Limiter#KeepsLoan), [`MakesTable`](crate::specs::store::Table#MakesTable), [`optional_rules`](crate::specs::meter::Limiter#optional_rules), [`lent_limiter`](crate::specs::meter::Limiter#lent_limiter).
+        /// Definitions: [`KeepsLoan`](crate::specs::meter::LimiterSpecs#KeepsLoan), [`MakesTable`](crate::specs::store::TableSpecs#MakesTable), [`optional_rules`](crate::specs::meter::LimiterSpecs#optional_rules), [`lent_limiter`](crate::specs::meter::LimiterSpecs#lent_limiter).
+        ///
+        /// `L` is the type of the limiter, a [`ResourceLimiter`](crate::machine::ResourceLimiter#contract).
         #[inline]
         pub fn new<L: ResourceLimiter>(
             ty: TableType,
@@ -2520,6 +2692,10 @@ mod table {
 
         /// As `new`, with a limiter that is known again after this call.
         ///
+        /// # Errors
+        ///
+        /// Those of `new`.
+        ///
         /// # Contract
         ///
         /// ```text
@@ -2527,7 +2703,9 @@ mod table {
         ///     (Some limiter.new)
         /// ```
         ///
-        /// Definitions: [`MakesTable`](crate::specs::store::Table#MakesTable), [`optional_rules`](crate::specs::meter::Limiter#optional_rules).
+        /// Definitions: [`MakesTable`](crate::specs::store::TableSpecs#MakesTable), [`optional_rules`](crate::specs::meter::LimiterSpecs#optional_rules).
+        ///
+        /// `L` is the type of the limiter, a [`ResourceLimiter`](crate::machine::ResourceLimiter#contract).
         #[inline]
         pub fn new_lending<L: ResourceLimiter>(
             ty: TableType,
@@ -2547,6 +2725,7 @@ mod table {
         /// ```text
         /// ensures: result ≡ self.now.ty
         /// ```
+        #[must_use]
         #[inline]
         pub fn ty(&self) -> TableType {
             self.ty
@@ -2562,7 +2741,8 @@ mod table {
         /// ensures subtype: IsSubtype result self.now.ty
         /// ```
         ///
-        /// Definitions: [`dynamic_type`](crate::specs::store::Table#dynamic_type), [`IsSubtype`](crate::specs::store::Table#IsSubtype).
+        /// Definitions: [`dynamic_type`](crate::specs::store::TableSpecs#dynamic_type), [`IsSubtype`](crate::specs::store::TableSpecs#IsSubtype).
+        #[must_use]
         #[inline]
         pub fn dynamic_ty(&self) -> TableType {
             self.ty.with_minimum(self.size())
@@ -2577,15 +2757,19 @@ mod table {
         /// ensures sized: IsSized self.now.ty result
         /// ```
         ///
-        /// Definitions: [`size_of`](crate::specs::store::Table#size_of), [`IsSized`](crate::specs::store::Table#IsSized).
+        /// Definitions: [`size_of`](crate::specs::store::TableSpecs#size_of), [`IsSized`](crate::specs::store::TableSpecs#IsSized).
+        #[must_use]
         #[inline]
         pub fn size(&self) -> u64 {
             self.elements.len() as u64
         }
 
-        /// Grows by `delta` elements, each the given reference, and returns the old size. The type of
-        /// the reference is tested first, also in a growth by 0 (`ElementTypeMismatch`); the rest is as
-        /// in `grow_raw`.
+        /// Grows by `delta` elements, each the given reference, and returns the old size.
+        ///
+        /// # Errors
+        ///
+        /// [`ElementTypeMismatch`](crate::TableError::ElementTypeMismatch) if the reference is of another type, also in a growth by 0; then those
+        /// of `grow_raw`.
         ///
         /// # Contract
         ///
@@ -2596,7 +2780,9 @@ mod table {
         ///     (metered_value self.new (meter_at_exit fuel.exit) (lent_limiter limiter.new))
         /// ```
         ///
-        /// Definitions: [`KeepsLoan`](crate::specs::meter::Limiter#KeepsLoan), [`GrowsTable`](crate::specs::store::Table#GrowsTable), [`optional_rules`](crate::specs::meter::Limiter#optional_rules), [`metered_value`](crate::specs::store::Growth#metered_value), [`meter_at_entry`](crate::specs::meter::Meter#meter_at_entry), [`lent_limiter`](crate::specs::meter::Limiter#lent_limiter), [`meter_at_exit`](crate::specs::meter::Meter#meter_at_exit).
+        /// Definitions: [`KeepsLoan`](crate::specs::meter::LimiterSpecs#KeepsLoan), [`GrowsTable`](crate::specs::store::TableSpecs#GrowsTable), [`optional_rules`](crate::specs::meter::LimiterSpecs#optional_rules), [`metered_value`](crate::specs::store::GrowthSpecs#metered_value), [`meter_at_entry`](crate::specs::meter::MeterSpecs#meter_at_entry), [`lent_limiter`](crate::specs::meter::LimiterSpecs#lent_limiter), [`meter_at_exit`](crate::specs::meter::MeterSpecs#meter_at_exit).
+        ///
+        /// `L` is the type of the limiter, a [`ResourceLimiter`](crate::machine::ResourceLimiter#contract).
         #[inline]
         pub fn grow<L: ResourceLimiter>(
             &mut self,
@@ -2610,6 +2796,10 @@ mod table {
 
         /// As `grow`, with a meter that isn't optional.
         ///
+        /// # Errors
+        ///
+        /// Those of `grow`.
+        ///
         /// # Contract
         ///
         /// ```text
@@ -2619,7 +2809,9 @@ mod table {
         ///     (metered_value self.new (Some fuel.new) (lent_limiter limiter.new))
         /// ```
         ///
-        /// Definitions: [`KeepsLoan`](crate::specs::meter::Limiter#KeepsLoan), [`GrowsTable`](crate::specs::store::Table#GrowsTable), [`optional_rules`](crate::specs::meter::Limiter#optional_rules), [`metered_value`](crate::specs::store::Growth#metered_value), [`lent_limiter`](crate::specs::meter::Limiter#lent_limiter).
+        /// Definitions: [`KeepsLoan`](crate::specs::meter::LimiterSpecs#KeepsLoan), [`GrowsTable`](crate::specs::store::TableSpecs#GrowsTable), [`optional_rules`](crate::specs::meter::LimiterSpecs#optional_rules), [`metered_value`](crate::specs::store::GrowthSpecs#metered_value), [`lent_limiter`](crate::specs::meter::LimiterSpecs#lent_limiter).
+        ///
+        /// `L` is the type of the limiter, a [`ResourceLimiter`](crate::machine::ResourceLimiter#contract).
         #[inline]
         pub fn grow_metered<L: ResourceLimiter>(
             &mut self,
@@ -2634,6 +2826,10 @@ mod table {
 
         /// As `grow_metered`, with a limiter that is known again after this call.
         ///
+        /// # Errors
+        ///
+        /// Those of `grow`.
+        ///
         /// # Contract
         ///
         /// ```text
@@ -2642,7 +2838,9 @@ mod table {
         ///     (metered_value self.new (Some fuel.new) (Some limiter.new))
         /// ```
         ///
-        /// Definitions: [`GrowsTable`](crate::specs::store::Table#GrowsTable), [`optional_rules`](crate::specs::meter::Limiter#optional_rules), [`metered_value`](crate::specs::store::Growth#metered_value).
+        /// Definitions: [`GrowsTable`](crate::specs::store::TableSpecs#GrowsTable), [`optional_rules`](crate::specs::meter::LimiterSpecs#optional_rules), [`metered_value`](crate::specs::store::GrowthSpecs#metered_value).
+        ///
+        /// `L` is the type of the limiter, a [`ResourceLimiter`](crate::machine::ResourceLimiter#contract).
         #[inline]
         pub fn grow_lending<L: ResourceLimiter>(
             &mut self,
@@ -2660,12 +2858,19 @@ mod table {
         /// Grows by `delta` elements, each the given reference, and returns the old size. A growth by 0
         /// changes nothing and asks no limiter.
         ///
-        /// Errors, in the order of the tests: `GrowOutOfBounds` if there would be as many elements as
-        /// indices, 2^32 or 2^64; the limiter's denial (`GrowOutOfBounds` if it says no,
-        /// `ResourceLimiterDeniedAllocation` if it returns an error); `GrowOutOfBounds` above the
-        /// maximum; `OutOfFuel` if the meter is on and the new elements cost more than is left;
-        /// `OutOfSystemMemory`, after which the fuel stays spent. The limiter is notified of the last
-        /// three, and if it returns an error, the error is `ResourceLimiterDeniedAllocation` instead.
+        /// # Errors
+        ///
+        /// In the order of the tests:
+        ///
+        /// - [`GrowOutOfBounds`](crate::TableError::GrowOutOfBounds) if there would be as many elements as indices, 2^32 or 2^64;
+        /// - [`GrowOutOfBounds`](crate::TableError::GrowOutOfBounds) if the limiter says no, [`ResourceLimiterDeniedAllocation`](crate::TableError::ResourceLimiterDeniedAllocation) if it returns
+        ///   an error;
+        /// - [`GrowOutOfBounds`](crate::TableError::GrowOutOfBounds) above the maximum;
+        /// - [`OutOfFuel`](crate::TableError::OutOfFuel) if the meter is on and the new elements cost more than is left;
+        /// - [`OutOfSystemMemory`](crate::TableError::OutOfSystemMemory), after which the fuel stays spent.
+        ///
+        /// The limiter is notified of the last three, and if it returns an error, the error is
+        /// [`ResourceLimiterDeniedAllocation`](crate::TableError::ResourceLimiterDeniedAllocation) instead.
         ///
         /// # Contract
         ///
@@ -2676,7 +2881,9 @@ mod table {
         ///     (metered_value self.new (meter_at_exit fuel.exit) (lent_limiter limiter.new))
         /// ```
         ///
-        /// Definitions: [`KeepsLoan`](crate::specs::meter::Limiter#KeepsLoan), [`GrowsTableRaw`](crate::specs::store::Table#GrowsTableRaw), [`optional_rules`](crate::specs::meter::Limiter#optional_rules), [`metered_value`](crate::specs::store::Growth#metered_value), [`meter_at_entry`](crate::specs::meter::Meter#meter_at_entry), [`lent_limiter`](crate::specs::meter::Limiter#lent_limiter), [`meter_at_exit`](crate::specs::meter::Meter#meter_at_exit).
+        /// Definitions: [`KeepsLoan`](crate::specs::meter::LimiterSpecs#KeepsLoan), [`GrowsTableRaw`](crate::specs::store::TableSpecs#GrowsTableRaw), [`optional_rules`](crate::specs::meter::LimiterSpecs#optional_rules), [`metered_value`](crate::specs::store::GrowthSpecs#metered_value), [`meter_at_entry`](crate::specs::meter::MeterSpecs#meter_at_entry), [`lent_limiter`](crate::specs::meter::LimiterSpecs#lent_limiter), [`meter_at_exit`](crate::specs::meter::MeterSpecs#meter_at_exit).
+        ///
+        /// `L` is the type of the limiter, a [`ResourceLimiter`](crate::machine::ResourceLimiter#contract).
         #[inline]
         pub fn grow_raw<L: ResourceLimiter>(
             &mut self,
@@ -2697,7 +2904,9 @@ mod table {
         ///     (metered_value self.new (Some fuel.new) (lent_limiter limiter.new))
         /// ```
         ///
-        /// Definitions: [`KeepsLoan`](crate::specs::meter::Limiter#KeepsLoan), [`GrowsTableRaw`](crate::specs::store::Table#GrowsTableRaw), [`optional_rules`](crate::specs::meter::Limiter#optional_rules), [`metered_value`](crate::specs::store::Growth#metered_value), [`lent_limiter`](crate::specs::meter::Limiter#lent_limiter).
+        /// Definitions: [`KeepsLoan`](crate::specs::meter::LimiterSpecs#KeepsLoan), [`GrowsTableRaw`](crate::specs::store::TableSpecs#GrowsTableRaw), [`optional_rules`](crate::specs::meter::LimiterSpecs#optional_rules), [`metered_value`](crate::specs::store::GrowthSpecs#metered_value), [`lent_limiter`](crate::specs::meter::LimiterSpecs#lent_limiter).
+        ///
+        /// `L` is the type of the limiter, a [`ResourceLimiter`](crate::machine::ResourceLimiter#contract).
         #[inline]
         fn grow_raw_metered<L: ResourceLimiter>(
             &mut self,
@@ -2739,15 +2948,20 @@ mod table {
         /// ensures: result ≡ element_at self.now index
         /// ```
         ///
-        /// Definitions: [`element_at`](crate::specs::store::Table#element_at).
+        /// Definitions: [`element_at`](crate::specs::store::TableSpecs#element_at).
+        #[must_use]
         #[inline]
         pub fn get(&self, index: u64) -> Option<TypedRawRef> {
             let raw = *self.elements.as_slice().get(index as usize)?;
             Some(TypedRawRef::new(raw, self.ty.element()))
         }
 
-        /// Sets the element at an index. Errors, in the order of the tests: `ElementTypeMismatch`,
-        /// `SetOutOfBounds`.
+        /// Sets the element at an index.
+        ///
+        /// # Errors
+        ///
+        /// In the order of the tests: [`ElementTypeMismatch`](crate::TableError::ElementTypeMismatch) if the reference is of another type;
+        /// [`SetOutOfBounds`](crate::TableError::SetOutOfBounds) past the end.
         ///
         /// # Contract
         ///
@@ -2755,15 +2969,19 @@ mod table {
         /// ensures: SetsTable index value self.old result self.new
         /// ```
         ///
-        /// Definitions: [`SetsTable`](crate::specs::store::Table#SetsTable).
+        /// Definitions: [`SetsTable`](crate::specs::store::TableSpecs#SetsTable).
         #[inline]
         pub fn set(&mut self, index: u64, value: TypedRawRef) -> Result<(), TableError> {
             self.ty.ensure_element_type_matches(value.ty)?;
             self.set_raw(index, value.raw)
         }
 
-        /// Sets the element at an index. The error is `SetOutOfBounds` past the end. The type of the
-        /// reference isn't tested: that is up to the caller.
+        /// Sets the element at an index. The type of the reference isn't tested: that is up to the
+        /// caller.
+        ///
+        /// # Errors
+        ///
+        /// [`SetOutOfBounds`](crate::TableError::SetOutOfBounds) past the end.
         ///
         /// # Contract
         ///
@@ -2771,7 +2989,7 @@ mod table {
         /// ensures: SetsTableRaw index value self.old result self.new
         /// ```
         ///
-        /// Definitions: [`SetsTableRaw`](crate::specs::store::Table#SetsTableRaw).
+        /// Definitions: [`SetsTableRaw`](crate::specs::store::TableSpecs#SetsTableRaw).
         #[inline]
         pub fn set_raw(&mut self, index: u64, value: RawRef) -> Result<(), TableError> {
             let index = index as usize;
@@ -2783,9 +3001,12 @@ mod table {
         }
 
         /// Copies `len` items of an element segment, from `src` on, over the elements from `dst` on.
+        /// Copying no items costs no fuel.
         ///
-        /// Errors, in the order of the tests: `ElementTypeMismatch`; `InitOutOfBounds` if a range ends
-        /// past the segment or the table; `OutOfFuel`. Copying no items costs no fuel.
+        /// # Errors
+        ///
+        /// In the order of the tests: [`ElementTypeMismatch`](crate::TableError::ElementTypeMismatch) if the items are of another type;
+        /// [`InitOutOfBounds`](crate::TableError::InitOutOfBounds) if a range ends past the segment or the table; [`OutOfFuel`](crate::TableError::OutOfFuel).
         ///
         /// # Contract
         ///
@@ -2795,7 +3016,7 @@ mod table {
         ///     (metered self.new (meter_at_exit fuel.exit))
         /// ```
         ///
-        /// Definitions: [`WritesTable`](crate::specs::store::Table#WritesTable), [`initialization_of`](crate::specs::store::Table#initialization_of), [`segment_of`](crate::specs::store::Segment#segment_of), [`metered`](crate::specs::store::Growth#metered), [`meter_at_entry`](crate::specs::meter::Meter#meter_at_entry), [`meter_at_exit`](crate::specs::meter::Meter#meter_at_exit).
+        /// Definitions: [`WritesTable`](crate::specs::store::TableSpecs#WritesTable), [`initialization_of`](crate::specs::store::TableSpecs#initialization_of), [`segment_of`](crate::specs::store::SegmentSpecs#segment_of), [`metered`](crate::specs::store::GrowthSpecs#metered), [`meter_at_entry`](crate::specs::meter::MeterSpecs#meter_at_entry), [`meter_at_exit`](crate::specs::meter::MeterSpecs#meter_at_exit).
         #[inline]
         pub fn init(
             &mut self,
@@ -2810,6 +3031,10 @@ mod table {
 
         /// As `init`, with a meter that isn't optional.
         ///
+        /// # Errors
+        ///
+        /// Those of `init`.
+        ///
         /// # Contract
         ///
         /// ```text
@@ -2817,7 +3042,7 @@ mod table {
         ///     (metered self.old (Some fuel.old)) result (metered self.new (Some fuel.new))
         /// ```
         ///
-        /// Definitions: [`WritesTable`](crate::specs::store::Table#WritesTable), [`initialization_of`](crate::specs::store::Table#initialization_of), [`segment_of`](crate::specs::store::Segment#segment_of), [`metered`](crate::specs::store::Growth#metered).
+        /// Definitions: [`WritesTable`](crate::specs::store::TableSpecs#WritesTable), [`initialization_of`](crate::specs::store::TableSpecs#initialization_of), [`segment_of`](crate::specs::store::SegmentSpecs#segment_of), [`metered`](crate::specs::store::GrowthSpecs#metered).
         #[inline]
         pub fn init_metered(
             &mut self,
@@ -2835,8 +3060,11 @@ mod table {
         /// Copies `len` elements of another table, from `src` on, over the elements of a table from
         /// `dst` on.
         ///
-        /// Errors, in the order of the tests: `ElementTypeMismatch`; `CopyOutOfBounds` if a range ends
-        /// past its table; `OutOfFuel`, which is tested also if no element is copied.
+        /// # Errors
+        ///
+        /// In the order of the tests: [`ElementTypeMismatch`](crate::TableError::ElementTypeMismatch) if the tables are of two types;
+        /// [`CopyOutOfBounds`](crate::TableError::CopyOutOfBounds) if a range ends past its table; [`OutOfFuel`](crate::TableError::OutOfFuel), which is tested also if no
+        /// element is copied.
         ///
         /// # Contract
         ///
@@ -2846,7 +3074,7 @@ mod table {
         ///     (metered dst_table.new (meter_at_exit fuel.exit))
         /// ```
         ///
-        /// Definitions: [`WritesTable`](crate::specs::store::Table#WritesTable), [`copy_of`](crate::specs::store::Table#copy_of), [`metered`](crate::specs::store::Growth#metered), [`meter_at_entry`](crate::specs::meter::Meter#meter_at_entry), [`meter_at_exit`](crate::specs::meter::Meter#meter_at_exit).
+        /// Definitions: [`WritesTable`](crate::specs::store::TableSpecs#WritesTable), [`copy_of`](crate::specs::store::TableSpecs#copy_of), [`metered`](crate::specs::store::GrowthSpecs#metered), [`meter_at_entry`](crate::specs::meter::MeterSpecs#meter_at_entry), [`meter_at_exit`](crate::specs::meter::MeterSpecs#meter_at_exit).
         #[inline]
         pub fn copy(
             dst_table: &mut Table,
@@ -2861,6 +3089,10 @@ mod table {
 
         /// As `copy`, with a meter that isn't optional.
         ///
+        /// # Errors
+        ///
+        /// Those of `copy`.
+        ///
         /// # Contract
         ///
         /// ```text
@@ -2868,7 +3100,7 @@ mod table {
         ///     (metered self.old (Some fuel.old)) result (metered self.new (Some fuel.new))
         /// ```
         ///
-        /// Definitions: [`WritesTable`](crate::specs::store::Table#WritesTable), [`copy_of`](crate::specs::store::Table#copy_of), [`metered`](crate::specs::store::Growth#metered).
+        /// Definitions: [`WritesTable`](crate::specs::store::TableSpecs#WritesTable), [`copy_of`](crate::specs::store::TableSpecs#copy_of), [`metered`](crate::specs::store::GrowthSpecs#metered).
         #[inline]
         pub fn copy_metered(
             &mut self,
@@ -2888,8 +3120,10 @@ mod table {
         /// Copies `len` elements from `src` on over those from `dst` on. If the ranges overlap, the old
         /// elements are copied.
         ///
-        /// Errors, in the order of the tests: `CopyOutOfBounds` if a range ends past the table;
-        /// `OutOfFuel`, which is tested also if no element is copied.
+        /// # Errors
+        ///
+        /// In the order of the tests: [`CopyOutOfBounds`](crate::TableError::CopyOutOfBounds) if a range ends past the table; [`OutOfFuel`](crate::TableError::OutOfFuel),
+        /// which is tested also if no element is copied.
         ///
         /// # Contract
         ///
@@ -2899,7 +3133,7 @@ mod table {
         ///     (metered self.new (meter_at_exit fuel.exit))
         /// ```
         ///
-        /// Definitions: [`WritesTable`](crate::specs::store::Table#WritesTable), [`copy_of`](crate::specs::store::Table#copy_of), [`metered`](crate::specs::store::Growth#metered), [`meter_at_entry`](crate::specs::meter::Meter#meter_at_entry), [`meter_at_exit`](crate::specs::meter::Meter#meter_at_exit).
+        /// Definitions: [`WritesTable`](crate::specs::store::TableSpecs#WritesTable), [`copy_of`](crate::specs::store::TableSpecs#copy_of), [`metered`](crate::specs::store::GrowthSpecs#metered), [`meter_at_entry`](crate::specs::meter::MeterSpecs#meter_at_entry), [`meter_at_exit`](crate::specs::meter::MeterSpecs#meter_at_exit).
         #[inline]
         pub fn copy_within(
             &mut self,
@@ -2913,6 +3147,10 @@ mod table {
 
         /// As `copy_within`, with a meter that isn't optional.
         ///
+        /// # Errors
+        ///
+        /// Those of `copy_within`.
+        ///
         /// # Contract
         ///
         /// ```text
@@ -2920,7 +3158,7 @@ mod table {
         ///     (metered self.old (Some fuel.old)) result (metered self.new (Some fuel.new))
         /// ```
         ///
-        /// Definitions: [`WritesTable`](crate::specs::store::Table#WritesTable), [`copy_of`](crate::specs::store::Table#copy_of), [`metered`](crate::specs::store::Growth#metered).
+        /// Definitions: [`WritesTable`](crate::specs::store::TableSpecs#WritesTable), [`copy_of`](crate::specs::store::TableSpecs#copy_of), [`metered`](crate::specs::store::GrowthSpecs#metered).
         #[inline]
         pub fn copy_within_metered(
             &mut self,
@@ -2933,8 +3171,11 @@ mod table {
             copy_items_within(elements, dst, src, len, outside, fuel)
         }
 
-        /// Fills `len` elements from `dst` on with a reference. The type of the reference is tested
-        /// first (`ElementTypeMismatch`); the rest is as in `fill_raw`.
+        /// Fills `len` elements from `dst` on with a reference.
+        ///
+        /// # Errors
+        ///
+        /// [`ElementTypeMismatch`](crate::TableError::ElementTypeMismatch) if the reference is of another type; then those of `fill_raw`.
         ///
         /// # Contract
         ///
@@ -2944,7 +3185,7 @@ mod table {
         ///     (metered self.new (meter_at_exit fuel.exit))
         /// ```
         ///
-        /// Definitions: [`WritesTable`](crate::specs::store::Table#WritesTable), [`filling_of`](crate::specs::store::Table#filling_of), [`metered`](crate::specs::store::Growth#metered), [`meter_at_entry`](crate::specs::meter::Meter#meter_at_entry), [`meter_at_exit`](crate::specs::meter::Meter#meter_at_exit).
+        /// Definitions: [`WritesTable`](crate::specs::store::TableSpecs#WritesTable), [`filling_of`](crate::specs::store::TableSpecs#filling_of), [`metered`](crate::specs::store::GrowthSpecs#metered), [`meter_at_entry`](crate::specs::meter::MeterSpecs#meter_at_entry), [`meter_at_exit`](crate::specs::meter::MeterSpecs#meter_at_exit).
         #[inline]
         pub fn fill(
             &mut self,
@@ -2958,6 +3199,10 @@ mod table {
 
         /// As `fill`, with a meter that isn't optional.
         ///
+        /// # Errors
+        ///
+        /// Those of `fill`.
+        ///
         /// # Contract
         ///
         /// ```text
@@ -2965,7 +3210,7 @@ mod table {
         ///     (metered self.old (Some fuel.old)) result (metered self.new (Some fuel.new))
         /// ```
         ///
-        /// Definitions: [`WritesTable`](crate::specs::store::Table#WritesTable), [`filling_of`](crate::specs::store::Table#filling_of), [`metered`](crate::specs::store::Growth#metered).
+        /// Definitions: [`WritesTable`](crate::specs::store::TableSpecs#WritesTable), [`filling_of`](crate::specs::store::TableSpecs#filling_of), [`metered`](crate::specs::store::GrowthSpecs#metered).
         #[inline]
         pub fn fill_metered(
             &mut self,
@@ -2979,9 +3224,12 @@ mod table {
             fill_items(elements, dst, val.raw, len, outside, fuel)
         }
 
-        /// Fills `len` elements from `dst` on with a reference. Errors, in the order of the tests:
-        /// `FillOutOfBounds` if they end past the table; `OutOfFuel`, which is tested also if no
-        /// element is filled.
+        /// Fills `len` elements from `dst` on with a reference.
+        ///
+        /// # Errors
+        ///
+        /// In the order of the tests: [`FillOutOfBounds`](crate::TableError::FillOutOfBounds) if they end past the table; [`OutOfFuel`](crate::TableError::OutOfFuel), which
+        /// is tested also if no element is filled.
         ///
         /// # Contract
         ///
@@ -2991,7 +3239,7 @@ mod table {
         ///     (metered self.new (meter_at_exit fuel.exit))
         /// ```
         ///
-        /// Definitions: [`WritesTable`](crate::specs::store::Table#WritesTable), [`raw_filling_of`](crate::specs::store::Table#raw_filling_of), [`metered`](crate::specs::store::Growth#metered), [`meter_at_entry`](crate::specs::meter::Meter#meter_at_entry), [`meter_at_exit`](crate::specs::meter::Meter#meter_at_exit).
+        /// Definitions: [`WritesTable`](crate::specs::store::TableSpecs#WritesTable), [`raw_filling_of`](crate::specs::store::TableSpecs#raw_filling_of), [`metered`](crate::specs::store::GrowthSpecs#metered), [`meter_at_entry`](crate::specs::meter::MeterSpecs#meter_at_entry), [`meter_at_exit`](crate::specs::meter::MeterSpecs#meter_at_exit).
         #[inline]
         pub fn fill_raw(
             &mut self,

@@ -28,7 +28,8 @@ mod global {
         /// ensures: result.now ≡ global_error_text self.now
         /// ```
         ///
-        /// Definitions: [`global_error_text`](crate::specs::typed::Global#global_error_text).
+        /// Definitions: [`global_error_text`](crate::specs::typed::GlobalSpecs#global_error_text).
+        #[must_use]
         #[inline]
         pub(crate) fn words(&self) -> &'static str {
             match self {
@@ -46,7 +47,7 @@ mod global {
     /// output = λ error. Some (global_error_text error)
     /// ```
     ///
-    /// Definitions: [`global_error_text`](crate::specs::typed::Global#global_error_text).
+    /// Definitions: [`global_error_text`](crate::specs::typed::GlobalSpecs#global_error_text).
     impl fmt::Display for GlobalError {
         #[inline]
         fn fmt(&self, f: &mut fmt::Formatter<'_>) -> fmt::Result {
@@ -75,6 +76,7 @@ mod global {
         /// ```text
         /// ensures: IsTrue result ↔ (self.now ≡ Mutability.Const)
         /// ```
+        #[must_use]
         #[inline]
         pub fn is_const(&self) -> bool {
             matches!(self, Mutability::Const)
@@ -87,6 +89,7 @@ mod global {
         /// ```text
         /// ensures: IsTrue result ↔ (self.now ≡ Mutability.Var)
         /// ```
+        #[must_use]
         #[inline]
         pub fn is_mut(&self) -> bool {
             matches!(self, Mutability::Var)
@@ -96,6 +99,13 @@ mod global {
     /// The type of a global variable.
     ///
     /// Core specification 2.3, global types. Upstream: `wasmi_core::GlobalType`.
+    ///
+    /// # Fields in contracts
+    ///
+    /// Contracts see these fields:
+    ///
+    /// - `content`: The type of its value.
+    /// - `mutability`: Whether it can be written.
     #[derive(Clone, Copy, Debug, PartialEq, Eq)]
     pub struct GlobalType {
         /// The type of its value.
@@ -112,6 +122,7 @@ mod global {
         /// ```text
         /// ensures: result ≡ record { content = content; mutability = mutability }
         /// ```
+        #[must_use]
         #[inline]
         pub fn new(content: ValType, mutability: Mutability) -> GlobalType {
             GlobalType {
@@ -127,6 +138,7 @@ mod global {
         /// ```text
         /// ensures: result ≡ self.now.content
         /// ```
+        #[must_use]
         #[inline]
         pub fn content(&self) -> ValType {
             self.content
@@ -139,6 +151,7 @@ mod global {
         /// ```text
         /// ensures: result ≡ self.now.mutability
         /// ```
+        #[must_use]
         #[inline]
         pub fn mutability(&self) -> Mutability {
             self.mutability
@@ -163,6 +176,7 @@ mod global {
         /// ```text
         /// ensures: result ≡ record { value = value; ty = ty }
         /// ```
+        #[must_use]
         #[inline]
         pub fn new(value: RawVal, ty: GlobalType) -> Global {
             Global { value, ty }
@@ -175,6 +189,7 @@ mod global {
         /// ```text
         /// ensures: result ≡ self.now.ty
         /// ```
+        #[must_use]
         #[inline]
         pub fn ty(&self) -> GlobalType {
             self.ty
@@ -182,7 +197,10 @@ mod global {
 
         /// Writes `new_value`, where the variable is no constant and the value is of its type.
         ///
-        /// Errors, in this order: `ImmutableWrite`, `TypeMismatch`.
+        /// # Errors
+        ///
+        /// In the order of the tests: [`ImmutableWrite`](crate::GlobalError::ImmutableWrite) if the variable is a constant; [`TypeMismatch`](crate::GlobalError::TypeMismatch) if
+        /// the value is of another type.
         ///
         /// # Contract
         ///
@@ -190,8 +208,9 @@ mod global {
         /// ensures: SetsGlobal self.old new_value result self.new
         /// ```
         ///
-        /// Definitions: [`SetsGlobal`](crate::specs::typed::Global#SetsGlobal).
+        /// Definitions: [`SetsGlobal`](crate::specs::typed::GlobalSpecs#SetsGlobal).
         #[inline]
+        #[doc(alias = "global.set")]
         pub fn set(&mut self, new_value: TypedRawVal) -> Result<(), GlobalError> {
             if self.ty.mutability.is_const() {
                 return Err(GlobalError::ImmutableWrite);
@@ -210,7 +229,9 @@ mod global {
         /// ```text
         /// ensures: result ≡ record { ty = self.now.ty.content; raw = self.now.value }
         /// ```
+        #[must_use]
         #[inline]
+        #[doc(alias = "global.get")]
         pub fn get(&self) -> TypedRawVal {
             TypedRawVal::new(self.ty.content, self.value)
         }
@@ -222,6 +243,7 @@ mod global {
         /// ```text
         /// ensures: result.now ≡ self.now.value
         /// ```
+        #[must_use]
         #[inline]
         pub fn get_raw(&self) -> &RawVal {
             &self.value
@@ -243,7 +265,7 @@ mod global {
         /// ensures value: result.now ≡ self.old.value
         /// ```
         ///
-        /// Definitions: [`LendsValue`](crate::specs::typed::Lending#LendsValue).
+        /// Definitions: [`LendsValue`](crate::specs::typed::LendingSpecs#LendsValue).
         #[inline]
         pub(crate) fn get_raw_mut(&mut self) -> &mut RawVal {
             assert!(!self.ty.mutability.is_const(), "the variable is a constant");
@@ -326,7 +348,7 @@ mod shift_amount {
         /// ensures: result ≡ shift_amount (bits Self.Lane.width) (Self.ShiftSource.number source)
         /// ```
         ///
-        /// Definitions: [`shift_amount`](crate::specs::typed::Typed#shift_amount).
+        /// Definitions: [`shift_amount`](crate::specs::typed::TypedSpecs#shift_amount).
         fn into_shift_amount(source: Self::ShiftSource) -> Option<ShiftAmount>;
     }
 
@@ -618,6 +640,13 @@ mod typed {
     /// A raw value with its type.
     ///
     /// Upstream: `wasmi_core::TypedRawVal`.
+    ///
+    /// # Fields in contracts
+    ///
+    /// Contracts see these fields:
+    ///
+    /// - `ty`: The type.
+    /// - `raw`: The value.
     #[doc = examples!(typed TypedRawVal)]
     #[derive(Clone, Copy, PartialEq, Eq)]
     pub struct TypedRawVal {
@@ -635,6 +664,7 @@ mod typed {
         /// ```text
         /// ensures: result ≡ record { ty = ty; raw = raw }
         /// ```
+        #[must_use]
         #[inline]
         pub fn new(ty: ValType, raw: RawVal) -> TypedRawVal {
             TypedRawVal { ty, raw }
@@ -647,6 +677,7 @@ mod typed {
         /// ```text
         /// ensures: result ≡ self.now.ty
         /// ```
+        #[must_use]
         #[inline]
         pub fn ty(&self) -> ValType {
             self.ty
@@ -659,6 +690,7 @@ mod typed {
         /// ```text
         /// ensures: result ≡ self.now.raw
         /// ```
+        #[must_use]
         #[inline]
         pub fn raw(&self) -> RawVal {
             self.raw
@@ -670,6 +702,8 @@ mod typed {
     /// ```text
     /// from_gives = λ value typed. (typed.ty ≡ T.TY) × (T.converts value typed.raw)
     /// ```
+    ///
+    /// `T` is a type with the trait `Typed`.
     impl<T: Typed + Into<RawVal>> From<T> for TypedRawVal {
         #[inline]
         fn from(value: T) -> TypedRawVal {
@@ -698,7 +732,7 @@ mod typed {
     /// from_gives = λ typed value. value ≡ bool_in typed.raw
     /// ```
     ///
-    /// Definitions: [`bool_in`](crate::specs::raw::RawVal#bool_in).
+    /// Definitions: [`bool_in`](crate::specs::raw::RawValSpecs#bool_in).
     impl From<TypedRawVal> for bool {
         #[inline]
         fn from(typed: TypedRawVal) -> bool {
@@ -712,7 +746,7 @@ mod typed {
     /// from_gives = λ typed value. value ≡ signed_in w8 typed.raw
     /// ```
     ///
-    /// Definitions: [`signed_in`](crate::specs::raw::RawVal#signed_in).
+    /// Definitions: [`signed_in`](crate::specs::raw::RawValSpecs#signed_in).
     impl From<TypedRawVal> for i8 {
         #[inline]
         fn from(typed: TypedRawVal) -> i8 {
@@ -726,7 +760,7 @@ mod typed {
     /// from_gives = λ typed value. value ≡ signed_in w16 typed.raw
     /// ```
     ///
-    /// Definitions: [`signed_in`](crate::specs::raw::RawVal#signed_in).
+    /// Definitions: [`signed_in`](crate::specs::raw::RawValSpecs#signed_in).
     impl From<TypedRawVal> for i16 {
         #[inline]
         fn from(typed: TypedRawVal) -> i16 {
@@ -740,7 +774,7 @@ mod typed {
     /// from_gives = λ typed value. value ≡ signed_in w32 typed.raw
     /// ```
     ///
-    /// Definitions: [`signed_in`](crate::specs::raw::RawVal#signed_in).
+    /// Definitions: [`signed_in`](crate::specs::raw::RawValSpecs#signed_in).
     impl From<TypedRawVal> for i32 {
         #[inline]
         fn from(typed: TypedRawVal) -> i32 {
@@ -754,7 +788,7 @@ mod typed {
     /// from_gives = λ typed value. value ≡ signed_in w64 typed.raw
     /// ```
     ///
-    /// Definitions: [`signed_in`](crate::specs::raw::RawVal#signed_in).
+    /// Definitions: [`signed_in`](crate::specs::raw::RawValSpecs#signed_in).
     impl From<TypedRawVal> for i64 {
         #[inline]
         fn from(typed: TypedRawVal) -> i64 {
@@ -768,7 +802,7 @@ mod typed {
     /// from_gives = λ typed value. value ≡ unsigned_in w8 typed.raw
     /// ```
     ///
-    /// Definitions: [`unsigned_in`](crate::specs::raw::RawVal#unsigned_in).
+    /// Definitions: [`unsigned_in`](crate::specs::raw::RawValSpecs#unsigned_in).
     impl From<TypedRawVal> for u8 {
         #[inline]
         fn from(typed: TypedRawVal) -> u8 {
@@ -782,7 +816,7 @@ mod typed {
     /// from_gives = λ typed value. value ≡ unsigned_in w16 typed.raw
     /// ```
     ///
-    /// Definitions: [`unsigned_in`](crate::specs::raw::RawVal#unsigned_in).
+    /// Definitions: [`unsigned_in`](crate::specs::raw::RawValSpecs#unsigned_in).
     impl From<TypedRawVal> for u16 {
         #[inline]
         fn from(typed: TypedRawVal) -> u16 {
@@ -796,7 +830,7 @@ mod typed {
     /// from_gives = λ typed value. value ≡ unsigned_in w32 typed.raw
     /// ```
     ///
-    /// Definitions: [`unsigned_in`](crate::specs::raw::RawVal#unsigned_in).
+    /// Definitions: [`unsigned_in`](crate::specs::raw::RawValSpecs#unsigned_in).
     impl From<TypedRawVal> for u32 {
         #[inline]
         fn from(typed: TypedRawVal) -> u32 {
@@ -810,7 +844,7 @@ mod typed {
     /// from_gives = λ typed value. value ≡ unsigned_in w64 typed.raw
     /// ```
     ///
-    /// Definitions: [`unsigned_in`](crate::specs::raw::RawVal#unsigned_in).
+    /// Definitions: [`unsigned_in`](crate::specs::raw::RawValSpecs#unsigned_in).
     impl From<TypedRawVal> for u64 {
         #[inline]
         fn from(typed: TypedRawVal) -> u64 {
@@ -824,7 +858,7 @@ mod typed {
     /// from_gives = λ typed value. value ≡ vector_in typed.raw
     /// ```
     ///
-    /// Definitions: [`vector_in`](crate::specs::raw::RawVal#vector_in).
+    /// Definitions: [`vector_in`](crate::specs::raw::RawValSpecs#vector_in).
     impl From<TypedRawVal> for V128 {
         #[inline]
         fn from(typed: TypedRawVal) -> V128 {
@@ -843,6 +877,13 @@ mod typed_ref {
     /// A raw reference with its type.
     ///
     /// Upstream: `wasmi_core::TypedRawRef`.
+    ///
+    /// # Fields in contracts
+    ///
+    /// Contracts see these fields:
+    ///
+    /// - `raw`: The reference.
+    /// - `ty`: The type.
     #[derive(Clone, Copy, Debug, PartialEq, Eq)]
     pub struct TypedRawRef {
         /// The reference.
@@ -859,6 +900,7 @@ mod typed_ref {
         /// ```text
         /// ensures: result ≡ record { raw = raw; ty = ty }
         /// ```
+        #[must_use]
         #[inline]
         pub fn new(raw: RawRef, ty: RefType) -> TypedRawRef {
             TypedRawRef { raw, ty }
@@ -871,6 +913,7 @@ mod typed_ref {
         /// ```text
         /// ensures: result ≡ record { raw = 0; ty = ty }
         /// ```
+        #[must_use]
         #[inline]
         pub fn null(ty: RefType) -> TypedRawRef {
             TypedRawRef {
@@ -886,6 +929,7 @@ mod typed_ref {
         /// ```text
         /// ensures: result ≡ self.now.raw
         /// ```
+        #[must_use]
         #[inline]
         pub fn raw(&self) -> RawRef {
             self.raw
@@ -898,6 +942,7 @@ mod typed_ref {
         /// ```text
         /// ensures: result ≡ self.now.ty
         /// ```
+        #[must_use]
         #[inline]
         pub fn ty(&self) -> RefType {
             self.ty
@@ -911,7 +956,7 @@ mod typed_ref {
     ///     ≡ record { ty = value_of reference.ty; raw = raw_of reference.raw }
     /// ```
     ///
-    /// Definitions: [`value_of`](crate::specs::types::Value#value_of), [`raw_of`](crate::specs::raw::RawVal#raw_of).
+    /// Definitions: [`value_of`](crate::specs::types::ValueSpecs#value_of), [`raw_of`](crate::specs::raw::RawValSpecs#raw_of).
     impl From<TypedRawRef> for TypedRawVal {
         #[inline]
         fn from(reference: TypedRawRef) -> TypedRawVal {
@@ -931,7 +976,7 @@ mod typed_ref {
     /// output = λ _. Some not_a_reference_text
     /// ```
     ///
-    /// Definitions: [`not_a_reference_text`](crate::specs::typed::Typed#not_a_reference_text).
+    /// Definitions: [`not_a_reference_text`](crate::specs::typed::TypedSpecs#not_a_reference_text).
     impl fmt::Display for NotAReference {
         #[inline]
         fn fmt(&self, f: &mut fmt::Formatter<'_>) -> fmt::Result {
@@ -947,7 +992,7 @@ mod typed_ref {
     /// try_from_gives = IsReference
     /// ```
     ///
-    /// Definitions: [`IsReference`](crate::specs::typed::Typed#IsReference).
+    /// Definitions: [`IsReference`](crate::specs::typed::TypedSpecs#IsReference).
     impl TypedRawRef {
         #[inline]
         pub(crate) fn of_value(typed: TypedRawVal) -> Result<TypedRawRef, NotAReference> {

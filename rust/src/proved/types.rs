@@ -30,7 +30,7 @@ mod func_type {
     /// output = λ error. Some (func_type_error_text error)
     /// ```
     ///
-    /// Definitions: [`func_type_error_text`](crate::specs::types::FunctionType#func_type_error_text).
+    /// Definitions: [`func_type_error_text`](crate::specs::types::FunctionTypeSpecs#func_type_error_text).
     impl fmt::Display for FuncTypeError {
         #[inline]
         fn fmt(&self, f: &mut fmt::Formatter<'_>) -> fmt::Result {
@@ -57,7 +57,7 @@ mod func_type {
     /// invariant = λ ty. IsKept ty.len_params ty.len_results ty.kept
     /// ```
     ///
-    /// Definitions: [`FunctionType`](crate::specs::types::FunctionType#FunctionType), [`function_type_of`](crate::specs::types::FunctionType#function_type_of), [`IsKept`](crate::specs::types::FunctionType#IsKept).
+    /// Definitions: [`FunctionType`](crate::specs::types::FunctionTypeSpecs#FunctionType), [`function_type_of`](crate::specs::types::FunctionTypeSpecs#function_type_of), [`IsKept`](crate::specs::types::FunctionTypeSpecs#IsKept).
     pub struct FuncType {
         len_params: u16,
         len_results: u16,
@@ -94,7 +94,9 @@ mod func_type {
         ///     R.IntoIter.next_gives params results result
         /// ```
         ///
-        /// Definitions: [`EachBecomes`](crate::specs::types::Reading#EachBecomes), [`AfterAll`](crate::specs::types::Reading#AfterAll), [`IsReadingOf`](crate::specs::types::Reading#IsReadingOf).
+        /// Definitions: [`EachBecomes`](crate::specs::types::ReadingSpecs#EachBecomes), [`AfterAll`](crate::specs::types::ReadingSpecs#AfterAll), [`IsReadingOf`](crate::specs::types::ReadingSpecs#IsReadingOf).
+        ///
+        /// `P` is the type of the items, an [`IntoIterator`]. `R` is the type of the items, an [`IntoIterator`].
         #[inline]
         pub fn new<P, R>(params: P, results: R) -> Result<Self, FuncTypeError>
         where
@@ -127,7 +129,9 @@ mod func_type {
         ///     results.new
         /// ```
         ///
-        /// Definitions: [`AfterAll`](crate::specs::types::Reading#AfterAll), [`IsReading`](crate::specs::types::Reading#IsReading).
+        /// Definitions: [`AfterAll`](crate::specs::types::ReadingSpecs#AfterAll), [`IsReading`](crate::specs::types::ReadingSpecs#IsReading).
+        ///
+        /// `P` is the type of the items, an [`Iterator`]. `R` is the type of the items, an [`Iterator`].
         #[inline]
         pub fn read<P, R>(params: &mut P, results: &mut R) -> Result<Self, FuncTypeError>
         where
@@ -176,6 +180,7 @@ mod func_type {
         /// ```text
         /// ensures: result.now ≡ self.now.params
         /// ```
+        #[must_use]
         #[inline]
         pub fn params(&self) -> &[ValType] {
             self.params_results().0
@@ -188,6 +193,7 @@ mod func_type {
         /// ```text
         /// ensures: result.now ≡ self.now.results
         /// ```
+        #[must_use]
         #[inline]
         pub fn results(&self) -> &[ValType] {
             self.params_results().1
@@ -200,6 +206,7 @@ mod func_type {
         /// ```text
         /// ensures: result ≡ length self.now.params
         /// ```
+        #[must_use]
         #[inline]
         pub fn len_params(&self) -> u16 {
             self.len_params
@@ -212,6 +219,7 @@ mod func_type {
         /// ```text
         /// ensures: result ≡ length self.now.results
         /// ```
+        #[must_use]
         #[inline]
         pub fn len_results(&self) -> u16 {
             self.len_results
@@ -225,6 +233,7 @@ mod func_type {
         /// ensures params: result.0.now ≡ self.now.params
         /// ensures results: result.1.now ≡ self.now.results
         /// ```
+        #[must_use]
         #[inline]
         pub fn params_results(&self) -> (&[ValType], &[ValType]) {
             self.entries().split_at(usize::from(self.len_params()))
@@ -242,7 +251,7 @@ mod func_type {
         /// ensures entries: result.3.now ≡ entries self.now
         /// ```
         ///
-        /// Definitions: [`entry_count`](crate::specs::types::FunctionType#entry_count), [`entries`](crate::specs::types::FunctionType#entries).
+        /// Definitions: [`entry_count`](crate::specs::types::FunctionTypeSpecs#entry_count), [`entries`](crate::specs::types::FunctionTypeSpecs#entries).
         #[inline]
         fn order_key(&self) -> (bool, u16, u16, &[ValType]) {
             let entries = self.entries();
@@ -259,7 +268,7 @@ mod func_type {
         /// ensures: result.now ≡ entries self.now
         /// ```
         ///
-        /// Definitions: [`entries`](crate::specs::types::FunctionType#entries).
+        /// Definitions: [`entries`](crate::specs::types::FunctionTypeSpecs#entries).
         #[inline]
         fn entries(&self) -> &[ValType] {
             let types = match &self.kept {
@@ -285,7 +294,7 @@ mod func_type {
         /// ensures refused: IsErr result → 21 < entry_count self.now
         /// ```
         ///
-        /// Definitions: [`entry_count`](crate::specs::types::FunctionType#entry_count).
+        /// Definitions: [`entry_count`](crate::specs::types::FunctionTypeSpecs#entry_count).
         #[inline]
         fn try_clone(&self) -> Result<Self, AllocError> {
             let kept = match &self.kept {
@@ -306,7 +315,7 @@ mod func_type {
     /// eq = same_lists ⟦<ValType as PartialEq>⟧.eq
     /// ```
     ///
-    /// Definitions: [`same_lists`](crate::specs::types::FunctionType#same_lists).
+    /// Definitions: [`same_lists`](crate::specs::types::FunctionTypeSpecs#same_lists).
     impl PartialEq for FuncType {
         /// # Contract
         ///
@@ -315,7 +324,7 @@ mod func_type {
         /// ensures same: IsTrue result ↔ (self.now ≡ other.now)
         /// ```
         ///
-        /// Definitions: [`same_lists`](crate::specs::types::FunctionType#same_lists).
+        /// Definitions: [`same_lists`](crate::specs::types::FunctionTypeSpecs#same_lists).
         #[inline]
         fn eq(&self, other: &Self) -> bool {
             self.params_results() == other.params_results()
@@ -331,7 +340,7 @@ mod func_type {
     /// total = on_texts order_key
     /// ```
     ///
-    /// Definitions: [`function_type_cmp`](crate::specs::types::FunctionType#function_type_cmp), [`order_key`](crate::specs::types::FunctionType#order_key).
+    /// Definitions: [`function_type_cmp`](crate::specs::types::FunctionTypeSpecs#function_type_cmp), [`order_key`](crate::specs::types::FunctionTypeSpecs#order_key).
     impl Ord for FuncType {
         /// # Contract
         ///
@@ -340,7 +349,7 @@ mod func_type {
         /// ensures equal: (result ≡ Ordering.Equal) ↔ (self.now ≡ other.now)
         /// ```
         ///
-        /// Definitions: [`function_type_cmp`](crate::specs::types::FunctionType#function_type_cmp).
+        /// Definitions: [`function_type_cmp`](crate::specs::types::FunctionTypeSpecs#function_type_cmp).
         #[inline]
         fn cmp(&self, other: &Self) -> Ordering {
             self.order_key().cmp(&other.order_key())
@@ -353,7 +362,7 @@ mod func_type {
     /// partial_cmp = as_partial_cmp function_type_cmp
     /// ```
     ///
-    /// Definitions: [`function_type_cmp`](crate::specs::types::FunctionType#function_type_cmp).
+    /// Definitions: [`function_type_cmp`](crate::specs::types::FunctionTypeSpecs#function_type_cmp).
     impl PartialOrd for FuncType {
         #[inline]
         fn partial_cmp(&self, other: &Self) -> Option<Ordering> {
@@ -367,7 +376,7 @@ mod func_type {
     /// hash_input = lists_input ⟦<ValType as Hash>⟧.hash_input
     /// ```
     ///
-    /// Definitions: [`lists_input`](crate::specs::types::FunctionType#lists_input).
+    /// Definitions: [`lists_input`](crate::specs::types::FunctionTypeSpecs#lists_input).
     impl Hash for FuncType {
         #[inline]
         fn hash<H: Hasher>(&self, state: &mut H) {
@@ -397,7 +406,7 @@ mod func_type {
     ///     × (entries.len < 21 → entries.rest.items ≡ [])
     /// ```
     ///
-    /// Definitions: [`entries`](crate::specs::types::FunctionType#entries).
+    /// Definitions: [`entries`](crate::specs::types::FunctionTypeSpecs#entries).
     struct Entries {
         /// The first 21 entries, then types that mean nothing.
         inline: [ValType; INLINE_SIZE],
@@ -450,7 +459,7 @@ mod func_type {
         /// ensures refused: IsErr result → 21 < length self.now
         /// ```
         ///
-        /// Definitions: [`KeepsEntries`](crate::specs::types::FunctionType#KeepsEntries).
+        /// Definitions: [`KeepsEntries`](crate::specs::types::FunctionTypeSpecs#KeepsEntries).
         #[inline]
         fn kept(&self) -> Result<Kept, AllocError> {
             if self.rest.is_empty() {
@@ -471,7 +480,9 @@ mod func_type {
         ///     self.new
         /// ```
         ///
-        /// Definitions: [`ReadsNextType`](crate::specs::types::Reading#ReadsNextType).
+        /// Definitions: [`ReadsNextType`](crate::specs::types::ReadingSpecs#ReadsNextType).
+        ///
+        /// `I` is the type of the items, an [`Iterator`].
         #[inline]
         fn push_next<I>(&mut self, types: &mut I) -> Result<bool, AllocError>
         where
@@ -498,7 +509,9 @@ mod func_type {
         ///     (λ error. IsReadingRefusal I.next_gives too_many types.old self.old error types.new)
         /// ```
         ///
-        /// Definitions: [`ReadsTypes`](crate::specs::types::Reading#ReadsTypes), [`IsReadingRefusal`](crate::specs::types::Reading#IsReadingRefusal).
+        /// Definitions: [`ReadsTypes`](crate::specs::types::ReadingSpecs#ReadsTypes), [`IsReadingRefusal`](crate::specs::types::ReadingSpecs#IsReadingRefusal).
+        ///
+        /// `I` is the type of the items, an [`Iterator`].
         #[inline]
         fn read<I>(&mut self, types: &mut I, too_many: FuncTypeError) -> Result<u16, FuncTypeError>
         where
@@ -536,6 +549,7 @@ pub mod hint {
     /// ```text
     /// ensures: result ≡ condition
     /// ```
+    #[must_use]
     #[inline]
     pub fn likely(condition: bool) -> bool {
         if !condition {
@@ -553,6 +567,7 @@ pub mod hint {
     /// ```text
     /// ensures: result ≡ condition
     /// ```
+    #[must_use]
     #[inline]
     pub fn unlikely(condition: bool) -> bool {
         if condition {
@@ -586,7 +601,8 @@ mod index_ty {
         /// ensures: result ≡ address_type self.now
         /// ```
         ///
-        /// Definitions: [`address_type`](crate::specs::types::Value#address_type).
+        /// Definitions: [`address_type`](crate::specs::types::ValueSpecs#address_type).
+        #[must_use]
         #[inline]
         pub fn ty(&self) -> ValType {
             match self {
@@ -602,6 +618,7 @@ mod index_ty {
         /// ```text
         /// ensures: IsTrue result ↔ (self.now ≡ IndexType.I64)
         /// ```
+        #[must_use]
         #[inline]
         pub fn is_64(&self) -> bool {
             matches!(self, Self::I64)
@@ -615,7 +632,8 @@ mod index_ty {
         /// ensures: result ≡ 2 ^ address_bits self.now
         /// ```
         ///
-        /// Definitions: [`address_bits`](crate::specs::types::Value#address_bits).
+        /// Definitions: [`address_bits`](crate::specs::types::ValueSpecs#address_bits).
+        #[must_use]
         #[inline]
         pub fn max_size(&self) -> u128 {
             match self {
@@ -632,7 +650,8 @@ mod index_ty {
         /// ensures: result ≡ narrower self.now other.now
         /// ```
         ///
-        /// Definitions: [`narrower`](crate::specs::types::Value#narrower).
+        /// Definitions: [`narrower`](crate::specs::types::ValueSpecs#narrower).
+        #[must_use]
         #[inline]
         pub fn min(&self, other: &Self) -> Self {
             match (self, other) {
@@ -665,6 +684,8 @@ mod trap {
     /// Value = TrapReason H
     /// view = λ trap. trap.reason
     /// ```
+    ///
+    /// `H` is any type.
     #[derive(Debug)]
     pub struct Trap<H> {
         reason: TrapReason<H>,
@@ -686,6 +707,7 @@ mod trap {
         /// ```text
         /// ensures: result ≡ reason.Message message
         /// ```
+        #[must_use]
         #[inline]
         pub fn new(message: String) -> Self {
             let reason = TrapReason::Message(message);
@@ -699,6 +721,7 @@ mod trap {
         /// ```text
         /// ensures: result ≡ reason.I32Exit status
         /// ```
+        #[must_use]
         #[inline]
         pub fn i32_exit(status: i32) -> Self {
             let reason = TrapReason::I32Exit(status);
@@ -713,7 +736,8 @@ mod trap {
         /// ensures: result ≡ exit_status_of self.now
         /// ```
         ///
-        /// Definitions: [`exit_status_of`](crate::specs::types::Trap#exit_status_of).
+        /// Definitions: [`exit_status_of`](crate::specs::types::TrapSpecs#exit_status_of).
+        #[must_use]
         #[inline]
         pub fn i32_exit_status(&self) -> Option<i32> {
             match &self.reason {
@@ -730,7 +754,8 @@ mod trap {
         /// ensures: result ≡ code_of self.now
         /// ```
         ///
-        /// Definitions: [`code_of`](crate::specs::types::Trap#code_of).
+        /// Definitions: [`code_of`](crate::specs::types::TrapSpecs#code_of).
+        #[must_use]
         #[inline]
         pub fn trap_code(&self) -> Option<TrapCode> {
             match &self.reason {
@@ -747,7 +772,8 @@ mod trap {
         /// ensures: option_copied result ≡ host_error_of self.now
         /// ```
         ///
-        /// Definitions: [`host_error_of`](crate::specs::types::Trap#host_error_of).
+        /// Definitions: [`host_error_of`](crate::specs::types::TrapSpecs#host_error_of).
+        #[must_use]
         #[inline]
         pub fn downcast_ref(&self) -> Option<&H> {
             match &self.reason {
@@ -766,7 +792,9 @@ mod trap {
         /// ensures value: option_copied_mut result ≡ host_error_of self.old
         /// ```
         ///
-        /// Definitions: [`with_host_error`](crate::specs::types::Trap#with_host_error), [`host_error_of`](crate::specs::types::Trap#host_error_of).
+        /// Definitions: [`with_host_error`](crate::specs::types::TrapSpecs#with_host_error), [`host_error_of`](crate::specs::types::TrapSpecs#host_error_of).
+        ///
+        /// `H` is the type of the host's error.
         #[inline]
         pub fn downcast_mut(&mut self) -> Option<&mut H> {
             match &mut self.reason {
@@ -783,7 +811,8 @@ mod trap {
         /// ensures: result ≡ host_error_of self
         /// ```
         ///
-        /// Definitions: [`host_error_of`](crate::specs::types::Trap#host_error_of).
+        /// Definitions: [`host_error_of`](crate::specs::types::TrapSpecs#host_error_of).
+        #[must_use]
         #[inline]
         pub fn downcast(self) -> Option<H> {
             match self.reason {
@@ -799,7 +828,9 @@ mod trap {
     /// output = text_of H.output
     /// ```
     ///
-    /// Definitions: [`text_of`](crate::specs::types::Trap#text_of).
+    /// Definitions: [`text_of`](crate::specs::types::TrapSpecs#text_of).
+    ///
+    /// `H` is the type of the host's error.
     impl<H: HostError> fmt::Display for Trap<H> {
         #[inline]
         fn fmt(&self, f: &mut fmt::Formatter<'_>) -> fmt::Result {
@@ -887,7 +918,8 @@ mod trap {
         /// ensures: result.now ≡ code_message self.now
         /// ```
         ///
-        /// Definitions: [`code_message`](crate::specs::types::Trap#code_message).
+        /// Definitions: [`code_message`](crate::specs::types::TrapSpecs#code_message).
+        #[must_use]
         #[inline]
         pub fn trap_message(&self) -> &'static str {
             match self {
@@ -913,7 +945,7 @@ mod trap {
     /// output = λ code. Some (code_message code)
     /// ```
     ///
-    /// Definitions: [`code_message`](crate::specs::types::Trap#code_message).
+    /// Definitions: [`code_message`](crate::specs::types::TrapSpecs#code_message).
     impl fmt::Display for TrapCode {
         #[inline]
         fn fmt(&self, f: &mut fmt::Formatter<'_>) -> fmt::Result {
@@ -927,7 +959,7 @@ mod trap {
     /// from_gives = λ code number. number ≡ code_number code
     /// ```
     ///
-    /// Definitions: [`code_number`](crate::specs::types::Trap#code_number).
+    /// Definitions: [`code_number`](crate::specs::types::TrapSpecs#code_number).
     impl From<TrapCode> for u8 {
         #[inline]
         fn from(code: TrapCode) -> u8 {
@@ -941,7 +973,7 @@ mod trap {
     /// try_from_gives = IsCodeOf
     /// ```
     ///
-    /// Definitions: [`IsCodeOf`](crate::specs::types::Trap#IsCodeOf).
+    /// Definitions: [`IsCodeOf`](crate::specs::types::TrapSpecs#IsCodeOf).
     impl TryFrom<u8> for TrapCode {
         type Error = InvalidTrapCode;
 
@@ -998,7 +1030,8 @@ mod value {
         /// ensures: result ≡ is_number_type self.now
         /// ```
         ///
-        /// Definitions: [`is_number_type`](crate::specs::types::Value#is_number_type).
+        /// Definitions: [`is_number_type`](crate::specs::types::ValueSpecs#is_number_type).
+        #[must_use]
         #[inline]
         pub fn is_num(&self) -> bool {
             matches!(self, Self::I32 | Self::I64 | Self::F32 | Self::F64)
@@ -1012,7 +1045,8 @@ mod value {
         /// ensures: result ≡ is_some (reference_of self.now)
         /// ```
         ///
-        /// Definitions: [`reference_of`](crate::specs::types::Value#reference_of).
+        /// Definitions: [`reference_of`](crate::specs::types::ValueSpecs#reference_of).
+        #[must_use]
         #[inline]
         pub fn is_ref(&self) -> bool {
             matches!(self, Self::FuncRef | Self::ExternRef)
@@ -1026,7 +1060,8 @@ mod value {
         /// ensures: result ≡ reference_of self.now
         /// ```
         ///
-        /// Definitions: [`reference_of`](crate::specs::types::Value#reference_of).
+        /// Definitions: [`reference_of`](crate::specs::types::ValueSpecs#reference_of).
+        #[must_use]
         #[inline]
         pub fn as_ref(&self) -> Option<RefType> {
             match self {
@@ -1054,7 +1089,7 @@ mod value {
     /// from_gives = λ ty value. value ≡ value_of ty
     /// ```
     ///
-    /// Definitions: [`value_of`](crate::specs::types::Value#value_of).
+    /// Definitions: [`value_of`](crate::specs::types::ValueSpecs#value_of).
     impl From<RefType> for ValType {
         #[inline]
         fn from(ty: RefType) -> ValType {

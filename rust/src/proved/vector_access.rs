@@ -20,13 +20,17 @@ pub mod simd {
 
     /// `v128.load`: 128 bits.
     ///
+    /// # Errors
+    ///
+    /// [`MemoryOutOfBounds`](crate::TrapCode::MemoryOutOfBounds) if the bytes end past the memory.
+    ///
     /// # Contract
     ///
     /// ```text
     /// ensures: result ≡ loaded 16 (λ n. n) memory.now (ptr + offset)
     /// ```
     ///
-    /// Definitions: [`loaded`](crate::specs::accesses::LoadStore#loaded).
+    /// Definitions: [`loaded`](crate::specs::accesses::LoadStoreSpecs#loaded).
     #[inline]
     pub fn v128_load(memory: &[u8], ptr: u64, offset: u64) -> Result<V128, TrapCode> {
         Ok(V128::from(load::<u128>(memory, ptr, offset)?))
@@ -34,13 +38,17 @@ pub mod simd {
 
     /// `v128.load` at an address.
     ///
+    /// # Errors
+    ///
+    /// [`MemoryOutOfBounds`](crate::TrapCode::MemoryOutOfBounds) if the bytes end past the memory.
+    ///
     /// # Contract
     ///
     /// ```text
     /// ensures: result ≡ loaded 16 (λ n. n) memory.now address
     /// ```
     ///
-    /// Definitions: [`loaded`](crate::specs::accesses::LoadStore#loaded).
+    /// Definitions: [`loaded`](crate::specs::accesses::LoadStoreSpecs#loaded).
     #[inline]
     pub fn v128_load_at(memory: &[u8], address: usize) -> Result<V128, TrapCode> {
         Ok(V128::from(load_at::<u128>(memory, address)?))
@@ -48,13 +56,17 @@ pub mod simd {
 
     /// `v128.store`: the 128 bits of the vector.
     ///
+    /// # Errors
+    ///
+    /// [`MemoryOutOfBounds`](crate::TrapCode::MemoryOutOfBounds) if the bytes would end past the memory; then nothing is written.
+    ///
     /// # Contract
     ///
     /// ```text
     /// ensures: IsStore memory.old (ptr + offset) (le_bytes 16 value) memory.new result
     /// ```
     ///
-    /// Definitions: [`IsStore`](crate::specs::accesses::LoadStore#IsStore), [`le_bytes`](crate::specs::types::Numbers#le_bytes).
+    /// Definitions: [`IsStore`](crate::specs::accesses::LoadStoreSpecs#IsStore), [`le_bytes`](crate::specs::types::NumbersSpecs#le_bytes).
     #[inline]
     pub fn v128_store(
         memory: &mut [u8],
@@ -67,13 +79,17 @@ pub mod simd {
 
     /// `v128.store` at an address.
     ///
+    /// # Errors
+    ///
+    /// [`MemoryOutOfBounds`](crate::TrapCode::MemoryOutOfBounds) if the bytes would end past the memory; then nothing is written.
+    ///
     /// # Contract
     ///
     /// ```text
     /// ensures: IsStore memory.old address (le_bytes 16 value) memory.new result
     /// ```
     ///
-    /// Definitions: [`IsStore`](crate::specs::accesses::LoadStore#IsStore), [`le_bytes`](crate::specs::types::Numbers#le_bytes).
+    /// Definitions: [`IsStore`](crate::specs::accesses::LoadStoreSpecs#IsStore), [`le_bytes`](crate::specs::types::NumbersSpecs#le_bytes).
     #[inline]
     pub fn v128_store_at(memory: &mut [u8], address: usize, value: V128) -> Result<(), TrapCode> {
         store_at::<u128>(memory, address, value.as_u128())
@@ -81,13 +97,17 @@ pub mod simd {
 
     /// `v128.load8x8_s`: 8 lanes of 8 bits, read signed and extended to 16.
     ///
+    /// # Errors
+    ///
+    /// [`MemoryOutOfBounds`](crate::TrapCode::MemoryOutOfBounds) if the bytes end past the memory.
+    ///
     /// # Contract
     ///
     /// ```text
     /// ensures: result ≡ loaded 8 (vector.widen_s w8 w16) memory.now (ptr + offset)
     /// ```
     ///
-    /// Definitions: [`loaded`](crate::specs::accesses::LoadStore#loaded), [`widen_s`](crate::specs::widening::WideningTable#widen_s).
+    /// Definitions: [`loaded`](crate::specs::accesses::LoadStoreSpecs#loaded), [`widen_s`](crate::specs::widening::WideningTableSpecs#widen_s).
     #[inline]
     pub fn v128_load8x8_s(memory: &[u8], ptr: u64, offset: u64) -> Result<V128, TrapCode> {
         Ok(v128_widen8x8_s(load::<u64>(memory, ptr, offset)?))
@@ -95,13 +115,17 @@ pub mod simd {
 
     /// `v128.load8x8_s` at an address.
     ///
+    /// # Errors
+    ///
+    /// [`MemoryOutOfBounds`](crate::TrapCode::MemoryOutOfBounds) if the bytes end past the memory.
+    ///
     /// # Contract
     ///
     /// ```text
     /// ensures: result ≡ loaded 8 (vector.widen_s w8 w16) memory.now address
     /// ```
     ///
-    /// Definitions: [`loaded`](crate::specs::accesses::LoadStore#loaded), [`widen_s`](crate::specs::widening::WideningTable#widen_s).
+    /// Definitions: [`loaded`](crate::specs::accesses::LoadStoreSpecs#loaded), [`widen_s`](crate::specs::widening::WideningTableSpecs#widen_s).
     #[inline]
     pub fn v128_load8x8_s_at(memory: &[u8], address: usize) -> Result<V128, TrapCode> {
         Ok(v128_widen8x8_s(load_at::<u64>(memory, address)?))
@@ -109,13 +133,17 @@ pub mod simd {
 
     /// `v128.load8x8_u`: 8 lanes of 8 bits, read unsigned and extended to 16.
     ///
+    /// # Errors
+    ///
+    /// [`MemoryOutOfBounds`](crate::TrapCode::MemoryOutOfBounds) if the bytes end past the memory.
+    ///
     /// # Contract
     ///
     /// ```text
     /// ensures: result ≡ loaded 8 (vector.widen_u w8 w16) memory.now (ptr + offset)
     /// ```
     ///
-    /// Definitions: [`loaded`](crate::specs::accesses::LoadStore#loaded), [`widen_u`](crate::specs::widening::WideningTable#widen_u).
+    /// Definitions: [`loaded`](crate::specs::accesses::LoadStoreSpecs#loaded), [`widen_u`](crate::specs::widening::WideningTableSpecs#widen_u).
     #[inline]
     pub fn v128_load8x8_u(memory: &[u8], ptr: u64, offset: u64) -> Result<V128, TrapCode> {
         Ok(v128_widen8x8_u(load::<u64>(memory, ptr, offset)?))
@@ -123,13 +151,17 @@ pub mod simd {
 
     /// `v128.load8x8_u` at an address.
     ///
+    /// # Errors
+    ///
+    /// [`MemoryOutOfBounds`](crate::TrapCode::MemoryOutOfBounds) if the bytes end past the memory.
+    ///
     /// # Contract
     ///
     /// ```text
     /// ensures: result ≡ loaded 8 (vector.widen_u w8 w16) memory.now address
     /// ```
     ///
-    /// Definitions: [`loaded`](crate::specs::accesses::LoadStore#loaded), [`widen_u`](crate::specs::widening::WideningTable#widen_u).
+    /// Definitions: [`loaded`](crate::specs::accesses::LoadStoreSpecs#loaded), [`widen_u`](crate::specs::widening::WideningTableSpecs#widen_u).
     #[inline]
     pub fn v128_load8x8_u_at(memory: &[u8], address: usize) -> Result<V128, TrapCode> {
         Ok(v128_widen8x8_u(load_at::<u64>(memory, address)?))
@@ -137,13 +169,17 @@ pub mod simd {
 
     /// `v128.load16x4_s`: 4 lanes of 16 bits, read signed and extended to 32.
     ///
+    /// # Errors
+    ///
+    /// [`MemoryOutOfBounds`](crate::TrapCode::MemoryOutOfBounds) if the bytes end past the memory.
+    ///
     /// # Contract
     ///
     /// ```text
     /// ensures: result ≡ loaded 8 (vector.widen_s w16 w32) memory.now (ptr + offset)
     /// ```
     ///
-    /// Definitions: [`loaded`](crate::specs::accesses::LoadStore#loaded), [`widen_s`](crate::specs::widening::WideningTable#widen_s).
+    /// Definitions: [`loaded`](crate::specs::accesses::LoadStoreSpecs#loaded), [`widen_s`](crate::specs::widening::WideningTableSpecs#widen_s).
     #[inline]
     pub fn v128_load16x4_s(memory: &[u8], ptr: u64, offset: u64) -> Result<V128, TrapCode> {
         Ok(v128_widen16x4_s(load::<u64>(memory, ptr, offset)?))
@@ -151,13 +187,17 @@ pub mod simd {
 
     /// `v128.load16x4_s` at an address.
     ///
+    /// # Errors
+    ///
+    /// [`MemoryOutOfBounds`](crate::TrapCode::MemoryOutOfBounds) if the bytes end past the memory.
+    ///
     /// # Contract
     ///
     /// ```text
     /// ensures: result ≡ loaded 8 (vector.widen_s w16 w32) memory.now address
     /// ```
     ///
-    /// Definitions: [`loaded`](crate::specs::accesses::LoadStore#loaded), [`widen_s`](crate::specs::widening::WideningTable#widen_s).
+    /// Definitions: [`loaded`](crate::specs::accesses::LoadStoreSpecs#loaded), [`widen_s`](crate::specs::widening::WideningTableSpecs#widen_s).
     #[inline]
     pub fn v128_load16x4_s_at(memory: &[u8], address: usize) -> Result<V128, TrapCode> {
         Ok(v128_widen16x4_s(load_at::<u64>(memory, address)?))
@@ -165,13 +205,17 @@ pub mod simd {
 
     /// `v128.load16x4_u`: 4 lanes of 16 bits, read unsigned and extended to 32.
     ///
+    /// # Errors
+    ///
+    /// [`MemoryOutOfBounds`](crate::TrapCode::MemoryOutOfBounds) if the bytes end past the memory.
+    ///
     /// # Contract
     ///
     /// ```text
     /// ensures: result ≡ loaded 8 (vector.widen_u w16 w32) memory.now (ptr + offset)
     /// ```
     ///
-    /// Definitions: [`loaded`](crate::specs::accesses::LoadStore#loaded), [`widen_u`](crate::specs::widening::WideningTable#widen_u).
+    /// Definitions: [`loaded`](crate::specs::accesses::LoadStoreSpecs#loaded), [`widen_u`](crate::specs::widening::WideningTableSpecs#widen_u).
     #[inline]
     pub fn v128_load16x4_u(memory: &[u8], ptr: u64, offset: u64) -> Result<V128, TrapCode> {
         Ok(v128_widen16x4_u(load::<u64>(memory, ptr, offset)?))
@@ -179,13 +223,17 @@ pub mod simd {
 
     /// `v128.load16x4_u` at an address.
     ///
+    /// # Errors
+    ///
+    /// [`MemoryOutOfBounds`](crate::TrapCode::MemoryOutOfBounds) if the bytes end past the memory.
+    ///
     /// # Contract
     ///
     /// ```text
     /// ensures: result ≡ loaded 8 (vector.widen_u w16 w32) memory.now address
     /// ```
     ///
-    /// Definitions: [`loaded`](crate::specs::accesses::LoadStore#loaded), [`widen_u`](crate::specs::widening::WideningTable#widen_u).
+    /// Definitions: [`loaded`](crate::specs::accesses::LoadStoreSpecs#loaded), [`widen_u`](crate::specs::widening::WideningTableSpecs#widen_u).
     #[inline]
     pub fn v128_load16x4_u_at(memory: &[u8], address: usize) -> Result<V128, TrapCode> {
         Ok(v128_widen16x4_u(load_at::<u64>(memory, address)?))
@@ -193,13 +241,17 @@ pub mod simd {
 
     /// `v128.load32x2_s`: 2 lanes of 32 bits, read signed and extended to 64.
     ///
+    /// # Errors
+    ///
+    /// [`MemoryOutOfBounds`](crate::TrapCode::MemoryOutOfBounds) if the bytes end past the memory.
+    ///
     /// # Contract
     ///
     /// ```text
     /// ensures: result ≡ loaded 8 (vector.widen_s w32 w64) memory.now (ptr + offset)
     /// ```
     ///
-    /// Definitions: [`loaded`](crate::specs::accesses::LoadStore#loaded), [`widen_s`](crate::specs::widening::WideningTable#widen_s).
+    /// Definitions: [`loaded`](crate::specs::accesses::LoadStoreSpecs#loaded), [`widen_s`](crate::specs::widening::WideningTableSpecs#widen_s).
     #[inline]
     pub fn v128_load32x2_s(memory: &[u8], ptr: u64, offset: u64) -> Result<V128, TrapCode> {
         Ok(v128_widen32x2_s(load::<u64>(memory, ptr, offset)?))
@@ -207,13 +259,17 @@ pub mod simd {
 
     /// `v128.load32x2_s` at an address.
     ///
+    /// # Errors
+    ///
+    /// [`MemoryOutOfBounds`](crate::TrapCode::MemoryOutOfBounds) if the bytes end past the memory.
+    ///
     /// # Contract
     ///
     /// ```text
     /// ensures: result ≡ loaded 8 (vector.widen_s w32 w64) memory.now address
     /// ```
     ///
-    /// Definitions: [`loaded`](crate::specs::accesses::LoadStore#loaded), [`widen_s`](crate::specs::widening::WideningTable#widen_s).
+    /// Definitions: [`loaded`](crate::specs::accesses::LoadStoreSpecs#loaded), [`widen_s`](crate::specs::widening::WideningTableSpecs#widen_s).
     #[inline]
     pub fn v128_load32x2_s_at(memory: &[u8], address: usize) -> Result<V128, TrapCode> {
         Ok(v128_widen32x2_s(load_at::<u64>(memory, address)?))
@@ -221,13 +277,17 @@ pub mod simd {
 
     /// `v128.load32x2_u`: 2 lanes of 32 bits, read unsigned and extended to 64.
     ///
+    /// # Errors
+    ///
+    /// [`MemoryOutOfBounds`](crate::TrapCode::MemoryOutOfBounds) if the bytes end past the memory.
+    ///
     /// # Contract
     ///
     /// ```text
     /// ensures: result ≡ loaded 8 (vector.widen_u w32 w64) memory.now (ptr + offset)
     /// ```
     ///
-    /// Definitions: [`loaded`](crate::specs::accesses::LoadStore#loaded), [`widen_u`](crate::specs::widening::WideningTable#widen_u).
+    /// Definitions: [`loaded`](crate::specs::accesses::LoadStoreSpecs#loaded), [`widen_u`](crate::specs::widening::WideningTableSpecs#widen_u).
     #[inline]
     pub fn v128_load32x2_u(memory: &[u8], ptr: u64, offset: u64) -> Result<V128, TrapCode> {
         Ok(v128_widen32x2_u(load::<u64>(memory, ptr, offset)?))
@@ -235,13 +295,17 @@ pub mod simd {
 
     /// `v128.load32x2_u` at an address.
     ///
+    /// # Errors
+    ///
+    /// [`MemoryOutOfBounds`](crate::TrapCode::MemoryOutOfBounds) if the bytes end past the memory.
+    ///
     /// # Contract
     ///
     /// ```text
     /// ensures: result ≡ loaded 8 (vector.widen_u w32 w64) memory.now address
     /// ```
     ///
-    /// Definitions: [`loaded`](crate::specs::accesses::LoadStore#loaded), [`widen_u`](crate::specs::widening::WideningTable#widen_u).
+    /// Definitions: [`loaded`](crate::specs::accesses::LoadStoreSpecs#loaded), [`widen_u`](crate::specs::widening::WideningTableSpecs#widen_u).
     #[inline]
     pub fn v128_load32x2_u_at(memory: &[u8], address: usize) -> Result<V128, TrapCode> {
         Ok(v128_widen32x2_u(load_at::<u64>(memory, address)?))
@@ -249,13 +313,17 @@ pub mod simd {
 
     /// `v128.load8_splat`: 8 bits, in each lane.
     ///
+    /// # Errors
+    ///
+    /// [`MemoryOutOfBounds`](crate::TrapCode::MemoryOutOfBounds) if the bytes end past the memory.
+    ///
     /// # Contract
     ///
     /// ```text
     /// ensures: result ≡ loaded 1 (splat_of w8) memory.now (ptr + offset)
     /// ```
     ///
-    /// Definitions: [`loaded`](crate::specs::accesses::LoadStore#loaded), [`splat_of`](crate::specs::lanes::Vector#splat_of).
+    /// Definitions: [`loaded`](crate::specs::accesses::LoadStoreSpecs#loaded), [`splat_of`](crate::specs::lanes::VectorSpecs#splat_of).
     #[inline]
     pub fn v128_load8_splat(memory: &[u8], ptr: u64, offset: u64) -> Result<V128, TrapCode> {
         Ok(on_vectors::splat::<U8x16>(load::<u8>(memory, ptr, offset)?))
@@ -263,13 +331,17 @@ pub mod simd {
 
     /// `v128.load8_splat` at an address.
     ///
+    /// # Errors
+    ///
+    /// [`MemoryOutOfBounds`](crate::TrapCode::MemoryOutOfBounds) if the bytes end past the memory.
+    ///
     /// # Contract
     ///
     /// ```text
     /// ensures: result ≡ loaded 1 (splat_of w8) memory.now address
     /// ```
     ///
-    /// Definitions: [`loaded`](crate::specs::accesses::LoadStore#loaded), [`splat_of`](crate::specs::lanes::Vector#splat_of).
+    /// Definitions: [`loaded`](crate::specs::accesses::LoadStoreSpecs#loaded), [`splat_of`](crate::specs::lanes::VectorSpecs#splat_of).
     #[inline]
     pub fn v128_load8_splat_at(memory: &[u8], address: usize) -> Result<V128, TrapCode> {
         Ok(on_vectors::splat::<U8x16>(load_at::<u8>(memory, address)?))
@@ -277,13 +349,17 @@ pub mod simd {
 
     /// `v128.load16_splat`: 16 bits, in each lane.
     ///
+    /// # Errors
+    ///
+    /// [`MemoryOutOfBounds`](crate::TrapCode::MemoryOutOfBounds) if the bytes end past the memory.
+    ///
     /// # Contract
     ///
     /// ```text
     /// ensures: result ≡ loaded 2 (splat_of w16) memory.now (ptr + offset)
     /// ```
     ///
-    /// Definitions: [`loaded`](crate::specs::accesses::LoadStore#loaded), [`splat_of`](crate::specs::lanes::Vector#splat_of).
+    /// Definitions: [`loaded`](crate::specs::accesses::LoadStoreSpecs#loaded), [`splat_of`](crate::specs::lanes::VectorSpecs#splat_of).
     #[inline]
     pub fn v128_load16_splat(memory: &[u8], ptr: u64, offset: u64) -> Result<V128, TrapCode> {
         Ok(on_vectors::splat::<U16x8>(load::<u16>(
@@ -293,13 +369,17 @@ pub mod simd {
 
     /// `v128.load16_splat` at an address.
     ///
+    /// # Errors
+    ///
+    /// [`MemoryOutOfBounds`](crate::TrapCode::MemoryOutOfBounds) if the bytes end past the memory.
+    ///
     /// # Contract
     ///
     /// ```text
     /// ensures: result ≡ loaded 2 (splat_of w16) memory.now address
     /// ```
     ///
-    /// Definitions: [`loaded`](crate::specs::accesses::LoadStore#loaded), [`splat_of`](crate::specs::lanes::Vector#splat_of).
+    /// Definitions: [`loaded`](crate::specs::accesses::LoadStoreSpecs#loaded), [`splat_of`](crate::specs::lanes::VectorSpecs#splat_of).
     #[inline]
     pub fn v128_load16_splat_at(memory: &[u8], address: usize) -> Result<V128, TrapCode> {
         Ok(on_vectors::splat::<U16x8>(load_at::<u16>(memory, address)?))
@@ -307,13 +387,17 @@ pub mod simd {
 
     /// `v128.load32_splat`: 32 bits, in each lane.
     ///
+    /// # Errors
+    ///
+    /// [`MemoryOutOfBounds`](crate::TrapCode::MemoryOutOfBounds) if the bytes end past the memory.
+    ///
     /// # Contract
     ///
     /// ```text
     /// ensures: result ≡ loaded 4 (splat_of w32) memory.now (ptr + offset)
     /// ```
     ///
-    /// Definitions: [`loaded`](crate::specs::accesses::LoadStore#loaded), [`splat_of`](crate::specs::lanes::Vector#splat_of).
+    /// Definitions: [`loaded`](crate::specs::accesses::LoadStoreSpecs#loaded), [`splat_of`](crate::specs::lanes::VectorSpecs#splat_of).
     #[inline]
     pub fn v128_load32_splat(memory: &[u8], ptr: u64, offset: u64) -> Result<V128, TrapCode> {
         Ok(on_vectors::splat::<U32x4>(load::<u32>(
@@ -323,13 +407,17 @@ pub mod simd {
 
     /// `v128.load32_splat` at an address.
     ///
+    /// # Errors
+    ///
+    /// [`MemoryOutOfBounds`](crate::TrapCode::MemoryOutOfBounds) if the bytes end past the memory.
+    ///
     /// # Contract
     ///
     /// ```text
     /// ensures: result ≡ loaded 4 (splat_of w32) memory.now address
     /// ```
     ///
-    /// Definitions: [`loaded`](crate::specs::accesses::LoadStore#loaded), [`splat_of`](crate::specs::lanes::Vector#splat_of).
+    /// Definitions: [`loaded`](crate::specs::accesses::LoadStoreSpecs#loaded), [`splat_of`](crate::specs::lanes::VectorSpecs#splat_of).
     #[inline]
     pub fn v128_load32_splat_at(memory: &[u8], address: usize) -> Result<V128, TrapCode> {
         Ok(on_vectors::splat::<U32x4>(load_at::<u32>(memory, address)?))
@@ -337,13 +425,17 @@ pub mod simd {
 
     /// `v128.load64_splat`: 64 bits, in each lane.
     ///
+    /// # Errors
+    ///
+    /// [`MemoryOutOfBounds`](crate::TrapCode::MemoryOutOfBounds) if the bytes end past the memory.
+    ///
     /// # Contract
     ///
     /// ```text
     /// ensures: result ≡ loaded 8 (splat_of w64) memory.now (ptr + offset)
     /// ```
     ///
-    /// Definitions: [`loaded`](crate::specs::accesses::LoadStore#loaded), [`splat_of`](crate::specs::lanes::Vector#splat_of).
+    /// Definitions: [`loaded`](crate::specs::accesses::LoadStoreSpecs#loaded), [`splat_of`](crate::specs::lanes::VectorSpecs#splat_of).
     #[inline]
     pub fn v128_load64_splat(memory: &[u8], ptr: u64, offset: u64) -> Result<V128, TrapCode> {
         Ok(on_vectors::splat::<U64x2>(load::<u64>(
@@ -353,13 +445,17 @@ pub mod simd {
 
     /// `v128.load64_splat` at an address.
     ///
+    /// # Errors
+    ///
+    /// [`MemoryOutOfBounds`](crate::TrapCode::MemoryOutOfBounds) if the bytes end past the memory.
+    ///
     /// # Contract
     ///
     /// ```text
     /// ensures: result ≡ loaded 8 (splat_of w64) memory.now address
     /// ```
     ///
-    /// Definitions: [`loaded`](crate::specs::accesses::LoadStore#loaded), [`splat_of`](crate::specs::lanes::Vector#splat_of).
+    /// Definitions: [`loaded`](crate::specs::accesses::LoadStoreSpecs#loaded), [`splat_of`](crate::specs::lanes::VectorSpecs#splat_of).
     #[inline]
     pub fn v128_load64_splat_at(memory: &[u8], address: usize) -> Result<V128, TrapCode> {
         Ok(on_vectors::splat::<U64x2>(load_at::<u64>(memory, address)?))
@@ -367,13 +463,17 @@ pub mod simd {
 
     /// `v128.load32_zero`: 32 bits in lane 0, and 0 in the others.
     ///
+    /// # Errors
+    ///
+    /// [`MemoryOutOfBounds`](crate::TrapCode::MemoryOutOfBounds) if the bytes end past the memory.
+    ///
     /// # Contract
     ///
     /// ```text
     /// ensures: result ≡ loaded 4 (vector.low_zero w32) memory.now (ptr + offset)
     /// ```
     ///
-    /// Definitions: [`loaded`](crate::specs::accesses::LoadStore#loaded), [`low_zero`](crate::specs::widening::WideningTable#low_zero).
+    /// Definitions: [`loaded`](crate::specs::accesses::LoadStoreSpecs#loaded), [`low_zero`](crate::specs::widening::WideningTableSpecs#low_zero).
     #[inline]
     pub fn v128_load32_zero(memory: &[u8], ptr: u64, offset: u64) -> Result<V128, TrapCode> {
         Ok(v128_low32_zero(load::<u32>(memory, ptr, offset)?))
@@ -381,13 +481,17 @@ pub mod simd {
 
     /// `v128.load32_zero` at an address.
     ///
+    /// # Errors
+    ///
+    /// [`MemoryOutOfBounds`](crate::TrapCode::MemoryOutOfBounds) if the bytes end past the memory.
+    ///
     /// # Contract
     ///
     /// ```text
     /// ensures: result ≡ loaded 4 (vector.low_zero w32) memory.now address
     /// ```
     ///
-    /// Definitions: [`loaded`](crate::specs::accesses::LoadStore#loaded), [`low_zero`](crate::specs::widening::WideningTable#low_zero).
+    /// Definitions: [`loaded`](crate::specs::accesses::LoadStoreSpecs#loaded), [`low_zero`](crate::specs::widening::WideningTableSpecs#low_zero).
     #[inline]
     pub fn v128_load32_zero_at(memory: &[u8], address: usize) -> Result<V128, TrapCode> {
         Ok(v128_low32_zero(load_at::<u32>(memory, address)?))
@@ -395,13 +499,17 @@ pub mod simd {
 
     /// `v128.load64_zero`: 64 bits in lane 0, and 0 in the others.
     ///
+    /// # Errors
+    ///
+    /// [`MemoryOutOfBounds`](crate::TrapCode::MemoryOutOfBounds) if the bytes end past the memory.
+    ///
     /// # Contract
     ///
     /// ```text
     /// ensures: result ≡ loaded 8 (vector.low_zero w64) memory.now (ptr + offset)
     /// ```
     ///
-    /// Definitions: [`loaded`](crate::specs::accesses::LoadStore#loaded), [`low_zero`](crate::specs::widening::WideningTable#low_zero).
+    /// Definitions: [`loaded`](crate::specs::accesses::LoadStoreSpecs#loaded), [`low_zero`](crate::specs::widening::WideningTableSpecs#low_zero).
     #[inline]
     pub fn v128_load64_zero(memory: &[u8], ptr: u64, offset: u64) -> Result<V128, TrapCode> {
         Ok(v128_low64_zero(load::<u64>(memory, ptr, offset)?))
@@ -409,13 +517,17 @@ pub mod simd {
 
     /// `v128.load64_zero` at an address.
     ///
+    /// # Errors
+    ///
+    /// [`MemoryOutOfBounds`](crate::TrapCode::MemoryOutOfBounds) if the bytes end past the memory.
+    ///
     /// # Contract
     ///
     /// ```text
     /// ensures: result ≡ loaded 8 (vector.low_zero w64) memory.now address
     /// ```
     ///
-    /// Definitions: [`loaded`](crate::specs::accesses::LoadStore#loaded), [`low_zero`](crate::specs::widening::WideningTable#low_zero).
+    /// Definitions: [`loaded`](crate::specs::accesses::LoadStoreSpecs#loaded), [`low_zero`](crate::specs::widening::WideningTableSpecs#low_zero).
     #[inline]
     pub fn v128_load64_zero_at(memory: &[u8], address: usize) -> Result<V128, TrapCode> {
         Ok(v128_low64_zero(load_at::<u64>(memory, address)?))
@@ -423,13 +535,17 @@ pub mod simd {
 
     /// `v128.load8_lane`: `v` with 8 bits in one lane.
     ///
+    /// # Errors
+    ///
+    /// [`MemoryOutOfBounds`](crate::TrapCode::MemoryOutOfBounds) if the bytes end past the memory.
+    ///
     /// # Contract
     ///
     /// ```text
     /// ensures: result ≡ loaded 1 (with_lane w8 v lane) memory.now (ptr + offset)
     /// ```
     ///
-    /// Definitions: [`loaded`](crate::specs::accesses::LoadStore#loaded), [`with_lane`](crate::specs::lanes::Vector#with_lane).
+    /// Definitions: [`loaded`](crate::specs::accesses::LoadStoreSpecs#loaded), [`with_lane`](crate::specs::lanes::VectorSpecs#with_lane).
     #[inline]
     pub fn v128_load8_lane(
         memory: &[u8],
@@ -443,13 +559,17 @@ pub mod simd {
 
     /// `v128.load8_lane` at an address.
     ///
+    /// # Errors
+    ///
+    /// [`MemoryOutOfBounds`](crate::TrapCode::MemoryOutOfBounds) if the bytes end past the memory.
+    ///
     /// # Contract
     ///
     /// ```text
     /// ensures: result ≡ loaded 1 (with_lane w8 v lane) memory.now address
     /// ```
     ///
-    /// Definitions: [`loaded`](crate::specs::accesses::LoadStore#loaded), [`with_lane`](crate::specs::lanes::Vector#with_lane).
+    /// Definitions: [`loaded`](crate::specs::accesses::LoadStoreSpecs#loaded), [`with_lane`](crate::specs::lanes::VectorSpecs#with_lane).
     #[inline]
     pub fn v128_load8_lane_at(
         memory: &[u8],
@@ -462,13 +582,17 @@ pub mod simd {
 
     /// `v128.load16_lane`: `v` with 16 bits in one lane.
     ///
+    /// # Errors
+    ///
+    /// [`MemoryOutOfBounds`](crate::TrapCode::MemoryOutOfBounds) if the bytes end past the memory.
+    ///
     /// # Contract
     ///
     /// ```text
     /// ensures: result ≡ loaded 2 (with_lane w16 v lane) memory.now (ptr + offset)
     /// ```
     ///
-    /// Definitions: [`loaded`](crate::specs::accesses::LoadStore#loaded), [`with_lane`](crate::specs::lanes::Vector#with_lane).
+    /// Definitions: [`loaded`](crate::specs::accesses::LoadStoreSpecs#loaded), [`with_lane`](crate::specs::lanes::VectorSpecs#with_lane).
     #[inline]
     pub fn v128_load16_lane(
         memory: &[u8],
@@ -482,13 +606,17 @@ pub mod simd {
 
     /// `v128.load16_lane` at an address.
     ///
+    /// # Errors
+    ///
+    /// [`MemoryOutOfBounds`](crate::TrapCode::MemoryOutOfBounds) if the bytes end past the memory.
+    ///
     /// # Contract
     ///
     /// ```text
     /// ensures: result ≡ loaded 2 (with_lane w16 v lane) memory.now address
     /// ```
     ///
-    /// Definitions: [`loaded`](crate::specs::accesses::LoadStore#loaded), [`with_lane`](crate::specs::lanes::Vector#with_lane).
+    /// Definitions: [`loaded`](crate::specs::accesses::LoadStoreSpecs#loaded), [`with_lane`](crate::specs::lanes::VectorSpecs#with_lane).
     #[inline]
     pub fn v128_load16_lane_at(
         memory: &[u8],
@@ -501,13 +629,17 @@ pub mod simd {
 
     /// `v128.load32_lane`: `v` with 32 bits in one lane.
     ///
+    /// # Errors
+    ///
+    /// [`MemoryOutOfBounds`](crate::TrapCode::MemoryOutOfBounds) if the bytes end past the memory.
+    ///
     /// # Contract
     ///
     /// ```text
     /// ensures: result ≡ loaded 4 (with_lane w32 v lane) memory.now (ptr + offset)
     /// ```
     ///
-    /// Definitions: [`loaded`](crate::specs::accesses::LoadStore#loaded), [`with_lane`](crate::specs::lanes::Vector#with_lane).
+    /// Definitions: [`loaded`](crate::specs::accesses::LoadStoreSpecs#loaded), [`with_lane`](crate::specs::lanes::VectorSpecs#with_lane).
     #[inline]
     pub fn v128_load32_lane(
         memory: &[u8],
@@ -521,13 +653,17 @@ pub mod simd {
 
     /// `v128.load32_lane` at an address.
     ///
+    /// # Errors
+    ///
+    /// [`MemoryOutOfBounds`](crate::TrapCode::MemoryOutOfBounds) if the bytes end past the memory.
+    ///
     /// # Contract
     ///
     /// ```text
     /// ensures: result ≡ loaded 4 (with_lane w32 v lane) memory.now address
     /// ```
     ///
-    /// Definitions: [`loaded`](crate::specs::accesses::LoadStore#loaded), [`with_lane`](crate::specs::lanes::Vector#with_lane).
+    /// Definitions: [`loaded`](crate::specs::accesses::LoadStoreSpecs#loaded), [`with_lane`](crate::specs::lanes::VectorSpecs#with_lane).
     #[inline]
     pub fn v128_load32_lane_at(
         memory: &[u8],
@@ -540,13 +676,17 @@ pub mod simd {
 
     /// `v128.load64_lane`: `v` with 64 bits in one lane.
     ///
+    /// # Errors
+    ///
+    /// [`MemoryOutOfBounds`](crate::TrapCode::MemoryOutOfBounds) if the bytes end past the memory.
+    ///
     /// # Contract
     ///
     /// ```text
     /// ensures: result ≡ loaded 8 (with_lane w64 v lane) memory.now (ptr + offset)
     /// ```
     ///
-    /// Definitions: [`loaded`](crate::specs::accesses::LoadStore#loaded), [`with_lane`](crate::specs::lanes::Vector#with_lane).
+    /// Definitions: [`loaded`](crate::specs::accesses::LoadStoreSpecs#loaded), [`with_lane`](crate::specs::lanes::VectorSpecs#with_lane).
     #[inline]
     pub fn v128_load64_lane(
         memory: &[u8],
@@ -560,13 +700,17 @@ pub mod simd {
 
     /// `v128.load64_lane` at an address.
     ///
+    /// # Errors
+    ///
+    /// [`MemoryOutOfBounds`](crate::TrapCode::MemoryOutOfBounds) if the bytes end past the memory.
+    ///
     /// # Contract
     ///
     /// ```text
     /// ensures: result ≡ loaded 8 (with_lane w64 v lane) memory.now address
     /// ```
     ///
-    /// Definitions: [`loaded`](crate::specs::accesses::LoadStore#loaded), [`with_lane`](crate::specs::lanes::Vector#with_lane).
+    /// Definitions: [`loaded`](crate::specs::accesses::LoadStoreSpecs#loaded), [`with_lane`](crate::specs::lanes::VectorSpecs#with_lane).
     #[inline]
     pub fn v128_load64_lane_at(
         memory: &[u8],
@@ -579,6 +723,10 @@ pub mod simd {
 
     /// `v128.store8_lane`: the 8 bits of one lane of `v`.
     ///
+    /// # Errors
+    ///
+    /// [`MemoryOutOfBounds`](crate::TrapCode::MemoryOutOfBounds) if the bytes would end past the memory; then nothing is written.
+    ///
     /// # Contract
     ///
     /// ```text
@@ -586,7 +734,7 @@ pub mod simd {
     ///     (le_bytes 1 (lanes.lane w8 v lane)) memory.new result
     /// ```
     ///
-    /// Definitions: [`IsStore`](crate::specs::accesses::LoadStore#IsStore), [`le_bytes`](crate::specs::types::Numbers#le_bytes), [`lane`](crate::specs::lanes::Vector#lane).
+    /// Definitions: [`IsStore`](crate::specs::accesses::LoadStoreSpecs#IsStore), [`le_bytes`](crate::specs::types::NumbersSpecs#le_bytes), [`lane`](crate::specs::lanes::VectorSpecs#lane).
     #[inline]
     pub fn v128_store8_lane(
         memory: &mut [u8],
@@ -600,13 +748,17 @@ pub mod simd {
 
     /// `v128.store8_lane` at an address.
     ///
+    /// # Errors
+    ///
+    /// [`MemoryOutOfBounds`](crate::TrapCode::MemoryOutOfBounds) if the bytes would end past the memory; then nothing is written.
+    ///
     /// # Contract
     ///
     /// ```text
     /// ensures: IsStore memory.old address (le_bytes 1 (lanes.lane w8 v lane)) memory.new result
     /// ```
     ///
-    /// Definitions: [`IsStore`](crate::specs::accesses::LoadStore#IsStore), [`le_bytes`](crate::specs::types::Numbers#le_bytes), [`lane`](crate::specs::lanes::Vector#lane).
+    /// Definitions: [`IsStore`](crate::specs::accesses::LoadStoreSpecs#IsStore), [`le_bytes`](crate::specs::types::NumbersSpecs#le_bytes), [`lane`](crate::specs::lanes::VectorSpecs#lane).
     #[inline]
     pub fn v128_store8_lane_at(
         memory: &mut [u8],
@@ -619,6 +771,10 @@ pub mod simd {
 
     /// `v128.store16_lane`: the 16 bits of one lane of `v`.
     ///
+    /// # Errors
+    ///
+    /// [`MemoryOutOfBounds`](crate::TrapCode::MemoryOutOfBounds) if the bytes would end past the memory; then nothing is written.
+    ///
     /// # Contract
     ///
     /// ```text
@@ -626,7 +782,7 @@ pub mod simd {
     ///     (le_bytes 2 (lanes.lane w16 v lane)) memory.new result
     /// ```
     ///
-    /// Definitions: [`IsStore`](crate::specs::accesses::LoadStore#IsStore), [`le_bytes`](crate::specs::types::Numbers#le_bytes), [`lane`](crate::specs::lanes::Vector#lane).
+    /// Definitions: [`IsStore`](crate::specs::accesses::LoadStoreSpecs#IsStore), [`le_bytes`](crate::specs::types::NumbersSpecs#le_bytes), [`lane`](crate::specs::lanes::VectorSpecs#lane).
     #[inline]
     pub fn v128_store16_lane(
         memory: &mut [u8],
@@ -640,13 +796,17 @@ pub mod simd {
 
     /// `v128.store16_lane` at an address.
     ///
+    /// # Errors
+    ///
+    /// [`MemoryOutOfBounds`](crate::TrapCode::MemoryOutOfBounds) if the bytes would end past the memory; then nothing is written.
+    ///
     /// # Contract
     ///
     /// ```text
     /// ensures: IsStore memory.old address (le_bytes 2 (lanes.lane w16 v lane)) memory.new result
     /// ```
     ///
-    /// Definitions: [`IsStore`](crate::specs::accesses::LoadStore#IsStore), [`le_bytes`](crate::specs::types::Numbers#le_bytes), [`lane`](crate::specs::lanes::Vector#lane).
+    /// Definitions: [`IsStore`](crate::specs::accesses::LoadStoreSpecs#IsStore), [`le_bytes`](crate::specs::types::NumbersSpecs#le_bytes), [`lane`](crate::specs::lanes::VectorSpecs#lane).
     #[inline]
     pub fn v128_store16_lane_at(
         memory: &mut [u8],
@@ -659,6 +819,10 @@ pub mod simd {
 
     /// `v128.store32_lane`: the 32 bits of one lane of `v`.
     ///
+    /// # Errors
+    ///
+    /// [`MemoryOutOfBounds`](crate::TrapCode::MemoryOutOfBounds) if the bytes would end past the memory; then nothing is written.
+    ///
     /// # Contract
     ///
     /// ```text
@@ -666,7 +830,7 @@ pub mod simd {
     ///     (le_bytes 4 (lanes.lane w32 v lane)) memory.new result
     /// ```
     ///
-    /// Definitions: [`IsStore`](crate::specs::accesses::LoadStore#IsStore), [`le_bytes`](crate::specs::types::Numbers#le_bytes), [`lane`](crate::specs::lanes::Vector#lane).
+    /// Definitions: [`IsStore`](crate::specs::accesses::LoadStoreSpecs#IsStore), [`le_bytes`](crate::specs::types::NumbersSpecs#le_bytes), [`lane`](crate::specs::lanes::VectorSpecs#lane).
     #[inline]
     pub fn v128_store32_lane(
         memory: &mut [u8],
@@ -680,13 +844,17 @@ pub mod simd {
 
     /// `v128.store32_lane` at an address.
     ///
+    /// # Errors
+    ///
+    /// [`MemoryOutOfBounds`](crate::TrapCode::MemoryOutOfBounds) if the bytes would end past the memory; then nothing is written.
+    ///
     /// # Contract
     ///
     /// ```text
     /// ensures: IsStore memory.old address (le_bytes 4 (lanes.lane w32 v lane)) memory.new result
     /// ```
     ///
-    /// Definitions: [`IsStore`](crate::specs::accesses::LoadStore#IsStore), [`le_bytes`](crate::specs::types::Numbers#le_bytes), [`lane`](crate::specs::lanes::Vector#lane).
+    /// Definitions: [`IsStore`](crate::specs::accesses::LoadStoreSpecs#IsStore), [`le_bytes`](crate::specs::types::NumbersSpecs#le_bytes), [`lane`](crate::specs::lanes::VectorSpecs#lane).
     #[inline]
     pub fn v128_store32_lane_at(
         memory: &mut [u8],
@@ -699,6 +867,10 @@ pub mod simd {
 
     /// `v128.store64_lane`: the 64 bits of one lane of `v`.
     ///
+    /// # Errors
+    ///
+    /// [`MemoryOutOfBounds`](crate::TrapCode::MemoryOutOfBounds) if the bytes would end past the memory; then nothing is written.
+    ///
     /// # Contract
     ///
     /// ```text
@@ -706,7 +878,7 @@ pub mod simd {
     ///     (le_bytes 8 (lanes.lane w64 v lane)) memory.new result
     /// ```
     ///
-    /// Definitions: [`IsStore`](crate::specs::accesses::LoadStore#IsStore), [`le_bytes`](crate::specs::types::Numbers#le_bytes), [`lane`](crate::specs::lanes::Vector#lane).
+    /// Definitions: [`IsStore`](crate::specs::accesses::LoadStoreSpecs#IsStore), [`le_bytes`](crate::specs::types::NumbersSpecs#le_bytes), [`lane`](crate::specs::lanes::VectorSpecs#lane).
     #[inline]
     pub fn v128_store64_lane(
         memory: &mut [u8],
@@ -720,13 +892,17 @@ pub mod simd {
 
     /// `v128.store64_lane` at an address.
     ///
+    /// # Errors
+    ///
+    /// [`MemoryOutOfBounds`](crate::TrapCode::MemoryOutOfBounds) if the bytes would end past the memory; then nothing is written.
+    ///
     /// # Contract
     ///
     /// ```text
     /// ensures: IsStore memory.old address (le_bytes 8 (lanes.lane w64 v lane)) memory.new result
     /// ```
     ///
-    /// Definitions: [`IsStore`](crate::specs::accesses::LoadStore#IsStore), [`le_bytes`](crate::specs::types::Numbers#le_bytes), [`lane`](crate::specs::lanes::Vector#lane).
+    /// Definitions: [`IsStore`](crate::specs::accesses::LoadStoreSpecs#IsStore), [`le_bytes`](crate::specs::types::NumbersSpecs#le_bytes), [`lane`](crate::specs::lanes::VectorSpecs#lane).
     #[inline]
     pub fn v128_store64_lane_at(
         memory: &mut [u8],

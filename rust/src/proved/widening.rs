@@ -22,7 +22,9 @@ pub mod laws {
     ///     (read (lane narrow b (first + i))) % 2 ^ bits wide
     /// ```
     ///
-    /// Definitions: [`lane_count`](crate::specs::lanes::Vector#lane_count), [`lane`](crate::specs::lanes::Vector#lane), [`half_unary`](crate::specs::widening::WideningTable#half_unary), [`half_binary`](crate::specs::widening::WideningTable#half_binary).
+    /// Definitions: [`lane_count`](crate::specs::lanes::VectorSpecs#lane_count), [`lane`](crate::specs::lanes::VectorSpecs#lane), [`half_unary`](crate::specs::widening::WideningTableSpecs#half_unary), [`half_binary`](crate::specs::widening::WideningTableSpecs#half_binary).
+    ///
+    /// `A` is any type.
     #[inline]
     pub fn lanes_of_halves<A>() {}
 
@@ -44,7 +46,7 @@ pub mod laws {
     ///     → lane wide (vector.extend_high_u narrow wide v) i ≡ lane narrow v (lane_count wide + i)
     /// ```
     ///
-    /// Definitions: [`lane_count`](crate::specs::lanes::Vector#lane_count), [`lane`](crate::specs::lanes::Vector#lane), [`extend_low_s`](crate::specs::widening::WideningTable#extend_low_s), [`extend_low_u`](crate::specs::widening::WideningTable#extend_low_u), [`extend_high_s`](crate::specs::widening::WideningTable#extend_high_s), [`extend_high_u`](crate::specs::widening::WideningTable#extend_high_u).
+    /// Definitions: [`lane_count`](crate::specs::lanes::VectorSpecs#lane_count), [`lane`](crate::specs::lanes::VectorSpecs#lane), [`extend_low_s`](crate::specs::widening::WideningTableSpecs#extend_low_s), [`extend_low_u`](crate::specs::widening::WideningTableSpecs#extend_low_u), [`extend_high_s`](crate::specs::widening::WideningTableSpecs#extend_high_s), [`extend_high_u`](crate::specs::widening::WideningTableSpecs#extend_high_u).
     #[inline]
     pub fn extended_lanes() {}
 
@@ -58,7 +60,7 @@ pub mod laws {
     /// ensures signed: (w : Width) (z : ℤ) → FitsSigned w z → signed w (wrap w z) ≡ z
     /// ```
     ///
-    /// Definitions: [`wrap`](crate::specs::types::Numbers#wrap).
+    /// Definitions: [`wrap`](crate::specs::types::NumbersSpecs#wrap).
     #[inline]
     pub fn wrapped_numbers() {}
 
@@ -80,7 +82,9 @@ pub mod laws {
     ///     (read (lane narrow b (2 * i))) (read (lane narrow b (2 * i + 1))) % 2 ^ bits wide
     /// ```
     ///
-    /// Definitions: [`lane_count`](crate::specs::lanes::Vector#lane_count), [`lane`](crate::specs::lanes::Vector#lane), [`pairwise_unary`](crate::specs::widening::WideningTable#pairwise_unary), [`pairwise_binary`](crate::specs::widening::WideningTable#pairwise_binary).
+    /// Definitions: [`lane_count`](crate::specs::lanes::VectorSpecs#lane_count), [`lane`](crate::specs::lanes::VectorSpecs#lane), [`pairwise_unary`](crate::specs::widening::WideningTableSpecs#pairwise_unary), [`pairwise_binary`](crate::specs::widening::WideningTableSpecs#pairwise_binary).
+    ///
+    /// `A` is any type.
     #[inline]
     pub fn pairwise_lanes<A>() {}
 
@@ -101,7 +105,9 @@ pub mod laws {
     ///     ≡ row (read (lane wide high i)) % 2 ^ bits narrow
     /// ```
     ///
-    /// Definitions: [`lane_count`](crate::specs::lanes::Vector#lane_count), [`lane`](crate::specs::lanes::Vector#lane), [`from_low_high`](crate::specs::widening::WideningTable#from_low_high).
+    /// Definitions: [`lane_count`](crate::specs::lanes::VectorSpecs#lane_count), [`lane`](crate::specs::lanes::VectorSpecs#lane), [`from_low_high`](crate::specs::widening::WideningTableSpecs#from_low_high).
+    ///
+    /// `A` is any type.
     #[inline]
     pub fn lanes_of_wide_lanes<A>() {}
 
@@ -120,7 +126,9 @@ pub mod laws {
     /// ensures tests_below: (n : ℕ) (test : ℕ → Bool) → first_bits n test < 2 ^ n
     /// ```
     ///
-    /// Definitions: [`lane_count`](crate::specs::lanes::Vector#lane_count), [`lane_bits`](crate::specs::widening::WideningTable#lane_bits), [`lane`](crate::specs::lanes::Vector#lane), [`first_bits`](crate::specs::widening::WideningTable#first_bits).
+    /// Definitions: [`lane_count`](crate::specs::lanes::VectorSpecs#lane_count), [`lane_bits`](crate::specs::widening::WideningTableSpecs#lane_bits), [`lane`](crate::specs::lanes::VectorSpecs#lane), [`first_bits`](crate::specs::widening::WideningTableSpecs#first_bits).
+    ///
+    /// `A` is any type.
     #[inline]
     pub fn bits_of_lanes<A>() {}
 
@@ -137,7 +145,9 @@ pub mod laws {
     ///     → IsTrue (holds_below n test) ↔ ((i : ℕ) → i < n → IsTrue (test i))
     /// ```
     ///
-    /// Definitions: [`every_lane`](crate::specs::widening::WideningTable#every_lane), [`lane_count`](crate::specs::lanes::Vector#lane_count), [`lane`](crate::specs::lanes::Vector#lane), [`holds_below`](crate::specs::widening::WideningTable#holds_below).
+    /// Definitions: [`every_lane`](crate::specs::widening::WideningTableSpecs#every_lane), [`lane_count`](crate::specs::lanes::VectorSpecs#lane_count), [`lane`](crate::specs::lanes::VectorSpecs#lane), [`holds_below`](crate::specs::widening::WideningTableSpecs#holds_below).
+    ///
+    /// `A` is any type.
     #[inline]
     pub fn tests_of_lanes<A>() {}
 }
@@ -168,7 +178,7 @@ pub mod simd {
         ///     (lane_count Self.Wide.LaneInteger.width)
         /// ```
         ///
-        /// Definitions: [`IsWidening`](crate::specs::widening::WideningProofs#IsWidening), [`lane_count`](crate::specs::lanes::Vector#lane_count).
+        /// Definitions: [`IsWidening`](crate::specs::widening::WideningProofsSpecs#IsWidening), [`lane_count`](crate::specs::lanes::VectorSpecs#lane_count).
         pub(super) trait ExtendedLane: SimdLane {
             /// The lane of twice the width.
             type Wide: SimdLane;
@@ -182,7 +192,7 @@ pub mod simd {
             ///     → Self.Wide.at result i ≡ lane Self.width v i
             /// ```
             ///
-            /// Definitions: [`lane_count`](crate::specs::lanes::Vector#lane_count), [`lane`](crate::specs::lanes::Vector#lane).
+            /// Definitions: [`lane_count`](crate::specs::lanes::VectorSpecs#lane_count), [`lane`](crate::specs::lanes::VectorSpecs#lane).
             fn low(v: V128) -> <Self::Wide as SimdLane>::Vector;
 
             /// The lanes of the upper half.
@@ -194,7 +204,7 @@ pub mod simd {
             ///     → Self.Wide.at result i ≡ lane Self.width v (lane_count Self.Wide.width + i)
             /// ```
             ///
-            /// Definitions: [`lane_count`](crate::specs::lanes::Vector#lane_count), [`lane`](crate::specs::lanes::Vector#lane).
+            /// Definitions: [`lane_count`](crate::specs::lanes::VectorSpecs#lane_count), [`lane`](crate::specs::lanes::VectorSpecs#lane).
             fn high(v: V128) -> <Self::Wide as SimdLane>::Vector;
 
             /// The lanes of the lower half, the sign copied.
@@ -206,7 +216,7 @@ pub mod simd {
             ///     ≡ cast_unsigned Self.Wide.width (signed Self.width (lane Self.width v i))
             /// ```
             ///
-            /// Definitions: [`lane_count`](crate::specs::lanes::Vector#lane_count), [`lane`](crate::specs::lanes::Vector#lane).
+            /// Definitions: [`lane_count`](crate::specs::lanes::VectorSpecs#lane_count), [`lane`](crate::specs::lanes::VectorSpecs#lane).
             fn low_signed(v: V128) -> <Self::Wide as SimdLane>::Vector;
 
             /// The lanes of the upper half, the sign copied.
@@ -219,7 +229,7 @@ pub mod simd {
             ///     (signed Self.width (lane Self.width v (lane_count Self.Wide.width + i)))
             /// ```
             ///
-            /// Definitions: [`lane_count`](crate::specs::lanes::Vector#lane_count), [`lane`](crate::specs::lanes::Vector#lane).
+            /// Definitions: [`lane_count`](crate::specs::lanes::VectorSpecs#lane_count), [`lane`](crate::specs::lanes::VectorSpecs#lane).
             fn high_signed(v: V128) -> <Self::Wide as SimdLane>::Vector;
 
             /// The products of wide lanes, modulo 2 to the power of their width.
@@ -231,7 +241,7 @@ pub mod simd {
             ///     ≡ Self.Wide.at a i * Self.Wide.at b i % 2 ^ bits Self.Wide.width
             /// ```
             ///
-            /// Definitions: [`lane_count`](crate::specs::lanes::Vector#lane_count).
+            /// Definitions: [`lane_count`](crate::specs::lanes::VectorSpecs#lane_count).
             fn products(
                 a: <Self::Wide as SimdLane>::Vector,
                 b: <Self::Wide as SimdLane>::Vector,
@@ -250,7 +260,7 @@ pub mod simd {
             ///     → Self.Wide.at result i ≡ lane Self.width v (2 * i)
             /// ```
             ///
-            /// Definitions: [`lane_count`](crate::specs::lanes::Vector#lane_count), [`lane`](crate::specs::lanes::Vector#lane).
+            /// Definitions: [`lane_count`](crate::specs::lanes::VectorSpecs#lane_count), [`lane`](crate::specs::lanes::VectorSpecs#lane).
             fn even(v: V128) -> <Self::Wide as SimdLane>::Vector;
 
             /// The lanes with an odd number.
@@ -262,7 +272,7 @@ pub mod simd {
             ///     → Self.Wide.at result i ≡ lane Self.width v (2 * i + 1)
             /// ```
             ///
-            /// Definitions: [`lane_count`](crate::specs::lanes::Vector#lane_count), [`lane`](crate::specs::lanes::Vector#lane).
+            /// Definitions: [`lane_count`](crate::specs::lanes::VectorSpecs#lane_count), [`lane`](crate::specs::lanes::VectorSpecs#lane).
             fn odd(v: V128) -> <Self::Wide as SimdLane>::Vector;
 
             /// The lanes with an even number, the sign copied.
@@ -274,7 +284,7 @@ pub mod simd {
             ///     ≡ cast_unsigned Self.Wide.width (signed Self.width (lane Self.width v (2 * i)))
             /// ```
             ///
-            /// Definitions: [`lane_count`](crate::specs::lanes::Vector#lane_count), [`lane`](crate::specs::lanes::Vector#lane).
+            /// Definitions: [`lane_count`](crate::specs::lanes::VectorSpecs#lane_count), [`lane`](crate::specs::lanes::VectorSpecs#lane).
             fn even_signed(v: V128) -> <Self::Wide as SimdLane>::Vector;
 
             /// The lanes with an odd number, the sign copied.
@@ -286,7 +296,7 @@ pub mod simd {
             ///     ≡ cast_unsigned Self.Wide.width (signed Self.width (lane Self.width v (2 * i + 1)))
             /// ```
             ///
-            /// Definitions: [`lane_count`](crate::specs::lanes::Vector#lane_count), [`lane`](crate::specs::lanes::Vector#lane).
+            /// Definitions: [`lane_count`](crate::specs::lanes::VectorSpecs#lane_count), [`lane`](crate::specs::lanes::VectorSpecs#lane).
             fn odd_signed(v: V128) -> <Self::Wide as SimdLane>::Vector;
 
             /// The sums of wide lanes, modulo 2 to the power of their width.
@@ -298,7 +308,7 @@ pub mod simd {
             ///     ≡ (Self.Wide.at a i + Self.Wide.at b i) % 2 ^ bits Self.Wide.width
             /// ```
             ///
-            /// Definitions: [`lane_count`](crate::specs::lanes::Vector#lane_count).
+            /// Definitions: [`lane_count`](crate::specs::lanes::VectorSpecs#lane_count).
             fn sums(
                 a: <Self::Wide as SimdLane>::Vector,
                 b: <Self::Wide as SimdLane>::Vector,
@@ -469,7 +479,7 @@ pub mod simd {
         /// ensures lanes: (i : ℕ) → i < 8 → slice_index_or result i (pos 0) ≡ signed w16 (lane w16 v i)
         /// ```
         ///
-        /// Definitions: [`lane`](crate::specs::lanes::Vector#lane).
+        /// Definitions: [`lane`](crate::specs::lanes::VectorSpecs#lane).
         #[inline(always)]
         fn i16x8_of(v: V128) -> i16x8 {
             i16x8::from_le_bytes(bytes_of(v))
@@ -482,7 +492,7 @@ pub mod simd {
         /// ensures lanes: (i : ℕ) → i < 4 → slice_index_or result i (pos 0) ≡ signed w32 (lane w32 v i)
         /// ```
         ///
-        /// Definitions: [`lane`](crate::specs::lanes::Vector#lane).
+        /// Definitions: [`lane`](crate::specs::lanes::VectorSpecs#lane).
         #[inline(always)]
         fn i32x4_of(v: V128) -> i32x4 {
             i32x4::from_le_bytes(bytes_of(v))
@@ -510,7 +520,8 @@ pub mod simd {
     /// ensures: result ≡ vector.extend_low_s w8 w16 v
     /// ```
     ///
-    /// Definitions: [`extend_low_s`](crate::specs::widening::WideningTable#extend_low_s).
+    /// Definitions: [`extend_low_s`](crate::specs::widening::WideningTableSpecs#extend_low_s).
+    #[must_use]
     #[inline]
     pub fn i16x8_extend_low_i8x16_s(v: V128) -> V128 {
         extended_low_s::<u8>(v)
@@ -524,7 +535,8 @@ pub mod simd {
     /// ensures: result ≡ vector.extend_low_u w8 w16 v
     /// ```
     ///
-    /// Definitions: [`extend_low_u`](crate::specs::widening::WideningTable#extend_low_u).
+    /// Definitions: [`extend_low_u`](crate::specs::widening::WideningTableSpecs#extend_low_u).
+    #[must_use]
     #[inline]
     pub fn i16x8_extend_low_i8x16_u(v: V128) -> V128 {
         extended_low_u::<u8>(v)
@@ -538,7 +550,8 @@ pub mod simd {
     /// ensures: result ≡ vector.extend_high_s w8 w16 v
     /// ```
     ///
-    /// Definitions: [`extend_high_s`](crate::specs::widening::WideningTable#extend_high_s).
+    /// Definitions: [`extend_high_s`](crate::specs::widening::WideningTableSpecs#extend_high_s).
+    #[must_use]
     #[inline]
     pub fn i16x8_extend_high_i8x16_s(v: V128) -> V128 {
         extended_high_s::<u8>(v)
@@ -552,7 +565,8 @@ pub mod simd {
     /// ensures: result ≡ vector.extend_high_u w8 w16 v
     /// ```
     ///
-    /// Definitions: [`extend_high_u`](crate::specs::widening::WideningTable#extend_high_u).
+    /// Definitions: [`extend_high_u`](crate::specs::widening::WideningTableSpecs#extend_high_u).
+    #[must_use]
     #[inline]
     pub fn i16x8_extend_high_i8x16_u(v: V128) -> V128 {
         extended_high_u::<u8>(v)
@@ -566,7 +580,8 @@ pub mod simd {
     /// ensures: result ≡ vector.extend_low_s w16 w32 v
     /// ```
     ///
-    /// Definitions: [`extend_low_s`](crate::specs::widening::WideningTable#extend_low_s).
+    /// Definitions: [`extend_low_s`](crate::specs::widening::WideningTableSpecs#extend_low_s).
+    #[must_use]
     #[inline]
     pub fn i32x4_extend_low_i16x8_s(v: V128) -> V128 {
         extended_low_s::<u16>(v)
@@ -580,7 +595,8 @@ pub mod simd {
     /// ensures: result ≡ vector.extend_low_u w16 w32 v
     /// ```
     ///
-    /// Definitions: [`extend_low_u`](crate::specs::widening::WideningTable#extend_low_u).
+    /// Definitions: [`extend_low_u`](crate::specs::widening::WideningTableSpecs#extend_low_u).
+    #[must_use]
     #[inline]
     pub fn i32x4_extend_low_i16x8_u(v: V128) -> V128 {
         extended_low_u::<u16>(v)
@@ -594,7 +610,8 @@ pub mod simd {
     /// ensures: result ≡ vector.extend_high_s w16 w32 v
     /// ```
     ///
-    /// Definitions: [`extend_high_s`](crate::specs::widening::WideningTable#extend_high_s).
+    /// Definitions: [`extend_high_s`](crate::specs::widening::WideningTableSpecs#extend_high_s).
+    #[must_use]
     #[inline]
     pub fn i32x4_extend_high_i16x8_s(v: V128) -> V128 {
         extended_high_s::<u16>(v)
@@ -608,7 +625,8 @@ pub mod simd {
     /// ensures: result ≡ vector.extend_high_u w16 w32 v
     /// ```
     ///
-    /// Definitions: [`extend_high_u`](crate::specs::widening::WideningTable#extend_high_u).
+    /// Definitions: [`extend_high_u`](crate::specs::widening::WideningTableSpecs#extend_high_u).
+    #[must_use]
     #[inline]
     pub fn i32x4_extend_high_i16x8_u(v: V128) -> V128 {
         extended_high_u::<u16>(v)
@@ -622,7 +640,8 @@ pub mod simd {
     /// ensures: result ≡ vector.extend_low_s w32 w64 v
     /// ```
     ///
-    /// Definitions: [`extend_low_s`](crate::specs::widening::WideningTable#extend_low_s).
+    /// Definitions: [`extend_low_s`](crate::specs::widening::WideningTableSpecs#extend_low_s).
+    #[must_use]
     #[inline]
     pub fn i64x2_extend_low_i32x4_s(v: V128) -> V128 {
         extended_low_s::<u32>(v)
@@ -636,7 +655,8 @@ pub mod simd {
     /// ensures: result ≡ vector.extend_low_u w32 w64 v
     /// ```
     ///
-    /// Definitions: [`extend_low_u`](crate::specs::widening::WideningTable#extend_low_u).
+    /// Definitions: [`extend_low_u`](crate::specs::widening::WideningTableSpecs#extend_low_u).
+    #[must_use]
     #[inline]
     pub fn i64x2_extend_low_i32x4_u(v: V128) -> V128 {
         extended_low_u::<u32>(v)
@@ -650,7 +670,8 @@ pub mod simd {
     /// ensures: result ≡ vector.extend_high_s w32 w64 v
     /// ```
     ///
-    /// Definitions: [`extend_high_s`](crate::specs::widening::WideningTable#extend_high_s).
+    /// Definitions: [`extend_high_s`](crate::specs::widening::WideningTableSpecs#extend_high_s).
+    #[must_use]
     #[inline]
     pub fn i64x2_extend_high_i32x4_s(v: V128) -> V128 {
         extended_high_s::<u32>(v)
@@ -664,7 +685,8 @@ pub mod simd {
     /// ensures: result ≡ vector.extend_high_u w32 w64 v
     /// ```
     ///
-    /// Definitions: [`extend_high_u`](crate::specs::widening::WideningTable#extend_high_u).
+    /// Definitions: [`extend_high_u`](crate::specs::widening::WideningTableSpecs#extend_high_u).
+    #[must_use]
     #[inline]
     pub fn i64x2_extend_high_i32x4_u(v: V128) -> V128 {
         extended_high_u::<u32>(v)
@@ -678,7 +700,8 @@ pub mod simd {
     /// ensures: result ≡ vector.widen_s w8 w16 number
     /// ```
     ///
-    /// Definitions: [`widen_s`](crate::specs::widening::WideningTable#widen_s).
+    /// Definitions: [`widen_s`](crate::specs::widening::WideningTableSpecs#widen_s).
+    #[must_use]
     #[inline]
     pub fn v128_widen8x8_s(number: u64) -> V128 {
         i16x8_extend_low_i8x16_s(V128::from_word_pair(number, 0))
@@ -692,7 +715,8 @@ pub mod simd {
     /// ensures: result ≡ vector.widen_u w8 w16 number
     /// ```
     ///
-    /// Definitions: [`widen_u`](crate::specs::widening::WideningTable#widen_u).
+    /// Definitions: [`widen_u`](crate::specs::widening::WideningTableSpecs#widen_u).
+    #[must_use]
     #[inline]
     pub fn v128_widen8x8_u(number: u64) -> V128 {
         i16x8_extend_low_i8x16_u(V128::from_word_pair(number, 0))
@@ -706,7 +730,8 @@ pub mod simd {
     /// ensures: result ≡ vector.widen_s w16 w32 number
     /// ```
     ///
-    /// Definitions: [`widen_s`](crate::specs::widening::WideningTable#widen_s).
+    /// Definitions: [`widen_s`](crate::specs::widening::WideningTableSpecs#widen_s).
+    #[must_use]
     #[inline]
     pub fn v128_widen16x4_s(number: u64) -> V128 {
         i32x4_extend_low_i16x8_s(V128::from_word_pair(number, 0))
@@ -720,7 +745,8 @@ pub mod simd {
     /// ensures: result ≡ vector.widen_u w16 w32 number
     /// ```
     ///
-    /// Definitions: [`widen_u`](crate::specs::widening::WideningTable#widen_u).
+    /// Definitions: [`widen_u`](crate::specs::widening::WideningTableSpecs#widen_u).
+    #[must_use]
     #[inline]
     pub fn v128_widen16x4_u(number: u64) -> V128 {
         i32x4_extend_low_i16x8_u(V128::from_word_pair(number, 0))
@@ -734,7 +760,8 @@ pub mod simd {
     /// ensures: result ≡ vector.widen_s w32 w64 number
     /// ```
     ///
-    /// Definitions: [`widen_s`](crate::specs::widening::WideningTable#widen_s).
+    /// Definitions: [`widen_s`](crate::specs::widening::WideningTableSpecs#widen_s).
+    #[must_use]
     #[inline]
     pub fn v128_widen32x2_s(number: u64) -> V128 {
         i64x2_extend_low_i32x4_s(V128::from_word_pair(number, 0))
@@ -748,7 +775,8 @@ pub mod simd {
     /// ensures: result ≡ vector.widen_u w32 w64 number
     /// ```
     ///
-    /// Definitions: [`widen_u`](crate::specs::widening::WideningTable#widen_u).
+    /// Definitions: [`widen_u`](crate::specs::widening::WideningTableSpecs#widen_u).
+    #[must_use]
     #[inline]
     pub fn v128_widen32x2_u(number: u64) -> V128 {
         i64x2_extend_low_i32x4_u(V128::from_word_pair(number, 0))
@@ -762,7 +790,8 @@ pub mod simd {
     /// ensures: result ≡ vector.low_zero w32 number
     /// ```
     ///
-    /// Definitions: [`low_zero`](crate::specs::widening::WideningTable#low_zero).
+    /// Definitions: [`low_zero`](crate::specs::widening::WideningTableSpecs#low_zero).
+    #[must_use]
     #[inline]
     pub fn v128_low32_zero(number: u32) -> V128 {
         v128_low64_zero(u64::from(number))
@@ -776,7 +805,8 @@ pub mod simd {
     /// ensures: result ≡ vector.low_zero w64 number
     /// ```
     ///
-    /// Definitions: [`low_zero`](crate::specs::widening::WideningTable#low_zero).
+    /// Definitions: [`low_zero`](crate::specs::widening::WideningTableSpecs#low_zero).
+    #[must_use]
     #[inline]
     pub fn v128_low64_zero(number: u64) -> V128 {
         // By lanes of 32 bits: of two words LLVM makes two stores.
@@ -790,7 +820,9 @@ pub mod simd {
     /// ensures: result ≡ vector.extend_low_s T.width T.Wide.width v
     /// ```
     ///
-    /// Definitions: [`extend_low_s`](crate::specs::widening::WideningTable#extend_low_s).
+    /// Definitions: [`extend_low_s`](crate::specs::widening::WideningTableSpecs#extend_low_s).
+    ///
+    /// `T` is a type with the trait `ExtendedLane`.
     #[inline(always)]
     fn extended_low_s<T: ExtendedLane>(v: V128) -> V128 {
         T::Wide::vector_of(T::low_signed(v))
@@ -802,7 +834,9 @@ pub mod simd {
     /// ensures: result ≡ vector.extend_low_u T.width T.Wide.width v
     /// ```
     ///
-    /// Definitions: [`extend_low_u`](crate::specs::widening::WideningTable#extend_low_u).
+    /// Definitions: [`extend_low_u`](crate::specs::widening::WideningTableSpecs#extend_low_u).
+    ///
+    /// `T` is a type with the trait `ExtendedLane`.
     #[inline(always)]
     fn extended_low_u<T: ExtendedLane>(v: V128) -> V128 {
         T::Wide::vector_of(T::low(v))
@@ -814,7 +848,9 @@ pub mod simd {
     /// ensures: result ≡ vector.extend_high_s T.width T.Wide.width v
     /// ```
     ///
-    /// Definitions: [`extend_high_s`](crate::specs::widening::WideningTable#extend_high_s).
+    /// Definitions: [`extend_high_s`](crate::specs::widening::WideningTableSpecs#extend_high_s).
+    ///
+    /// `T` is a type with the trait `ExtendedLane`.
     #[inline(always)]
     fn extended_high_s<T: ExtendedLane>(v: V128) -> V128 {
         T::Wide::vector_of(T::high_signed(v))
@@ -826,7 +862,9 @@ pub mod simd {
     /// ensures: result ≡ vector.extend_high_u T.width T.Wide.width v
     /// ```
     ///
-    /// Definitions: [`extend_high_u`](crate::specs::widening::WideningTable#extend_high_u).
+    /// Definitions: [`extend_high_u`](crate::specs::widening::WideningTableSpecs#extend_high_u).
+    ///
+    /// `T` is a type with the trait `ExtendedLane`.
     #[inline(always)]
     fn extended_high_u<T: ExtendedLane>(v: V128) -> V128 {
         T::Wide::vector_of(T::high(v))
@@ -842,7 +880,8 @@ pub mod simd {
     /// ensures: result ≡ vector.narrow_s w16 w8 low high
     /// ```
     ///
-    /// Definitions: [`narrow_s`](crate::specs::widening::WideningTable#narrow_s).
+    /// Definitions: [`narrow_s`](crate::specs::widening::WideningTableSpecs#narrow_s).
+    #[must_use]
     #[inline]
     pub fn i8x16_narrow_i16x8_s(low: V128, high: V128) -> V128 {
         from_low_high::<I16x8, I8x16, _>(low, high, |x| clamped_i8(x))
@@ -856,7 +895,8 @@ pub mod simd {
     /// ensures: result ≡ vector.narrow_u w16 w8 low high
     /// ```
     ///
-    /// Definitions: [`narrow_u`](crate::specs::widening::WideningTable#narrow_u).
+    /// Definitions: [`narrow_u`](crate::specs::widening::WideningTableSpecs#narrow_u).
+    #[must_use]
     #[inline]
     pub fn i8x16_narrow_i16x8_u(low: V128, high: V128) -> V128 {
         from_low_high::<I16x8, I8x16, _>(low, high, clamped_u8)
@@ -870,7 +910,8 @@ pub mod simd {
     /// ensures: result ≡ vector.narrow_s w32 w16 low high
     /// ```
     ///
-    /// Definitions: [`narrow_s`](crate::specs::widening::WideningTable#narrow_s).
+    /// Definitions: [`narrow_s`](crate::specs::widening::WideningTableSpecs#narrow_s).
+    #[must_use]
     #[inline]
     pub fn i16x8_narrow_i32x4_s(low: V128, high: V128) -> V128 {
         from_low_high::<I32x4, I16x8, _>(low, high, |x| clamped_i16(x))
@@ -884,7 +925,8 @@ pub mod simd {
     /// ensures: result ≡ vector.narrow_u w32 w16 low high
     /// ```
     ///
-    /// Definitions: [`narrow_u`](crate::specs::widening::WideningTable#narrow_u).
+    /// Definitions: [`narrow_u`](crate::specs::widening::WideningTableSpecs#narrow_u).
+    #[must_use]
     #[inline]
     pub fn i16x8_narrow_i32x4_u(low: V128, high: V128) -> V128 {
         from_low_high::<I32x4, I16x8, _>(low, high, clamped_u16)
@@ -901,7 +943,9 @@ pub mod simd {
     ///     → result ≡ vector.from_low_high W.Item.width L.Item.width W.Item.read row low high
     /// ```
     ///
-    /// Definitions: [`from_low_high`](crate::specs::widening::WideningTable#from_low_high).
+    /// Definitions: [`from_low_high`](crate::specs::widening::WideningTableSpecs#from_low_high).
+    ///
+    /// `F` is the type of the closure. `L` is a type with the trait `FromWide`. `W` is a type with the trait `Lanes`.
     #[inline(always)]
     fn from_low_high<W: Lanes, L: FromWide<W>, F: Fn(W::Item) -> L::Item>(
         low: V128,
@@ -921,7 +965,8 @@ pub mod simd {
     /// ensures: result ≡ vector.extmul_low_s w8 w16 lhs rhs
     /// ```
     ///
-    /// Definitions: [`extmul_low_s`](crate::specs::widening::WideningTable#extmul_low_s).
+    /// Definitions: [`extmul_low_s`](crate::specs::widening::WideningTableSpecs#extmul_low_s).
+    #[must_use]
     #[inline]
     pub fn i16x8_extmul_low_i8x16_s(lhs: V128, rhs: V128) -> V128 {
         products_low_s::<u8>(lhs, rhs)
@@ -935,7 +980,8 @@ pub mod simd {
     /// ensures: result ≡ vector.extmul_low_u w8 w16 lhs rhs
     /// ```
     ///
-    /// Definitions: [`extmul_low_u`](crate::specs::widening::WideningTable#extmul_low_u).
+    /// Definitions: [`extmul_low_u`](crate::specs::widening::WideningTableSpecs#extmul_low_u).
+    #[must_use]
     #[inline]
     pub fn i16x8_extmul_low_i8x16_u(lhs: V128, rhs: V128) -> V128 {
         products_low_u::<u8>(lhs, rhs)
@@ -949,7 +995,8 @@ pub mod simd {
     /// ensures: result ≡ vector.extmul_high_s w8 w16 lhs rhs
     /// ```
     ///
-    /// Definitions: [`extmul_high_s`](crate::specs::widening::WideningTable#extmul_high_s).
+    /// Definitions: [`extmul_high_s`](crate::specs::widening::WideningTableSpecs#extmul_high_s).
+    #[must_use]
     #[inline]
     pub fn i16x8_extmul_high_i8x16_s(lhs: V128, rhs: V128) -> V128 {
         products_high_s::<u8>(lhs, rhs)
@@ -963,7 +1010,8 @@ pub mod simd {
     /// ensures: result ≡ vector.extmul_high_u w8 w16 lhs rhs
     /// ```
     ///
-    /// Definitions: [`extmul_high_u`](crate::specs::widening::WideningTable#extmul_high_u).
+    /// Definitions: [`extmul_high_u`](crate::specs::widening::WideningTableSpecs#extmul_high_u).
+    #[must_use]
     #[inline]
     pub fn i16x8_extmul_high_i8x16_u(lhs: V128, rhs: V128) -> V128 {
         products_high_u::<u8>(lhs, rhs)
@@ -977,7 +1025,8 @@ pub mod simd {
     /// ensures: result ≡ vector.extmul_low_s w16 w32 lhs rhs
     /// ```
     ///
-    /// Definitions: [`extmul_low_s`](crate::specs::widening::WideningTable#extmul_low_s).
+    /// Definitions: [`extmul_low_s`](crate::specs::widening::WideningTableSpecs#extmul_low_s).
+    #[must_use]
     #[inline]
     pub fn i32x4_extmul_low_i16x8_s(lhs: V128, rhs: V128) -> V128 {
         products_low_s::<u16>(lhs, rhs)
@@ -991,7 +1040,8 @@ pub mod simd {
     /// ensures: result ≡ vector.extmul_low_u w16 w32 lhs rhs
     /// ```
     ///
-    /// Definitions: [`extmul_low_u`](crate::specs::widening::WideningTable#extmul_low_u).
+    /// Definitions: [`extmul_low_u`](crate::specs::widening::WideningTableSpecs#extmul_low_u).
+    #[must_use]
     #[inline]
     pub fn i32x4_extmul_low_i16x8_u(lhs: V128, rhs: V128) -> V128 {
         products_low_u::<u16>(lhs, rhs)
@@ -1005,7 +1055,8 @@ pub mod simd {
     /// ensures: result ≡ vector.extmul_high_s w16 w32 lhs rhs
     /// ```
     ///
-    /// Definitions: [`extmul_high_s`](crate::specs::widening::WideningTable#extmul_high_s).
+    /// Definitions: [`extmul_high_s`](crate::specs::widening::WideningTableSpecs#extmul_high_s).
+    #[must_use]
     #[inline]
     pub fn i32x4_extmul_high_i16x8_s(lhs: V128, rhs: V128) -> V128 {
         products_high_s::<u16>(lhs, rhs)
@@ -1019,7 +1070,8 @@ pub mod simd {
     /// ensures: result ≡ vector.extmul_high_u w16 w32 lhs rhs
     /// ```
     ///
-    /// Definitions: [`extmul_high_u`](crate::specs::widening::WideningTable#extmul_high_u).
+    /// Definitions: [`extmul_high_u`](crate::specs::widening::WideningTableSpecs#extmul_high_u).
+    #[must_use]
     #[inline]
     pub fn i32x4_extmul_high_i16x8_u(lhs: V128, rhs: V128) -> V128 {
         products_high_u::<u16>(lhs, rhs)
@@ -1033,7 +1085,8 @@ pub mod simd {
     /// ensures: result ≡ vector.extmul_low_s w32 w64 lhs rhs
     /// ```
     ///
-    /// Definitions: [`extmul_low_s`](crate::specs::widening::WideningTable#extmul_low_s).
+    /// Definitions: [`extmul_low_s`](crate::specs::widening::WideningTableSpecs#extmul_low_s).
+    #[must_use]
     #[inline]
     pub fn i64x2_extmul_low_i32x4_s(lhs: V128, rhs: V128) -> V128 {
         products_low_s::<u32>(lhs, rhs)
@@ -1047,7 +1100,8 @@ pub mod simd {
     /// ensures: result ≡ vector.extmul_low_u w32 w64 lhs rhs
     /// ```
     ///
-    /// Definitions: [`extmul_low_u`](crate::specs::widening::WideningTable#extmul_low_u).
+    /// Definitions: [`extmul_low_u`](crate::specs::widening::WideningTableSpecs#extmul_low_u).
+    #[must_use]
     #[inline]
     pub fn i64x2_extmul_low_i32x4_u(lhs: V128, rhs: V128) -> V128 {
         products_low_u::<u32>(lhs, rhs)
@@ -1061,7 +1115,8 @@ pub mod simd {
     /// ensures: result ≡ vector.extmul_high_s w32 w64 lhs rhs
     /// ```
     ///
-    /// Definitions: [`extmul_high_s`](crate::specs::widening::WideningTable#extmul_high_s).
+    /// Definitions: [`extmul_high_s`](crate::specs::widening::WideningTableSpecs#extmul_high_s).
+    #[must_use]
     #[inline]
     pub fn i64x2_extmul_high_i32x4_s(lhs: V128, rhs: V128) -> V128 {
         products_high_s::<u32>(lhs, rhs)
@@ -1075,7 +1130,8 @@ pub mod simd {
     /// ensures: result ≡ vector.extmul_high_u w32 w64 lhs rhs
     /// ```
     ///
-    /// Definitions: [`extmul_high_u`](crate::specs::widening::WideningTable#extmul_high_u).
+    /// Definitions: [`extmul_high_u`](crate::specs::widening::WideningTableSpecs#extmul_high_u).
+    #[must_use]
     #[inline]
     pub fn i64x2_extmul_high_i32x4_u(lhs: V128, rhs: V128) -> V128 {
         products_high_u::<u32>(lhs, rhs)
@@ -1089,7 +1145,8 @@ pub mod simd {
     /// ensures: result ≡ vector.extadd_pairwise_s w8 w16 v
     /// ```
     ///
-    /// Definitions: [`extadd_pairwise_s`](crate::specs::widening::WideningTable#extadd_pairwise_s).
+    /// Definitions: [`extadd_pairwise_s`](crate::specs::widening::WideningTableSpecs#extadd_pairwise_s).
+    #[must_use]
     #[inline]
     pub fn i16x8_extadd_pairwise_i8x16_s(v: V128) -> V128 {
         neighbours_s::<u8>(v)
@@ -1103,7 +1160,8 @@ pub mod simd {
     /// ensures: result ≡ vector.extadd_pairwise_u w8 w16 v
     /// ```
     ///
-    /// Definitions: [`extadd_pairwise_u`](crate::specs::widening::WideningTable#extadd_pairwise_u).
+    /// Definitions: [`extadd_pairwise_u`](crate::specs::widening::WideningTableSpecs#extadd_pairwise_u).
+    #[must_use]
     #[inline]
     pub fn i16x8_extadd_pairwise_i8x16_u(v: V128) -> V128 {
         neighbours_u::<u8>(v)
@@ -1117,7 +1175,8 @@ pub mod simd {
     /// ensures: result ≡ vector.extadd_pairwise_s w16 w32 v
     /// ```
     ///
-    /// Definitions: [`extadd_pairwise_s`](crate::specs::widening::WideningTable#extadd_pairwise_s).
+    /// Definitions: [`extadd_pairwise_s`](crate::specs::widening::WideningTableSpecs#extadd_pairwise_s).
+    #[must_use]
     #[inline]
     pub fn i32x4_extadd_pairwise_i16x8_s(v: V128) -> V128 {
         neighbours_s::<u16>(v)
@@ -1131,7 +1190,8 @@ pub mod simd {
     /// ensures: result ≡ vector.extadd_pairwise_u w16 w32 v
     /// ```
     ///
-    /// Definitions: [`extadd_pairwise_u`](crate::specs::widening::WideningTable#extadd_pairwise_u).
+    /// Definitions: [`extadd_pairwise_u`](crate::specs::widening::WideningTableSpecs#extadd_pairwise_u).
+    #[must_use]
     #[inline]
     pub fn i32x4_extadd_pairwise_i16x8_u(v: V128) -> V128 {
         neighbours_u::<u16>(v)
@@ -1145,7 +1205,8 @@ pub mod simd {
     /// ensures: result ≡ vector.dot_s w16 w32 lhs rhs
     /// ```
     ///
-    /// Definitions: [`dot_s`](crate::specs::widening::WideningTable#dot_s).
+    /// Definitions: [`dot_s`](crate::specs::widening::WideningTableSpecs#dot_s).
+    #[must_use]
     #[inline]
     pub fn i32x4_dot_i16x8_s(lhs: V128, rhs: V128) -> V128 {
         dots::<u16>(lhs, rhs)
@@ -1159,7 +1220,8 @@ pub mod simd {
     /// ensures: result ≡ vector.relaxed_dot_s lhs rhs
     /// ```
     ///
-    /// Definitions: [`relaxed_dot_s`](crate::specs::widening::WideningTable#relaxed_dot_s).
+    /// Definitions: [`relaxed_dot_s`](crate::specs::widening::WideningTableSpecs#relaxed_dot_s).
+    #[must_use]
     #[inline]
     pub fn i16x8_relaxed_dot_i8x16_i7x16_s(lhs: V128, rhs: V128) -> V128 {
         dots::<u8>(lhs, rhs)
@@ -1171,7 +1233,9 @@ pub mod simd {
     /// ensures: result ≡ vector.extmul_low_s T.width T.Wide.width lhs rhs
     /// ```
     ///
-    /// Definitions: [`extmul_low_s`](crate::specs::widening::WideningTable#extmul_low_s).
+    /// Definitions: [`extmul_low_s`](crate::specs::widening::WideningTableSpecs#extmul_low_s).
+    ///
+    /// `T` is a type with the trait `ExtendedLane`.
     #[inline(always)]
     fn products_low_s<T: ExtendedLane>(lhs: V128, rhs: V128) -> V128 {
         T::Wide::vector_of(T::products(T::low_signed(lhs), T::low_signed(rhs)))
@@ -1183,7 +1247,9 @@ pub mod simd {
     /// ensures: result ≡ vector.extmul_low_u T.width T.Wide.width lhs rhs
     /// ```
     ///
-    /// Definitions: [`extmul_low_u`](crate::specs::widening::WideningTable#extmul_low_u).
+    /// Definitions: [`extmul_low_u`](crate::specs::widening::WideningTableSpecs#extmul_low_u).
+    ///
+    /// `T` is a type with the trait `ExtendedLane`.
     #[inline(always)]
     fn products_low_u<T: ExtendedLane>(lhs: V128, rhs: V128) -> V128 {
         T::Wide::vector_of(T::products(T::low(lhs), T::low(rhs)))
@@ -1195,7 +1261,9 @@ pub mod simd {
     /// ensures: result ≡ vector.extmul_high_s T.width T.Wide.width lhs rhs
     /// ```
     ///
-    /// Definitions: [`extmul_high_s`](crate::specs::widening::WideningTable#extmul_high_s).
+    /// Definitions: [`extmul_high_s`](crate::specs::widening::WideningTableSpecs#extmul_high_s).
+    ///
+    /// `T` is a type with the trait `ExtendedLane`.
     #[inline(always)]
     fn products_high_s<T: ExtendedLane>(lhs: V128, rhs: V128) -> V128 {
         T::Wide::vector_of(T::products(T::high_signed(lhs), T::high_signed(rhs)))
@@ -1207,7 +1275,9 @@ pub mod simd {
     /// ensures: result ≡ vector.extmul_high_u T.width T.Wide.width lhs rhs
     /// ```
     ///
-    /// Definitions: [`extmul_high_u`](crate::specs::widening::WideningTable#extmul_high_u).
+    /// Definitions: [`extmul_high_u`](crate::specs::widening::WideningTableSpecs#extmul_high_u).
+    ///
+    /// `T` is a type with the trait `ExtendedLane`.
     #[inline(always)]
     fn products_high_u<T: ExtendedLane>(lhs: V128, rhs: V128) -> V128 {
         T::Wide::vector_of(T::products(T::high(lhs), T::high(rhs)))
@@ -1219,7 +1289,9 @@ pub mod simd {
     /// ensures: result ≡ vector.extadd_pairwise_s T.width T.Wide.width v
     /// ```
     ///
-    /// Definitions: [`extadd_pairwise_s`](crate::specs::widening::WideningTable#extadd_pairwise_s).
+    /// Definitions: [`extadd_pairwise_s`](crate::specs::widening::WideningTableSpecs#extadd_pairwise_s).
+    ///
+    /// `T` is a type with the trait `PairedLane`.
     #[inline(always)]
     fn neighbours_s<T: PairedLane>(v: V128) -> V128 {
         T::Wide::vector_of(T::sums(T::even_signed(v), T::odd_signed(v)))
@@ -1231,7 +1303,9 @@ pub mod simd {
     /// ensures: result ≡ vector.extadd_pairwise_u T.width T.Wide.width v
     /// ```
     ///
-    /// Definitions: [`extadd_pairwise_u`](crate::specs::widening::WideningTable#extadd_pairwise_u).
+    /// Definitions: [`extadd_pairwise_u`](crate::specs::widening::WideningTableSpecs#extadd_pairwise_u).
+    ///
+    /// `T` is a type with the trait `PairedLane`.
     #[inline(always)]
     fn neighbours_u<T: PairedLane>(v: V128) -> V128 {
         T::Wide::vector_of(T::sums(T::even(v), T::odd(v)))
@@ -1243,7 +1317,9 @@ pub mod simd {
     /// ensures: result ≡ vector.dot_s T.width T.Wide.width lhs rhs
     /// ```
     ///
-    /// Definitions: [`dot_s`](crate::specs::widening::WideningTable#dot_s).
+    /// Definitions: [`dot_s`](crate::specs::widening::WideningTableSpecs#dot_s).
+    ///
+    /// `T` is a type with the trait `PairedLane`.
     #[inline(always)]
     fn dots<T: PairedLane>(lhs: V128, rhs: V128) -> V128 {
         let evens = T::products(T::even_signed(lhs), T::even_signed(rhs));
@@ -1264,7 +1340,8 @@ pub mod simd {
     /// ensures: result ≡ lanewise.shl w8 v amount
     /// ```
     ///
-    /// Definitions: [`shl`](crate::specs::lanewise::VectorTable#shl).
+    /// Definitions: [`shl`](crate::specs::lanewise::VectorTableSpecs#shl).
+    #[must_use]
     #[inline]
     pub fn i8x16_shl(v: V128, amount: u32) -> V128 {
         shifted_left::<u8>(v, amount)
@@ -1278,7 +1355,8 @@ pub mod simd {
     /// ensures: result ≡ lanewise.shr_s w8 v amount
     /// ```
     ///
-    /// Definitions: [`shr_s`](crate::specs::lanewise::VectorTable#shr_s).
+    /// Definitions: [`shr_s`](crate::specs::lanewise::VectorTableSpecs#shr_s).
+    #[must_use]
     #[inline]
     pub fn i8x16_shr_s(v: V128, amount: u32) -> V128 {
         // What the lanes were moved by is a multiple of what they are divided by.
@@ -1296,7 +1374,8 @@ pub mod simd {
     /// ensures: result ≡ lanewise.shr_u w8 v amount
     /// ```
     ///
-    /// Definitions: [`shr_u`](crate::specs::lanewise::VectorTable#shr_u).
+    /// Definitions: [`shr_u`](crate::specs::lanewise::VectorTableSpecs#shr_u).
+    #[must_use]
     #[inline]
     pub fn i8x16_shr_u(v: V128, amount: u32) -> V128 {
         shifted_right::<u8>(v, amount)
@@ -1310,7 +1389,8 @@ pub mod simd {
     /// ensures: result ≡ lanewise.shl w16 v amount
     /// ```
     ///
-    /// Definitions: [`shl`](crate::specs::lanewise::VectorTable#shl).
+    /// Definitions: [`shl`](crate::specs::lanewise::VectorTableSpecs#shl).
+    #[must_use]
     #[inline]
     pub fn i16x8_shl(v: V128, amount: u32) -> V128 {
         shifted_left::<u16>(v, amount)
@@ -1324,7 +1404,8 @@ pub mod simd {
     /// ensures: result ≡ lanewise.shr_s w16 v amount
     /// ```
     ///
-    /// Definitions: [`shr_s`](crate::specs::lanewise::VectorTable#shr_s).
+    /// Definitions: [`shr_s`](crate::specs::lanewise::VectorTableSpecs#shr_s).
+    #[must_use]
     #[inline]
     pub fn i16x8_shr_s(v: V128, amount: u32) -> V128 {
         on_vectors::unary::<I16x8, _>(v, |x| x.wrapping_shr(amount))
@@ -1338,7 +1419,8 @@ pub mod simd {
     /// ensures: result ≡ lanewise.shr_u w16 v amount
     /// ```
     ///
-    /// Definitions: [`shr_u`](crate::specs::lanewise::VectorTable#shr_u).
+    /// Definitions: [`shr_u`](crate::specs::lanewise::VectorTableSpecs#shr_u).
+    #[must_use]
     #[inline]
     pub fn i16x8_shr_u(v: V128, amount: u32) -> V128 {
         shifted_right::<u16>(v, amount)
@@ -1352,7 +1434,8 @@ pub mod simd {
     /// ensures: result ≡ lanewise.shl w32 v amount
     /// ```
     ///
-    /// Definitions: [`shl`](crate::specs::lanewise::VectorTable#shl).
+    /// Definitions: [`shl`](crate::specs::lanewise::VectorTableSpecs#shl).
+    #[must_use]
     #[inline]
     pub fn i32x4_shl(v: V128, amount: u32) -> V128 {
         shifted_left::<u32>(v, amount)
@@ -1366,7 +1449,8 @@ pub mod simd {
     /// ensures: result ≡ lanewise.shr_s w32 v amount
     /// ```
     ///
-    /// Definitions: [`shr_s`](crate::specs::lanewise::VectorTable#shr_s).
+    /// Definitions: [`shr_s`](crate::specs::lanewise::VectorTableSpecs#shr_s).
+    #[must_use]
     #[inline]
     pub fn i32x4_shr_s(v: V128, amount: u32) -> V128 {
         on_vectors::unary::<I32x4, _>(v, |x| x.wrapping_shr(amount))
@@ -1380,7 +1464,8 @@ pub mod simd {
     /// ensures: result ≡ lanewise.shr_u w32 v amount
     /// ```
     ///
-    /// Definitions: [`shr_u`](crate::specs::lanewise::VectorTable#shr_u).
+    /// Definitions: [`shr_u`](crate::specs::lanewise::VectorTableSpecs#shr_u).
+    #[must_use]
     #[inline]
     pub fn i32x4_shr_u(v: V128, amount: u32) -> V128 {
         shifted_right::<u32>(v, amount)
@@ -1394,7 +1479,8 @@ pub mod simd {
     /// ensures: result ≡ lanewise.shl w64 v amount
     /// ```
     ///
-    /// Definitions: [`shl`](crate::specs::lanewise::VectorTable#shl).
+    /// Definitions: [`shl`](crate::specs::lanewise::VectorTableSpecs#shl).
+    #[must_use]
     #[inline]
     pub fn i64x2_shl(v: V128, amount: u32) -> V128 {
         from_u64x2(u64x2_of(v) << u64x2::splat(u64::from(amount % 64)))
@@ -1408,7 +1494,8 @@ pub mod simd {
     /// ensures: result ≡ lanewise.shr_s w64 v amount
     /// ```
     ///
-    /// Definitions: [`shr_s`](crate::specs::lanewise::VectorTable#shr_s).
+    /// Definitions: [`shr_s`](crate::specs::lanewise::VectorTableSpecs#shr_s).
+    #[must_use]
     #[inline]
     pub fn i64x2_shr_s(v: V128, amount: u32) -> V128 {
         on_vectors::unary::<I64x2, _>(v, |x| x.wrapping_shr(amount))
@@ -1422,7 +1509,8 @@ pub mod simd {
     /// ensures: result ≡ lanewise.shr_u w64 v amount
     /// ```
     ///
-    /// Definitions: [`shr_u`](crate::specs::lanewise::VectorTable#shr_u).
+    /// Definitions: [`shr_u`](crate::specs::lanewise::VectorTableSpecs#shr_u).
+    #[must_use]
     #[inline]
     pub fn i64x2_shr_u(v: V128, amount: u32) -> V128 {
         from_u64x2(u64x2_of(v) >> u64x2::splat(u64::from(amount % 64)))
@@ -1450,7 +1538,8 @@ pub mod simd {
     /// ensures: result ≡ vector.all_true w8 v
     /// ```
     ///
-    /// Definitions: [`all_true`](crate::specs::widening::WideningTable#all_true).
+    /// Definitions: [`all_true`](crate::specs::widening::WideningTableSpecs#all_true).
+    #[must_use]
     #[inline]
     pub fn i8x16_all_true(v: V128) -> bool {
         no_zero::<u8>(v)
@@ -1464,7 +1553,8 @@ pub mod simd {
     /// ensures: result ≡ vector.all_true w16 v
     /// ```
     ///
-    /// Definitions: [`all_true`](crate::specs::widening::WideningTable#all_true).
+    /// Definitions: [`all_true`](crate::specs::widening::WideningTableSpecs#all_true).
+    #[must_use]
     #[inline]
     pub fn i16x8_all_true(v: V128) -> bool {
         no_zero::<u16>(v)
@@ -1478,7 +1568,8 @@ pub mod simd {
     /// ensures: result ≡ vector.all_true w32 v
     /// ```
     ///
-    /// Definitions: [`all_true`](crate::specs::widening::WideningTable#all_true).
+    /// Definitions: [`all_true`](crate::specs::widening::WideningTableSpecs#all_true).
+    #[must_use]
     #[inline]
     pub fn i32x4_all_true(v: V128) -> bool {
         no_zero::<u32>(v)
@@ -1492,7 +1583,8 @@ pub mod simd {
     /// ensures: result ≡ vector.all_true w64 v
     /// ```
     ///
-    /// Definitions: [`all_true`](crate::specs::widening::WideningTable#all_true).
+    /// Definitions: [`all_true`](crate::specs::widening::WideningTableSpecs#all_true).
+    #[must_use]
     #[inline]
     pub fn i64x2_all_true(v: V128) -> bool {
         no_zero::<u64>(v)
@@ -1506,7 +1598,8 @@ pub mod simd {
     /// ensures: result ≡ vector.any_true v
     /// ```
     ///
-    /// Definitions: [`any_true`](crate::specs::widening::WideningTable#any_true).
+    /// Definitions: [`any_true`](crate::specs::widening::WideningTableSpecs#any_true).
+    #[must_use]
     #[inline]
     pub fn v128_any_true(v: V128) -> bool {
         v.as_u128() != 0
@@ -1520,7 +1613,8 @@ pub mod simd {
     /// ensures: result ≡ vector.bitmask w8 v
     /// ```
     ///
-    /// Definitions: [`bitmask`](crate::specs::widening::WideningTable#bitmask).
+    /// Definitions: [`bitmask`](crate::specs::widening::WideningTableSpecs#bitmask).
+    #[must_use]
     #[inline]
     pub fn i8x16_bitmask(v: V128) -> u32 {
         let (low, high) = v.words();
@@ -1535,7 +1629,8 @@ pub mod simd {
     /// ensures: result ≡ vector.bitmask w16 v
     /// ```
     ///
-    /// Definitions: [`bitmask`](crate::specs::widening::WideningTable#bitmask).
+    /// Definitions: [`bitmask`](crate::specs::widening::WideningTableSpecs#bitmask).
+    #[must_use]
     #[inline]
     pub fn i16x8_bitmask(v: V128) -> u32 {
         let (low, high) = v.words();
@@ -1552,7 +1647,8 @@ pub mod simd {
     /// ensures: result ≡ vector.bitmask w32 v
     /// ```
     ///
-    /// Definitions: [`bitmask`](crate::specs::widening::WideningTable#bitmask).
+    /// Definitions: [`bitmask`](crate::specs::widening::WideningTableSpecs#bitmask).
+    #[must_use]
     #[inline]
     pub fn i32x4_bitmask(v: V128) -> u32 {
         let (low, high) = v.words();
@@ -1569,7 +1665,8 @@ pub mod simd {
     /// ensures: result ≡ vector.bitmask w64 v
     /// ```
     ///
-    /// Definitions: [`bitmask`](crate::specs::widening::WideningTable#bitmask).
+    /// Definitions: [`bitmask`](crate::specs::widening::WideningTableSpecs#bitmask).
+    #[must_use]
     #[inline]
     pub fn i64x2_bitmask(v: V128) -> u32 {
         let (low, high) = v.words();
@@ -1582,7 +1679,9 @@ pub mod simd {
     /// ensures: result ≡ vector.all_true T.width v
     /// ```
     ///
-    /// Definitions: [`all_true`](crate::specs::widening::WideningTable#all_true).
+    /// Definitions: [`all_true`](crate::specs::widening::WideningTableSpecs#all_true).
+    ///
+    /// `T` is a type with the trait `WordLane`.
     #[inline(always)]
     fn no_zero<T: WordLane>(v: V128) -> bool {
         let (low, high) = v.words();
@@ -1599,7 +1698,9 @@ pub mod simd {
     ///     (λ i. not (nat_eq (field (bits T.width * i) (bits T.width) word) 0))
     /// ```
     ///
-    /// Definitions: [`holds_below`](crate::specs::widening::WideningTable#holds_below), [`lanes_in_word`](crate::specs::lanes::Words#lanes_in_word), [`field`](crate::specs::lanes::Words#field).
+    /// Definitions: [`holds_below`](crate::specs::widening::WideningTableSpecs#holds_below), [`lanes_in_word`](crate::specs::lanes::WordsSpecs#lanes_in_word), [`field`](crate::specs::lanes::WordsSpecs#field).
+    ///
+    /// `T` is a type with the trait `WordLane`.
     #[inline(always)]
     fn no_zero_in_word<T: WordLane>(word: u64) -> bool {
         word.wrapping_sub(T::ONES) & !word & T::TOPS == 0
@@ -1613,7 +1714,7 @@ pub mod simd {
     /// ensures: result ≡ first_bits 8 (λ i. nat_le (2 ^ 7) (field (8 * i) 8 word))
     /// ```
     ///
-    /// Definitions: [`first_bits`](crate::specs::widening::WideningTable#first_bits), [`field`](crate::specs::lanes::Words#field).
+    /// Definitions: [`first_bits`](crate::specs::widening::WideningTableSpecs#first_bits), [`field`](crate::specs::lanes::WordsSpecs#field).
     #[inline(always)]
     fn tops_of_8(word: u64) -> u32 {
         ((word & u8::TOPS).wrapping_mul(0x0002_0408_1020_4081) >> 56) as u32
@@ -1630,7 +1731,8 @@ pub mod simd {
     /// ensures: result ≡ vector.relaxed_swizzle a s
     /// ```
     ///
-    /// Definitions: [`relaxed_swizzle`](crate::specs::widening::WideningTable#relaxed_swizzle).
+    /// Definitions: [`relaxed_swizzle`](crate::specs::widening::WideningTableSpecs#relaxed_swizzle).
+    #[must_use]
     #[inline]
     pub fn i8x16_relaxed_swizzle(a: V128, s: V128) -> V128 {
         i8x16_swizzle(a, s)
@@ -1644,7 +1746,8 @@ pub mod simd {
     /// ensures: result ≡ vector.relaxed_laneselect a b c
     /// ```
     ///
-    /// Definitions: [`relaxed_laneselect`](crate::specs::widening::WideningTable#relaxed_laneselect).
+    /// Definitions: [`relaxed_laneselect`](crate::specs::widening::WideningTableSpecs#relaxed_laneselect).
+    #[must_use]
     #[inline]
     pub fn i8x16_relaxed_laneselect(a: V128, b: V128, c: V128) -> V128 {
         v128_bitselect(a, b, c)
@@ -1658,7 +1761,8 @@ pub mod simd {
     /// ensures: result ≡ vector.relaxed_laneselect a b c
     /// ```
     ///
-    /// Definitions: [`relaxed_laneselect`](crate::specs::widening::WideningTable#relaxed_laneselect).
+    /// Definitions: [`relaxed_laneselect`](crate::specs::widening::WideningTableSpecs#relaxed_laneselect).
+    #[must_use]
     #[inline]
     pub fn i16x8_relaxed_laneselect(a: V128, b: V128, c: V128) -> V128 {
         v128_bitselect(a, b, c)
@@ -1672,7 +1776,8 @@ pub mod simd {
     /// ensures: result ≡ vector.relaxed_laneselect a b c
     /// ```
     ///
-    /// Definitions: [`relaxed_laneselect`](crate::specs::widening::WideningTable#relaxed_laneselect).
+    /// Definitions: [`relaxed_laneselect`](crate::specs::widening::WideningTableSpecs#relaxed_laneselect).
+    #[must_use]
     #[inline]
     pub fn i32x4_relaxed_laneselect(a: V128, b: V128, c: V128) -> V128 {
         v128_bitselect(a, b, c)
@@ -1686,7 +1791,8 @@ pub mod simd {
     /// ensures: result ≡ vector.relaxed_laneselect a b c
     /// ```
     ///
-    /// Definitions: [`relaxed_laneselect`](crate::specs::widening::WideningTable#relaxed_laneselect).
+    /// Definitions: [`relaxed_laneselect`](crate::specs::widening::WideningTableSpecs#relaxed_laneselect).
+    #[must_use]
     #[inline]
     pub fn i64x2_relaxed_laneselect(a: V128, b: V128, c: V128) -> V128 {
         v128_bitselect(a, b, c)
@@ -1700,7 +1806,8 @@ pub mod simd {
     /// ensures: result ≡ vector.relaxed_q15mulr_s a b
     /// ```
     ///
-    /// Definitions: [`relaxed_q15mulr_s`](crate::specs::widening::WideningTable#relaxed_q15mulr_s).
+    /// Definitions: [`relaxed_q15mulr_s`](crate::specs::widening::WideningTableSpecs#relaxed_q15mulr_s).
+    #[must_use]
     #[inline]
     pub fn i16x8_relaxed_q15mulr_s(a: V128, b: V128) -> V128 {
         i16x8_q15mulr_sat_s(a, b)
@@ -1715,7 +1822,8 @@ pub mod simd {
     /// ensures: result ≡ vector.relaxed_dot_add_s lhs rhs c
     /// ```
     ///
-    /// Definitions: [`relaxed_dot_add_s`](crate::specs::widening::WideningTable#relaxed_dot_add_s).
+    /// Definitions: [`relaxed_dot_add_s`](crate::specs::widening::WideningTableSpecs#relaxed_dot_add_s).
+    #[must_use]
     #[inline]
     pub fn i32x4_relaxed_dot_i8x16_i7x16_add_s(lhs: V128, rhs: V128, c: V128) -> V128 {
         let dot = i16x8_relaxed_dot_i8x16_i7x16_s(lhs, rhs);

@@ -14,12 +14,17 @@ impl<T: core::fmt::Debug> core::fmt::Debug for Vec<T> {
 
 impl<T> Vec<T> {
     /// An empty list. It takes no memory.
+    #[must_use]
     #[inline]
     pub const fn new() -> Self {
         Vec(::alloc::vec::Vec::new())
     }
 
     /// An empty list with room for so many items.
+    ///
+    /// # Errors
+    ///
+    /// [`AllocError`] if memory is refused.
     #[inline(always)]
     pub fn with_capacity(count: usize) -> Result<Self, AllocError> {
         let mut list = ::alloc::vec::Vec::new();
@@ -28,6 +33,10 @@ impl<T> Vec<T> {
     }
 
     /// A list of `count` copies of an item.
+    ///
+    /// # Errors
+    ///
+    /// [`AllocError`] if memory is refused.
     pub fn filled(item: T, count: usize) -> Result<Self, AllocError>
     where
         T: Copy,
@@ -38,6 +47,10 @@ impl<T> Vec<T> {
     }
 
     /// A list of the items of a slice.
+    ///
+    /// # Errors
+    ///
+    /// [`AllocError`] if memory is refused.
     #[inline(always)]
     pub fn from_slice(items: &[T]) -> Result<Self, AllocError>
     where
@@ -63,13 +76,21 @@ impl<T> Vec<T> {
     }
 
     /// A list of the items of an array.
+    ///
+    /// # Errors
+    ///
+    /// [`AllocError`] if memory is refused.
     pub fn of<const N: usize>(items: [T; N]) -> Result<Self, AllocError> {
         let mut list = Vec::with_capacity(N)?;
         list.0.extend(items);
         Ok(list)
     }
 
-    /// Appends an item, or gives it back.
+    /// Appends an item.
+    ///
+    /// # Errors
+    ///
+    /// [`AllocFailed`] with the item, if memory is refused.
     #[inline]
     pub fn push(&mut self, item: T) -> Result<(), AllocFailed<T>> {
         if self.0.try_reserve(1).is_err() {
@@ -91,6 +112,10 @@ impl<T> Vec<T> {
     }
 
     /// Appends the items of a slice.
+    ///
+    /// # Errors
+    ///
+    /// [`AllocError`] if memory is refused. Then none is appended.
     pub fn extend_from_slice(&mut self, items: &[T]) -> Result<(), AllocError>
     where
         T: Copy,
@@ -101,12 +126,20 @@ impl<T> Vec<T> {
     }
 
     /// Makes room for so many more items.
+    ///
+    /// # Errors
+    ///
+    /// [`AllocError`] if memory is refused.
     #[inline]
     pub fn try_reserve(&mut self, more: usize) -> Result<(), AllocError> {
         self.0.try_reserve(more).map_err(|_| AllocError)
     }
 
     /// Appends copies of an item, or drops items, up to a count.
+    ///
+    /// # Errors
+    ///
+    /// [`AllocError`] if memory is refused. Then nothing is appended.
     pub fn resize(&mut self, count: usize, item: T) -> Result<(), AllocError>
     where
         T: Copy,
@@ -117,6 +150,10 @@ impl<T> Vec<T> {
     }
 
     /// Appends the items of another list, which keeps none.
+    ///
+    /// # Errors
+    ///
+    /// [`AllocError`] if memory is refused. Then neither list changes.
     pub fn append(&mut self, other: &mut Self) -> Result<(), AllocError> {
         self.try_reserve(other.0.len())?;
         self.0.append(&mut other.0);
@@ -124,6 +161,7 @@ impl<T> Vec<T> {
     }
 
     /// How many items it has room for.
+    #[must_use]
     #[inline]
     pub fn capacity(&self) -> usize {
         self.0.capacity()
@@ -136,6 +174,7 @@ impl<T> Vec<T> {
     }
 
     /// The items.
+    #[must_use]
     #[inline]
     pub fn as_slice(&self) -> &[T] {
         &self.0
@@ -148,12 +187,17 @@ impl<T> Vec<T> {
     }
 
     /// A range of the items, which may be overwritten.
+    ///
+    /// # Panics
+    ///
+    /// Panics if the range ends past them.
     #[inline]
     pub fn slice_mut(&mut self, range: core::ops::RangeTo<usize>) -> &mut [T] {
         &mut self.0[range]
     }
 
     /// The list as Rust has it.
+    #[must_use]
     #[inline]
     pub fn into_inner(self) -> ::alloc::vec::Vec<T> {
         self.0

@@ -152,11 +152,13 @@ impl<R: Region> Buffer<R> {
         }
     }
 
-    /// Appends zeros up to `new_size` bytes, which isn't below the present number.
+    /// Appends zeros up to `new_size` bytes, which isn't below the present number. If the bytes are
+    /// borrowed, nothing is allocated, and those past the new size stay as they are.
     ///
-    /// If the bytes are owned, the only error is `OutOfSystemMemory`. If they are borrowed, the
-    /// only error is `InvalidStaticBufferSize`, if the borrowed buffer is shorter; nothing is
-    /// allocated, and the bytes past the new size stay as they are.
+    /// # Errors
+    ///
+    /// `OutOfSystemMemory` if the bytes are owned and memory is refused; `InvalidStaticBufferSize`
+    /// if they are borrowed and the borrowed buffer is shorter.
     pub fn grow(&mut self, new_size: usize) -> Result<(), MemoryError>
         requires grows { length self.old.bytes ≤ new_size }
         ensures ok { OnOk result
@@ -182,7 +184,11 @@ impl<R: Region> Buffer<R> {
 }
 
 impl<'r> Buffer<&'r mut [u8]> {
-    /// A buffer of `size` zeros in memory of its own. The only error is `OutOfSystemMemory`.
+    /// A buffer of `size` zeros in memory of its own.
+    ///
+    /// # Errors
+    ///
+    /// `OutOfSystemMemory` if memory is refused.
     pub fn new(alloc: Global, size: usize) -> Result<ByteBuffer<'r>, MemoryError>
         ensures ok { IfOk result (λ b. b ≡ zeros_in Owned size) }
         ensures err { IfErr result (λ e. e ≡ MemoryError.OutOfSystemMemory) }
@@ -195,8 +201,10 @@ impl<'r> Buffer<&'r mut [u8]> {
     /// A buffer of `size` zeros at the front of a borrowed one. It allocates nothing, and the bytes
     /// past them stay as they are.
     ///
-    /// The only error is `InvalidStaticBufferSize`, if the borrowed buffer is shorter. Then the
-    /// loan has ended, and its bytes are unchanged.
+    /// # Errors
+    ///
+    /// `InvalidStaticBufferSize` if the borrowed buffer is shorter. Then the loan has ended, and
+    /// its bytes are unchanged.
     pub fn new_static(region: &'r mut [u8], size: usize) -> Result<ByteBuffer<'r>, MemoryError>
         ensures ok { IfOk result
             (λ b. (fits_room (Lent region.entry.now) size ≡ true)

@@ -274,8 +274,12 @@ impl MemoryTypeBuilder {
         self
     }
 
-    /// Builds the type. The error is `InvalidMemoryType` for a page size other than 1 byte and 64
-    /// KiB, for limits above what the address type reaches, and for a minimum above the maximum.
+    /// Builds the type.
+    ///
+    /// # Errors
+    ///
+    /// `InvalidMemoryType` for a page size other than 1 byte and 64 KiB, for limits above what the
+    /// address type reaches, and for a minimum above the maximum.
     pub fn build(self) -> Result<MemoryType, MemoryError>
         ensures { MatchResult result
             (λ ty. (named_type self ≡ Some ty) × IsValid ty)

@@ -84,6 +84,10 @@ impl ElementSegment {
     /// A segment of references of a type, read from an iterator as `read` does.
     ///
     /// Upstream: `ElementSegment::new`, which panics above 2^32 - 1 items.
+    ///
+    /// # Errors
+    ///
+    /// Those of `read`.
     pub fn new<I>(alloc: Global, ty: RefType, items: I) -> Result<Self, SegmentError>
     where
         I: IntoIterator<Item = RawRef>,
@@ -94,12 +98,14 @@ impl ElementSegment {
         Self::read(alloc, ty, &mut items)
     }
 
-    /// Reads references of a type up to the first `None`, which counts as the end.
-    ///
-    /// It reads at most 2^32 items, and none after the end or after an error: `TooManyItems` at the
-    /// last of those items, `OutOfSystemMemory` at the item for which memory was refused.
+    /// Reads references of a type up to the first `None`, which counts as the end. It reads at most
+    /// 2^32 items, and none after the end or after an error.
     ///
     /// Own: `new` takes its iterator by value, so its contract can't say what is left of it.
+    ///
+    /// # Errors
+    ///
+    /// `TooManyItems` at item 2^32; `OutOfSystemMemory` at the item for which memory is refused.
     pub fn read<I>(alloc: Global, ty: RefType, items: &mut I) -> Result<Self, SegmentError>
     where
         I: Iterator<Item = RawRef>,
