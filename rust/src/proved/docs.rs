@@ -532,8 +532,9 @@ Definitions: [`WritesTable`](crate::specs::store::Table#WritesTable), [`initiali
     (store Table.new) => { r####"A table at the minimum of its type, each element of which is the given reference. It takes
 no fuel.
 
-Errors, in the order of the tests: `ElementTypeMismatch`; `ResourceLimiterDeniedAllocation`
-if the limiter doesn't permit it; `OutOfSystemMemory`, of which the limiter is notified.
+Errors, in the order of the tests: `ElementTypeMismatch`; `MinimumSizeOverflow` if `usize` has
+32 bits and the minimum more; `ResourceLimiterDeniedAllocation` if the limiter doesn't permit
+it; `OutOfSystemMemory`, of which the limiter is notified.
 
 # Contract
 

@@ -342,9 +342,10 @@ pub mod table {
     /// Makes a table with one reference in each place at the front of a region, at the minimum of its
     /// type, and returns its size. It takes no fuel, and leaves the elements past the minimum alone.
     ///
-    /// Errors, in the order of the tests: `ResourceLimiterDeniedAllocation` if the limiter doesn't
-    /// permit it; `OutOfSystemMemory` if the region is shorter than the minimum, of which the limiter
-    /// is notified. After an error the region is unchanged.
+    /// Errors, in the order of the tests: `MinimumSizeOverflow` if `usize` has 32 bits and the minimum
+    /// more; `ResourceLimiterDeniedAllocation` if the limiter doesn't permit it; `OutOfSystemMemory` if
+    /// the region is shorter than the minimum, of which the limiter is notified. After an error the
+    /// region is unchanged.
     ///
     /// # Contract
     ///
@@ -366,7 +367,9 @@ pub mod table {
         reference: u32,
         limiter: &mut ResourceLimiterRef<L>,
     ) -> Result<usize, TableError> {
-        let size = ty.minimum() as usize;
+        let Ok(size) = usize::try_from(ty.minimum()) else {
+            return Err(TableError::MinimumSizeOverflow);
+        };
         let answer = limiter.table_growing(0, size, ty.maximum_size());
         permission(answer, DENIED, DENIED)?;
         if region.len() < size {
@@ -485,7 +488,7 @@ pub mod table {
         index: u64,
         reference: u32,
     ) -> Result<(), TableError> {
-        let index = index as usize;
+        let index = usize::try_from(index).map_err(|_| TableError::SetOutOfBounds)?;
         if index >= elements.len() {
             return Err(TableError::SetOutOfBounds);
         }

@@ -2,7 +2,7 @@
 pub mod bulk {
     //! What is written over a range of a memory's bytes or of a table's elements, wherever these lie.
     //! The bounds are tested first, then the fuel, also for no item. A write that is refused writes and
-    //! takes nothing.
+    //! takes nothing. A cast of a bound comes after the test, so that it is no greater than a length.
     //!
     //! Own: upstream's crate has no bulk instructions for memories. They are tested and charged as its
     //! calls on tables.
@@ -1014,8 +1014,7 @@ mod memory {
             /// Definitions: [`minimum_bytes`](crate::specs::store::Memory#minimum_bytes), [`IsValid`](crate::specs::store::Memory#IsValid).
             #[inline]
             pub(crate) fn minimum_size(self) -> Option<usize> {
-                let size = self.minimum.checked_mul(u64::from(self.page.bytes()))?;
-                Some(size as usize)
+                usize::try_from(self.minimum.checked_mul(u64::from(self.page.bytes()))?).ok()
             }
 
             /// The maximum in bytes, at most the greatest `usize`.
@@ -1029,8 +1028,10 @@ mod memory {
             /// Definitions: [`maximum_bytes`](crate::specs::store::Memory#maximum_bytes).
             #[inline]
             pub(crate) fn maximum_size(self) -> Option<usize> {
-                self.maximum
-                    .map(|pages| pages.saturating_mul(u64::from(self.page.bytes())) as usize)
+                self.maximum.map(|pages| {
+                    let size = pages.saturating_mul(u64::from(self.page.bytes()));
+                    usize::try_from(size).unwrap_or(usize::MAX)
+                })
             }
 
             /// The number of whole pages in `size` bytes.
@@ -1090,8 +1091,7 @@ mod memory {
                 if pages > self.maximum.unwrap_or(most_pages(self.index, self.page)) {
                     return None;
                 }
-                let size = pages.checked_mul(u64::from(self.page.bytes()))?;
-                Some(size as usize)
+                usize::try_from(pages.checked_mul(u64::from(self.page.bytes()))?).ok()
             }
         }
 
@@ -2389,7 +2389,7 @@ mod table {
                 if grown > most_elements(self.index) {
                     return None;
                 }
-                Some(grown as usize)
+                usize::try_from(grown).ok()
             }
 
             /// Whether there are more indices than so many elements.
@@ -2406,7 +2406,7 @@ mod table {
                 size as u64 <= most_elements(self.index)
             }
 
-            /// The maximum as a size.
+            /// The maximum as a size, at most the greatest `usize`.
             ///
             /// # Contract
             ///
@@ -2415,7 +2415,8 @@ mod table {
             /// ```
             #[inline]
             pub(crate) fn maximum_size(self) -> Option<usize> {
-                self.maximum.map(|maximum| maximum as usize)
+                self.maximum
+                    .map(|maximum| usize::try_from(maximum).unwrap_or(usize::MAX))
             }
 
             /// Whether `size` elements are no more than the maximum, if there is one.
@@ -2490,8 +2491,9 @@ mod table {
         /// A table at the minimum of its type, each element of which is the given reference. It takes
         /// no fuel.
         ///
-        /// Errors, in the order of the tests: `ElementTypeMismatch`; `ResourceLimiterDeniedAllocation`
-        /// if the limiter doesn't permit it; `OutOfSystemMemory`, of which the limiter is notified.
+        /// Errors, in the order of the tests: `ElementTypeMismatch`; `MinimumSizeOverflow` if `usize` has
+        /// 32 bits and the minimum more; `ResourceLimiterDeniedAllocation` if the limiter doesn't permit
+        /// it; `OutOfSystemMemory`, of which the limiter is notified.
         ///
         /// # Contract
         ///
@@ -2509,7 +2511,9 @@ mod table {
             limiter: &mut ResourceLimiterRef<L>,
         ) -> Result<Self, TableError> {
             ty.ensure_element_type_matches(init.ty)?;
-            let size = ty.minimum() as usize;
+            let Ok(size) = usize::try_from(ty.minimum()) else {
+                return Err(TableError::MinimumSizeOverflow);
+            };
             let answer = limiter.table_growing(0, size, ty.maximum_size());
             permission(answer, DENIED, DENIED)?;
             match Vec::filled(init.raw, size) {
@@ -2706,14 +2710,14 @@ mod table {
             fuel: &mut Fuel,
             limiter: &mut ResourceLimiterRef<L>,
         ) -> Result<u64, TableError> {
-            let size = self.size();
+            let size = self.elements.len();
             if delta == 0 {
-                return Ok(size);
+                return Ok(size as u64);
             }
-            let Some(desired) = self.ty.grown_size(size, delta) else {
+            let Some(desired) = self.ty.grown_size(size as u64, delta) else {
                 return Err(TableError::GrowOutOfBounds);
             };
-            let answer = limiter.table_growing(size as usize, desired, self.ty.maximum_size());
+            let answer = limiter.table_growing(size, desired, self.ty.maximum_size());
             permission(answer, TableError::GrowOutOfBounds, DENIED)?;
             if !self.ty.allows_size(desired) {
                 return Err(tell(limiter, TableError::GrowOutOfBounds, DENIED));
@@ -2728,7 +2732,7 @@ mod table {
             if self.elements.resize(desired, init).is_err() {
                 return Err(tell(limiter, TableError::OutOfSystemMemory, DENIED));
             }
-            Ok(size)
+            Ok(size as u64)
         }
 
         /// The element at an index with its type, or `None` past the end.
@@ -2742,7 +2746,8 @@ mod table {
         /// Definitions: [`element_at`](crate::specs::store::Table#element_at).
         #[inline]
         pub fn get(&self, index: u64) -> Option<TypedRawRef> {
-            let raw = *self.elements.as_slice().get(index as usize)?;
+            let index = usize::try_from(index).ok()?;
+            let raw = *self.elements.as_slice().get(index)?;
             Some(TypedRawRef::new(raw, self.ty.element()))
         }
 
@@ -2774,7 +2779,7 @@ mod table {
         /// Definitions: [`SetsTableRaw`](crate::specs::store::Table#SetsTableRaw).
         #[inline]
         pub fn set_raw(&mut self, index: u64, value: RawRef) -> Result<(), TableError> {
-            let index = index as usize;
+            let index = usize::try_from(index).map_err(|_| TableError::SetOutOfBounds)?;
             if index >= self.elements.len() {
                 return Err(TableError::SetOutOfBounds);
             }
