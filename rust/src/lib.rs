@@ -73,10 +73,11 @@
 //!
 //! # What is proved, tested and trusted
 //!
-//! - **Proved**, of the Rattle source: each clause that is shown; no function panics, overflows or
-//!   reads past an end if its `requires` are met; each function ends.
+//! - **Proved**, of the Rattle source where `usize` has 64 bits: each clause that is shown; no
+//!   function panics, overflows or reads past an end if its `requires` are met; each function ends.
 //! - **Tested**, of this crate: that it does what the proved library does, by each instruction on
-//!   edges and random operands, by lists of calls and scripts, and by refusing each allocation.
+//!   edges and random operands, by lists of calls and scripts, and by refusing each allocation. A
+//!   `usize` of 32 bits is tested, and not proved.
 //! - **Trusted**: the program that leaves the contracts out, the module [`rattle`], the files of this
 //!   crate that have no contract (they turn the proved library's API into that of `wasmi_core`), and
 //!   rustc.
@@ -92,7 +93,9 @@
 //!   [`FuncType::new`] and [`ElementSegment::new`] panic. A [`Trap`], and a [`FuncType`] of more than
 //!   21 types, may abort.
 //! - [`Memory::data_ptr`] may be read through, and not written.
-//! - A target has a `usize` of 64 bits.
+//! - Where `usize` has 32 bits, sizes of 2^32 and more are refused, and a greater maximum counts as
+//!   2^32 - 1: that of a table too, which `wasmi_core` doesn't make then.
+//! - Big-endian targets are a compile error.
 //!
 //! The repository's `docs/DIFFERENCES.md` has the whole list.
 //!
@@ -117,8 +120,8 @@
     clippy::must_use_candidate
 )]
 
-#[cfg(not(target_pointer_width = "64"))]
-compile_error!("the proofs are of a `usize` of 64 bits");
+#[cfg(target_endian = "big")]
+compile_error!("this crate was tested on little-endian targets alone");
 
 extern crate alloc;
 #[cfg(any(feature = "std", test))]

@@ -186,7 +186,7 @@ fn a_quota_takes_back_what_fails() {
     let mut builder = MemoryType::builder();
     builder.page_size_log2(0).memory64(true);
     let mut memory = under(builder.build().unwrap(), &mut quota).unwrap();
-    let refused = memory.grow(u64::MAX, None, &mut (&mut quota).into());
+    let refused = memory.grow(usize::MAX as u64, None, &mut (&mut quota).into());
     assert_eq!(refused, Err(MemoryError::OutOfSystemMemory));
     assert_eq!((quota.held_bytes(), memory.size()), (0, 0));
 }
@@ -296,20 +296,21 @@ fn without_memory_the_fuel_is_taken_and_the_limiter_is_told() {
     builder.page_size_log2(0).memory64(true);
     let mut limiter = Scripted::new(Ok(true));
     let mut memory = Memory::new(builder.build().unwrap(), &mut lent(&mut limiter)).unwrap();
-    let mut fuel = fuel(u64::MAX / 64);
+    let all = usize::MAX as u64;
+    let mut fuel = fuel(all / 64);
     assert_eq!(
-        memory.grow(u64::MAX, Some(&mut fuel), &mut lent(&mut limiter)),
+        memory.grow(all, Some(&mut fuel), &mut lent(&mut limiter)),
         Err(MemoryError::OutOfSystemMemory)
     );
     assert_eq!(
         (limiter.told.as_slice(), fuel.get_fuel()),
         ([MemoryError::OutOfSystemMemory].as_slice(), Ok(0))
     );
-    let refused = memory.grow(u64::MAX, Some(&mut fuel), &mut lent(&mut limiter));
+    let refused = memory.grow(all, Some(&mut fuel), &mut lent(&mut limiter));
     assert_eq!(
         refused,
         Err(MemoryError::OutOfFuel {
-            required_fuel: u64::MAX / 64
+            required_fuel: all / 64
         })
     );
 }

@@ -177,27 +177,25 @@ fn a_quota_counts_elements() {
 #[test]
 fn a_quota_takes_back_what_fails() {
     let mut quota = Quota::new(0, u64::MAX);
-    let ty = TableType::new64(RefType::Func, 0, Some(1 << 62));
+    // Four times as many bytes as a `usize` counts, each of which is paid for that a `u64` counts.
+    let many = 1u64 << (usize::BITS - 2);
+    let cost = many.saturating_mul(4) / 64;
+    let ty = TableType::new64(RefType::Func, 0, Some(many));
     let mut table = machine::Table::new(ty, function(0), &mut (&mut quota).into()).unwrap();
     let mut left = fuel(1 << 60);
     let refused = table.grow(
-        1 << 63,
+        2 * many,
         function(0),
         Some(&mut left),
         &mut (&mut quota).into(),
     );
     assert_eq!(refused, Err(TableError::GrowOutOfBounds));
     assert_eq!((quota.held_elements(), left.get_fuel()), (0, Ok(1 << 60)));
-    let refused = table.grow(
-        1 << 62,
-        function(0),
-        Some(&mut left),
-        &mut (&mut quota).into(),
-    );
+    let refused = table.grow(many, function(0), Some(&mut left), &mut (&mut quota).into());
     assert_eq!(refused, Err(TableError::OutOfSystemMemory));
     assert_eq!(
         (quota.held_elements(), left.get_fuel()),
-        (0, Ok((1 << 60) - (u64::MAX / 64)))
+        (0, Ok((1 << 60) - cost))
     );
 }
 

@@ -120,10 +120,11 @@ fn a_lent_region_has_an_end() {
 fn the_system_may_have_no_memory() {
     let mut memory = memory(0);
     let refused = Err(MemoryError::OutOfSystemMemory);
-    assert_eq!(memory.grow(u64::MAX, None, &mut nobody()), refused);
+    let all = usize::MAX as u64;
+    assert_eq!(memory.grow(all, None, &mut nobody()), refused);
     assert!(memory.data().is_empty());
     assert_eq!(memory.grow(1, None, &mut nobody()), Ok(0));
-    assert_eq!(memory.grow(u64::MAX - 1, None, &mut nobody()), refused);
+    assert_eq!(memory.grow(all - 1, None, &mut nobody()), refused);
     assert_eq!(memory.data(), [0]);
 }
 

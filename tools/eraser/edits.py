@@ -80,6 +80,9 @@ EDITS += [("machine", "\n            | ".join(patterns(calls)) + f" => self.{ste
            "".join(f"{pattern} => self.{step},\n" for pattern in patterns(calls)), 1) for step, calls in GROUPS.items()]
 EDITS += [("machine", "            _ => self.step_register", " | ".join(patterns(REGISTERS)) + " => self.step_register", 1)]
 
+# A test of a size that a `usize` of 32 bits hasn't got.
+EDITS += [("tests", "fn prints_the_cost_of_the_greatest_growth", '#[cfg(target_pointer_width = "64")]\nfn prints_the_cost_of_the_greatest_growth', 1)]
+
 # Functions that upstream hasn't got, for this crate alone.
 HIDDEN = {
     "meter": ["unmetered"], "raw": ["from_word_pair", "words"], "typed": ["get_raw_mut"],

@@ -151,7 +151,7 @@ pub fn effective_address(ptr: u64, offset: u64) -> Result<usize, TrapCode>
     if address < ptr {
         return Err(TrapCode::MemoryOutOfBounds);
     }
-    Ok(address as usize)
+    usize::try_from(address).map_err(|_| TrapCode::MemoryOutOfBounds)
 }
 
 /// The number at `ptr + offset`.

@@ -192,7 +192,10 @@ pub fn get(table: &TableNumbers, region: &[u32], index: u64, reference: &mut u32
 {
     type_or_return!(_ty, table, region);
     let elements = &region[..table.size];
-    let Some(found) = elements.get(index as usize) else {
+    let Ok(index) = usize::try_from(index) else {
+        return NO_ELEMENT;
+    };
+    let Some(found) = elements.get(index) else {
         return NO_ELEMENT;
     };
     *reference = *found;

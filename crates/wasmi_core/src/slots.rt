@@ -17,7 +17,7 @@ pub(crate) trait Counted {
     /// How many it has.
     ghost count: { Self → ℕ };
 
-    fn count(&self) -> usize
+    fn count(&self) -> u64
         ensures { result ≡ count self.now };
 }
 
@@ -26,16 +26,16 @@ impl<'r> Counted for Memory<'r> {
 
     ghost count = { λ x. length x.bytes };
 
-    fn count(&self) -> usize {
-        self.data_size()
+    fn count(&self) -> u64 {
+        self.data_size() as u64
     }
 }
 
 impl Counted for Table {
     ghost count = { size_of };
 
-    fn count(&self) -> usize {
-        self.size() as usize
+    fn count(&self) -> u64 {
+        self.size()
     }
 }
 
@@ -43,7 +43,7 @@ impl Counted for Table {
 #[derive(Drop)]
 pub(crate) enum Slot<T> {
     Live(T),
-    Gone(usize),
+    Gone(u64),
 }
 
 impl<T> Slot<T> {
@@ -61,7 +61,7 @@ impl<T> Slot<T> {
     }
 
     /// How many bytes or elements it has, or had when it was dropped.
-    fn count(&self) -> usize
+    fn count(&self) -> u64
     where
         T: Counted,
         ensures { result ≡ slot_count T.Counted.count self.now }

@@ -109,8 +109,8 @@ fn write(alloc: Global, operands: &[&str]) -> Result<Call, LineError>
         return Err(LineError::BadCommand);
     };
     Ok(Call::Write {
-        memory: number(memory)?,
-        offset: number(offset)?,
+        memory: usize::from_word(memory)?,
+        offset: usize::from_word(offset)?,
         bytes: list_of(alloc, bytes)?,
     })
 }
@@ -122,7 +122,7 @@ fn drop_live(operands: &[&str]) -> Result<Call, LineError>
     let [kind, index] = operands else {
         return Err(LineError::BadCommand);
     };
-    let index = number(index)?;
+    let index = usize::from_word(index)?;
     match *kind {
         "memory" => Ok(Call::DropMemory(index)),
         "table" => Ok(Call::DropTable(index)),

@@ -45,9 +45,9 @@ pub enum MemoryError {
     InvalidStaticBufferSize,
     /// The limiter denied a creation, or returned an error to a question or a notice.
     ResourceLimiterDeniedAllocation,
-    /// A creation whose minimum has 2^64 bytes or more.
+    /// A creation whose minimum has 2^64 bytes or more, or 2^32 where `usize` has 32 bits.
     MinimumSizeOverflow,
-    /// Never returned on a platform where `usize` has 64 bits.
+    /// Never returned: a maximum above the greatest `usize` counts as that.
     MaximumSizeOverflow,
     /// A growth costs more fuel than is left.
     OutOfFuel { required_fuel: u64 },
@@ -104,9 +104,9 @@ impl std::error::Error for MemoryError {}
 pub enum TableError {
     /// The system refused memory.
     OutOfSystemMemory,
-    /// Never returned on a platform where `usize` has 64 bits.
+    /// A creation whose minimum has 2^32 elements or more, where `usize` has 32 bits.
     MinimumSizeOverflow,
-    /// Never returned on a platform where `usize` has 64 bits.
+    /// Never returned: a maximum above the greatest `usize` counts as that.
     MaximumSizeOverflow,
     /// The limiter denied a creation, or returned an error to a question or a notice.
     ResourceLimiterDeniedAllocation,

@@ -40,11 +40,12 @@ impl Operand for u64 {
     }
 }
 
+// Where it has 32 bits, a greater number counts as the greatest, which is past the end of every list.
 impl Operand for usize {
     ghost writes = { WritesNumber 64 };
 
     fn from_word(word: &str) -> Result<Self, LineError> {
-        number(word)
+        Ok(usize::try_from(number::<u64>(word)?).unwrap_or(usize::MAX))
     }
 }
 

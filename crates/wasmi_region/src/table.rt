@@ -28,9 +28,10 @@ pub fn is_sized(ty: TableType, size: usize) -> bool
 ///
 /// # Errors
 ///
-/// In the order of the tests: `ResourceLimiterDeniedAllocation` if the limiter doesn't permit it;
-/// `OutOfSystemMemory` if the region is shorter than the minimum, of which the limiter is notified.
-/// After an error the region is unchanged.
+/// In the order of the tests: `MinimumSizeOverflow` if `usize` has 32 bits and the minimum more;
+/// `ResourceLimiterDeniedAllocation` if the limiter doesn't permit it; `OutOfSystemMemory` if the
+/// region is shorter than the minimum, of which the limiter is notified. After an error the region
+/// is unchanged.
 pub fn make<L: ResourceLimiter>(
     ty: TableType,
     region: &mut [u32],
@@ -45,7 +46,9 @@ pub fn make<L: ResourceLimiter>(
     ensures refused { OnErr result (region.new ≡ region.old) }
     ensures len { length region.new ≡ length region.old }
 {
-    let size = ty.minimum() as usize;
+    let Ok(size) = usize::try_from(ty.minimum()) else {
+        return Err(TableError::MinimumSizeOverflow);
+    };
     let answer = limiter.table_growing(0, size, ty.maximum_size());
     permission(answer, DENIED, DENIED)?;
     if region.len() < size {
@@ -137,7 +140,7 @@ pub fn set(
     ensures { SetsTableRaw index reference (table_of ty elements.old) result
         (table_of ty elements.new) }
 {
-    let index = index as usize;
+    let index = usize::try_from(index).map_err(|_| TableError::SetOutOfBounds)?;
     if index >= elements.len() {
         return Err(TableError::SetOutOfBounds);
     }

@@ -55,6 +55,7 @@ impl Table {
     /// # Errors
     ///
     /// In the order of the tests: `ElementTypeMismatch` if the reference is of another type;
+    /// `MinimumSizeOverflow` if `usize` has 32 bits and the minimum more;
     /// `ResourceLimiterDeniedAllocation` if the limiter doesn't permit it; `OutOfSystemMemory`, of
     /// which the limiter is notified.
     pub fn new<L: ResourceLimiter>(
@@ -68,7 +69,9 @@ impl Table {
             (lent_limiter limiter.new) }
     {
         ty.ensure_element_type_matches(init.ty)?;
-        let size = ty.minimum() as usize;
+        let Ok(size) = usize::try_from(ty.minimum()) else {
+            return Err(TableError::MinimumSizeOverflow);
+        };
         let answer = limiter.table_growing(0, size, ty.maximum_size());
         permission(answer, DENIED, DENIED)?;
         match vec![in alloc; init.raw; size] {
@@ -228,14 +231,14 @@ impl Table {
             (metered_value self.old (Some fuel.old) (lent_limiter limiter.old)) result
             (metered_value self.new (Some fuel.new) (lent_limiter limiter.new)) }
     {
-        let size = self.size();
+        let size = self.elements.len();
         if delta == 0 {
-            return Ok(size);
+            return Ok(size as u64);
         }
-        let Some(desired) = self.ty.grown_size(size, delta) else {
+        let Some(desired) = self.ty.grown_size(size as u64, delta) else {
             return Err(TableError::GrowOutOfBounds);
         };
-        let answer = limiter.table_growing(size as usize, desired, self.ty.maximum_size());
+        let answer = limiter.table_growing(size, desired, self.ty.maximum_size());
         permission(answer, TableError::GrowOutOfBounds, DENIED)?;
         if !self.ty.allows_size(desired) {
             return Err(tell(limiter, TableError::GrowOutOfBounds, DENIED));
@@ -246,14 +249,15 @@ impl Table {
         if self.elements.resize(desired, init).is_err() {
             return Err(tell(limiter, TableError::OutOfSystemMemory, DENIED));
         }
-        Ok(size)
+        Ok(size as u64)
     }
 
     /// The element at an index with its type, or `None` past the end.
     pub fn get(&self, index: u64) -> Option<TypedRawRef>
         ensures { result ≡ element_at self.now index }
     {
-        let raw = *self.elements.as_slice().get(index as usize)?;
+        let index = usize::try_from(index).ok()?;
+        let raw = *self.elements.as_slice().get(index)?;
         Some(TypedRawRef::new(raw, self.ty.element()))
     }
 
@@ -279,7 +283,7 @@ impl Table {
     pub fn set_raw(&mut self, index: u64, value: RawRef) -> Result<(), TableError>
         ensures { SetsTableRaw index value self.old result self.new }
     {
-        let index = index as usize;
+        let index = usize::try_from(index).map_err(|_| TableError::SetOutOfBounds)?;
         if index >= self.elements.len() {
             return Err(TableError::SetOutOfBounds);
         }

@@ -217,7 +217,7 @@ pub mod access {
         if address < ptr {
             return Err(TrapCode::MemoryOutOfBounds);
         }
-        Ok(address as usize)
+        usize::try_from(address).map_err(|_| TrapCode::MemoryOutOfBounds)
     }
 
     /// The number at `ptr + offset`.

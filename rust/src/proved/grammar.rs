@@ -128,8 +128,8 @@ mod command {
             return Err(LineError::BadCommand);
         };
         Ok(Call::Write {
-            memory: number(memory)?,
-            offset: number(offset)?,
+            memory: usize::from_word(memory)?,
+            offset: usize::from_word(offset)?,
             bytes: list_of(bytes)?,
         })
     }
@@ -148,7 +148,7 @@ mod command {
         let [kind, index] = operands else {
             return Err(LineError::BadCommand);
         };
-        let index = number(index)?;
+        let index = usize::from_word(index)?;
         match *kind {
             "memory" => Ok(Call::DropMemory(index)),
             "table" => Ok(Call::DropTable(index)),

@@ -1576,27 +1576,27 @@ mod slots {
         /// ```text
         /// ensures: result ≡ count self.now
         /// ```
-        fn count(&self) -> usize;
+        fn count(&self) -> u64;
     }
 
     impl<'r> Counted for Memory<'r> {
         #[inline]
-        fn count(&self) -> usize {
-            self.data_size()
+        fn count(&self) -> u64 {
+            self.data_size() as u64
         }
     }
 
     impl Counted for Table {
         #[inline]
-        fn count(&self) -> usize {
-            self.size() as usize
+        fn count(&self) -> u64 {
+            self.size()
         }
     }
 
     /// A live value, or the size of one when it was dropped.
     pub(crate) enum Slot<T> {
         Live(T),
-        Gone(usize),
+        Gone(u64),
     }
 
     impl<T> Slot<T> {
@@ -1631,7 +1631,7 @@ mod slots {
         ///
         /// `T` is a type with the trait `Counted`.
         #[inline]
-        fn count(&self) -> usize
+        fn count(&self) -> u64
         where
             T: Counted,
         {

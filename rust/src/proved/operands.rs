@@ -220,6 +220,7 @@ pub mod operand {
         }
     }
 
+    // Where it has 32 bits, a greater number counts as the greatest, which is past the end of every list.
     /// # Contract
     ///
     /// ```text
@@ -230,7 +231,7 @@ pub mod operand {
     impl Operand for usize {
         #[inline]
         fn from_word(word: &str) -> Result<Self, LineError> {
-            number(word)
+            Ok(usize::try_from(number::<u64>(word)?).unwrap_or(usize::MAX))
         }
     }
 

@@ -3,6 +3,22 @@ use super::streams::Source;
 use super::{Script, answers, answers_each, prints};
 use wasmi_core_proved::script::Status;
 
+/// The pages of one byte more than a `usize` counts, less so many.
+#[cfg(target_pointer_width = "64")]
+#[rustfmt::skip]
+macro_rules! all_pages_less {
+    (0) => { "281474976710656" };
+    (1) => { "281474976710655" };
+    (2) => { "281474976710654" };
+}
+#[cfg(target_pointer_width = "32")]
+#[rustfmt::skip]
+macro_rules! all_pages_less {
+    (0) => { "65536" };
+    (1) => { "65535" };
+    (2) => { "65534" };
+}
+
 static ANSWERED: [Script; 2] = [
     script! {
         "",
@@ -26,7 +42,7 @@ fn prints_the_replies() {
 }
 
 /// Numbers of twenty digits, memories that can't be had, indices and places past the end.
-static LARGE_NUMBERS: [Script; 7] = [
+static LARGE_NUMBERS: [Script; 8] = [
     script! {
         "meter on 1",
         "fuel 18446744073709551615" => "done",
@@ -45,18 +61,18 @@ static LARGE_NUMBERS: [Script; 7] = [
     },
     script! {
         "quota 18446744073709551615 0",
-        "memory 281474976710655 none 16 64" =>
+        concat!("memory ", all_pages_less!(1), " none 16 64") =>
             "error tried to allocate more virtual memory than available on the system",
         "memory 1 none 16 64" => "memory 0",
-        "grow 0 281474976710654" =>
+        concat!("grow 0 ", all_pages_less!(2)) =>
             "error tried to allocate more virtual memory than available on the system";
         "held 65536 0",
     },
     script! {
-        "memory 281474976710656 none 16 64" =>
+        concat!("memory ", all_pages_less!(0), " none 16 64") =>
             "error the minimum size of the memory type overflows the system index type",
         "memory 0 none 16 64" => "memory 0",
-        "grow 0 281474976710656" => "error out of bounds memory growth",
+        concat!("grow 0 ", all_pages_less!(0)) => "error out of bounds memory growth",
     },
     script! {
         "grow 18446744073709551615 18446744073709551615" => "no such",
@@ -68,6 +84,20 @@ static LARGE_NUMBERS: [Script; 7] = [
         "read 0 1 18446744073709551615" => "error out of bounds memory access",
         "read 0 18446744073709551615 1" => "error out of bounds memory access",
         "write 0 18446744073709551615 1" => "error out of bounds memory access",
+    },
+    // Of these the low 32 bits would be there.
+    script! {
+        "memory 1 none 16 64" => "memory 0",
+        "write 4294967296 0 1" => "no such",
+        "write 0 4294967296 1" => "error out of bounds memory access",
+        "read 4294967296 0 1" => "no such",
+        "read 0 4294967296 1" => "error out of bounds memory access",
+        "read 0 0 4294967296" => "error out of bounds memory access",
+        "load load_u32 0 4294967296 0" => "error out of bounds memory access",
+        "store store32 0 0 4294967296 7" => "error out of bounds memory access",
+        "grow 4294967296 1" => "no such",
+        "drop memory 4294967296" => "no such",
+        "read 0 0 1" => "bytes 0",
     },
 ];
 
@@ -285,7 +315,7 @@ static LISTED: [Script; 6] = [
     },
     script! {
         "  answers   complain  complain ",
-        "memory 281474976710655 none 16 64" =>
+        concat!("memory ", all_pages_less!(1), " none 16 64") =>
             "error a resource limiter denied to allocate or grow the linear memory",
         "memory 0 none 16 32" => "memory 0",
         "grow 0 1" => "value 0",

@@ -96,14 +96,14 @@ const PERMITTED: Creation = Creation {
 
 const WANTING: Creation = Creation {
     what: "want of memory",
-    minimum: 1 << 47,
+    minimum: 1 << (usize::BITS - 17),
     maximum: None,
     subject: Subject::Memory64,
     outcome: Err(Failure::Memory(MemoryError::OutOfSystemMemory)),
     question: Some(Question {
         kind: Kind::Bytes,
         current: 0,
-        desired: 1 << 63,
+        desired: 1 << (usize::BITS - 1),
         maximum: None,
     }),
     notice: Some(Failure::Memory(MemoryError::OutOfSystemMemory)),
@@ -130,7 +130,7 @@ static CREATIONS: [Creation; 7] = [
     },
     Creation {
         what: "a minimum of all bytes",
-        minimum: 1 << 48,
+        minimum: 1 << (usize::BITS - 16),
         maximum: None,
         subject: Subject::Memory64,
         outcome: Err(Failure::Memory(MemoryError::MinimumSizeOverflow)),
@@ -174,7 +174,7 @@ mod tables {
 
     const WANTING: Creation = Creation {
         what: "want of memory",
-        minimum: u64::MAX,
+        minimum: usize::MAX as u64,
         outcome: Err(Failure::Table(TableError::OutOfSystemMemory)),
         question: Some(Question {
             kind: Kind::Elements,

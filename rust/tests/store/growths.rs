@@ -143,17 +143,17 @@ const WANT_OF_MEMORY: Growth = Growth {
     what: "want of memory",
     maximum: None,
     subject: Subject::Memory64,
-    delta: (1 << 47) - 1,
+    delta: (1 << (usize::BITS - 17)) - 1,
     fuel: u64::MAX,
     outcome: Err(Failure::Memory(MemoryError::OutOfSystemMemory)),
     question: Some(Question {
         kind: Kind::Bytes,
         current: 65536,
-        desired: 1 << 63,
+        desired: 1 << (usize::BITS - 1),
         maximum: None,
     }),
     notice: Some(Failure::Memory(MemoryError::OutOfSystemMemory)),
-    left: u64::MAX - ((1 << 57) - 1024),
+    left: u64::MAX - ((1 << (usize::BITS - 7)) - 1024),
     ..PERMITTED
 };
 
@@ -260,17 +260,17 @@ mod tables {
     const WANT_OF_MEMORY: Growth = Growth {
         what: "want of memory",
         maximum: None,
-        delta: 1 << 62,
+        delta: 1 << (usize::BITS - 2),
         fuel: u64::MAX,
         outcome: Err(Failure::Table(TableError::OutOfSystemMemory)),
         question: Some(Question {
             kind: Kind::Elements,
             current: 1,
-            desired: (1 << 62) + 1,
+            desired: (1 << (usize::BITS - 2)) + 1,
             maximum: None,
         }),
         notice: Some(Failure::Table(TableError::OutOfSystemMemory)),
-        left: u64::MAX - ((1 << 58) - 1),
+        left: u64::MAX - (1u64 << (usize::BITS - 2)).saturating_mul(4) / 64,
         ..PERMITTED
     };
 

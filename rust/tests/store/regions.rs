@@ -105,7 +105,7 @@ fn records_creations() {
         compare_creation(row);
     }
     let mut recorder = Recorder::new(Ok(true), Ok(()));
-    let ty = wide_type(1 << 48, None);
+    let ty = wide_type(1 << (usize::BITS - 16), None);
     let outcome = memory_size(lent_memory(ty, &mut recorder, &mut []));
     let expected = Err(Failure::Memory(MemoryError::MinimumSizeOverflow));
     assert_eq!(outcome, expected, "a minimum of all bytes");

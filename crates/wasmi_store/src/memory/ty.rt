@@ -146,15 +146,17 @@ impl MemoryType {
             ≡ (if nat_lt (minimum_bytes self) (2 ^ 64) then Some (minimum_bytes self) else None) }
         ensures valid { IsValid self }
     {
-        let size = self.minimum.checked_mul(u64::from(self.page.bytes()))?;
-        Some(size as usize)
+        usize::try_from(self.minimum.checked_mul(u64::from(self.page.bytes()))?).ok()
     }
 
     /// The maximum in bytes, at most the greatest `usize`.
     pub fn maximum_size(self) -> Option<usize>
         ensures { result ≡ maximum_bytes self }
     {
-        self.maximum.map(|pages| pages.saturating_mul(u64::from(self.page.bytes())) as usize)
+        self.maximum.map(|pages| {
+            let size = pages.saturating_mul(u64::from(self.page.bytes()));
+            usize::try_from(size).unwrap_or(usize::MAX)
+        })
     }
 
     /// The number of whole pages in `size` bytes.
@@ -185,8 +187,7 @@ impl MemoryType {
         if pages > self.maximum.unwrap_or(most_pages(self.index, self.page)) {
             return None;
         }
-        let size = pages.checked_mul(u64::from(self.page.bytes()))?;
-        Some(size as usize)
+        usize::try_from(pages.checked_mul(u64::from(self.page.bytes()))?).ok()
     }
 }
 

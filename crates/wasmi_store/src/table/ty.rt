@@ -150,7 +150,7 @@ impl TableType {
         if grown > most_elements(self.index) {
             return None;
         }
-        Some(grown as usize)
+        usize::try_from(grown).ok()
     }
 
     /// Whether there are more indices than so many elements.
@@ -160,11 +160,12 @@ impl TableType {
         size as u64 <= most_elements(self.index)
     }
 
-    /// The maximum as a size.
+    /// The maximum as a size, at most the greatest `usize`.
     pub fn maximum_size(self) -> Option<usize>
         ensures { result ≡ self.maximum }
     {
-        self.maximum.map(|maximum| maximum as usize)
+        self.maximum
+            .map(|maximum| usize::try_from(maximum).unwrap_or(usize::MAX))
     }
 
     /// Whether `size` elements are no more than the maximum, if there is one.

@@ -864,7 +864,7 @@ mod script {
     };
 }
 
-        static ANSWERED: [Script; 32] = [
+        static ANSWERED: [Script; 31] = [
             METERED,
             script! { "" },
             script! {
@@ -963,12 +963,6 @@ mod script {
                 "tgrow 0 1 func 4" => "value 1",
                 "get 0 1" => "func 4";
                 "held 0 2",
-            },
-            script! {
-                "meter on 64",
-                "table func 0 none 64 func 0" => "table 0",
-                "tgrow 0 18446744073709551615 func 1" =>
-                    "error not enough fuel: required=288230376151711743",
             },
             script! {
                 "table func 1 none 64 func 0" => "table 0",
@@ -1081,6 +1075,20 @@ mod script {
         #[test]
         fn prints_the_replies() {
             answers_each(&ANSWERED);
+        }
+
+        // A growth by as many elements as `u64` counts, which no `usize` of 32 bits does.
+        static GREATEST_GROWTH: [Script; 1] = [script! {
+            "meter on 64",
+            "table func 0 none 64 func 0" => "table 0",
+            "tgrow 0 18446744073709551615 func 1" =>
+                "error not enough fuel: required=288230376151711743",
+        }];
+
+        #[test]
+        #[cfg(target_pointer_width = "64")]
+        fn prints_the_cost_of_the_greatest_growth() {
+            answers_each(&GREATEST_GROWTH);
         }
     }
     mod streams {

@@ -1,4 +1,4 @@
-use Rattle.std.proofs.Common.{arith, refl}
+use Rattle.std.proofs.Common.{◌∙◌, arith, refl}
 use Rattle.std.proofs.lemmas.Result.{err_from_is_err_and}
 use Rattle.wasmi_meter.specs.Limiter.{optional_rules}
 use Rattle.wasmi_region.specs.Table.{creation_in}
@@ -10,7 +10,7 @@ use Rattle.wasmi_region.proofs.table.make.Goals as goal
 pub returns-in_err-permission-clause-made : goal.returns-in_err-permission-clause-made
 returns-in_err-permission-clause-made g c =
     let p = err_from_is_err_and c.from_residual.result c.from_residual.ensures.1 in
-    let asked = making_asked_in c.args.ty _ _ c.minimum-size.ensures.value _ c.maximum_size.ensures in
+    let asked = making_asked_in c.args.ty _ _ (c.in-Ok.ensures.1 ∙ c.minimum.ensures.value) _ c.maximum_size.ensures in
     rw (p.1, p.2) (makes_denied (optional_rules g.L.ResourceLimiter.rules) (creation_in c.args.ty _)
     (new_table c.args.ty c.args.reference) _ _ asked _ _ c.table_growing-answer.ensures.asked _
     c.in_err-permission.ensures)
@@ -18,8 +18,8 @@ returns-in_err-permission-clause-made g c =
 pub returns-then-region-size-clause-made : goal.returns-then-region-size-clause-made
 returns-then-region-size-clause-made g c =
     let rules = optional_rules g.L.ResourceLimiter.rules in
-    let asked = making_asked_in c.args.ty _ _ c.minimum-size.ensures.value _ c.maximum_size.ensures in
+    let asked = making_asked_in c.args.ty _ _ (c.in-Ok.ensures.1 ∙ c.minimum.ensures.value) _ c.maximum_size.ensures in
     let asks = rw c.in_ok-permission.ensures at c.table_growing-answer.ensures.asked in
     makes_refused rules (creation_in c.args.ty _) (new_table c.args.ty c.args.reference) _ _
     (record { permits = permitted_by rules (creation_in c.args.ty _) _ asked _ _ asks; late = refl }) _
-    (refl, omega (arith, c.if-region-size.true, c.minimum-size.ensures.value)) _ _ c.tell.ensures.told
+    (refl, omega (arith, c.if-region-size.true, c.in-Ok.ensures.1 ∙ c.minimum.ensures.value)) _ _ c.tell.ensures.told

@@ -21,7 +21,7 @@ macro_rules! initialized {
     };
 }
 
-static ANSWERED: [Script; 32] = [
+static ANSWERED: [Script; 31] = [
     METERED,
     script! { "" },
     script! {
@@ -120,12 +120,6 @@ static ANSWERED: [Script; 32] = [
         "tgrow 0 1 func 4" => "value 1",
         "get 0 1" => "func 4";
         "held 0 2",
-    },
-    script! {
-        "meter on 64",
-        "table func 0 none 64 func 0" => "table 0",
-        "tgrow 0 18446744073709551615 func 1" =>
-            "error not enough fuel: required=288230376151711743",
     },
     script! {
         "table func 1 none 64 func 0" => "table 0",
@@ -238,4 +232,17 @@ static ANSWERED: [Script; 32] = [
 #[test]
 fn prints_the_replies(rt: HostRuntime) {
     answers_each(&rt, rt.alloc(), &ANSWERED);
+}
+
+// A growth by as many elements as `u64` counts, which no `usize` of 32 bits does.
+static GREATEST_GROWTH: [Script; 1] = [script! {
+    "meter on 64",
+    "table func 0 none 64 func 0" => "table 0",
+    "tgrow 0 18446744073709551615 func 1" =>
+        "error not enough fuel: required=288230376151711743",
+}];
+
+#[test]
+fn prints_the_cost_of_the_greatest_growth(rt: HostRuntime) {
+    answers_each(&rt, rt.alloc(), &GREATEST_GROWTH);
 }

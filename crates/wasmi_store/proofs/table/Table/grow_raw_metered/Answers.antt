@@ -12,7 +12,7 @@ returns-then-not-allows_size-clause-loan g c = loan_kept _ _ _ c.table_growing-a
 pub returns-in_default-clause-grown : goal.returns-in_default-clause-grown
 returns-in_default-clause-grown g c = rw (← c.self.view_is) (grows_unasked
     (optional_rules g.L.ResourceLimiter.rules) _ c.args.fuel.now _ c.args.delta c.args.init c.if-delta-eq0.false
-    (rw (rw (← c.self.view_is) at c.size-size.ensures.value) at c.in_default.ensures))
+    (rw (c.len-size.ensures ∙ c.self.inside.elements.ok.0) at c.in_default.ensures))
 
 pub returns-in-Err-clause-loan : goal.returns-in-Err-clause-loan
 returns-in-Err-clause-loan g c = loan_kept _ _ _ c.table_growing-answer.ensures.loan c.tell-in-Err.ensures.loan
@@ -23,21 +23,21 @@ returns-in_err-permission-clause-grown g c =
     rw (p.1, p.2, ← c.self.view_is) (
     grows_denied (growing (optional_rules g.L.ResourceLimiter.rules) _ c.args.fuel.now _ c.args.delta c.args.init
     c.if-delta-eq0.false)
-    _ (growth_asked _ c.args.delta c.args.init (rw (← c.self.view_is) at c.size-size.ensures.value) c.in-Some.ensures
+    _ (growth_asked _ c.args.delta c.args.init (c.len-size.ensures ∙ c.self.inside.elements.ok.0) c.in-Some.ensures
     c.maximum_size.ensures) _ _ c.table_growing-answer.ensures.asked _ c.in_err-permission.ensures
     )
 
 pub returns-then-not-allows_size-clause-grown : goal.returns-then-not-allows_size-clause-grown
 returns-then-not-allows_size-clause-grown g c =
     let permits = growth_permitted (optional_rules g.L.ResourceLimiter.rules) _ c.args.fuel.now c.args.delta c.args.init
-    c.if-delta-eq0.false (growth_asked _ _ _ (rw (← c.self.view_is) at c.size-size.ensures.value) c.in-Some.ensures
+    c.if-delta-eq0.false (growth_asked _ _ _ (c.len-size.ensures ∙ c.self.inside.elements.ok.0) c.in-Some.ensures
     c.maximum_size.ensures) c.in_ok-permission.ensures c.table_growing-answer.ensures.asked in
     rw (← c.self.view_is) (grows_above permits (sym c.if-not-allows_size.ensures) _ _ c.tell.ensures.told)
 
 pub returns-in-Err-clause-grown : goal.returns-in-Err-clause-grown
 returns-in-Err-clause-grown g c =
     let permits = growth_permitted (optional_rules g.L.ResourceLimiter.rules) _ c.args.fuel.now c.args.delta c.args.init
-    c.if-delta-eq0.false (growth_asked _ _ _ (rw (← c.self.view_is) at c.size-size.ensures.value) c.in-Some.ensures
+    c.if-delta-eq0.false (growth_asked _ _ _ (c.len-size.ensures ∙ c.self.inside.elements.ok.0) c.in-Some.ensures
     c.maximum_size.ensures) c.in_ok-permission.ensures c.table_growing-answer.ensures.asked in
     rw (← c.self.view_is)
     (grows_unpaid permits (sym c.if-not-allows_size.ensures) c.charge.new.fuel _ c.in-Err.ensures _ _
@@ -46,7 +46,7 @@ returns-in-Err-clause-grown g c =
 pub returns-then-is_err-clause-grown : goal.returns-then-is_err-clause-grown
 returns-then-is_err-clause-grown g c =
     let permits = growth_permitted (optional_rules g.L.ResourceLimiter.rules) _ c.args.fuel.now c.args.delta c.args.init
-    c.if-delta-eq0.false (growth_asked _ _ _ (rw (← c.self.view_is) at c.size-size.ensures.value) c.in-Some.ensures
+    c.if-delta-eq0.false (growth_asked _ _ _ (c.len-size.ensures ∙ c.self.inside.elements.ok.0) c.in-Some.ensures
     c.maximum_size.ensures) c.in_ok-permission.ensures c.table_growing-answer.ensures.asked in
     let same = rw c.if-is_err.ensures.negation at c.resize.ensures.items in
     rw (← c.self.view_is)
@@ -56,9 +56,9 @@ returns-then-is_err-clause-grown g c =
 pub returns-clause-grown : goal.returns-clause-grown
 returns-clause-grown g c =
     let permits = growth_permitted (optional_rules g.L.ResourceLimiter.rules) _ c.args.fuel.now c.args.delta c.args.init
-    c.if-delta-eq0.false (growth_asked _ _ _ (rw (← c.self.view_is) at c.size-size.ensures.value) c.in-Some.ensures
+    c.if-delta-eq0.false (growth_asked _ _ _ (c.len-size.ensures ∙ c.self.inside.elements.ok.0) c.in-Some.ensures
     c.maximum_size.ensures) c.in_ok-permission.ensures c.table_growing-answer.ensures.asked in
-    let sized = rw (← c.self.view_is) at c.size-size.ensures.value in
+    let sized = c.len-size.ensures ∙ c.self.inside.elements.ok.0 in
     let grown = (rw c.if-is_err.ensures.negation at c.resize.ensures.items)
     ∙ resized _ _ c.args.delta _ c.args.init c.self.inside.elements.ok.0 (rw sized at c.in-Some.ensures).1 in
     rw (← c.self.view_is)
@@ -73,7 +73,7 @@ invariant_of-self g c = rw (rw c.if-is_err.ensures.negation at c.resize.ensures.
 
 pub invariant_of-self-2 : goal.invariant_of-self-2
 invariant_of-self-2 g c =
-    let found = rw (rw (← c.self.view_is) at c.size-size.ensures.value) at c.in-Some.ensures in
+    let found = rw (c.len-size.ensures ∙ c.self.inside.elements.ok.0) at c.in-Some.ensures in
     sized_grown c.self.inside.ty _ _ c.args.delta _ c.args.init c.self.invariant found (sym c.if-not-allows_size.ensures)
     ((rw c.if-is_err.ensures.negation at c.resize.ensures.items)
     ∙ resized _ _ c.args.delta _ c.args.init c.self.inside.elements.ok.0 found.1)

@@ -1,4 +1,4 @@
-use Rattle.std.proofs.Common.{refl}
+use Rattle.std.proofs.Common.{◌∙◌, refl}
 use Rattle.std.proofs.lemmas.Result.{err_from_is_err_and}
 use Rattle.wasmi_meter.specs.Limiter.{optional_rules}
 use Rattle.wasmi_store.specs.Table.{creation_of, new_table}
@@ -19,7 +19,7 @@ returns-in_err-permission-clause-made g c =
     makes_denied (optional_rules g.L.ResourceLimiter.rules) (creation_of c.args.ty c.args.init.ty)
     (new_table c.args.ty c.args.init.raw) _ _
     (making_asked c.args.ty c.args.init c.in_ok-ensure_element_type_matches.ensures
-    c.minimum-size.result c.minimum-size.ensures.value c.maximum_size.result c.maximum_size.ensures)
+    c.in-Ok.size (c.in-Ok.ensures.1 ∙ c.minimum.ensures.value) c.maximum_size.result c.maximum_size.ensures)
     _ _ c.table_growing-answer.ensures.asked _ c.in_err-permission.ensures
     )
 
@@ -28,7 +28,7 @@ returns-in-Err-clause-made g c =
     let rules = optional_rules g.L.ResourceLimiter.rules in
     let creation = creation_of c.args.ty c.args.init.ty in
     let asked = making_asked c.args.ty c.args.init c.in_ok-ensure_element_type_matches.ensures
-    c.minimum-size.result c.minimum-size.ensures.value c.maximum_size.result c.maximum_size.ensures in
+    c.in-Ok.size (c.in-Ok.ensures.1 ∙ c.minimum.ensures.value) c.maximum_size.result c.maximum_size.ensures in
     makes_refused rules creation (new_table c.args.ty c.args.init.raw) _ _
     (record {
       permits = permitted_by rules creation _ asked _ _
