@@ -101,13 +101,13 @@
 //! - `std` (default): scripts, and errors of `std::io`. Without it the crate needs `alloc` alone.
 //! - `simd` (default): the vector instructions.
 //! - `memory64` (default): 64-bit memories.
-//! - `sse2` (default): lanes of vectors in registers of x86-64, by the unsafe blocks of one file.
-//!   Without it, and on other processors, the crate has no unsafe code.
+//! - `sse2` (default): lanes of vectors in registers, on targets that have SSE2, by the unsafe blocks
+//!   of one file. Without it, and on other targets, the crate has no unsafe code.
 #![no_std]
-#![warn(missing_docs)]
-#![cfg_attr(all(feature = "sse2", target_arch = "x86_64"), deny(unsafe_code))]
+#![warn(missing_docs, unnameable_types)]
+#![cfg_attr(all(feature = "sse2", target_feature = "sse2"), deny(unsafe_code))]
 #![cfg_attr(
-    not(all(feature = "sse2", target_arch = "x86_64")),
+    not(all(feature = "sse2", target_feature = "sse2")),
     forbid(unsafe_code)
 )]
 
