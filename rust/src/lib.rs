@@ -46,7 +46,6 @@
     feature = "std",
     doc = "| [`script`], [`grammar`] | scripts of calls: parsed, run and printed |"
 )]
-//! | [`rattle`] | the part of Rattle's standard library that Rust's lacks |
 #![cfg_attr(
     doc,
     doc = "| [`specs`], [`laws`] | the definitions that the contracts cite, and what holds of all runs |"
@@ -77,9 +76,9 @@
 //!   reads past an end if its `requires` are met; each function ends.
 //! - **Tested**, of this crate: that it does what the proved library does, by each instruction on
 //!   edges and random operands, by lists of calls and scripts, and by refusing each allocation.
-//! - **Trusted**: the program that leaves the contracts out, the module [`rattle`], the files of this
-//!   crate that have no contract (they turn the proved library's API into that of `wasmi_core`), and
-//!   rustc.
+//! - **Trusted**: the program that leaves the contracts out, the files of this crate that have no
+//!   contract (they turn the proved library's API into that of `wasmi_core`, and stand for what
+//!   Rattle's standard library has otherwise), and rustc.
 //!
 //! Where a proof requires something of a caller, the function here asserts it, which its section
 //! *Panics* says. What no test can see is left to the caller: a limiter or a closure of yours that
@@ -160,7 +159,7 @@ mod memory;
     reason = "contracts, which aren't here, use more than the code does"
 )]
 mod proved;
-pub mod rattle;
+mod rattle;
 #[cfg(feature = "simd")]
 pub mod simd;
 /// The words and signs of Rattle's own library that contracts use; each other word has a page below.

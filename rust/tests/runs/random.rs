@@ -3,10 +3,10 @@
 use super::{
     MemoryCall, StaticCall, StaticReply, Step, memory_size, meter, runs_under, table_size,
 };
+use wasmi_core_proved::machine::Vec;
 use wasmi_core_proved::machine::{
     Kind, LimiterByKind, LimiterError, Machine, MemoryError, TableError,
 };
-use wasmi_core_proved::rattle::Vec;
 
 const REFUSAL: LimiterError = LimiterError::ResourceLimiterDeniedAllocation;
 
