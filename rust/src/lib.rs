@@ -123,6 +123,7 @@ mod docs;
 #[macro_use]
 mod examples;
 
+mod debug;
 mod float;
 mod func_type;
 #[cfg(doc)]

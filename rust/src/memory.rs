@@ -40,7 +40,6 @@ use core::panic::UnwindSafe;
 /// # Ok::<(), MemoryError>(())
 /// ```
 #[doc = docs!(store LinearMemory.contract)]
-#[derive(Debug)]
 pub struct Memory(Proved<'static>);
 
 // As upstream's, of which nothing is seen after a panic but its bytes.

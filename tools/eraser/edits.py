@@ -85,6 +85,15 @@ EDITS += [(module, f"pub fn {name}(", f"pub(crate) fn {name}(", 1) for module, n
 EDITS += [("store", f"pub fn {name}(self", f"pub(crate) fn {name}(self", 2) for name in ("grown_size", "maximum_size")]
 EDITS += [(module, "pub fn words(&self)", "pub(crate) fn words(&self)", count) for module, count in (("meter", 3), ("typed", 1), ("store", 1))]
 
+# Traits that no caller is to name: with them a trait is implemented here alone.
+UNNAMED = {"lanes": ["CountsLanes"], "meter": ["Sealed"], "raw": ["Sealed", "OneWord"], "store": ["Sealed"], "typed": ["Sealed", "TypedI32"]}
+EDITS += [(module, f"pub trait {name}", f"#[allow(unnameable_types)]\npub trait {name}", 1) for module, names in UNNAMED.items() for name in names]
+
+# Types that print their sizes and nothing of their contents: rust/src/debug.rs.
+PRINTED = ["enum Storage", "pub struct Buffer", "pub struct LinearMemory", "pub struct ElementSegment", "pub struct Table"]
+EDITS += [("store", f"#[derive(Debug)] {item}", item, 1) for item in PRINTED]
+EDITS += [("store", "#[derive(Clone, Copy, Debug)] pub struct ElementSegmentRef", "#[derive(Clone, Copy)]\npub struct ElementSegmentRef", 1)]
+
 # Texts that rustc's LLVM compiles badly, or that older compilers lack.
 EDITS += [
     ("grammar", "let Some(words) = words.as_array::<16>() else {", "let Ok(words) = <&[&str; 16]>::try_from(words) else {", 1),
