@@ -183,10 +183,7 @@ fn memories() {
         1
     );
     assert_eq!(
-        (
-            it.memories[1].data()[0],
-            it.memories[1].data_ptr().cast_const()
-        ),
+        (it.memories[1].data()[0], it.memories[1].data_ptr()),
         (0, it.memories[1].data().as_ptr())
     );
     let table = Table::new(
