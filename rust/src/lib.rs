@@ -206,7 +206,7 @@ pub mod simd;
 #[path = "proved/specs.rs"]
 pub mod specs;
 mod table;
-#[cfg(all(test, feature = "std", feature = "simd", feature = "memory64"))]
+#[cfg(test)]
 mod tests;
 mod trap;
 mod values;

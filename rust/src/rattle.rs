@@ -126,7 +126,8 @@ impl<T: Copy, const N: usize> ArrayExt<T, N> for [T; N] {
 }
 
 /// What only tests use: texts whose memory can be refused.
-#[cfg(all(test, feature = "std", feature = "memory64"))]
+#[cfg(test)]
+#[cfg_attr(not(feature = "std"), allow(dead_code))]
 mod texts {
     use super::alloc::AllocError;
     use std::string::String;
@@ -156,5 +157,5 @@ mod texts {
         Ok(std::fmt::format(arguments))
     }
 }
-#[cfg(all(test, feature = "std", feature = "memory64"))]
-pub(crate) use texts::{StrExt, TextExt, text};
+#[cfg(test)]
+pub(crate) use texts::*;

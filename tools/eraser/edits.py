@@ -27,6 +27,8 @@ EDITS = [
     ("typed", "fn try_from(typed: TypedRawVal)", "pub(crate) fn of_value(typed: TypedRawVal)", 1),
     ("tests", "TableError::try_from(", "TableError::of_fuel(", 2),
     ("tests", "TypedRawRef::try_from(", "TypedRawRef::of_value(", 1),
+    ("tests", "#[test] fn all_addresses_are_too_many", "#[cfg(feature = \"memory64\")]\n#[test]\nfn all_addresses_are_too_many", 1),
+    ("tests", "mod script {", "#[cfg(feature = \"std\")]\nmod script {", 1),
     # Rust knows the size of each type.
     ("meter", "/// # Contract /// /// ```text /// SIZE = 1 /// ``` impl ValueSize for u8 { const SIZE: u64 = 1;",
      "/// The size in memory. Proved are the 1 of a byte and the 4 of a reference and of a `u32`.\nimpl<T> ValueSize for T { const SIZE: u64 = size_of::<T>() as u64;", 1),

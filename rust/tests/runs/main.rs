@@ -1,5 +1,4 @@
 //! Lists of calls on machines, their replies, and what a host sees afterwards.
-#![cfg(all(feature = "std", feature = "simd", feature = "memory64"))]
 mod pools;
 mod random;
 mod runs;
