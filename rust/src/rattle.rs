@@ -16,6 +16,8 @@ pub use simd_arrays as simd;
 
 use alloc::AllocError;
 pub use list::Vec;
+#[cfg(test)]
+pub(crate) use texts::*;
 
 pub mod alloc {
     //! Allocators and what they refuse.
@@ -157,5 +159,3 @@ mod texts {
         Ok(std::fmt::format(arguments))
     }
 }
-#[cfg(test)]
-pub(crate) use texts::*;

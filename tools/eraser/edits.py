@@ -118,8 +118,7 @@ EDITS += [
     ("script", 'write!(f, "{first}")', "first.show(f)", 1),
     ("script", 'write!(f, " {second}")', '(" ", &second).show(f)', 1),
     ("script", 'write!(f, "{first} {second}")', '(&first, " ", &second).show(f)', 1),
-    ("script", "impl fmt::Display for ReplyHead<'_> { #[inline] fn fmt(&self, f: &mut fmt::Formatter<'_>) -> fmt::Result {", """
-impl fmt::Display for ReplyHead<'_> {
+    ("script", "impl fmt::Display for ReplyHead<'_> { #[inline] fn fmt(&self, f: &mut fmt::Formatter<'_>) -> fmt::Result {", """impl fmt::Display for ReplyHead<'_> {
     fn fmt(&self, f: &mut fmt::Formatter<'_>) -> fmt::Result {
         self.show(f)
     }

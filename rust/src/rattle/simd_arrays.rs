@@ -1,4 +1,6 @@
 //! Lanes of a vector as arrays, of which LLVM makes vectors where it can.
+#![allow(clippy::manual_memcpy, clippy::needless_range_loop)] // all loops have one form, which LLVM knows
+
 use core::ops::{Add, BitAnd, BitOr, BitXor, Mul, Not, Shl, Shr, Sub};
 
 /// The types by their names.

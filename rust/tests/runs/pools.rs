@@ -73,7 +73,7 @@ fn dropped_memories_are_held() {
     let mut machine = unmetered();
     reserves(&mut machine, &MEMORIES, &mut quota);
     assert_eq!(machine.total_bytes(), 131072, "the bytes");
-    assert_eq!(machine.memory(0).is_none(), true, "one is gone");
+    assert!(machine.memory(0).is_none(), "one is gone");
     drop(machine);
 }
 

@@ -237,7 +237,7 @@ fn prints_to_slow_writers() {
         let mut writer = Target::new();
         writer.at_once = at_once;
         ends_with(&mut writer, Status::Answered);
-        assert_eq!(writer.is_flushed, true, "all is flushed");
+        assert!(writer.is_flushed, "all is flushed");
         if at_once == 1 {
             assert_eq!(writer.turns, METERED.printed.len(), "turns");
         }
