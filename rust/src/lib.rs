@@ -104,6 +104,8 @@
 //!   of one file. Without it, and on other targets, the crate has no unsafe code.
 #![no_std]
 #![warn(missing_docs, unnameable_types)]
+// What is named after a vector instruction links to it where it is there.
+#![cfg_attr(not(feature = "simd"), allow(rustdoc::broken_intra_doc_links))]
 #![cfg_attr(all(feature = "sse2", target_feature = "sse2"), deny(unsafe_code))]
 #![cfg_attr(
     not(all(feature = "sse2", target_feature = "sse2")),
