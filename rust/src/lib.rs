@@ -1,11 +1,11 @@
 //! The core of a WebAssembly interpreter, proved: values, instructions on numbers and vectors, fuel,
 //! limits, linear memories and tables.
 //!
-//! This crate has the API of [`wasmi_core`](https://docs.rs/wasmi_core/2.0.0) 2.0.0, so an engine
-//! over that crate compiles over this one. Its source is a library in Rattle, which is Rust with
-//! contracts: each function of the library has clauses that say what it returns and changes, and a
-//! proof that it does. Here the contracts and proofs are left out of the source, and the clauses
-//! stand in these pages.
+//! This crate has the API of [`wasmi_core`](https://docs.rs/wasmi_core/2.0.0) 2.0.0 without the
+//! arithmetic of floats, so an engine over that crate that computes with no floats compiles over this
+//! one. Its source is a library in Rattle, which is Rust with contracts: each function of the library
+//! has clauses that say what it returns and changes, and a proof that it does. Here the contracts and
+//! proofs are left out of the source, and the clauses stand in these pages.
 //!
 //! # Examples
 //!
@@ -90,7 +90,7 @@
 //! - If the system refuses memory, a memory or table isn't made or doesn't grow, and an error says so.
 //!   [`FuncType::new`] and [`ElementSegment::new`] panic. A [`Trap`], and a [`FuncType`] of more than
 //!   21 types, may abort.
-//! - [`Memory::data_ptr`] may be read through, and not written.
+//! - [`Memory::data_ptr`] returns a `*const u8`, so a write through it doesn't compile.
 //! - A target has a `usize` of 64 bits.
 //!
 //! The repository's `docs/DIFFERENCES.md` has the whole list.
