@@ -1,4 +1,5 @@
-"""What the generated text has otherwise than the sources, so that the Rust crate's API can stand on it. No edit changes what a function does."""
+"""What the generated text has otherwise than the sources, so that the Rust crate's API can stand on it. With all features on, no edit changes what
+a function does, except the texts of `Debug`."""
 
 # (module, text, its replacement, how often it stands there)
 EDITS = [
