@@ -1,11 +1,11 @@
 //! The core of a WebAssembly interpreter, proved: values, instructions on numbers and vectors, fuel,
 //! limits, linear memories and tables.
 //!
-//! This crate has the API of [`wasmi_core`](https://docs.rs/wasmi_core/2.0.0) 2.0.0, so an engine
-//! over that crate compiles over this one. Its source is a library in Rattle, which is Rust with
-//! contracts: each function of the library has clauses that say what it returns and changes, and a
-//! proof that it does. Here the contracts and proofs are left out of the source, and the clauses
-//! stand in these pages.
+//! This crate has the API of [`wasmi_core`](https://docs.rs/wasmi_core/2.0.0) 2.0.0 without the
+//! arithmetic of floats, so an engine over that crate that computes with no floats compiles over this
+//! one. Its source is a library in Rattle, which is Rust with contracts: each function of the library
+//! has clauses that say what it returns and changes, and a proof that it does. Here the contracts and
+//! proofs are left out of the source, and the clauses stand in these pages.
 //!
 //! # Examples
 //!
@@ -46,7 +46,6 @@
     feature = "std",
     doc = "| [`script`], [`grammar`] | scripts of calls: parsed, run and printed |"
 )]
-//! | [`rattle`] | the part of Rattle's standard library that Rust's lacks |
 #![cfg_attr(
     doc,
     doc = "| [`specs`], [`laws`] | the definitions that the contracts cite, and what holds of all runs |"
@@ -78,9 +77,9 @@
 //! - **Tested**, of this crate: that it does what the proved library does, by each instruction on
 //!   edges and random operands, by lists of calls and scripts, and by refusing each allocation. A
 //!   `usize` of 32 bits is tested, and not proved.
-//! - **Trusted**: the program that leaves the contracts out, the module [`rattle`], the files of this
-//!   crate that have no contract (they turn the proved library's API into that of `wasmi_core`), and
-//!   rustc.
+//! - **Trusted**: the program that leaves the contracts out, the files of this crate that have no
+//!   contract (they turn the proved library's API into that of `wasmi_core`, and stand for what
+//!   Rattle's standard library has otherwise), and rustc.
 //!
 //! Where a proof requires something of a caller, the function here asserts it, which its section
 //! *Panics* says. What no test can see is left to the caller: a limiter or a closure of yours that
@@ -92,7 +91,7 @@
 //! - If the system refuses memory, a memory or table isn't made or doesn't grow, and an error says so.
 //!   [`FuncType::new`] and [`ElementSegment::new`] panic. A [`Trap`], and a [`FuncType`] of more than
 //!   21 types, may abort.
-//! - [`Memory::data_ptr`] may be read through, and not written.
+//! - [`Memory::data_ptr`] returns a `*const u8`, so a write through it doesn't compile.
 //! - Where `usize` has 32 bits, sizes of 2^32 and more are refused, and a greater maximum counts as
 //!   2^32 - 1: that of a table too, which `wasmi_core` doesn't make then.
 //! - Big-endian targets are a compile error.
@@ -104,13 +103,15 @@
 //! - `std` (default): scripts, and errors of `std::io`. Without it the crate needs `alloc` alone.
 //! - `simd` (default): the vector instructions.
 //! - `memory64` (default): 64-bit memories.
-//! - `sse2` (default): lanes of vectors in registers of x86-64, by the unsafe blocks of one file.
-//!   Without it, and on other processors, the crate has no unsafe code.
+//! - `sse2` (default): lanes of vectors in registers, on targets that have SSE2, by the unsafe blocks
+//!   of one file. Without it, and on other targets, the crate has no unsafe code.
 #![no_std]
-#![warn(missing_docs)]
-#![cfg_attr(all(feature = "sse2", target_arch = "x86_64"), deny(unsafe_code))]
+#![warn(missing_docs, unnameable_types)]
+// What is named after a vector instruction links to it where it is there.
+#![cfg_attr(not(feature = "simd"), allow(rustdoc::broken_intra_doc_links))]
+#![cfg_attr(all(feature = "sse2", target_feature = "sse2"), deny(unsafe_code))]
 #![cfg_attr(
-    not(all(feature = "sse2", target_arch = "x86_64")),
+    not(all(feature = "sse2", target_feature = "sse2")),
     forbid(unsafe_code)
 )]
 #![cfg_attr(docsrs, feature(doc_cfg))]
@@ -137,6 +138,7 @@ macro_rules! instructions {
     ($part:ident $file:ident: $($name:ident),* $(,)?) => { $( instruction!($part $file $name); )* };
 }
 
+mod debug;
 mod float;
 mod func_type;
 #[cfg(doc)]
@@ -182,7 +184,7 @@ mod proved;
     clippy::style,
     reason = "it has the form of Rattle's library, and loops of which LLVM makes vectors"
 )]
-pub mod rattle;
+mod rattle;
 #[cfg(any(doc, feature = "simd"))]
 pub mod simd;
 /// The words and signs of Rattle's own library that contracts use; each other word has a page below.
@@ -229,7 +231,7 @@ pub mod simd;
 #[path = "proved/specs.rs"]
 pub mod specs;
 mod table;
-#[cfg(all(test, feature = "std", feature = "simd", feature = "memory64"))]
+#[cfg(test)]
 mod tests;
 mod trap;
 mod values;

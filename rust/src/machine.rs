@@ -50,15 +50,23 @@ pub use crate::{
 
 pub use crate::proved::lanes::{
     ImmLaneIdx, ImmLaneIdx2, ImmLaneIdx4, ImmLaneIdx8, ImmLaneIdx16, ImmLaneIdx32,
+    OutOfBoundsLaneIdx,
 };
 pub use crate::proved::machine::{ByteList, Call, Machine, Reply, run, run_lending, run_reserving};
 pub use crate::proved::meter::{
-    Amounts, CappedLimiter, Holdings, Kind, Lender, LimiterByKind, LimiterRef, NoLimits, Quota,
-    Reserving, ResourceLimiter, ResourceLimiterRef, ValueSize,
+    Amounts, AnswerList, AnyLimiter, CappedLimiter, Holdings, Kind, Lender, LimiterAnswer,
+    LimiterByKind, LimiterRef, NoLimits, Quota, Reserving, ResourceLimiter, ResourceLimiterRef,
+    ValueSize,
 };
 pub use crate::proved::raw::{Number, ReadAs, ReadBack, WriteAs};
 pub use crate::proved::store::{
     Buffer, ByteBuffer, ElementSegment, LinearMemory, Memory, Region, SegmentError, Table, growth,
+};
+pub use crate::proved::typed::IntoShiftAmount;
+pub use crate::proved::types::InvalidTrapCode;
+pub use crate::rattle::{
+    Vec,
+    alloc::{AllocError, AllocFailed},
 };
 #[cfg(any(doc, feature = "simd"))]
 #[doc(no_inline)]

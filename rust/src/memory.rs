@@ -40,7 +40,6 @@ use core::panic::UnwindSafe;
 /// # Ok::<(), MemoryError>(())
 /// ```
 #[doc = docs!(store LinearMemory.contract)]
-#[derive(Debug)]
 pub struct Memory(Proved<'static>);
 
 // As upstream's, of which nothing is seen after a panic but its bytes.
@@ -117,12 +116,40 @@ impl Memory {
 
     /// A pointer to the first byte, to be read through until the memory grows or is changed.
     ///
-    /// It comes of a shared borrow, so nothing may be written through it: see [`Memory::data_mut`].
     /// No contract speaks of it.
+    ///
+    /// # Differences
+    ///
+    /// `wasmi_core` returns a `*mut u8`. Here the pointer comes of a shared borrow, so a write through
+    /// it would be undefined behaviour, and doesn't compile. [`Memory::data_mut`] is there to write:
+    ///
+    /// ```compile_fail,E0594
+    /// use wasmi_core_proved::Memory;
+    ///
+    /// fn set_first(memory: &Memory) {
+    ///     unsafe { *memory.data_ptr() = 1 }
+    /// }
+    /// ```
+    ///
+    /// ```compile_fail,E0308
+    /// use wasmi_core_proved::Memory;
+    ///
+    /// fn cached(memory: &Memory) -> *mut u8 {
+    ///     memory.data_ptr()
+    /// }
+    /// ```
+    ///
+    /// ```
+    /// use wasmi_core_proved::Memory;
+    ///
+    /// fn first(memory: &Memory) -> Option<u8> {
+    ///     (memory.data_size() > 0).then(|| unsafe { *memory.data_ptr() })
+    /// }
+    /// ```
     #[must_use]
     #[inline]
-    pub fn data_ptr(&self) -> *mut u8 {
-        self.0.data().as_ptr().cast_mut()
+    pub fn data_ptr(&self) -> *const u8 {
+        self.0.data().as_ptr()
     }
 
     #[doc = docs!(store LinearMemory.data_size)]

@@ -3,19 +3,21 @@
 #[cfg(feature = "std")]
 pub mod arrayvec;
 mod list;
-/// Lanes of a vector, in registers of x86-64.
-#[cfg(all(feature = "sse2", target_arch = "x86_64"))]
+/// Lanes of a vector, in registers of SSE2.
+#[cfg(all(feature = "sse2", target_feature = "sse2"))]
 #[path = "rattle/simd_x86.rs"]
 pub mod simd;
 /// Lanes of a vector, as arrays of them.
-#[cfg(any(test, not(all(feature = "sse2", target_arch = "x86_64"))))]
+#[cfg(any(test, not(all(feature = "sse2", target_feature = "sse2"))))]
 pub mod simd_arrays;
 
-#[cfg(not(all(feature = "sse2", target_arch = "x86_64")))]
+#[cfg(not(all(feature = "sse2", target_feature = "sse2")))]
 pub use simd_arrays as simd;
 
 use alloc::AllocError;
 pub use list::Vec;
+#[cfg(test)]
+pub(crate) use texts::*;
 
 pub mod alloc {
     //! Allocators and what they refuse.
@@ -73,11 +75,6 @@ pub mod rc {
         pub fn as_slice(&self) -> &[T] {
             &self.0
         }
-
-        /// How many items it has.
-        pub fn len(&self) -> usize {
-            self.0.len()
-        }
     }
 
     impl<T> super::TryClone for RcSlice<T> {
@@ -113,11 +110,13 @@ impl<T: Copy> SliceExt<T> for [T] {
 }
 
 /// Arrays whose items are made of those of others.
+#[cfg(feature = "std")]
 pub trait ArrayExt<T, const N: usize> {
     /// What `f` gives for each item, or the first error.
     fn try_map_all<U: Copy, E>(self, f: impl FnMut(T) -> Result<U, E>) -> Result<[U; N], E>;
 }
 
+#[cfg(feature = "std")]
 impl<T: Copy, const N: usize> ArrayExt<T, N> for [T; N] {
     fn try_map_all<U: Copy, E>(self, mut f: impl FnMut(T) -> Result<U, E>) -> Result<[U; N], E> {
         let mut items = [None; N];
@@ -129,7 +128,8 @@ impl<T: Copy, const N: usize> ArrayExt<T, N> for [T; N] {
 }
 
 /// What only tests use: texts whose memory can be refused.
-#[cfg(all(test, feature = "std", feature = "memory64"))]
+#[cfg(test)]
+#[cfg_attr(not(feature = "std"), allow(dead_code))]
 mod texts {
     use super::alloc::AllocError;
     use std::string::String;
@@ -159,5 +159,3 @@ mod texts {
         Ok(std::fmt::format(arguments))
     }
 }
-#[cfg(all(test, feature = "std", feature = "memory64"))]
-pub(crate) use texts::{StrExt, TextExt, text};

@@ -37,7 +37,6 @@ use crate::{
 /// # Ok::<(), TableError>(())
 /// ```
 #[doc = docs!(store Table.contract)]
-#[derive(Debug)]
 pub struct Table(Proved);
 
 impl Table {
@@ -190,7 +189,6 @@ impl Table {
 /// Its methods are those of [`machine::ElementSegment`](crate::machine::ElementSegment), and have
 /// their contracts.
 #[doc = docs!(store ElementSegment.contract)]
-#[derive(Debug)]
 pub struct ElementSegment(ProvedSegment);
 
 impl ElementSegment {

@@ -1,5 +1,4 @@
 //! Memories, fuel and limiters: what is refused, in which order, and what stays.
-#![cfg(feature = "memory64")]
 use wasmi_core_proved::machine::{self, Quota};
 use wasmi_core_proved::{
     CustomFuelCosts, Fuel, FuelCostsProvider, FuelError, LimiterError, Memory, MemoryError,
@@ -183,6 +182,12 @@ fn a_quota_takes_back_what_fails() {
         })
     );
     assert_eq!(quota.held_bytes(), 0);
+}
+
+#[cfg(feature = "memory64")]
+#[test]
+fn a_quota_takes_back_what_the_system_refuses() {
+    let mut quota = Quota::new(u64::MAX, 0);
     let mut builder = MemoryType::builder();
     builder.page_size_log2(0).memory64(true);
     let mut memory = under(builder.build().unwrap(), &mut quota).unwrap();
@@ -290,6 +295,7 @@ fn a_limiter_may_return_an_error_to_a_notice() {
     );
 }
 
+#[cfg(feature = "memory64")]
 #[test]
 fn without_memory_the_fuel_is_taken_and_the_limiter_is_told() {
     let mut builder = MemoryType::builder();
@@ -383,6 +389,7 @@ fn types_follow_the_size() {
     );
 }
 
+#[cfg(feature = "memory64")]
 #[test]
 fn a_minimum_beyond_the_system() {
     let mut builder = MemoryType::builder();

@@ -1,5 +1,4 @@
 //! What callers have to meet is tested: each assertion that a program can reach fires.
-#![cfg(feature = "memory64")]
 use wasmi_core_proved::machine::{
     ByteBuffer, Call, Kind, LimiterByKind, Machine, NoLimits, Quota, ResourceLimiter,
     ResourceLimiterRef, growth, run_reserving,

@@ -1,5 +1,4 @@
 //! Tables: what is refused, in which order, and what stays.
-#![cfg(feature = "memory64")]
 use wasmi_core_proved::machine::{self, Quota};
 use wasmi_core_proved::{
     ElementSegment, Fuel, FuelCostsProvider, LimiterError, MemoryError, RawRef, RefType,

@@ -1,21 +1,22 @@
 //! What the tests of the Rust crate try, in words of our own, and each of its impls by its name; also those that are an
 //! impl for each type of a trait here.
-#![cfg(all(feature = "std", feature = "simd", feature = "memory64"))]
 use std::error::Error;
 use std::fmt::{Debug, Display};
 use std::hash::Hash;
 use std::num::NonZero;
-use wasmi_core_proved::simd::IntoLaneIdx;
 use wasmi_core_proved::*;
 
 fn nobody() -> ResourceLimiterRef<'static> {
     ResourceLimiterRef::default()
 }
 
-/// A memory of pages of one byte with addresses of 64 bits, so that its size may be any number of bytes.
+/// A memory of pages of one byte, so that its size may be any number of bytes, with addresses of 64 bits if there are any.
 fn bytes(minimum: u64) -> MemoryType {
     let mut builder = MemoryType::builder();
-    builder.min(minimum).page_size_log2(0).memory64(true);
+    builder
+        .min(minimum)
+        .page_size_log2(0)
+        .memory64(cfg!(feature = "memory64"));
     builder.build().unwrap()
 }
 
@@ -40,28 +41,6 @@ fn each_trap_has_its_number() {
     assert_eq!(found, 12);
     assert!(TrapCode::try_from(0).is_err());
     assert!(TrapCode::try_from(u8::MAX).is_err());
-}
-
-#[test]
-fn dot_product_of_equal_lanes() {
-    let product = simd::i32x4_dot_i16x8_s(simd::i16x8_splat(16_383), simd::i16x8_splat(16_384));
-    assert_eq!(product, simd::i32x4_splat(2 * 16_383 * 16_384));
-}
-
-#[test]
-fn or_with_zeros() {
-    let ones = simd::i16x8_splat(-1);
-    assert_eq!(simd::v128_or(simd::i16x8_splat(0), ones), ones);
-    assert_eq!(ones, V128::from(u128::MAX));
-}
-
-#[test]
-fn narrowing_stops_at_the_greatest_lane() {
-    let wide = simd::i16x8_splat(128);
-    assert_eq!(
-        simd::i8x16_narrow_i16x8_s(wide, wide),
-        simd::i8x16_splat(127)
-    );
 }
 
 #[test]
@@ -116,6 +95,7 @@ fn a_lent_region_has_an_end() {
     assert_eq!(long.map(|_| ()), Err(MemoryError::InvalidStaticBufferSize));
 }
 
+#[cfg(feature = "memory64")]
 #[test]
 fn the_system_may_have_no_memory() {
     let mut memory = memory(0);
@@ -185,6 +165,53 @@ macro_rules! impls {
     ($($ty:ty: $($bound:ident $(<$arg:ty>)?),*;)*) => { $({ $({ fn is<T: $bound $(<$arg>)?>() {} is::<$ty>(); })* })* };
 }
 
+#[cfg(feature = "simd")]
+mod vectors {
+    use std::fmt::Debug;
+    use wasmi_core_proved::simd::{self, IntoLaneIdx};
+    use wasmi_core_proved::{RawVal, ReadAs, V128, WriteAs};
+
+    #[test]
+    fn dot_product_of_equal_lanes() {
+        let product = simd::i32x4_dot_i16x8_s(simd::i16x8_splat(16_383), simd::i16x8_splat(16_384));
+        assert_eq!(product, simd::i32x4_splat(2 * 16_383 * 16_384));
+    }
+
+    #[test]
+    fn or_with_zeros() {
+        let ones = simd::i16x8_splat(-1);
+        assert_eq!(simd::v128_or(simd::i16x8_splat(0), ones), ones);
+        assert_eq!(ones, V128::from(u128::MAX));
+    }
+
+    #[test]
+    fn narrowing_stops_at_the_greatest_lane() {
+        let wide = simd::i16x8_splat(128);
+        assert_eq!(
+            simd::i8x16_narrow_i16x8_s(wide, wide),
+            simd::i8x16_splat(127)
+        );
+    }
+
+    #[test]
+    fn impls() {
+        impls! {
+            RawVal: ReadAs<V128>, WriteAs<V128>;
+            f32: IntoLaneIdx;
+            f64: IntoLaneIdx;
+            i16: IntoLaneIdx;
+            i32: IntoLaneIdx;
+            i64: IntoLaneIdx;
+            i8: IntoLaneIdx;
+            simd::ImmLaneIdx<16>: Clone, Copy, Debug, Eq, PartialEq, TryFrom<u8>;
+            u16: IntoLaneIdx;
+            u32: IntoLaneIdx;
+            u64: IntoLaneIdx;
+            u8: From<simd::ImmLaneIdx<16>>, IntoLaneIdx;
+        }
+    }
+}
+
 #[test]
 fn impls() {
     impls! {
@@ -213,14 +240,14 @@ fn impls() {
         NonZero<u32>: Typed;
         NonZero<u64>: Typed;
         RawRef: Clone, Copy, Debug, Eq, From<RawRef>, From<RawVal>, From<u32>, Hash, Ord, PartialEq, PartialOrd;
-        RawVal: Clone, Copy, Debug, Default, Eq, From<F32>, From<F64>, From<NonZero<i16>>, From<NonZero<i32>>, From<NonZero<i64>>, From<NonZero<i8>>, From<NonZero<u16>>, From<NonZero<u32>>, From<NonZero<u64>>, From<NonZero<u8>>, From<RawRef>, From<RawVal>, From<TypedRawVal>, From<V128>, From<bool>, From<f32>, From<f64>, From<i16>, From<i32>, From<i64>, From<i8>, From<u16>, From<u32>, From<u64>, From<u8>, Ord, PartialEq, PartialOrd, ReadAs<RawRef>, ReadAs<RawVal>, ReadAs<V128>, ReadAs<bool>, ReadAs<f32>, ReadAs<f64>, ReadAs<i16>, ReadAs<i32>, ReadAs<i64>, ReadAs<i8>, ReadAs<u16>, ReadAs<u32>, ReadAs<u64>, ReadAs<u8>, WriteAs<NonZero<i16>>, WriteAs<NonZero<i32>>, WriteAs<NonZero<i64>>, WriteAs<NonZero<i8>>, WriteAs<NonZero<u16>>, WriteAs<NonZero<u32>>, WriteAs<NonZero<u64>>, WriteAs<NonZero<u8>>, WriteAs<RawRef>, WriteAs<RawVal>, WriteAs<V128>, WriteAs<bool>, WriteAs<f32>, WriteAs<f64>, WriteAs<i16>, WriteAs<i32>, WriteAs<i64>, WriteAs<i8>, WriteAs<u16>, WriteAs<u32>, WriteAs<u64>, WriteAs<u8>;
+        RawVal: Clone, Copy, Debug, Default, Eq, From<F32>, From<F64>, From<NonZero<i16>>, From<NonZero<i32>>, From<NonZero<i64>>, From<NonZero<i8>>, From<NonZero<u16>>, From<NonZero<u32>>, From<NonZero<u64>>, From<NonZero<u8>>, From<RawRef>, From<RawVal>, From<TypedRawVal>, From<V128>, From<bool>, From<f32>, From<f64>, From<i16>, From<i32>, From<i64>, From<i8>, From<u16>, From<u32>, From<u64>, From<u8>, Ord, PartialEq, PartialOrd, ReadAs<RawRef>, ReadAs<RawVal>, ReadAs<bool>, ReadAs<f32>, ReadAs<f64>, ReadAs<i16>, ReadAs<i32>, ReadAs<i64>, ReadAs<i8>, ReadAs<u16>, ReadAs<u32>, ReadAs<u64>, ReadAs<u8>, WriteAs<NonZero<i16>>, WriteAs<NonZero<i32>>, WriteAs<NonZero<i64>>, WriteAs<NonZero<i8>>, WriteAs<NonZero<u16>>, WriteAs<NonZero<u32>>, WriteAs<NonZero<u64>>, WriteAs<NonZero<u8>>, WriteAs<RawRef>, WriteAs<RawVal>, WriteAs<bool>, WriteAs<f32>, WriteAs<f64>, WriteAs<i16>, WriteAs<i32>, WriteAs<i64>, WriteAs<i8>, WriteAs<u16>, WriteAs<u32>, WriteAs<u64>, WriteAs<u8>;
         RefType: Clone, Copy, Debug, Eq, From<RefType>, Hash, Ord, PartialEq, PartialOrd;
         ResourceLimiterRef<'static>: Debug, Default, From<&'static mut dyn ResourceLimiter>;
         ShiftAmount: Clone, Copy, Debug, Eq, From<ShiftAmount>, From<u8>, PartialEq, Typed;
         Table: Debug;
         TableError: Clone, Copy, Debug, Display, Error, From<FuelError>, From<LimiterError>;
         TableType: Clone, Copy, Debug, Eq, PartialEq;
-        Trap: Debug, Display, Error, From<MyError>, From<TrapCode>;
+        Trap: Debug, Display, From<MyError>, From<TrapCode>;
         TrapCode: Clone, Copy, Debug, Display, Eq, From<TrapCode>, PartialEq, TryFrom<u8>;
         TypedRawRef: Clone, Copy, Debug, From<TypedRawRef>, From<TypedRawVal>;
         TypedRawVal: Clone, Copy, Debug, Eq, From<TypedRawRef>, From<TypedRawVal>, From<i64>, PartialEq;
@@ -231,18 +258,19 @@ fn impls() {
         [u64; 2]: IntoShiftAmount;
         [u8; 16]: IntoShiftAmount;
         bool: From<RawVal>, From<TypedRawVal>, Typed;
-        f32: From<F32>, From<RawVal>, From<TypedRawVal>, IntoLaneIdx, Typed;
-        f64: From<F64>, From<RawVal>, From<TypedRawVal>, IntoLaneIdx, Typed;
+        f32: From<F32>, From<RawVal>, From<TypedRawVal>, Typed;
+        f64: From<F64>, From<RawVal>, From<TypedRawVal>, Typed;
         i128: IntoShiftAmount;
-        i16: From<RawVal>, From<TypedRawVal>, IntoLaneIdx, IntoShiftAmount, Typed;
-        i32: From<RawVal>, From<TypedRawVal>, IntoLaneIdx, IntoShiftAmount, Typed;
-        i64: From<RawVal>, From<TypedRawVal>, IntoLaneIdx, IntoShiftAmount, Typed;
-        i8: From<RawVal>, From<TypedRawVal>, IntoLaneIdx, IntoShiftAmount, Typed;
-        simd::ImmLaneIdx<16>: Clone, Copy, Debug, Eq, PartialEq, TryFrom<u8>;
+        i16: From<RawVal>, From<TypedRawVal>, IntoShiftAmount, Typed;
+        i32: From<RawVal>, From<TypedRawVal>, IntoShiftAmount, Typed;
+        i64: From<RawVal>, From<TypedRawVal>, IntoShiftAmount, Typed;
+        i8: From<RawVal>, From<TypedRawVal>, IntoShiftAmount, Typed;
         u128: IntoShiftAmount;
-        u16: From<RawVal>, From<TypedRawVal>, IntoLaneIdx, IntoShiftAmount, Typed;
-        u32: From<RawRef>, From<RawVal>, From<TypedRawVal>, IntoLaneIdx, IntoShiftAmount, Typed;
-        u64: From<RawVal>, From<TypedRawVal>, IntoLaneIdx, IntoShiftAmount, Typed;
-        u8: From<RawVal>, From<ShiftAmount>, From<TrapCode>, From<TypedRawVal>, From<simd::ImmLaneIdx<16>>, IntoLaneIdx, IntoShiftAmount, Typed;
+        u16: From<RawVal>, From<TypedRawVal>, IntoShiftAmount, Typed;
+        u32: From<RawRef>, From<RawVal>, From<TypedRawVal>, IntoShiftAmount, Typed;
+        u64: From<RawVal>, From<TypedRawVal>, IntoShiftAmount, Typed;
+        u8: From<RawVal>, From<ShiftAmount>, From<TrapCode>, From<TypedRawVal>, IntoShiftAmount, Typed;
     }
+    #[cfg(feature = "std")]
+    impls! { Trap: Error; }
 }

@@ -1,5 +1,4 @@
 //! What an engine does with the API that a narrower one wouldn't let it: generic values, errors of the host, `dyn` limiters, memories without a lifetime.
-#![cfg(all(feature = "std", feature = "simd", feature = "memory64"))]
 use std::fmt::{self, Display};
 use wasmi_core_proved::*;
 
@@ -25,7 +24,6 @@ fn values_of_any_type() {
     let mut slots = Slots([RawVal::default(); 4]);
     slots.set(0, -1_i8);
     slots.set(1, f32::from_bits(0x7fa0_0001));
-    slots.set(2, V128::from(7_u128 << 64));
     slots.set(3, RawRef::from(9));
     assert_eq!(
         (
@@ -35,13 +33,12 @@ fn values_of_any_type() {
         ),
         (255, 0x7fa0_0001, true)
     );
-    assert_eq!(
-        (
-            slots.get::<V128>(2).as_u128() >> 64,
-            u32::from(slots.get::<RawRef>(3))
-        ),
-        (7, 9)
-    );
+    assert_eq!(u32::from(slots.get::<RawRef>(3)), 9);
+    #[cfg(feature = "simd")]
+    {
+        slots.set(2, V128::from(7_u128 << 64));
+        assert_eq!(slots.get::<V128>(2).as_u128() >> 64, 7);
+    }
     const ZERO: RawVal = RawVal::from_bits64(0);
     assert_eq!(ZERO.to_bits64(), 0);
 }
@@ -91,8 +88,11 @@ fn traps() {
         (trap.to_string(), format!("{trap:?}")),
         ("mine 2".into(), "Trap { reason: Host(Mine(2)) }".into())
     );
-    let error: Box<dyn std::error::Error + Send + Sync> = Box::new(Trap::from(Other));
-    assert_eq!(error.to_string(), "other");
+    #[cfg(feature = "std")]
+    {
+        let error: Box<dyn std::error::Error + Send + Sync> = Box::new(Trap::from(Other));
+        assert_eq!(error.to_string(), "other");
+    }
     assert_eq!(trap.downcast::<Mine>(), Some(Mine(2)));
     assert_eq!(Trap::new("why").to_string(), "why");
     assert_eq!(Trap::i32_exit(3).i32_exit_status(), Some(3));
@@ -183,10 +183,7 @@ fn memories() {
         1
     );
     assert_eq!(
-        (
-            it.memories[1].data()[0],
-            it.memories[1].data_ptr().cast_const()
-        ),
+        (it.memories[1].data()[0], it.memories[1].data_ptr()),
         (0, it.memories[1].data().as_ptr())
     );
     let table = Table::new(
@@ -225,10 +222,12 @@ fn function_types() {
     );
 }
 
+#[cfg(feature = "simd")]
 fn lane<const N: u8>(lane: u8) -> Option<u8> {
     simd::ImmLaneIdx::<N>::try_from(lane).ok().map(u8::from)
 }
 
+#[cfg(feature = "simd")]
 #[test]
 fn lanes() {
     assert_eq!(

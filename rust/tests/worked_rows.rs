@@ -1,11 +1,10 @@
 //! The worked rows of the specification, by the calls of the crate's root. Its rows of scripts are among the tests of scripts.
-#![cfg(all(feature = "simd", feature = "memory64"))]
 use wasmi_core_proved::machine::{self, ByteBuffer, Quota};
 use wasmi_core_proved::{
     CustomFuelCosts, ElementSegment, Fuel, FuelCostsProvider, FuelError, FuncType, FuncTypeError,
     IntoShiftAmount, LimiterError, Memory, MemoryError, MemoryType, RawRef, RawVal, RefType,
     ResourceLimiter, ResourceLimiterRef, Table, TableError, TableType, TrapCode, TypedRawRef, V128,
-    ValType, WriteAs, simd, wasm,
+    ValType, WriteAs, wasm,
 };
 
 const PAGE: usize = 65_536;
@@ -94,6 +93,7 @@ fn pages(minimum: u64, maximum: Option<u64>) -> MemoryType {
     builder.build().unwrap()
 }
 
+#[cfg(feature = "memory64")]
 fn pages_by_64_bits(minimum: u64, maximum: Option<u64>) -> MemoryType {
     let mut builder = MemoryType::builder();
     builder.min(minimum).max(maximum).memory64(true);
@@ -149,62 +149,67 @@ fn row_6() {
     assert_eq!(wasm::i64_add128(-1, 0, 1, 0), (0, 1));
 }
 
-#[test]
-fn row_7() {
-    let least = simd::i16x8_splat(-32_768);
-    assert_eq!(
-        simd::i16x8_q15mulr_sat_s(least, least),
-        simd::i16x8_splat(32_767)
-    );
-    let bytes = simd::i8x16_splat(-128);
-    assert_eq!(
-        simd::i16x8_relaxed_dot_i8x16_i7x16_s(bytes, bytes),
-        simd::i16x8_splat(-32_768)
-    );
-    let dot = simd::i32x4_dot_i16x8_s(simd::i16x8_splat(16_383), simd::i16x8_splat(16_384));
-    assert_eq!(dot, simd::i32x4_splat(536_838_144));
-}
+#[cfg(feature = "simd")]
+mod vectors {
+    use wasmi_core_proved::simd;
 
-#[test]
-fn row_8() {
-    let narrow = simd::i8x16_narrow_i16x8_u(simd::i16x8_splat(-1), simd::i16x8_splat(300));
-    assert_eq!(
-        narrow.as_u128().to_le_bytes(),
-        [
-            0, 0, 0, 0, 0, 0, 0, 0, 255, 255, 255, 255, 255, 255, 255, 255
-        ]
-    );
-    let wide = simd::i16x8_splat(128);
-    assert_eq!(
-        simd::i8x16_narrow_i16x8_s(wide, wide),
-        simd::i8x16_splat(127)
-    );
-}
+    #[test]
+    fn row_7() {
+        let least = simd::i16x8_splat(-32_768);
+        assert_eq!(
+            simd::i16x8_q15mulr_sat_s(least, least),
+            simd::i16x8_splat(32_767)
+        );
+        let bytes = simd::i8x16_splat(-128);
+        assert_eq!(
+            simd::i16x8_relaxed_dot_i8x16_i7x16_s(bytes, bytes),
+            simd::i16x8_splat(-32_768)
+        );
+        let dot = simd::i32x4_dot_i16x8_s(simd::i16x8_splat(16_383), simd::i16x8_splat(16_384));
+        assert_eq!(dot, simd::i32x4_splat(536_838_144));
+    }
 
-#[test]
-fn rows_9_and_10() {
-    assert_eq!(
-        simd::i8x16_add(simd::i16x8_splat(255), simd::i16x8_splat(1)),
-        simd::i8x16_splat(0)
-    );
-    assert_eq!(
-        simd::i8x16_sub(simd::i16x8_splat(256), simd::i16x8_splat(1)),
-        simd::i16x8_splat(511)
-    );
-    assert_eq!(
-        simd::i8x16_eq(simd::i16x8_splat(256), simd::i16x8_splat(0)),
-        simd::i16x8_splat(255)
-    );
-}
+    #[test]
+    fn row_8() {
+        let narrow = simd::i8x16_narrow_i16x8_u(simd::i16x8_splat(-1), simd::i16x8_splat(300));
+        assert_eq!(
+            narrow.as_u128().to_le_bytes(),
+            [
+                0, 0, 0, 0, 0, 0, 0, 0, 255, 255, 255, 255, 255, 255, 255, 255
+            ]
+        );
+        let wide = simd::i16x8_splat(128);
+        assert_eq!(
+            simd::i8x16_narrow_i16x8_s(wide, wide),
+            simd::i8x16_splat(127)
+        );
+    }
 
-#[test]
-fn row_11() {
-    assert_eq!(
-        simd::i16x8_shl(simd::i16x8_splat(-32_767), 17),
-        simd::i16x8_splat(2)
-    );
-    assert_eq!(simd::i16x8_bitmask(simd::i32x4_splat(i32::MIN)), 170);
-    assert_eq!(simd::i8x16_bitmask(simd::i8x16_splat(-1)), 65_535);
+    #[test]
+    fn rows_9_and_10() {
+        assert_eq!(
+            simd::i8x16_add(simd::i16x8_splat(255), simd::i16x8_splat(1)),
+            simd::i8x16_splat(0)
+        );
+        assert_eq!(
+            simd::i8x16_sub(simd::i16x8_splat(256), simd::i16x8_splat(1)),
+            simd::i16x8_splat(511)
+        );
+        assert_eq!(
+            simd::i8x16_eq(simd::i16x8_splat(256), simd::i16x8_splat(0)),
+            simd::i16x8_splat(255)
+        );
+    }
+
+    #[test]
+    fn row_11() {
+        assert_eq!(
+            simd::i16x8_shl(simd::i16x8_splat(-32_767), 17),
+            simd::i16x8_splat(2)
+        );
+        assert_eq!(simd::i16x8_bitmask(simd::i32x4_splat(i32::MIN)), 170);
+        assert_eq!(simd::i8x16_bitmask(simd::i8x16_splat(-1)), 65_535);
+    }
 }
 
 #[test]
@@ -360,8 +365,9 @@ fn row_20() {
     assert_eq!(prices, [0, 1]);
 }
 
+#[cfg(feature = "memory64")]
 #[test]
-fn row_21() {
+fn row_21_of_64_bits() {
     let mut limiter = Recorder::new(Ok(true));
     let mut memory = Memory::new(pages_by_64_bits(0, Some(1 << 48)), &mut limiter.lent()).unwrap();
     assert_eq!(limiter.asked, [(0, 0, Some(usize::MAX))]);
@@ -371,6 +377,10 @@ fn row_21() {
     );
     let refused = Memory::new(pages_by_64_bits(1 << 48, None), &mut limiter.lent());
     assert_eq!(refused.map(|_| ()), Err(MemoryError::MinimumSizeOverflow));
+}
+
+#[test]
+fn row_21() {
     let built = [65_536, 65_537].map(|minimum| {
         let mut builder = MemoryType::builder();
         builder.min(minimum);

@@ -1,5 +1,5 @@
 """What the generated text has otherwise than the sources, so that the Rust crate's API can stand on it. The edit under "Upstream's feature" alone
-changes what a function returns; tools/erased.toml has the reason of each."""
+changes what a function returns, and those of `Debug` what is printed; tools/erased.toml has the reason of each."""
 
 # (module, text, its replacement, how often it stands there)
 EDITS = [
@@ -28,6 +28,8 @@ EDITS = [
     ("typed", "fn try_from(typed: TypedRawVal)", "pub(crate) fn of_value(typed: TypedRawVal)", 1),
     ("tests", "TableError::try_from(", "TableError::of_fuel(", 2),
     ("tests", "TypedRawRef::try_from(", "TypedRawRef::of_value(", 1),
+    ("tests", "#[test] fn all_addresses_are_too_many", "#[cfg(feature = \"memory64\")]\n#[test]\nfn all_addresses_are_too_many", 1),
+    ("tests", "mod script {", "#[cfg(feature = \"std\")]\nmod script {", 1),
     # Rust knows the size of each type.
     ("meter", "/// # Contract /// /// ```text /// SIZE = 1 /// ``` impl ValueSize for u8 { const SIZE: u64 = 1;",
      "/// The size in memory. Proved are the 1 of a byte and the 4 of a reference and of a `u32`.\nimpl<T> ValueSize for T { const SIZE: u64 = size_of::<T>() as u64;", 1),
@@ -91,6 +93,15 @@ HIDDEN = {
 EDITS += [(module, f"pub fn {name}(", f"pub(crate) fn {name}(", 1) for module, names in HIDDEN.items() for name in names]
 EDITS += [("store", f"pub fn {name}(self", f"pub(crate) fn {name}(self", 2) for name in ("grown_size", "maximum_size")]
 EDITS += [(module, "pub fn words(&self)", "pub(crate) fn words(&self)", count) for module, count in (("meter", 3), ("typed", 1), ("store", 1))]
+
+# Traits that no caller is to name: with them a trait is implemented here alone.
+UNNAMED = {"lanes": ["CountsLanes"], "meter": ["Sealed"], "raw": ["Sealed", "OneWord"], "store": ["Sealed"], "typed": ["Sealed", "TypedI32"]}
+EDITS += [(module, f"pub trait {name}", f"#[allow(unnameable_types)]\npub trait {name}", 1) for module, names in UNNAMED.items() for name in names]
+
+# Types that print their sizes and nothing of their contents: rust/src/debug.rs.
+PRINTED = ["enum Storage", "pub struct Buffer", "pub struct LinearMemory", "pub struct ElementSegment", "pub struct Table"]
+EDITS += [("store", f"#[derive(Debug)] {item}", item, 1) for item in PRINTED]
+EDITS += [("store", "#[derive(Clone, Copy, Debug)] pub struct ElementSegmentRef", "#[derive(Clone, Copy)]\npub struct ElementSegmentRef", 1)]
 
 # Texts that rustc's LLVM compiles badly, or that older compilers lack.
 EDITS += [

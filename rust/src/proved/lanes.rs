@@ -53,6 +53,7 @@ mod index {
     /// Definitions: [`IsLaneCount`](crate::specs::lanes::VectorSpecs#IsLaneCount).
     ///
     /// `A` is any type. `N` is a number.
+    #[allow(unnameable_types)]
     pub trait CountsLanes<const N: usize> {}
 
     impl CountsLanes<2> for ImmLaneIdx2 {}

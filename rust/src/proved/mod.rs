@@ -26,7 +26,7 @@ pub mod scalar;
 #[cfg(feature = "std")]
 pub mod script;
 pub mod store;
-#[cfg(all(test, feature = "std", feature = "memory64"))]
+#[cfg(test)]
 pub(crate) mod tests;
 pub mod typed;
 pub mod types;

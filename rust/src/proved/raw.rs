@@ -367,6 +367,7 @@ mod number {
         /// ```
         ///
         /// Definitions: [`NumberType`](crate::specs::raw::NumberSpecs#NumberType).
+        #[allow(unnameable_types)]
         pub trait Sealed {}
 
         impl Sealed for i8 {}
@@ -551,6 +552,7 @@ mod raw {
     }
 
     /// A type whose values stand in the low word of a raw value. Only this crate's `From` names it.
+    #[allow(unnameable_types)]
     pub trait OneWord: ReadBack {}
 }
 mod raw_ref {

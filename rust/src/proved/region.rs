@@ -379,9 +379,10 @@ pub mod table {
     ///
     /// # Errors
     ///
-    /// In the order of the tests: [`ResourceLimiterDeniedAllocation`](crate::TableError::ResourceLimiterDeniedAllocation) if the limiter doesn't permit it;
-    /// [`OutOfSystemMemory`](crate::TableError::OutOfSystemMemory) if the region is shorter than the minimum, of which the limiter is notified.
-    /// After an error the region is unchanged.
+    /// In the order of the tests: [`MinimumSizeOverflow`](crate::TableError::MinimumSizeOverflow) if `usize` has 32 bits and the minimum more;
+    /// [`ResourceLimiterDeniedAllocation`](crate::TableError::ResourceLimiterDeniedAllocation) if the limiter doesn't permit it; [`OutOfSystemMemory`](crate::TableError::OutOfSystemMemory) if the
+    /// region is shorter than the minimum, of which the limiter is notified. After an error the region
+    /// is unchanged.
     ///
     /// # Contract
     ///
@@ -405,7 +406,9 @@ pub mod table {
         reference: u32,
         limiter: &mut ResourceLimiterRef<L>,
     ) -> Result<usize, TableError> {
-        let size = ty.minimum() as usize;
+        let Ok(size) = usize::try_from(ty.minimum()) else {
+            return Err(TableError::MinimumSizeOverflow);
+        };
         let answer = limiter.table_growing(0, size, ty.maximum_size());
         permission(answer, DENIED, DENIED)?;
         if region.len() < size {
@@ -534,7 +537,7 @@ pub mod table {
         index: u64,
         reference: u32,
     ) -> Result<(), TableError> {
-        let index = index as usize;
+        let index = usize::try_from(index).map_err(|_| TableError::SetOutOfBounds)?;
         if index >= elements.len() {
             return Err(TableError::SetOutOfBounds);
         }

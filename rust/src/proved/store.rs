@@ -2,7 +2,7 @@
 pub mod bulk {
     //! What is written over a range of a memory's bytes or of a table's elements, wherever these lie.
     //! The bounds are tested first, then the fuel, also for no item. A write that is refused writes and
-    //! takes nothing.
+    //! takes nothing. A cast of a bound comes after the test, so that it is no greater than a length.
     //!
     //! Own: upstream's crate has no bulk instructions for memories. They are tested and charged as its
     //! calls on tables.
@@ -546,6 +546,7 @@ mod memory {
         use crate::rattle::Vec;
 
         mod sealed {
+            #[allow(unnameable_types)]
             pub trait Sealed {}
 
             impl<'r> Sealed for &'r mut [u8] {}
@@ -611,7 +612,6 @@ mod memory {
 
         /// A block of bytes; a buffer's bytes are the first of it. Both forms begin with their pointer, so
         /// that an access to a buffer doesn't depend on the form.
-        #[derive(Debug)]
         enum Storage<R: Region> {
             Owned(Vec<u8>),
             Lent(R),
@@ -653,7 +653,6 @@ mod memory {
         /// Definitions: [`BufferValue`](crate::specs::store::BufferSpecs#BufferValue), [`view_of`](crate::specs::store::BufferSpecs#view_of), [`EndsWithin`](crate::specs::store::BufferSpecs#EndsWithin).
         ///
         /// `R` is the type of what has the bytes, a [`Region`](crate::machine::Region#contract).
-        #[derive(Debug)]
         pub struct Buffer<R: Region> {
             storage: Storage<R>,
             len: usize,
@@ -1071,8 +1070,7 @@ mod memory {
             /// Definitions: [`minimum_bytes`](crate::specs::store::MemorySpecs#minimum_bytes), [`IsValid`](crate::specs::store::MemorySpecs#IsValid).
             #[inline]
             pub(crate) fn minimum_size(self) -> Option<usize> {
-                let size = self.minimum.checked_mul(u64::from(self.page.bytes()))?;
-                Some(size as usize)
+                usize::try_from(self.minimum.checked_mul(u64::from(self.page.bytes()))?).ok()
             }
 
             /// The maximum in bytes, at most the greatest `usize`.
@@ -1087,8 +1085,10 @@ mod memory {
             #[must_use]
             #[inline]
             pub(crate) fn maximum_size(self) -> Option<usize> {
-                self.maximum
-                    .map(|pages| pages.saturating_mul(u64::from(self.page.bytes())) as usize)
+                self.maximum.map(|pages| {
+                    let size = pages.saturating_mul(u64::from(self.page.bytes()));
+                    usize::try_from(size).unwrap_or(usize::MAX)
+                })
             }
 
             /// The number of whole pages in `size` bytes.
@@ -1151,8 +1151,7 @@ mod memory {
                 if pages > self.maximum.unwrap_or(most_pages(self.index, self.page)) {
                     return None;
                 }
-                let size = pages.checked_mul(u64::from(self.page.bytes()))?;
-                Some(size as usize)
+                usize::try_from(pages.checked_mul(u64::from(self.page.bytes()))?).ok()
             }
         }
 
@@ -1343,7 +1342,6 @@ mod memory {
     /// ```
     ///
     /// Definitions: [`MemoryValue`](crate::specs::store::MemorySpecs#MemoryValue), [`memory_of`](crate::specs::store::MemorySpecs#memory_of), [`IsSized`](crate::specs::store::MemorySpecs#IsSized).
-    #[derive(Debug)]
     pub struct LinearMemory<R: Region> {
         buffer: Buffer<R>,
         ty: MemoryType,
@@ -2092,7 +2090,6 @@ mod table {
         /// ```
         ///
         /// Definitions: [`SegmentValue`](crate::specs::store::SegmentSpecs#SegmentValue), [`IsKept`](crate::specs::store::SegmentSpecs#IsKept).
-        #[derive(Debug)]
         pub struct ElementSegment {
             ty: RefType,
             items: Vec<RawRef>,
@@ -2107,7 +2104,7 @@ mod table {
         /// ```text
         /// short: length items.now < 2 ^ 32
         /// ```
-        #[derive(Clone, Copy, Debug)]
+        #[derive(Clone, Copy)]
         pub struct ElementSegmentRef<'a> {
             ty: RefType,
             items: &'a [RawRef],
@@ -2553,7 +2550,7 @@ mod table {
                 if grown > most_elements(self.index) {
                     return None;
                 }
-                Some(grown as usize)
+                usize::try_from(grown).ok()
             }
 
             /// Whether there are more indices than so many elements.
@@ -2571,7 +2568,7 @@ mod table {
                 size as u64 <= most_elements(self.index)
             }
 
-            /// The maximum as a size.
+            /// The maximum as a size, at most the greatest `usize`.
             ///
             /// # Contract
             ///
@@ -2581,7 +2578,8 @@ mod table {
             #[must_use]
             #[inline]
             pub(crate) fn maximum_size(self) -> Option<usize> {
-                self.maximum.map(|maximum| maximum as usize)
+                self.maximum
+                    .map(|maximum| usize::try_from(maximum).unwrap_or(usize::MAX))
             }
 
             /// Whether `size` elements are no more than the maximum, if there is one.
@@ -2647,7 +2645,6 @@ mod table {
     /// ```
     ///
     /// Definitions: [`TableValue`](crate::specs::store::TableSpecs#TableValue), [`IsSized`](crate::specs::store::TableSpecs#IsSized).
-    #[derive(Debug)]
     pub struct Table {
         ty: TableType,
         elements: Vec<RawRef>,
@@ -2660,6 +2657,7 @@ mod table {
         /// # Errors
         ///
         /// In the order of the tests: [`ElementTypeMismatch`](crate::TableError::ElementTypeMismatch) if the reference is of another type;
+        /// [`MinimumSizeOverflow`](crate::TableError::MinimumSizeOverflow) if `usize` has 32 bits and the minimum more;
         /// [`ResourceLimiterDeniedAllocation`](crate::TableError::ResourceLimiterDeniedAllocation) if the limiter doesn't permit it; [`OutOfSystemMemory`](crate::TableError::OutOfSystemMemory), of
         /// which the limiter is notified.
         ///
@@ -2681,7 +2679,9 @@ mod table {
             limiter: &mut ResourceLimiterRef<L>,
         ) -> Result<Self, TableError> {
             ty.ensure_element_type_matches(init.ty)?;
-            let size = ty.minimum() as usize;
+            let Ok(size) = usize::try_from(ty.minimum()) else {
+                return Err(TableError::MinimumSizeOverflow);
+            };
             let answer = limiter.table_growing(0, size, ty.maximum_size());
             permission(answer, DENIED, DENIED)?;
             match Vec::filled(init.raw, size) {
@@ -2915,14 +2915,14 @@ mod table {
             fuel: &mut Fuel,
             limiter: &mut ResourceLimiterRef<L>,
         ) -> Result<u64, TableError> {
-            let size = self.size();
+            let size = self.elements.len();
             if delta == 0 {
-                return Ok(size);
+                return Ok(size as u64);
             }
-            let Some(desired) = self.ty.grown_size(size, delta) else {
+            let Some(desired) = self.ty.grown_size(size as u64, delta) else {
                 return Err(TableError::GrowOutOfBounds);
             };
-            let answer = limiter.table_growing(size as usize, desired, self.ty.maximum_size());
+            let answer = limiter.table_growing(size, desired, self.ty.maximum_size());
             permission(answer, TableError::GrowOutOfBounds, DENIED)?;
             if !self.ty.allows_size(desired) {
                 return Err(tell(limiter, TableError::GrowOutOfBounds, DENIED));
@@ -2937,7 +2937,7 @@ mod table {
             if self.elements.resize(desired, init).is_err() {
                 return Err(tell(limiter, TableError::OutOfSystemMemory, DENIED));
             }
-            Ok(size)
+            Ok(size as u64)
         }
 
         /// The element at an index with its type, or `None` past the end.
@@ -2952,7 +2952,8 @@ mod table {
         #[must_use]
         #[inline]
         pub fn get(&self, index: u64) -> Option<TypedRawRef> {
-            let raw = *self.elements.as_slice().get(index as usize)?;
+            let index = usize::try_from(index).ok()?;
+            let raw = *self.elements.as_slice().get(index)?;
             Some(TypedRawRef::new(raw, self.ty.element()))
         }
 
@@ -2992,7 +2993,7 @@ mod table {
         /// Definitions: [`SetsTableRaw`](crate::specs::store::TableSpecs#SetsTableRaw).
         #[inline]
         pub fn set_raw(&mut self, index: u64, value: RawRef) -> Result<(), TableError> {
-            let index = index as usize;
+            let index = usize::try_from(index).map_err(|_| TableError::SetOutOfBounds)?;
             if index >= self.elements.len() {
                 return Err(TableError::SetOutOfBounds);
             }

@@ -204,6 +204,12 @@ impl<T> Vec<T> {
     }
 }
 
+impl<T> Default for Vec<T> {
+    fn default() -> Self {
+        Self::new()
+    }
+}
+
 impl<T> From<::alloc::vec::Vec<T>> for Vec<T> {
     fn from(list: ::alloc::vec::Vec<T>) -> Self {
         Vec(list)

@@ -1,6 +1,11 @@
-//! Lanes of a vector as one register of x86-64, whose SSE2 every such processor has: what `simd_arrays.rs` does lane by lane.
+//! Lanes of a vector as one register of SSE2, which the target has: what `simd_arrays.rs` does lane by lane.
 #![allow(non_camel_case_types, unsafe_code)]
-use core::arch::x86_64::{self as arch, __m128i};
+#![allow(dead_code)] // not each width needs each operation
+use arch::__m128i;
+#[cfg(target_arch = "x86")]
+use core::arch::x86 as arch;
+#[cfg(target_arch = "x86_64")]
+use core::arch::x86_64 as arch;
 use core::ops::{Add, BitAnd, BitOr, BitXor, Mul, Not, Shl, Shr, Sub};
 
 /// The types by their names.
@@ -13,8 +18,8 @@ macro_rules! instructions {
     ($($name:ident($($operand:ident),*);)*) => { $(
         #[inline(always)]
         fn $name($($operand: __m128i),*) -> __m128i {
-            // SAFETY: the instruction is a function of its operands alone, and is there: SSE2 is part of x86-64, and what is
-            // younger stands under its target feature.
+            // SAFETY: the instruction is a function of its operands alone, and the processor has it: this file is compiled
+            // where the target feature `sse2` is on, and what is younger stands under its own.
             unsafe { arch::$name($($operand),*) }
         }
     )* };
@@ -139,7 +144,6 @@ macro_rules! vectors {
             }
 
             #[inline(always)]
-            #[allow(dead_code)] // not for each width
             fn zip(self, other: Self, f: impl Fn($lane, $lane) -> $lane) -> Self {
                 let (a, b) = (self.to_array(), other.to_array());
                 let mut lanes = [0; $count];
@@ -151,10 +155,9 @@ macro_rules! vectors {
 
             /// The one amount of all lanes, if it is one.
             #[inline(always)]
-            #[allow(dead_code)] // not for each width
             fn amount(self) -> Option<$lane> {
                 let lanes = self.to_array();
-                lanes.iter().all(|lane| *lane == lanes[0]).then_some(lanes[0] % (128 / $count))
+                lanes.iter().all(|lane| *lane == lanes[0]).then_some(lanes[0] & (128 / $count - 1))
             }
         }
 
@@ -292,7 +295,7 @@ impl u8x16 {
         Self(_mm_min_epu8(self.0, other.0))
     }
 
-    /// The lanes at the indices, 0 where an index is past the end; an index isn't from 16 to 127.
+    /// The lanes at the lowest 4 bits of the indices, 0 where the highest bit of an index is set.
     #[inline(always)]
     pub fn swizzle_dyn_within<const K: usize>(self, indices: Self) -> Self {
         #[cfg(target_feature = "ssse3")]

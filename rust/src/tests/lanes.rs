@@ -1,4 +1,8 @@
 //! Lanes: their indices, reading and writing one, and operations on each.
+
+#[cfg(all(feature = "sse2", target_feature = "sse2"))]
+mod registers;
+
 use crate::proved::lanes::laws::{
     differences_of_lanes, lanes_there_and_back, sums_of_lanes, tops_of_different_lanes,
 };

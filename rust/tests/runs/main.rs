@@ -1,17 +1,15 @@
 //! Lists of calls on machines, their replies, and what a host sees afterwards.
-#![cfg(all(feature = "std", feature = "simd", feature = "memory64"))]
 mod pools;
 mod random;
 mod runs;
 
 use wasmi_core_proved::machine::{
-    ByteList, Call, CustomFuelCosts, Fuel, FuelCostsProvider, FuelError, GlobalType, Machine,
-    MemoryError, MemoryType, Mutability, NoLimits, RawRef, RawVal, RefType, Reply, ResourceLimiter,
-    ResourceLimiterRef, TableError, TableType, TypedRawRef, ValType, run, run_lending,
+    AllocError, ByteList, Call, CustomFuelCosts, Fuel, FuelCostsProvider, FuelError, GlobalType,
+    Machine, MemoryError, MemoryType, Mutability, NoLimits, RawRef, RawVal, RefType, Reply,
+    ResourceLimiter, ResourceLimiterRef, TableError, TableType, TypedRawRef, ValType, Vec, run,
+    run_lending,
 };
 use wasmi_core_proved::ops::{LoadOp, StoreOp};
-use wasmi_core_proved::rattle::alloc::AllocError;
-use wasmi_core_proved::rattle::{SliceExt, Vec};
 
 /// A call on a memory, as a table can have it.
 #[derive(Clone, Copy)]
@@ -97,7 +95,7 @@ fn memory_call(memory: usize, row: MemoryCall) -> Result<Call, AllocError> {
         MemoryCall::Write(offset, bytes) => Call::Write {
             memory,
             offset,
-            bytes: bytes.try_to_vec()?,
+            bytes: Vec::from_slice(bytes)?,
         },
         MemoryCall::Load(ptr) => Call::Load {
             op: LoadOp::I32Load8U,
@@ -155,7 +153,7 @@ fn reply_of(row: StaticReply) -> Result<Reply, AllocError> {
         StaticReply::Done => Reply::Done,
         StaticReply::Made(index) => Reply::Made(index),
         StaticReply::Number(number) => Reply::Number(number),
-        StaticReply::Bytes(bytes) => Reply::Bytes(ByteList::from(bytes.try_to_vec()?)),
+        StaticReply::Bytes(bytes) => Reply::Bytes(ByteList::from(Vec::from_slice(bytes)?)),
         StaticReply::Memory(error) => Reply::Memory(error),
         StaticReply::Table(error) => Reply::Table(error),
         StaticReply::NoMeter => Reply::Fuel(FuelError::FuelMeteringDisabled),

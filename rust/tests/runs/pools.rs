@@ -199,7 +199,7 @@ mod machines {
             .iter()
             .map(|call| second.step(call, &mut ResourceLimiterRef::<NoLimits>::default()))
             .collect();
-        let read = ByteList::from(wasmi_core_proved::rattle::Vec::from(vec![0, 1, 2, 3]));
+        let read = ByteList::from(wasmi_core_proved::machine::Vec::from(vec![0, 1, 2, 3]));
         let expected = [
             Reply::Made(0),
             Reply::Done,

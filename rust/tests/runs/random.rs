@@ -4,9 +4,8 @@ use super::{
     MemoryCall, StaticCall, StaticReply, Step, memory_size, meter, runs_under, table_size,
 };
 use wasmi_core_proved::machine::{
-    Kind, LimiterByKind, LimiterError, Machine, MemoryError, TableError,
+    Kind, LimiterByKind, LimiterError, Machine, MemoryError, TableError, Vec,
 };
-use wasmi_core_proved::rattle::Vec;
 
 const REFUSAL: LimiterError = LimiterError::ResourceLimiterDeniedAllocation;
 

@@ -3,9 +3,7 @@ use super::{
     MemoryCall, StaticCall, StaticReply, Step, func, memory_size, memory_type, metered, runs_to,
     runs_under, unmetered,
 };
-use wasmi_core_proved::machine::{
-    Call, MemoryError, Quota, RawVal, ReadAs, Reply, run_lending, simd,
-};
+use wasmi_core_proved::machine::{Call, MemoryError, Quota, RawVal, Reply, run_lending};
 
 const REFUSED: StaticReply = StaticReply::Memory(MemoryError::OutOfBoundsGrowth);
 
@@ -133,8 +131,10 @@ fn a_run_under_a_quota() {
     drop(machine);
 }
 
+#[cfg(feature = "simd")]
 #[test]
 fn a_vector_instruction_on_a_raw_value() {
+    use wasmi_core_proved::machine::{ReadAs, simd};
     let bytes = RawVal::from(simd::i8x16_splat(127));
     let sum = simd::i8x16_add(bytes.read_as(), simd::i8x16_splat(1));
     let least = simd::i8x16_splat(-128);

@@ -1,5 +1,5 @@
 //! Scripts, and what they print.
-#![cfg(all(feature = "std", feature = "simd", feature = "memory64"))]
+#![cfg(feature = "std")]
 
 /// Lines, and beside each what is printed for it; after a `;` stands what is printed at the end. An
 /// empty last line is a line feed at the end.
@@ -71,10 +71,20 @@ fn prints(reader: &mut Source<'_>, printed: &str, status: Status) {
     same_text(writer.text(), printed.as_bytes());
 }
 
-/// A script whose calls are answered.
+/// A script whose calls are answered; or whose first memory with addresses of 64 bits is a bad line, without the feature.
 fn answers(script: &str, printed: &str) {
     let mut reader = Source::of(script.as_bytes());
-    prints(&mut reader, printed, Status::Answered);
+    let wide = script.lines().position(|line| {
+        let mut words = line.split_whitespace();
+        matches!(words.next(), Some("memory" | "lent")) && words.last() == Some("64")
+    });
+    match wide.filter(|_| cfg!(not(feature = "memory64"))) {
+        Some(place) => {
+            let printed = format!("line {}: bad command\n", place + 1);
+            prints(&mut reader, &printed, Status::BadScript);
+        }
+        None => prints(&mut reader, printed, Status::Answered),
+    }
 }
 
 /// Scripts whose calls are answered.

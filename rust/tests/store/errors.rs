@@ -1,7 +1,5 @@
 //! Types and what is shown of them, costs and meters, the texts of errors and conversions between them.
-use super::{
-    ample_memory, build_type, func, grow, memory_type, metered, page_type, segment_of, wide_type,
-};
+use super::{ample_memory, build_type, func, grow, memory_type, metered, page_type, segment_of};
 use wasmi_core_proved::machine::{
     CustomFuelCosts, Fuel, FuelCosts, FuelCostsProvider, FuelError, IndexType, LimiterError,
     MemoryError, MemoryType, NoLimits, RawRef, RefType, SegmentError, TableError, TableType,
@@ -19,14 +17,30 @@ fn builds_what_is_valid() {
     let refused = [Err(MemoryError::InvalidMemoryType); 4];
     let what = "great minimum, maximum; maximum below minimum; pages of two";
     assert_eq!(invalid, refused, "{}", what);
-    let ty = wide_type(1 << 48, None);
-    let limits = (all_pages.is_ok(), ty.is_64(), ty.minimum(), ty.maximum());
-    let expected = (true, true, 1 << 48, None);
-    assert_eq!(limits, expected, "all pages, wide addresses, limits");
+    let ty = all_pages.expect("all pages");
+    let limits = (ty.is_64(), ty.minimum(), ty.maximum());
+    assert_eq!(limits, (false, 65536, Some(65536)), "all pages");
     let page = (ty.page_size(), ty.page_size_log2());
     assert_eq!(page, (65536, 16), "a page");
     let default = MemoryType::builder().build();
     assert_eq!(default, Ok(page_type(0, None)), "the default");
+}
+
+/// Types of memories with 64-bit addresses need the feature, and no others do.
+#[test]
+fn builds_wide_types_with_the_feature() {
+    for page_size_log2 in [0, 16] {
+        let narrow = build_type(3, Some(4), page_size_log2, false).expect("a type");
+        assert!(!narrow.is_64(), "narrow addresses");
+        let built = build_type(1 << 48, None, page_size_log2, true);
+        let limits = built.map(|ty| (ty.is_64(), ty.minimum(), ty.maximum()));
+        let expected = if cfg!(feature = "memory64") {
+            Ok((true, 1 << 48, None))
+        } else {
+            Err(MemoryError::InvalidMemoryType)
+        };
+        assert_eq!(limits, expected, "wide addresses");
+    }
 }
 
 #[test]
@@ -90,11 +104,13 @@ fn drops_its_items_and_keeps_its_type() {
 #[test]
 fn other_types_are_no_subtypes() {
     let narrow = page_type(0, None);
-    let memories = [
-        narrow.is_subtype_of(&wide_type(0, None)),
-        narrow.is_subtype_of(&memory_type(0, None, 0, false)),
-    ];
-    assert_eq!(memories, [false; 2], "another address type, page size");
+    let small = memory_type(0, None, 0, false);
+    assert!(!narrow.is_subtype_of(&small), "another page size");
+    #[cfg(feature = "memory64")]
+    assert!(
+        !narrow.is_subtype_of(&super::wide_type(0, None)),
+        "another address type"
+    );
     let functions = TableType::new(RefType::Func, 0, Some(1));
     let tables = [
         functions.is_subtype_of(&TableType::new(RefType::Extern, 0, Some(1))),

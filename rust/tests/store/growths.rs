@@ -91,7 +91,7 @@ fn compare_growth(row: &Growth) {
 
 /// Makes and grows what each row says, and compares.
 pub fn compare_growths(rows: &[Growth]) {
-    for row in rows {
+    for row in rows.iter().filter(|row| row.subject.is_there()) {
         compare_growth(row);
     }
 }

@@ -1,6 +1,5 @@
 //! Memories, tables, element segments, meters and limiters, by the generic calls of `machine`: every way in which a creation
 //! or a growth can end, what is written, what it costs, and the texts of errors.
-#![cfg(all(feature = "std", feature = "memory64"))]
 
 /// A row in which the limiter gives another answer to the question of a row, and is obeyed.
 macro_rules! denied {
@@ -71,6 +70,7 @@ fn page_type(minimum: u64, maximum: Option<u64>) -> MemoryType {
 }
 
 /// Pages of 64 KiB under 64-bit addresses.
+#[cfg(feature = "memory64")]
 fn wide_type(minimum: u64, maximum: Option<u64>) -> MemoryType {
     memory_type(minimum, maximum, 16, true)
 }

@@ -2,7 +2,7 @@
 use super::creations::memory_size;
 use super::growths::memory_outcome;
 use super::limiters::{COMPLAINT, Failure, Recorder, memory_question, same_record};
-use super::{func, grow, lent_memory, memory_type, metered, metered_at, wide_type};
+use super::{func, grow, lent_memory, memory_type, metered, metered_at};
 use wasmi_core_proved::machine::{
     Fuel, FuelCostsProvider, LimiterError, Memory, MemoryError, MemoryType, NoLimits, Quota,
     RawRef, RefType, ResourceLimiterRef, Table, TableError, TableType,
@@ -104,8 +104,13 @@ fn records_creations() {
     for row in &CREATIONS {
         compare_creation(row);
     }
+}
+
+#[cfg(feature = "memory64")]
+#[test]
+fn a_minimum_of_all_bytes() {
     let mut recorder = Recorder::new(Ok(true), Ok(()));
-    let ty = wide_type(1 << (usize::BITS - 16), None);
+    let ty = super::wide_type(1 << (usize::BITS - 16), None);
     let outcome = memory_size(lent_memory(ty, &mut recorder, &mut []));
     let expected = Err(Failure::Memory(MemoryError::MinimumSizeOverflow));
     assert_eq!(outcome, expected, "a minimum of all bytes");
