@@ -9,6 +9,7 @@ macro_rules! answers {
 
 mod interpreter;
 mod lanes;
+mod shim;
 
 use crate::TrapCode;
 use crate::proved::accesses::access::{
