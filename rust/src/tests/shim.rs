@@ -46,7 +46,7 @@ fn lists_change() {
     list.as_mut_slice()[2] += 1;
     assert_eq!(
         list.iter_mut()
-            .map(|it| core::mem::take(it))
+            .map(core::mem::take)
             .collect::<vec::Vec<_>>(),
         [0, 0, 4, 9]
     );
@@ -134,7 +134,7 @@ fn texts_with_a_capacity() {
         (text.writeln("d"), text.remaining_capacity(), text.as_str()),
         (Ok(()), 0, "abcd\n")
     );
-    assert!(text.write(format_args!("{}", 1)).is_err() && text.write(&"e").is_err());
+    assert!(text.write(format_args!("{}", 1)).is_err() && text.write("e").is_err());
     text.clear();
     assert_eq!((text.as_str(), text.remaining_capacity()), ("", 5));
 }

@@ -228,7 +228,7 @@ mod vectors {
     macro_rules! lanes {
         ($($load:ident $load_at:ident $store:ident $store_at:ident $index:ident $count:literal;)*) => { $(
             for lane in 0..16 / $count {
-                let (at, index) = (usize::from(lane) * $count, simd::$index::try_from(lane).ok().expect("a lane"));
+                let (at, index) = (usize::from(lane) * $count, simd::$index::try_from(lane).expect("a lane"));
                 let value = |bytes: &[u8]| {
                     let mut all = BYTES.to_le_bytes();
                     all[at..at + $count].copy_from_slice(bytes);

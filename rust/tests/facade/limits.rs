@@ -81,19 +81,29 @@ fn a_reference_leads_to_its_limiter() {
     );
 }
 
+/// Whether a limiter permits a memory and a table, and accepts each notice.
+macro_rules! permits {
+    ($limiter:expr) => {
+        [
+            $limiter.memory_growing(0, usize::MAX, None) == Ok(true),
+            $limiter.table_growing(0, usize::MAX, Some(0)) == Ok(true),
+            $limiter.memory_grow_failed(&MemoryError::OutOfSystemMemory) == Ok(()),
+            $limiter.table_grow_failed(&TableError::OutOfSystemMemory) == Ok(()),
+        ]
+    };
+}
+
 #[test]
 fn no_limiter_permits_all() {
+    use machine::ResourceLimiter;
+    let mut none = None::<Quota>;
+    assert_eq!(permits!(none), [true; 4]);
+    let numbers = [none.instances(), none.tables(), none.memories()];
+    assert_eq!(numbers, [usize::MAX; 3]);
+    assert_eq!(permits!(NoLimits), [true; 4]);
+    assert_eq!(permits!(Some(Quota::new(0, 0))), [false, false, true, true]);
     let mut none = machine::ResourceLimiterRef::<NoLimits>::default();
-    let asked = [
-        none.memory_growing(0, usize::MAX, None),
-        none.table_growing(0, usize::MAX, Some(0)),
-    ];
-    assert_eq!(asked, [Ok(true); 2]);
-    let told = [
-        none.memory_grow_failed(&MemoryError::OutOfSystemMemory),
-        none.table_grow_failed(&TableError::OutOfSystemMemory),
-    ];
-    assert_eq!(told, [Ok(()); 2]);
+    assert_eq!(permits!(none), [true; 4]);
     assert!(none.as_resource_limiter().is_none());
 }
 

@@ -1,6 +1,5 @@
 //! `FuncType`, `Trap`, `HostError`, and what threads and panics may do with each type.
 use std::cmp::Ordering;
-use std::error::Error;
 use std::fmt;
 use std::hash::{BuildHasher, BuildHasherDefault, DefaultHasher};
 use std::marker::PhantomData;
@@ -171,6 +170,7 @@ fn traps() {
 #[cfg(feature = "std")]
 #[expect(deprecated, reason = "a caller may still call it")]
 fn descriptions() {
+    use std::error::Error;
     assert_eq!(
         Trap::from(TrapCode::OutOfFuel).description(),
         TrapCode::OutOfFuel.trap_message()

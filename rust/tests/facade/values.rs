@@ -300,29 +300,18 @@ mod lanes {
     use wasmi_core_proved::simd::*;
 
     /// As many indices as lanes, each of which is itself, and no others.
-    fn indices<T: IntoLaneIdx>(count: u8) {
-        for index in 0..=u8::MAX {
-            let lane = T::LaneIdx::try_from(index).ok().map(Into::into);
-            assert_eq!(lane, (index < count).then_some(index), "{index} of {count}");
-        }
+    macro_rules! indices {
+        ($($ty:ident $count:literal),*) => { $(
+            for index in 0..=u8::MAX {
+                let lane = <$ty as IntoLaneIdx>::LaneIdx::try_from(index).ok().map(u8::from);
+                assert_eq!(lane, (index < $count).then_some(index), "{index} for {}", stringify!($ty));
+            }
+        )* };
     }
 
     #[test]
     fn indices_of_lanes() {
-        (
-            indices::<i8>(16),
-            indices::<u8>(16),
-            indices::<i16>(8),
-            indices::<u16>(8),
-            indices::<i32>(4),
-        );
-        (
-            indices::<u32>(4),
-            indices::<f32>(4),
-            indices::<i64>(2),
-            indices::<u64>(2),
-            indices::<f64>(2),
-        );
+        indices! { i8 16, u8 16, i16 8, u16 8, i32 4, u32 4, f32 4, i64 2, u64 2, f64 2 }
         assert!(ImmLaneIdx32::try_from(31).is_ok() && ImmLaneIdx32::try_from(32).is_err());
         let lane = ImmLaneIdx4::try_from(3).ok();
         assert_eq!(
@@ -349,7 +338,7 @@ mod lanes {
     macro_rules! lanes {
         ($($item:ident $bits:ident $count:literal $value:expr, $index:ident: $replace:ident, $($extract:ident as $wide:ident),*;)*) => { $(
             for at in 0..$count {
-                let lane = $index::try_from(at).ok().expect("a lane");
+                let lane = $index::try_from(at).expect("a lane");
                 let bytes = BYTES[usize::from(at) * size_of::<$item>()..][..size_of::<$item>()].try_into().expect("a lane");
                 $( assert_eq!($extract(vector(), lane).to_le_bytes(), $wide::from(<$bits>::from_le_bytes(bytes)).to_le_bytes()); )*
                 assert_eq!($replace(vector(), lane, $value), replaced(at, $value.to_le_bytes()));
@@ -401,7 +390,7 @@ mod lanes {
             let picks: [u8; 16] = std::array::from_fn(|at| (first + 5 * at as u8) % 32);
             let both: Vec<u8> = BYTES.into_iter().chain(100..116).collect();
             let expected = picks.map(|pick| both[usize::from(pick)]);
-            let lanes = picks.map(|pick| ImmLaneIdx32::try_from(pick).ok().expect("a lane"));
+            let lanes = picks.map(|pick| ImmLaneIdx32::try_from(pick).expect("a lane"));
             assert_eq!(
                 i8x16_shuffle(vector(), second, lanes)
                     .as_u128()
