@@ -13,8 +13,8 @@ fn sums(len: usize) -> impl Iterator<Item = (u64, u64, Option<usize>)> {
             (address, 0, there),
             (0, address, there),
             (address / 2, address - address / 2, there),
-            (far, 0, Some(far as usize)),
-            (address, 1 << 32, Some(far as usize)),
+            (far, 0, usize::try_from(far).ok()),
+            (address, 1 << 32, usize::try_from(far).ok()),
             (u64::MAX, address + 1, None),
             (address + 1, u64::MAX, None),
         ]

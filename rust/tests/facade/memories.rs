@@ -15,7 +15,7 @@ pub fn unpaid(required_fuel: u64) -> MemoryError {
 #[derive(Clone, Copy, Debug)]
 pub struct Row(pub u64, pub Option<u64>, pub u8, pub Option<usize>);
 
-pub const ROWS: [Row; 8] = [
+pub const ROWS: [Row; 9] = [
     Row(4, Some(9), 0, None),
     Row(4, None, 0, None),
     Row(0, Some(2), 0, None),
@@ -24,9 +24,35 @@ pub const ROWS: [Row; 8] = [
     Row(4, None, 0, Some(12)),
     Row(4, Some(9), 0, Some(3)),
     Row(1, Some(2), 16, Some(131_071)),
+    Row(1, None, 16, Some(65_536)),
+];
+
+/// Pages to grow by, up to what 32-bit addresses allow and past it.
+const MORE: [u64; 13] = [
+    0,
+    1,
+    2,
+    3,
+    5,
+    6,
+    8,
+    65_535,
+    65_536,
+    (1 << 32) - 4,
+    (1 << 32) - 3,
+    1 << 33,
+    u64::MAX,
 ];
 
 impl Row {
+    /// Pages to grow by, but for sizes that would take gigabytes and those that the target can't count.
+    pub fn growths(self) -> impl Iterator<Item = u64> {
+        let is_bounded =
+            cfg!(target_pointer_width = "64") && (self.1.is_some() || self.3.is_some());
+        MORE.into_iter()
+            .filter(move |&more| is_bounded || more << self.2 < 1 << 20 || more > 1 << 32)
+    }
+
     pub fn ty(self) -> MemoryType {
         let mut builder = MemoryType::builder();
         builder.min(self.0).max(self.1).page_size_log2(self.2);
@@ -184,7 +210,7 @@ fn creations() {
 #[test]
 fn growths() {
     for row in ROWS.iter().filter(|row| row.3 != Some(3)) {
-        for more in [0, 1, 2, 3, 5, 6, 8, 1 << 33, u64::MAX] {
+        for more in row.growths() {
             with_each(
                 (row, more),
                 &ANSWERS,

@@ -27,8 +27,7 @@ fn lent_rows() -> impl Iterator<Item = (Row, usize)> {
 
 #[test]
 fn memories_are_made_and_grow() {
-    for ((row, room), more) in
-        lent_rows().flat_map(|it| [0, 1, 3, 5, 6, 8, 1 << 33, u64::MAX].map(|more| (it, more)))
+    for ((row, room), more) in lent_rows().flat_map(|it| it.0.growths().map(move |more| (it, more)))
     {
         with_each_limiter(
             ("made", row, more),
@@ -64,10 +63,9 @@ fn memories_are_made_and_grow() {
 
 #[test]
 fn tables_are_made_and_grow() {
-    for (room, more) in [3, 4, 9, 12]
-        .into_iter()
-        .flat_map(|room| [0, 1, 5, 6, 8, 1 << 32, u64::MAX].map(|more| (room, more)))
-    {
+    for (room, more) in [3, 4, 9, 12].into_iter().flat_map(|room| {
+        [0, 1, 5, 6, 8, (1 << 32) - 5, (1 << 32) - 4, u64::MAX].map(|more| (room, more))
+    }) {
         for ty in [Some(9), Some(4), None].map(|most| TableType::new(RefType::Func, 4, most)) {
             with_each_limiter(
                 ("made", ty, room, more),
@@ -104,6 +102,7 @@ fn tables_are_made_and_grow() {
 
 /// The most bytes or elements that a type allows are allowed, and one more isn't.
 #[test]
+#[cfg(target_pointer_width = "64")]
 fn the_greatest_sizes() {
     let (bytes, pages) = (Row(4, Some(9), 0, None), Row(0, None, 16, None));
     let rows = [
@@ -208,7 +207,10 @@ fn references_are_filled_copied_and_set() {
     for index in EDGES {
         let mut items = [1, 2, 3, 4];
         let mut expected = items;
-        let is_set = expected.get_mut(index as usize).map(|item| *item = 9);
+        let place = usize::try_from(index)
+            .ok()
+            .and_then(|index| expected.get_mut(index));
+        let is_set = place.map(|item| *item = 9);
         assert_eq!(
             table::set(func, &mut items, index, 9),
             is_set.ok_or(TableError::SetOutOfBounds),

@@ -177,7 +177,7 @@ fn creations() {
 fn growths() {
     for (ty, more) in types()
         .into_iter()
-        .flat_map(|ty| [0, 1, 2, 5, 6, 1 << 32, u64::MAX].map(|more| (ty, more)))
+        .flat_map(|ty| [0, 1, 2, 5, 6, (1 << 32) - 4, 1 << 32, u64::MAX].map(|more| (ty, more)))
     {
         let made = || Table::new(ty, of(7, ty.element()), &mut nobody()).expect("a table");
         let model = || Model::new(ty, 7, None, &mut None).expect("a table");
@@ -308,7 +308,9 @@ fn elements() {
         .flat_map(|index| KINDS.map(|kind| (index, kind)))
     {
         let (mut table, mut model) = filled(RefType::Func);
-        let place = model.items.get_mut(index as usize);
+        let place = usize::try_from(index)
+            .ok()
+            .and_then(|index| model.items.get_mut(index));
         let is_set = place
             .map(|item| *item = 9)
             .ok_or(TableError::SetOutOfBounds);
