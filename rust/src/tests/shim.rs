@@ -41,6 +41,12 @@ fn lists_change() {
         (list.try_reserve(room + 1), list.capacity() > 3 + room),
         (Ok(()), true)
     );
+}
+
+#[test]
+fn lists_are_read_and_cleared() {
+    let mut list = Vec::with_capacity(4).expect("memory");
+    list.extend_from_slice(&[1_u8, 2, 3]).expect("room");
     list.push_reserved(9);
     list.slice_mut(..2).fill(0);
     list.as_mut_slice()[2] += 1;

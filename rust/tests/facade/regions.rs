@@ -103,7 +103,7 @@ fn tables_are_made_and_grow() {
 /// The most bytes or elements that a type allows are allowed, and one more isn't.
 #[test]
 #[cfg(target_pointer_width = "64")]
-fn the_greatest_sizes() {
+fn the_greatest_memories() {
     let (bytes, pages) = (Row(4, Some(9), 0, None), Row(0, None, 16, None));
     let rows = [
         (bytes, 3, false),
@@ -135,6 +135,11 @@ fn the_greatest_sizes() {
             "{row:?}, {size}, {more}"
         );
     }
+}
+
+#[test]
+#[cfg(target_pointer_width = "64")]
+fn the_greatest_tables() {
     let all = u32::MAX as usize;
     for (most, size, is_sized) in [
         (Some(9), 9, true),
