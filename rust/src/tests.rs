@@ -9,6 +9,7 @@ macro_rules! answers {
 
 mod interpreter;
 mod lanes;
+mod registers;
 mod shim;
 
 use crate::TrapCode;
