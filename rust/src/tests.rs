@@ -9,6 +9,8 @@ macro_rules! answers {
 
 mod interpreter;
 mod lanes;
+mod registers;
+mod shim;
 
 use crate::TrapCode;
 use crate::proved::accesses::access::{

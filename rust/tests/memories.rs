@@ -197,106 +197,7 @@ fn a_quota_takes_back_what_the_system_refuses() {
 }
 
 #[test]
-fn a_limiter_is_asked_once_and_told_of_a_failure() {
-    let mut limiter = Scripted::new(Ok(true));
-    let mut memory = Memory::new(pages(1, Some(8)), &mut lent(&mut limiter)).unwrap();
-    let mut fuel = fuel(1_500);
-    assert_eq!(
-        memory.grow(0, Some(&mut fuel), &mut lent(&mut limiter)),
-        Ok(1)
-    );
-    assert_eq!(
-        memory.grow(1, Some(&mut fuel), &mut lent(&mut limiter)),
-        Ok(1)
-    );
-    let refused = MemoryError::OutOfFuel {
-        required_fuel: 1_024,
-    };
-    assert_eq!(
-        memory.grow(1, Some(&mut fuel), &mut lent(&mut limiter)),
-        Err(refused)
-    );
-    assert_eq!(
-        memory.grow(9, Some(&mut fuel), &mut lent(&mut limiter)),
-        Err(MemoryError::OutOfBoundsGrowth)
-    );
-    let most = Some(8 * PAGE);
-    assert_eq!(
-        limiter.asked,
-        [
-            (0, PAGE, most),
-            (PAGE, 2 * PAGE, most),
-            (2 * PAGE, 3 * PAGE, most)
-        ]
-    );
-    assert_eq!(limiter.told, [refused]);
-    assert_eq!((memory.size(), fuel.get_fuel()), (2, Ok(476)));
-}
-
-#[test]
-fn a_lent_limiter_can_be_asked_directly() {
-    let mut limiter = Scripted::new(Ok(false));
-    let mut reference = lent(&mut limiter);
-    let answer = reference
-        .as_resource_limiter()
-        .map(|limiter| limiter.memory_growing(1, 2, None));
-    assert_eq!(answer, Some(Ok(false)));
-    assert_eq!(limiter.asked, [(1, 2, None)]);
-    assert!(
-        ResourceLimiterRef::default()
-            .as_resource_limiter()
-            .is_none()
-    );
-}
-
-#[test]
-fn a_limiter_may_refuse_or_return_an_error() {
-    for (answer, new, grow) in [
-        (
-            Ok(false),
-            MemoryError::ResourceLimiterDeniedAllocation,
-            MemoryError::OutOfBoundsGrowth,
-        ),
-        (
-            Err(DENIED),
-            MemoryError::ResourceLimiterDeniedAllocation,
-            MemoryError::ResourceLimiterDeniedAllocation,
-        ),
-    ] {
-        let mut limiter = Scripted::new(answer);
-        assert_eq!(
-            Memory::new(pages(1, None), &mut lent(&mut limiter)).map(|_| ()),
-            Err(new)
-        );
-        let mut memory = Memory::new(pages(1, None), &mut ResourceLimiterRef::default()).unwrap();
-        let mut fuel = fuel(1_024);
-        assert_eq!(
-            memory.grow(1, Some(&mut fuel), &mut lent(&mut limiter)),
-            Err(grow)
-        );
-        assert_eq!((fuel.get_fuel(), limiter.told.len()), (Ok(1_024), 0));
-    }
-}
-
-#[test]
-fn a_limiter_may_return_an_error_to_a_notice() {
-    let mut limiter = Scripted {
-        notice: Err(DENIED),
-        ..Scripted::new(Ok(true))
-    };
-    let mut memory = Memory::new(pages(1, None), &mut ResourceLimiterRef::default()).unwrap();
-    let refused = memory.grow(1, Some(&mut fuel(0)), &mut lent(&mut limiter));
-    assert_eq!(refused, Err(MemoryError::ResourceLimiterDeniedAllocation));
-    assert_eq!(
-        limiter.told,
-        [MemoryError::OutOfFuel {
-            required_fuel: 1_024
-        }]
-    );
-}
-
 #[cfg(feature = "memory64")]
-#[test]
 fn without_memory_the_fuel_is_taken_and_the_limiter_is_told() {
     let mut builder = MemoryType::builder();
     builder.page_size_log2(0).memory64(true);
@@ -353,44 +254,7 @@ fn a_region_stays_if_the_limiter_refuses() {
 }
 
 #[test]
-fn reads_and_writes() {
-    let mut memory = Memory::new(pages(1, None), &mut ResourceLimiterRef::default()).unwrap();
-    assert_eq!(memory.write(PAGE - 2, &[1, 2]), Ok(()));
-    let mut bytes = [9; 2];
-    for (offset, expected) in [(PAGE - 1, [9, 9]), (usize::MAX, [9, 9]), (PAGE - 2, [1, 2])] {
-        let result = memory.read(offset, &mut bytes);
-        assert_eq!(
-            (result.is_ok(), bytes),
-            (expected == [1, 2], expected),
-            "at {offset}"
-        );
-    }
-    assert_eq!(
-        memory.write(PAGE - 1, &[3, 4]),
-        Err(MemoryError::OutOfBoundsAccess)
-    );
-    assert_eq!(memory.data()[PAGE - 2..], [1, 2]);
-    assert_eq!(memory.read(PAGE, &mut []), Ok(()));
-    assert_eq!(
-        memory.read(PAGE + 1, &mut []),
-        Err(MemoryError::OutOfBoundsAccess)
-    );
-}
-
-#[test]
-fn types_follow_the_size() {
-    let mut memory = Memory::new(pages(1, Some(3)), &mut ResourceLimiterRef::default()).unwrap();
-    memory
-        .grow(2, None, &mut ResourceLimiterRef::default())
-        .unwrap();
-    assert_eq!(
-        (memory.ty(), memory.dynamic_ty()),
-        (pages(1, Some(3)), pages(3, Some(3)))
-    );
-}
-
 #[cfg(feature = "memory64")]
-#[test]
 fn a_minimum_beyond_the_system() {
     let mut builder = MemoryType::builder();
     builder.min(1 << 48).memory64(true);

@@ -112,11 +112,12 @@ fn the_system_may_have_no_memory() {
 type Limits = (u32, Option<u32>);
 
 /// Limits, those of another type, and whether a type of the first may stand where one of the second is expected.
-const SUBTYPES: [(Limits, Limits, bool); 7] = [
+const SUBTYPES: [(Limits, Limits, bool); 8] = [
     ((0, Some(1)), (0, Some(1)), true),
     ((0, Some(1)), (0, Some(2)), true),
     ((0, Some(2)), (0, Some(1)), false),
     ((2, None), (1, None), true),
+    ((1, None), (2, None), false),
     ((0, None), (0, None), true),
     ((0, Some(1)), (0, None), true),
     ((0, None), (0, Some(1)), false),

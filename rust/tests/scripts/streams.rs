@@ -366,10 +366,13 @@ fn each_reason_has_its_text() {
 }
 
 #[test]
-fn want_of_memory_in_a_call_is_no_room() {
-    let head = ReplyHead {
-        call: &Call::GetFuel,
-        reply: &Reply::NoRoom,
-    };
-    assert_eq!(head.to_string(), "no room");
+fn replies_are_shown() {
+    for (reply, text) in [
+        (Reply::NoRoom, "no room"),
+        (Reply::Number(1_234_567_890), "value 1234567890"),
+    ] {
+        let call = &Call::GetFuel;
+        let reply = &reply;
+        assert_eq!(ReplyHead { call, reply }.to_string(), text);
+    }
 }
