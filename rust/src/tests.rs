@@ -10,6 +10,7 @@ macro_rules! answers {
 mod interpreter;
 mod lanes;
 mod registers;
+#[cfg(feature = "std")]
 mod shim;
 
 use crate::TrapCode;

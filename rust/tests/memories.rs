@@ -1,9 +1,11 @@
 //! Memories, fuel and limiters: what is refused, in which order, and what stays.
 use wasmi_core_proved::machine::{self, Quota};
 use wasmi_core_proved::{
-    CustomFuelCosts, Fuel, FuelCostsProvider, FuelError, LimiterError, Memory, MemoryError,
-    MemoryType, ResourceLimiter, ResourceLimiterRef, TableError,
+    CustomFuelCosts, Fuel, FuelCostsProvider, FuelError, LimiterError, MemoryError, MemoryType,
+    ResourceLimiter, TableError,
 };
+#[cfg(feature = "memory64")]
+use wasmi_core_proved::{Memory, ResourceLimiterRef};
 
 const PAGE: usize = 65_536;
 
@@ -65,6 +67,7 @@ macro_rules! limits {
 }
 limits!(ResourceLimiter, machine::ResourceLimiter);
 
+#[cfg(feature = "memory64")]
 fn lent(limiter: &mut Scripted) -> ResourceLimiterRef<'_> {
     (limiter as &mut dyn ResourceLimiter).into()
 }
