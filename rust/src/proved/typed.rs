@@ -102,7 +102,7 @@ mod global {
     ///
     /// # Fields in contracts
     ///
-    /// Contracts see these fields:
+    /// Contracts name fields that are private here:
     ///
     /// - `content`: The type of its value.
     /// - `mutability`: Whether it can be written.
@@ -643,7 +643,7 @@ mod typed {
     ///
     /// # Fields in contracts
     ///
-    /// Contracts see these fields:
+    /// Contracts name fields that are private here:
     ///
     /// - `ty`: The type.
     /// - `raw`: The value.
@@ -880,7 +880,7 @@ mod typed_ref {
     ///
     /// # Fields in contracts
     ///
-    /// Contracts see these fields:
+    /// Contracts name fields that are private here:
     ///
     /// - `raw`: The reference.
     /// - `ty`: The type.
