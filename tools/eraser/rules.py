@@ -217,7 +217,7 @@ class File(Source):
         if re.search(r"struct (\w+)|$", head)[1] not in HIDDEN_FIELDS:
             return []
         fields = re.findall(r"«d(\d+)»\n *pub (\w+):", inside)
-        return ["Contracts see these fields:", "", *(f"- `{name}`: {self.kept[int(mark)][4:]}" for mark, name in fields)]
+        return ["Contracts name fields that are private here:", "", *(f"- `{name}`: {self.kept[int(mark)][4:]}" for mark, name in fields)]
 
     def items(self):
         """Shows ghost members in the docs of their items, and leaves out models and drops that Rust does itself."""

@@ -123,11 +123,11 @@ pub fn question(ty: MemoryType, size: usize, additional: u64) -> Option<(usize, 
     Some((desired, ty.maximum_size()))
 }
 
-/// Fills bytes of a memory, as [`wasmi_store::LinearMemory::fill`] does.
+/// Fills bytes of a memory.
 ///
 /// # Errors
 ///
-/// The same.
+/// Those of [`wasmi_store::LinearMemory::fill`], which does the same.
 pub fn fill(
     bytes: &mut [u8],
     dst: u64,
@@ -141,11 +141,11 @@ pub fn fill(
     fill_items(bytes, dst, value, len, OUTSIDE, fuel)
 }
 
-/// Copies bytes of a memory, as [`wasmi_store::LinearMemory::copy_within`] does.
+/// Copies bytes of a memory.
 ///
 /// # Errors
 ///
-/// The same.
+/// Those of [`wasmi_store::LinearMemory::copy_within`], which does the same.
 pub fn copy_within(
     bytes: &mut [u8],
     dst: u64,
@@ -159,11 +159,11 @@ pub fn copy_within(
     copy_items_within(bytes, dst, src, len, OUTSIDE, fuel)
 }
 
-/// Copies bytes to a memory, as [`wasmi_store::LinearMemory::copy`] does.
+/// Copies bytes to a memory.
 ///
 /// # Errors
 ///
-/// The same.
+/// Those of [`wasmi_store::LinearMemory::copy`], which does the same.
 pub fn copy(
     bytes: &mut [u8],
     source: &[u8],
@@ -178,11 +178,11 @@ pub fn copy(
     copy_items(bytes, dst, source, src, len, OUTSIDE, fuel)
 }
 
-/// Copies a segment to a memory, as [`wasmi_store::LinearMemory::init`] does.
+/// Copies a segment to a memory.
 ///
 /// # Errors
 ///
-/// The same.
+/// Those of [`wasmi_store::LinearMemory::init`], which does the same.
 pub fn init(
     bytes: &mut [u8],
     segment: &[u8],

@@ -53,7 +53,7 @@ pub fn print<W: io::Write>(writer: &mut W, outcome: &Result<Replayed, ReplayErro
 ///
 /// # Errors
 ///
-/// That of the writer, after which nothing more is printed.
+/// That of the writer, which then has the front of the text.
 pub fn print_lines<W: io::Write>(writer: &mut W, calls: &[Call], replies: &[Reply]) -> fmt::Result
     ensures ok { OnOk result (Appends (W.contents writer.old) (W.contents writer.new)
         (replies_text calls.now replies.now)) }

@@ -439,7 +439,7 @@ mod raw {
     ///
     /// # Fields in contracts
     ///
-    /// Contracts see these fields:
+    /// Contracts name fields that are private here:
     ///
     /// - `lo`: Bits 0 to 63.
     /// - `hi`: Bits 64 to 127.

@@ -235,11 +235,11 @@ pub mod memory {
         Some((desired, ty.maximum_size()))
     }
 
-    /// Fills bytes of a memory, as [`LinearMemory::fill`](crate::proved::store::LinearMemory::fill) does.
+    /// Fills bytes of a memory.
     ///
     /// # Errors
     ///
-    /// The same.
+    /// Those of [`LinearMemory::fill`](crate::proved::store::LinearMemory::fill), which does the same.
     ///
     /// # Contract
     ///
@@ -260,11 +260,11 @@ pub mod memory {
         fill_items(bytes, dst, value, len, OUTSIDE, fuel)
     }
 
-    /// Copies bytes of a memory, as [`LinearMemory::copy_within`](crate::proved::store::LinearMemory::copy_within) does.
+    /// Copies bytes of a memory.
     ///
     /// # Errors
     ///
-    /// The same.
+    /// Those of [`LinearMemory::copy_within`](crate::proved::store::LinearMemory::copy_within), which does the same.
     ///
     /// # Contract
     ///
@@ -285,11 +285,11 @@ pub mod memory {
         copy_items_within(bytes, dst, src, len, OUTSIDE, fuel)
     }
 
-    /// Copies bytes to a memory, as [`LinearMemory::copy`](crate::proved::store::LinearMemory::copy) does.
+    /// Copies bytes to a memory.
     ///
     /// # Errors
     ///
-    /// The same.
+    /// Those of [`LinearMemory::copy`](crate::proved::store::LinearMemory::copy), which does the same.
     ///
     /// # Contract
     ///
@@ -311,11 +311,11 @@ pub mod memory {
         copy_items(bytes, dst, source, src, len, OUTSIDE, fuel)
     }
 
-    /// Copies a segment to a memory, as [`LinearMemory::init`](crate::proved::store::LinearMemory::init) does.
+    /// Copies a segment to a memory.
     ///
     /// # Errors
     ///
-    /// The same.
+    /// Those of [`LinearMemory::init`](crate::proved::store::LinearMemory::init), which does the same.
     ///
     /// # Contract
     ///

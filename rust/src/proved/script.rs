@@ -292,7 +292,7 @@ mod printing {
     ///
     /// # Errors
     ///
-    /// That of the writer, after which nothing more is printed.
+    /// That of the writer, which then has the front of the text.
     ///
     /// # Contract
     ///

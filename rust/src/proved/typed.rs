@@ -102,7 +102,7 @@ mod global {
     ///
     /// # Fields in contracts
     ///
-    /// Contracts see these fields:
+    /// Contracts name fields that are private here:
     ///
     /// - `content`: The type of its value.
     /// - `mutability`: Whether it can be written.
@@ -645,7 +645,7 @@ mod typed {
     ///
     /// # Fields in contracts
     ///
-    /// Contracts see these fields:
+    /// Contracts name fields that are private here:
     ///
     /// - `ty`: The type.
     /// - `raw`: The value.
@@ -882,7 +882,7 @@ mod typed_ref {
     ///
     /// # Fields in contracts
     ///
-    /// Contracts see these fields:
+    /// Contracts name fields that are private here:
     ///
     /// - `raw`: The reference.
     /// - `ty`: The type.
