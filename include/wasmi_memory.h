@@ -26,8 +26,8 @@
 
    Statuses are those of wasmi_core.h and wasmi_machine.h and the four below. After a status other than WASMI_DONE the
    structs, the regions and the numbers are as they were, except where a call says otherwise, and except that a quota
-   that is on may have another `last` and last_kind where it was asked. No call writes a flag that it reads
-   (is_on, has_maximum, is_64), and none writes a meter or a quota that is off.
+   that is on may have another `last` and last_kind where it was asked; both are 0 then if it has nothing to take back.
+   No call writes a flag that it reads (is_on, has_maximum, is_64), and none writes a meter or a quota that is off.
 
    What is promised, by proof: a growth is a growth of the library's memory or table, between the states that the
    structs stand for before and after the call, with the same charge, the same question to the quota and the same
