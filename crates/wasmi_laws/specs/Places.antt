@@ -176,7 +176,9 @@ IsLiveSlot (Gone size) = ⊥
 abbrev pub IsLive : (location : Location) → Content location → Type 0
 IsLive (MemoryAt k) x = IsLiveSlot x
 IsLive (TableAt k) x = IsLiveSlot x
-IsLive location x = Unit {0}
+IsLive (SegmentAt k) x = Unit {0}
+IsLive (GlobalAt k) x = Unit {0}
+IsLive (RegisterAt k) x = Unit {0}
 
 -- something is at an index, and this holds of it
 abbrev pub HasAt : (location : Location) → State → (Content location → Type 0) → Type 0

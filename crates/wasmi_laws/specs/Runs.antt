@@ -27,14 +27,35 @@ pub record IsRunInTwo {S : Type 0} (rules : Rules S) (first rest : List Call) (u
   pub rest_run : IsRunOf rules rest between (drop (length first) replies) w
 
 -- The reply is a refusal that is found before the limiter is asked and before anything is charged: a trap, an index
--- that names nothing, an access past the end, another type, metering that is off, or no place for a new slot.
+-- that names nothing, an access past the end, another type, metering that is off, or no place for a new slot. Each reply
+-- has a line, and so has each error of a memory or a table.
 abbrev pub IsPlainRefusal : Reply → Type 0
+IsPlainRefusal reply.Done = ⊥
+IsPlainRefusal (reply.Made index) = ⊥
+IsPlainRefusal (reply.Value value) = ⊥
+IsPlainRefusal (reply.Number number) = ⊥
+IsPlainRefusal (reply.Bytes bytes) = ⊥
+IsPlainRefusal (reply.Reference value) = ⊥
+IsPlainRefusal (reply.Memory memory.OutOfSystemMemory) = ⊥
+IsPlainRefusal (reply.Memory memory.OutOfBoundsGrowth) = ⊥
 IsPlainRefusal (reply.Memory memory.OutOfBoundsAccess) = Unit {0}
+IsPlainRefusal (reply.Memory memory.InvalidMemoryType) = ⊥
+IsPlainRefusal (reply.Memory memory.InvalidStaticBufferSize) = ⊥
+IsPlainRefusal (reply.Memory memory.ResourceLimiterDeniedAllocation) = ⊥
+IsPlainRefusal (reply.Memory memory.MinimumSizeOverflow) = ⊥
+IsPlainRefusal (reply.Memory memory.MaximumSizeOverflow) = ⊥
+IsPlainRefusal (reply.Memory (memory.OutOfFuel required)) = ⊥
+IsPlainRefusal (reply.Table table.OutOfSystemMemory) = ⊥
+IsPlainRefusal (reply.Table table.MinimumSizeOverflow) = ⊥
+IsPlainRefusal (reply.Table table.MaximumSizeOverflow) = ⊥
+IsPlainRefusal (reply.Table table.ResourceLimiterDeniedAllocation) = ⊥
+IsPlainRefusal (reply.Table table.GrowOutOfBounds) = ⊥
 IsPlainRefusal (reply.Table table.InitOutOfBounds) = Unit {0}
 IsPlainRefusal (reply.Table table.FillOutOfBounds) = Unit {0}
 IsPlainRefusal (reply.Table table.SetOutOfBounds) = Unit {0}
 IsPlainRefusal (reply.Table table.CopyOutOfBounds) = Unit {0}
 IsPlainRefusal (reply.Table table.ElementTypeMismatch) = Unit {0}
+IsPlainRefusal (reply.Table (table.OutOfFuel required)) = ⊥
 IsPlainRefusal (reply.Fuel error) = Unit {0}
 IsPlainRefusal (reply.Global error) = Unit {0}
 IsPlainRefusal (reply.Segment error) = Unit {0}
@@ -42,7 +63,6 @@ IsPlainRefusal (reply.Trap code) = Unit {0}
 IsPlainRefusal reply.NoSuch = Unit {0}
 IsPlainRefusal reply.NoRegion = Unit {0}
 IsPlainRefusal reply.NoRoom = Unit {0}
-IsPlainRefusal other = ⊥
 
 module _ {S : Type 0} (rules : Rules S) where
   -- a run of turns is, at each place, a run of those before it, and a run of the others from where these end

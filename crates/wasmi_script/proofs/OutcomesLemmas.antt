@@ -1,5 +1,5 @@
 -- Lines that are printed one after the other, and outcomes of what a reader gave.
-use Rattle.std.proofs.Common.{ℕ, ◌+◌, ◌<◌, ◌≡◌, ◌∙◌, ◌++◌, ◌∷◌, List, [], length, take, drop, get_or, ◌≤◌, refl, sym, ap, arith, append_assoc, append-nil, take-append-drop, length-take-le, codes, Option, None, Some, Err, IfSome, replicate}
+use Rattle.std.proofs.Common.{ℕ, ◌+◌, ◌<◌, ◌≡◌, ◌∙◌, ◌++◌, ◌∷◌, List, [], length, take, drop, get_or, ◌≤◌, refl, sym, ap, arith, append_assoc, append-nil, take-append-drop, length-take-le, codes, Option, None, Some, Ok, Err, IfSome, replicate}
 use Rattle.std.specs.List.{flat_map, enumerate_from, slice_get}
 use Rattle.std.specs.Option.{option_map}
 use Rattle.std.specs.Fmt.{decimal}
@@ -13,7 +13,7 @@ use Rattle.wasmi_core.specs.State.{State, total}
 use Rattle.wasmi_script.proofs.PrintingLemmas.{texts_more, texts_at}
 use Rattle.wasmi_script.specs.Printing.{line}
 use Rattle.wasmi_script.specs.Texts.{bytes_in, bytes_text, head_text, reply_text}
-use Rattle.wasmi_script.specs.Outcomes.{tenant_text, tenants_text, IsReadError, script_limit, IsOutcomeOfReader}
+use Rattle.wasmi_script.specs.Outcomes.{tenant_text, tenants_text, IsReadError, script_limit, IsOutcomeOf, IsOutcomeOfReader, ReplayOutcome}
 use Rattle.wasmi_grammar.specs.declared.error.ParseError.{ParseError}
 use Rattle.wasmi_grammar.specs.declared.error.ParseError.TheVariants.{BadCommand, OutOfMemory}
 use Rattle.wasmi_grammar.specs.Lines.{IsParseError}
@@ -142,28 +142,30 @@ pub told_by : (given : Option (List ℕ)) (bytes : List ℕ) → IfSome given (�
 told_by None bytes known = tt
 told_by (Some told) bytes known = sym known
 
--- want of memory is an outcome of whatever a reader gives
-pub wanting : (given : Option (List ℕ)) → IsOutcomeOfReader given (Err (Parse OutOfMemory))
-wanting None = ([], tt, tt)
-wanting (Some bytes) = (bytes, refl, tt)
-
 -- there are more bytes than any number
 longer : (n : ℕ) → (bytes : List ℕ) × (n < length bytes)
 longer n = (replicate (n + 1) 0, omega (arith, length-replicate {A = ℕ} (n + 1) 0))
 
 -- bytes that aren't read have an outcome
-pub unread : (given : Option (List ℕ)) (error : ReplayError) → IsReadError given error
-    → IsOutcomeOfReader given (Err error)
-unread given (Parse (BadCommand number)) is = absurd is
-unread given (Parse OutOfMemory) is = wanting given
-unread None TooLong is = let bytes = longer script_limit in (bytes.0, tt, bytes.1)
-unread (Some bytes) TooLong is = (bytes, refl, is)
-unread None ReadFault is = ([], tt, tt)
-unread (Some bytes) ReadFault is = (bytes, refl, tt)
+pub unread : (given : Option (List ℕ)) (failed : Type 0) (error : ReplayError) → IsReadError given failed error
+    → IsOutcomeOfReader given failed (Err error)
+unread given failed (Parse (BadCommand number)) is = absurd is
+unread None failed (Parse OutOfMemory) is = ([], tt, tt)
+unread (Some bytes) failed (Parse OutOfMemory) is = (bytes, refl, tt)
+unread None failed TooLong is = let bytes = longer script_limit in (bytes.0, tt, bytes.1)
+unread (Some bytes) failed TooLong is = (bytes, refl, is)
+unread given failed ReadFault is = is
 
--- bytes that are read and not parsed have an outcome
-pub unparsed : (given : Option (List ℕ)) (bytes : List ℕ) (error : ParseError) → IfSome given (λ told. bytes ≡ told)
-    → length bytes ≤ script_limit → IsParseError bytes error → IsOutcomeOfReader given (Err (Parse error))
-unparsed given bytes OutOfMemory known short is = wanting given
-unparsed None bytes (BadCommand number) known short is = (bytes, tt, (short, is))
-unparsed (Some told) bytes (BadCommand number) known short is = (bytes, sym known, (short, is))
+-- what comes of the bytes of a reader
+pub of_bytes : (given : Option (List ℕ)) (failed : Type 0) (bytes : List ℕ) (outcome : ReplayOutcome)
+    → IfSome given (λ told. bytes ≡ told) → IsOutcomeOf bytes outcome → IsOutcomeOfReader given failed outcome
+of_bytes given failed bytes (Ok replayed) known is = (bytes, told_by given bytes known, is)
+of_bytes given failed bytes (Err (Parse error)) known is = (bytes, told_by given bytes known, is)
+of_bytes given failed bytes (Err TooLong) known is = (bytes, told_by given bytes known, is)
+of_bytes given failed bytes (Err ReadFault) known is = absurd is
+
+-- bytes that aren't parsed have an outcome
+pub unparsed : (bytes : List ℕ) (error : ParseError) → length bytes ≤ script_limit → IsParseError bytes error
+    → IsOutcomeOf bytes (Err (Parse error))
+unparsed bytes OutOfMemory short is = tt
+unparsed bytes (BadCommand number) short is = (short, is)

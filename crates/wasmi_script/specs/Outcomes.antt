@@ -39,12 +39,12 @@ status_after (Err ReadFault) = Fault
 abbrev pub script_limit : ℕ
 script_limit = 1048576
 
--- why the bytes that a reader has left aren't read
-abbrev pub IsReadError : Option (List ℕ) → ReplayError → Type 0
-IsReadError left (Parse (Errors.BadCommand number)) = ⊥
-IsReadError left (Parse Errors.OutOfMemory) = ⊤
-IsReadError left TooLong = IfSome left (λ bytes. script_limit < length bytes)
-IsReadError left ReadFault = ⊤
+-- why the bytes that a reader has left aren't read; a fault only if it has failed
+abbrev pub IsReadError : Option (List ℕ) → Type 0 → ReplayError → Type 0
+IsReadError left failed (Parse (Errors.BadCommand number)) = ⊥
+IsReadError left failed (Parse Errors.OutOfMemory) = ⊤
+IsReadError left failed TooLong = IfSome left (λ bytes. script_limit < length bytes)
+IsReadError left failed ReadFault = failed
 
 -- a line for each call, with its reply
 abbrev pub replies_text : List Call → List Reply → List ℕ
@@ -80,28 +80,32 @@ outcome_text (Ok replayed) =
     replies_text (calls_of replayed.script) replayed.ran.replies.items ++ held_text replayed.ran.held
 outcome_text (Err error) = line (error_text error)
 
--- The outcome of the bytes of a reader: a run of the script that they write, a line that is no command, or that they
--- are too many. Memory may be refused at any script, and the reader may fail.
+-- The outcome of some bytes: a run of the script that they write, a line that is no command, or that they are too
+-- many. Memory may be refused at any script.
 abbrev pub IsOutcomeOf : List ℕ → ReplayOutcome → Type 0
 IsOutcomeOf bytes (Ok replayed) =
     (length bytes ≤ script_limit) × WritesScript bytes replayed.script × IsReplayOf replayed.script replayed.ran
 IsOutcomeOf bytes (Err (Parse (Errors.BadCommand number))) = (length bytes ≤ script_limit) × IsFirstBadLine bytes number
 IsOutcomeOf bytes (Err (Parse Errors.OutOfMemory)) = ⊤
 IsOutcomeOf bytes (Err TooLong) = script_limit < length bytes
-IsOutcomeOf bytes (Err ReadFault) = ⊤
+IsOutcomeOf bytes (Err ReadFault) = ⊥
 
--- the writer has got the whole text and the status is the outcome's, or it has got a front of the text and failed
-abbrev pub PrintsOutcome : Option (List ℕ) → Option (List ℕ) → ReplayOutcome → Status → Type 0
-PrintsOutcome old new outcome status =
-    (Appends old new (outcome_text outcome) × (status ≡ status_after outcome))
+-- the outcome of a reader: a fault if it has failed, else an outcome of some bytes, which are its own where it tells them
+abbrev pub IsOutcomeOfReader : Option (List ℕ) → Type 0 → ReplayOutcome → Type 0
+IsOutcomeOfReader given failed (Err ReadFault) = failed
+IsOutcomeOfReader given failed outcome =
+    (bytes : List ℕ) × IfSome given (λ told. told ≡ bytes) × IsOutcomeOf bytes outcome
+
+-- the writer has got the whole text and is flushed, and the status is the outcome's, or it has got a front of the text
+-- and failed
+abbrev pub PrintsOutcome : Option (List ℕ) → Option (List ℕ) → Type 0 → ReplayOutcome → Status → Type 0
+PrintsOutcome old new flushed outcome status =
+    (Appends old new (outcome_text outcome) × flushed × (status ≡ status_after outcome))
     ⊎ (AppendsFront old new (outcome_text outcome) × (status ≡ Fault))
 
--- an outcome of some bytes, which are those of a reader where it tells them
-abbrev pub IsOutcomeOfReader : Option (List ℕ) → ReplayOutcome → Type 0
-IsOutcomeOfReader given outcome = (bytes : List ℕ) × IfSome given (λ told. told ≡ bytes) × IsOutcomeOf bytes outcome
-
--- the bytes of a reader have an outcome, and a writer has got it
-pub record Replays (given old new : Option (List ℕ)) (status : Status) : Type 0 where
+-- a script has an outcome of this kind, and a writer has got it
+pub record Replays (IsOutcome : ReplayOutcome → Type 0) (old new : Option (List ℕ)) (flushed : Type 0)
+    (status : Status) : Type 0 where
   pub outcome : ReplayOutcome
-  pub of_bytes : IsOutcomeOfReader given outcome
-  pub printed : PrintsOutcome old new outcome status
+  pub of_script : IsOutcome outcome
+  pub printed : PrintsOutcome old new flushed outcome status

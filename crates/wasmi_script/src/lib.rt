@@ -7,10 +7,12 @@ mod lines;
 mod printing;
 mod replaying;
 mod running;
+mod streams;
 mod wording;
 
 pub use error::ReplayError;
 pub use lines::write_lines;
 pub use printing::{ReplyHead, print_lines};
-pub use replaying::{LIMIT, Status, replay};
+pub use replaying::{LIMIT, Status, replay, replay_bytes};
+pub use streams::{Input, Output};
 pub use wasmi_grammar::ParseError;

@@ -7,6 +7,7 @@ ghost use Rattle.wasmi_script.specs.Outcomes.{replies_text, tenants_text, held_t
 
 use crate::error::ReplayError;
 use crate::running::{Held, Ran};
+use crate::streams::Output;
 use crate::wording::Wording;
 use arrayvec::ArrayString;
 use std::fmt::{Display, Write};
@@ -31,10 +32,11 @@ pub struct Replayed {
     pub ran: Ran,
 }
 
-/// Prints the outcome to its last byte.
-pub fn print<W: io::Write>(writer: &mut W, outcome: &Result<Replayed, ReplayError>) -> fmt::Result
+/// Prints the outcome to its last byte, and flushes the writer.
+pub fn print<W: Output>(writer: &mut W, outcome: &Result<Replayed, ReplayError>) -> fmt::Result
     ensures ok { OnOk result
         (Appends (W.contents writer.old) (W.contents writer.new) (outcome_text outcome.now)) }
+    ensures flushed { OnOk result (W.is_flushed writer.new) }
     ensures front { OnErr result
         (AppendsFront (W.contents writer.old) (W.contents writer.new) (outcome_text outcome.now)) }
 {
@@ -49,14 +51,15 @@ pub fn print<W: io::Write>(writer: &mut W, outcome: &Result<Replayed, ReplayErro
     flushed
 }
 
-/// Prints a line for each call with its reply, to the last byte.
+/// Prints a line for each call with its reply, to the last byte, and flushes the writer.
 ///
 /// # Errors
 ///
 /// That of the writer, which then has the front of the text.
-pub fn print_lines<W: io::Write>(writer: &mut W, calls: &[Call], replies: &[Reply]) -> fmt::Result
+pub fn print_lines<W: Output>(writer: &mut W, calls: &[Call], replies: &[Reply]) -> fmt::Result
     ensures ok { OnOk result (Appends (W.contents writer.old) (W.contents writer.new)
         (replies_text calls.now replies.now)) }
+    ensures flushed { OnOk result (W.is_flushed writer.new) }
     ensures front { OnErr result (AppendsFront (W.contents writer.old) (W.contents writer.new)
         (replies_text calls.now replies.now)) }
 {
@@ -226,15 +229,6 @@ impl<W: io::Write> Printer<'_, W> {
         Ok(())
     }
 
-    /// Sends what waits to the writer, and flushes it, if all texts were printed.
-    pub fn flush(&mut self, printed: fmt::Result) -> fmt::Result
-        ensures { Flushes W.contents printed self.old result self.new }
-    {
-        printed?;
-        self.send()?;
-        self.writer.flush().map_err(|_| fmt::Error)
-    }
-
     /// Sends what waits to the writer.
     fn send(&mut self) -> fmt::Result
         ensures ok { OnOk result (Sends W.contents self.old self.new) }
@@ -244,6 +238,18 @@ impl<W: io::Write> Printer<'_, W> {
         send_all(self.writer, self.chunk.as_str())?;
         self.chunk.clear();
         Ok(())
+    }
+}
+
+impl<W: Output> Printer<'_, W> {
+    /// Sends what waits to the writer, and flushes it, if all texts were printed.
+    pub fn flush(&mut self, printed: fmt::Result) -> fmt::Result
+        ensures sent { Flushes W.contents printed self.old result self.new }
+        ensures flushed { OnOk result (W.is_flushed self.new.writer.now) }
+    {
+        printed?;
+        self.send()?;
+        self.writer.flush_all().map_err(|_| fmt::Error)
     }
 }
 

@@ -1,12 +1,13 @@
 //! A script from its reader to the printed lines.
-ghost use Rattle.std.specs.Prelude.{◌≡◌, ◌+◌, ◌≤◌, vec_len, IfOk, IfErr, IfSome};
+ghost use Rattle.std.specs.Prelude.{◌≡◌, ◌+◌, ◌≤◌, vec_len, IfOk, IfErr, IfSome, OnErr};
 ghost use Rattle.std.specs.Io.KnownBytes.{ReadConsumes};
 ghost use Rattle.std.specs.Io.{ReadsAtMost};
-ghost use Rattle.wasmi_script.specs.Outcomes.{IsReadError, script_limit, IsOutcomeOfReader, Replays, status_number, status_after};
+ghost use Rattle.wasmi_script.specs.Outcomes.{IsReadError, script_limit, IsOutcomeOf, IsOutcomeOfReader, PrintsOutcome, Replays, status_number, status_after};
 
 use crate::error::ReplayError;
 use crate::printing::{Replayed, print};
 use crate::running::run_script;
+use crate::streams::{Input, Output};
 use std::alloc::Global;
 use std::io;
 use wasmi_grammar::{ParseError, parse};
@@ -42,24 +43,55 @@ impl Status {
 }
 
 /// Reads the script, runs it and prints its replies, or prints why it isn't run. A line that can't
-/// be printed makes the status `Fault`; what went out before it stays.
-pub fn replay<R: io::Read, W: io::Write>(alloc: Global, reader: &mut R, writer: &mut W) -> Status
-    ensures ends { Replays (R.remaining reader.old) (W.contents writer.old)
-        (W.contents writer.new) result }
+/// be printed, or a flush that fails, makes the status `Fault`; what went out before it stays.
+pub fn replay<R: Input, W: Output>(alloc: Global, reader: &mut R, writer: &mut W) -> Status
+    ensures ends { Replays
+        (IsOutcomeOfReader (R.remaining reader.old) (R.has_failed reader.new))
+        (W.contents writer.old) (W.contents writer.new) (W.is_flushed writer.new) result }
 {
-    let outcome = outcome_of(alloc, reader);
-    match print(writer, &outcome) {
-        Ok(()) => status_of(&outcome),
+    let outcome = outcome_of_reader(alloc, reader);
+    tell(writer, &outcome)
+}
+
+/// Runs the script of these bytes and prints its replies, as [`replay`] does. No reader fails.
+pub fn replay_bytes<W: Output>(alloc: Global, script: &[u8], writer: &mut W) -> Status
+    ensures ends { Replays (IsOutcomeOf script.now)
+        (W.contents writer.old) (W.contents writer.new) (W.is_flushed writer.new) result }
+{
+    let outcome = outcome_of(alloc, script);
+    tell(writer, &outcome)
+}
+
+/// Prints the outcome, and says how the replay ends.
+fn tell<W: Output>(writer: &mut W, outcome: &Result<Replayed, ReplayError>) -> Status
+    ensures { PrintsOutcome (W.contents writer.old) (W.contents writer.new)
+        (W.is_flushed writer.new) outcome.now result }
+{
+    match print(writer, outcome) {
+        Ok(()) => status_of(outcome),
         Err(_) => Status::Fault,
     }
 }
 
 /// Reads the script and runs it.
-fn outcome_of<R: io::Read>(alloc: Global, reader: &mut R) -> Result<Replayed, ReplayError>
-    ensures outcome { IsOutcomeOfReader (R.remaining reader.old) result }
+fn outcome_of_reader<R: Input>(alloc: Global, reader: &mut R) -> Result<Replayed, ReplayError>
+    ensures { IsOutcomeOfReader (R.remaining reader.old) (R.has_failed reader.new) result }
 {
-    let bytes = read(alloc, &mut CountedReader { reader, taken: 0 })?;
-    let script = parse(alloc, bytes.as_slice())?;
+    let mut counted = CountedReader { reader, taken: 0 };
+    let script = read(alloc, &mut counted);
+    // No effect at run time: the proof reads what the reader is then from this use.
+    let _ = &*counted.reader;
+    outcome_of(alloc, script?.as_slice())
+}
+
+/// Runs the script that these bytes write.
+fn outcome_of(alloc: Global, bytes: &[u8]) -> Result<Replayed, ReplayError>
+    ensures { IsOutcomeOf bytes.now result }
+{
+    if LIMIT < bytes.len() {
+        return Err(ReplayError::TooLong);
+    }
+    let script = parse(alloc, bytes)?;
     let ran = run_script(alloc, &script)?;
     Ok(Replayed { script, ran })
 }
@@ -86,30 +118,31 @@ struct CountedReader<'r, R> {
     taken: usize,
 }
 
-impl<R: io::Read> CountedReader<'_, R> {
+impl<R: Input> CountedReader<'_, R> {
     /// One turn more.
     fn turn(&mut self, buffer: &mut [u8]) -> io::Result<usize>
         requires turns { self.old.taken ≤ script_limit }
+        ensures reader { self.new.reader.ghost_name ≡ self.old.reader.ghost_name }
         ensures taken { self.new.taken ≡ self.old.taken + 1 }
         ensures bound { ReadsAtMost result buffer.new }
         ensures bytes { ReadConsumes (R.remaining self.old.reader.now)
             (R.remaining self.new.reader.now) result buffer.new }
+        ensures failed { OnErr result (R.has_failed self.new.reader.now) }
     {
         self.taken += 1;
-        self.reader.read(buffer)
+        self.reader.read_some(buffer)
     }
 }
 
 /// The bytes of the reader up to a turn that gives nothing, in at most `LIMIT + 1` turns.
-fn read<R: io::Read>(
-    alloc: Global,
-    reader: &mut CountedReader<'_, R>,
-) -> Result<Vec<u8>, ReplayError>
+fn read<R: Input>(alloc: Global, reader: &mut CountedReader<'_, R>) -> Result<Vec<u8>, ReplayError>
     requires fresh { reader.old.taken ≡ 0 }
+    ensures reader { reader.new.reader.ghost_name ≡ reader.old.reader.ghost_name }
     ensures bounded { IfOk result (λ script. vec_len script ≤ LIMIT) }
     ensures whole { IfOk result
         (λ script. IfSome (R.remaining reader.old.reader.now) (λ bytes. script.items ≡ bytes)) }
-    ensures refused { IfErr result (IsReadError (R.remaining reader.old.reader.now)) }
+    ensures refused { IfErr result (IsReadError (R.remaining reader.old.reader.now)
+        (R.has_failed reader.new.reader.now)) }
     ensures turns { reader.new.taken ≤ script_limit + 1 }
 {
     let mut script = Vec::new(alloc);

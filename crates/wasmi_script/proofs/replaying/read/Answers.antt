@@ -55,6 +55,7 @@ read_more (Some xs) (Some ys) (Some zs) so_far more taken turn =
 
 pub loop-turn-preserved : goal.loop-turn-preserved
 loop-turn-preserved g c = record {
+  reader = search rules;
   counted = search rules;
   turned = search rules;
   bounded = search rules;

@@ -5,6 +5,7 @@ use Rattle.wasmi_script.proofs.replaying.read.Given as goal
 
 abbrev pub invariant-loop-turn : goal.invariant-loop-turn
 invariant-loop-turn g l = record {
+  reader : l.reader.reader.ghost_name ≡ l.initial.reader.reader.ghost_name;
   counted : l.reader.taken ≡ l._turn;
   turned : l._turn ≤ vec_len l.script;
   bounded : vec_len l.script ≤ script_limit;
