@@ -239,10 +239,10 @@ mod quota {
 
     use std::io;
     use std::io::Write as _;
+    use wasmi_core_proved::machine::Vec;
     use wasmi_core_proved::machine::{
         Call, Fuel, FuelCostsProvider, Machine, MemoryType, Quota, Reply, run_reserving,
     };
-    use wasmi_core_proved::rattle::Vec;
 
     /// Makes a memory and lets it grow past the cap.
     pub fn main() -> Result<(), Box<dyn std::error::Error>> {

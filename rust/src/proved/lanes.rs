@@ -49,6 +49,7 @@ mod index {
     /// ```
     ///
     /// Definitions: [`IsLaneCount`](crate::specs::lanes::Vector#IsLaneCount).
+    #[allow(unnameable_types)]
     pub trait CountsLanes<const N: usize> {}
 
     impl CountsLanes<2> for ImmLaneIdx2 {}

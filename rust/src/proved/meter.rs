@@ -1471,6 +1471,7 @@ mod limiter_ref {
     use core::fmt;
 
     mod sealed {
+        #[allow(unnameable_types)]
         pub trait Sealed {}
 
         impl<'a, L> Sealed for &'a mut L {}

@@ -359,6 +359,7 @@ mod number {
         /// ```
         ///
         /// Definitions: [`NumberType`](crate::specs::raw::Number#NumberType).
+        #[allow(unnameable_types)]
         pub trait Sealed {}
 
         impl Sealed for i8 {}
@@ -524,6 +525,7 @@ mod raw {
     }
 
     /// A type whose values stand in the low word of a raw value. Only this crate's `From` names it.
+    #[allow(unnameable_types)]
     pub trait OneWord: ReadBack {}
 }
 mod raw_ref {

@@ -457,7 +457,6 @@ mod printing {
     /// ```
     ///
     /// Definitions: [`head_text`](crate::specs::script::Texts#head_text).
-
     impl fmt::Display for ReplyHead<'_> {
         fn fmt(&self, f: &mut fmt::Formatter<'_>) -> fmt::Result {
             self.show(f)

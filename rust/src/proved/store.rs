@@ -514,6 +514,7 @@ mod memory {
         use crate::rattle::Vec;
 
         mod sealed {
+            #[allow(unnameable_types)]
             pub trait Sealed {}
 
             impl<'r> Sealed for &'r mut [u8] {}
@@ -579,7 +580,6 @@ mod memory {
 
         /// A block of bytes; a buffer's bytes are the first of it. Both forms begin with their pointer, so
         /// that an access to a buffer doesn't depend on the form.
-        #[derive(Debug)]
         enum Storage<R: Region> {
             Owned(Vec<u8>),
             Lent(R),
@@ -617,7 +617,6 @@ mod memory {
         /// ```
         ///
         /// Definitions: [`BufferValue`](crate::specs::store::Buffer#BufferValue), [`view_of`](crate::specs::store::Buffer#view_of), [`EndsWithin`](crate::specs::store::Buffer#EndsWithin).
-        #[derive(Debug)]
         pub struct Buffer<R: Region> {
             storage: Storage<R>,
             len: usize,
@@ -1278,7 +1277,6 @@ mod memory {
     /// ```
     ///
     /// Definitions: [`MemoryValue`](crate::specs::store::Memory#MemoryValue), [`memory_of`](crate::specs::store::Memory#memory_of), [`IsSized`](crate::specs::store::Memory#IsSized).
-    #[derive(Debug)]
     pub struct LinearMemory<R: Region> {
         buffer: Buffer<R>,
         ty: MemoryType,
@@ -1954,7 +1952,6 @@ mod table {
         /// ```
         ///
         /// Definitions: [`SegmentValue`](crate::specs::store::Segment#SegmentValue), [`IsKept`](crate::specs::store::Segment#IsKept).
-        #[derive(Debug)]
         pub struct ElementSegment {
             ty: RefType,
             items: Vec<RawRef>,
@@ -1969,7 +1966,7 @@ mod table {
         /// ```text
         /// short: length items.now < 2 ^ 32
         /// ```
-        #[derive(Clone, Copy, Debug)]
+        #[derive(Clone, Copy)]
         pub struct ElementSegmentRef<'a> {
             ty: RefType,
             items: &'a [RawRef],
@@ -2480,7 +2477,6 @@ mod table {
     /// ```
     ///
     /// Definitions: [`TableValue`](crate::specs::store::Table#TableValue), [`IsSized`](crate::specs::store::Table#IsSized).
-    #[derive(Debug)]
     pub struct Table {
         ty: TableType,
         elements: Vec<RawRef>,

@@ -259,6 +259,7 @@ mod shift_amount {
     mod sealed {
         use crate::proved::raw::Number;
 
+        #[allow(unnameable_types)]
         pub trait Sealed<Lane> {}
 
         impl<T: Number> Sealed<T> for T {}
@@ -518,6 +519,7 @@ mod typed {
     }
 
     /// A type whose values are of the value type `I32`. Only this crate's `Typed` names it.
+    #[allow(unnameable_types)]
     pub trait TypedI32 {}
 
     /// Of type `I32` are `bool`, `i8`, `u8`, `i16`, `u16`, `i32`, `u32`, `NonZero<i32>`,

@@ -742,6 +742,7 @@ mod machine {
         TypedRawRef::new(RawRef::from(number), RefType::Func)
     }
 }
+#[cfg(feature = "std")]
 mod script {
     //! Scripts, from a reader to a writer; what their tests share: scripts that are run, and
     //! comparisons with what they have to print.
@@ -1532,6 +1533,7 @@ mod store {
             }
         }
 
+        #[cfg(feature = "memory64")]
         #[test]
         fn all_addresses_are_too_many() {
             let types = [
