@@ -6,8 +6,10 @@
 //! of calls. What holds of all runs is proved of all lists of calls, whoever wrote them: [`laws`](crate::laws) has the laws.
 //!
 //! Names are those of the Rattle library. What the root has too is the same type, except [`Memory`], [`Table`],
-//! [`ElementSegment`], [`ResourceLimiter`], [`ResourceLimiterRef`], [`ReadAs`] and [`WriteAs`], which are generic here, and
-//! the indices of lanes, such as [`ImmLaneIdx32`], whose number of lanes is a `usize` here.
+//! [`ElementSegment`], [`ResourceLimiter`], [`ResourceLimiterRef`], [`ReadAs`] and [`WriteAs`], which are generic here,
+//! [`IntoShiftAmount`], which has `None` for an amount of 0 here, and the indices of lanes, such as [`ImmLaneIdx32`], whose
+//! number of lanes is a `usize` here. A [`Vec`] here is a list whose memory can be refused; a list of `std` converts into
+//! one, and back.
 //!
 //! # Examples
 //!
