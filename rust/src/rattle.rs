@@ -70,17 +70,20 @@ pub mod rc {
         }
 
         /// The slice.
+        #[inline]
         pub fn as_slice(&self) -> &[T] {
             &self.0
         }
 
         /// How many items it has.
+        #[inline]
         pub fn len(&self) -> usize {
             self.0.len()
         }
     }
 
     impl<T> super::TryClone for RcSlice<T> {
+        #[inline]
         fn try_clone(&self) -> Result<Self, AllocError> {
             Ok(RcSlice(Arc::clone(&self.0)))
         }
@@ -94,6 +97,7 @@ pub trait TryClone: Sized {
 }
 
 impl<T: Clone> TryClone for T {
+    #[inline]
     fn try_clone(&self) -> Result<Self, AllocError> {
         Ok(self.clone())
     }
