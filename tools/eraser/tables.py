@@ -77,8 +77,8 @@ CRATES_OF_LAWS = {"wasmi_laws"}
 PUBLIC = {"wasmi_budget": "pool"}
 
 # Functions that return one of these are inlined always: a value that a call returns through memory is stored by words and read as a
-# whole, which stalls a run of calls.
-INLINED_ALWAYS = {"Reply", "Option<Reply>"}
+# whole, which stalls a run of calls, or the call itself where a memory or a table is made.
+INLINED_ALWAYS = {"Reply", "Option<Reply>", "Result<Memory<'r>, MemoryError>", "Result<ByteBuffer<'r>, MemoryError>", "Result<Self, TableError>"}
 
 
 def module_of(crate):
