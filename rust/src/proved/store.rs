@@ -748,7 +748,7 @@ mod memory {
             /// ```
             ///
             /// Definitions: [`zeros_in`](crate::specs::store::Buffer#zeros_in), [`Owned`](crate::specs::store::Buffer#Owned).
-            #[inline]
+            #[inline(always)]
             pub fn new(size: usize) -> Result<ByteBuffer<'r>, MemoryError> {
                 let bytes = Vec::filled(0u8, size).map_err(|_| MemoryError::OutOfSystemMemory)?;
                 let storage = Storage::Owned(bytes);
@@ -773,7 +773,7 @@ mod memory {
             /// ```
             ///
             /// Definitions: [`fits_room`](crate::specs::store::Buffer#fits_room), [`Lent`](crate::specs::store::Buffer#Lent), [`zeros_in`](crate::specs::store::Buffer#zeros_in).
-            #[inline]
+            #[inline(always)]
             pub fn new_static(
                 region: &'r mut [u8],
                 size: usize,
@@ -1307,7 +1307,7 @@ mod memory {
         /// ```
         ///
         /// Definitions: [`KeepsLoan`](crate::specs::meter::Limiter#KeepsLoan), [`MakesMemory`](crate::specs::store::Memory#MakesMemory), [`optional_rules`](crate::specs::meter::Limiter#optional_rules), [`Owned`](crate::specs::store::Buffer#Owned), [`lent_limiter`](crate::specs::meter::Limiter#lent_limiter).
-        #[inline]
+        #[inline(always)]
         pub fn new<L: ResourceLimiter>(
             ty: MemoryType,
             limiter: &mut ResourceLimiterRef<L>,
@@ -1336,7 +1336,7 @@ mod memory {
         /// ```
         ///
         /// Definitions: [`KeepsLoan`](crate::specs::meter::Limiter#KeepsLoan), [`MakesMemory`](crate::specs::store::Memory#MakesMemory), [`optional_rules`](crate::specs::meter::Limiter#optional_rules), [`Lent`](crate::specs::store::Buffer#Lent), [`lent_limiter`](crate::specs::meter::Limiter#lent_limiter).
-        #[inline]
+        #[inline(always)]
         pub fn new_static<L: ResourceLimiter>(
             ty: MemoryType,
             limiter: &mut ResourceLimiterRef<L>,
@@ -1359,7 +1359,7 @@ mod memory {
         /// ```
         ///
         /// Definitions: [`MakesMemory`](crate::specs::store::Memory#MakesMemory), [`optional_rules`](crate::specs::meter::Limiter#optional_rules), [`Owned`](crate::specs::store::Buffer#Owned).
-        #[inline]
+        #[inline(always)]
         pub fn new_lending<L: ResourceLimiter>(
             ty: MemoryType,
             limiter: &mut L,
@@ -1956,8 +1956,8 @@ mod table {
         /// Definitions: [`SegmentValue`](crate::specs::store::Segment#SegmentValue), [`IsKept`](crate::specs::store::Segment#IsKept).
         #[derive(Debug)]
         pub struct ElementSegment {
-            ty: RefType,
-            items: Vec<RawRef>,
+            pub(crate) ty: RefType,
+            pub(crate) items: Vec<RawRef>,
         }
 
         /// A shared reference to the items of an element segment, with their type.
@@ -2502,7 +2502,7 @@ mod table {
         /// ```
         ///
         /// Definitions: [`KeepsLoan`](crate::specs::meter::Limiter#KeepsLoan), [`MakesTable`](crate::specs::store::Table#MakesTable), [`optional_rules`](crate::specs::meter::Limiter#optional_rules), [`lent_limiter`](crate::specs::meter::Limiter#lent_limiter).
-        #[inline]
+        #[inline(always)]
         pub fn new<L: ResourceLimiter>(
             ty: TableType,
             init: TypedRawRef,
@@ -2528,7 +2528,7 @@ mod table {
         /// ```
         ///
         /// Definitions: [`MakesTable`](crate::specs::store::Table#MakesTable), [`optional_rules`](crate::specs::meter::Limiter#optional_rules).
-        #[inline]
+        #[inline(always)]
         pub fn new_lending<L: ResourceLimiter>(
             ty: TableType,
             init: TypedRawRef,
