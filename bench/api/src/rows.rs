@@ -321,10 +321,10 @@ fn segments_and_function_types(all: &mut Vec<Row>) {
         ElementSegmentRef.items || segment(), |it, i| ElementSegmentRef::from(&*it).items()[i as usize & 63];
         ElementSegmentRef.size || segment(), |it, _| ElementSegmentRef::from(&*it).size();
         FuncType.new_3 || FEW, |it, _| FuncType::new([it[0], it[1]], [it[2]]);
-        FuncType.new_3_of_slices || FEW, |it, _| function_type(&it[..2], &it[2..]);
-        FuncType.new_20_of_slices || MANY, |it, _| function_type(&it[..15], &it[15..]);
+        FuncType.new_3_of_slices || (&FEW[..2], &FEW[2..]), |it, _| function_type(it.0, it.1);
+        FuncType.new_20_of_slices || (&MANY[..15], &MANY[15..]), |it, _| function_type(it.0, it.1);
         FuncType.new_40 || MANY, |it, _| FuncType::new(*it, *it);
-        FuncType.new_40_of_slices || MANY, |it, _| function_type(&it[..], &it[..]);
+        FuncType.new_40_of_slices || (&MANY[..], &MANY[..]), |it, _| function_type(it.0, it.1);
         FuncType.new_refused || MANY, |it, _| FuncType::new([it[0]; 1001], []);
         FuncType.clone_3 || few(), |it, _| it.clone();
         FuncType.clone_40 || many(), |it, _| it.clone();
