@@ -1,8 +1,9 @@
-"""Builds the bench. usage: build.py CRATE FOLDER [rust]
+"""Builds the bench. usage: build.py CRATE FOLDER [rust|arrays [LINKS]]
 
 CRATE is the folder of the source of the Rust crate wasmi_core 2.0.0. FOLDER, outside this repository, gets a copy of the
 repository's crates and the bench's own, which are proved and built there, and the program that runs them beside the crate.
-With `rust` nothing is proved: the program runs the Rust crate in rust/ beside the crate, both compiled for x86-64-v2."""
+With `rust` nothing is proved: the program runs the Rust crate in rust/ beside the crate, both compiled for x86-64-v2; with `arrays`
+a copy of it whose lanes are arrays, as on a processor that isn't an x86-64. LINKS is how many programs are made, 12 without it."""
 import os
 import re
 import shutil
@@ -237,11 +238,22 @@ def build_libraries(to):
             subprocess.run(["rt", "lib"], cwd=f"{to}/crates/{name}", stdout=log, stderr=subprocess.STDOUT, check=True)
 
 
-def write_program(crate, to):
-    """Writes the program and its rows."""
+def copy_with_arrays(to):
+    """Copies the Rust crate in rust/, with another default of features, by which its lanes are arrays, and another version."""
+    own = f"{os.path.dirname(HERE)}/rust"
+    shutil.copytree(f"{own}/src", f"{to}/src", dirs_exist_ok=True)
+    shutil.copy(f"{own}/README.md", to)
+    text, count = re.subn(r'(?m)^(default = \[.*), "sse2"\]$', r"\1]", read(f"{own}/Cargo.toml"))
+    text, versions = re.subn(r'(?m)^(version = "[\d.]+)"$', r'\1-arrays"', text)
+    assert count == versions == 1, "the manifest has no default feature sse2, or no version"
+    write(f"{to}/Cargo.toml", re.sub(r"(?ms)^\[\[example.*?^$", "", text))
+
+
+def write_program(crate, to, here):
+    """Writes the program and its rows. `here` is the folder of this repository's Rust crate."""
     shutil.copytree(f"{HERE}/program", to, dirs_exist_ok=True)
     top = os.path.dirname(HERE)
-    manifest = MANIFEST.replace("CRATE", os.path.realpath(crate)).replace("HERE", f"{top}/rust")
+    manifest = MANIFEST.replace("CRATE", os.path.realpath(crate)).replace("HERE", here)
     write(f"{to}/Cargo.toml", manifest.replace("CONFORMANCE", f"{top}/conformance/crate"))
     kinds = {"vector_rows": "x, y, kept, first, low, high", "load_rows": "memory, y, low, high", "store_rows": "memory, x, first, low, high"}
     tables = {"lanewise": lanewise(), "widening": widening(), "loads": loads(), "stores": stores()}
@@ -256,10 +268,10 @@ def write_program(crate, to):
     write(f"{to}/src/rows.rs", text)
 
 
-def build_program(to, flags, arguments=()):
+def build_program(to, flags, arguments=(), links=LINKS):
     """Builds the program, in some links that place its functions in other orders: a jump across a line of 32 bytes costs time."""
     environment = dict(os.environ, CARGO_ENCODED_RUSTFLAGS="\x1f".join(flags), CARGO_TARGET_DIR=f"{to}/target")
-    for link in range(LINKS):
+    for link in range(links):
         print(f"link {link}: cargo rustc", flush=True)
         shuffled = f"-Clink-arg=-Wl,--shuffle-sections=.text*={link + 1}"
         subprocess.run(["cargo", "rustc", "--release", "--offline", *arguments, "--", shuffled], cwd=to, env=environment, check=True)
@@ -273,16 +285,21 @@ def flags_of_libraries(libraries):
     return [f"-Lnative={libraries}/crates/{name}/out" for name in LIBRARIES] + [f"-Lnative={kit}/c"]
 
 
-def main(crate, folder, form=None):
-    write_program(crate, f"{folder}/program")
+def main(crate, folder, form=None, links=LINKS):
+    here = f"{os.path.dirname(HERE)}/rust"
+    if form == "arrays":
+        here = f"{folder}/arrays"
+        copy_with_arrays(here)
+    write_program(crate, f"{folder}/program", here)
     if form:
-        build_program(f"{folder}/program", ["-Ctarget-cpu=x86-64-v2", "-Cllvm-args=-align-loops=64"], ["--features", "rust"])
+        flags = ["-Ctarget-cpu=x86-64-v2", "-Cllvm-args=-align-loops=64"]
+        build_program(f"{folder}/program", flags, ["--features", "rust"], int(links))
     else:
         build_libraries(f"{folder}/repository")
         build_program(f"{folder}/program", flags_of_libraries(f"{folder}/repository"))
 
 
 if __name__ == "__main__":
-    if len(sys.argv) not in (3, 4) or sys.argv[3:] not in ([], ["rust"]):
+    if len(sys.argv) not in (3, 4, 5) or (sys.argv[3:4] or ["rust"])[0] not in ("rust", "arrays"):
         sys.exit(__doc__)
     main(sys.argv[1], os.path.realpath(sys.argv[2]), *sys.argv[3:])

@@ -48,7 +48,8 @@ impl Error for FuncTypeError {}
 /// # Ok::<(), FuncTypeError>(())
 /// ```
 #[doc = docs!(types FuncType.contract)]
-#[derive(PartialOrd, Ord, PartialEq, Eq, Hash)]
+#[derive(PartialOrd, Ord, Eq, Hash)]
+#[allow(clippy::derived_hash_with_manual_eq)]
 pub struct FuncType {
     inner: Proved,
 }
@@ -123,7 +124,18 @@ impl FuncType {
     }
 }
 
+impl PartialEq for FuncType {
+    #[inline]
+    fn eq(&self, other: &Self) -> bool {
+        // Most types that differ have other lengths.
+        self.len_params() == other.len_params()
+            && self.len_results() == other.len_results()
+            && self.inner == other.inner
+    }
+}
+
 impl Clone for FuncType {
+    #[inline]
     fn clone(&self) -> Self {
         Self {
             inner: self

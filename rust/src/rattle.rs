@@ -72,12 +72,14 @@ pub mod rc {
         }
 
         /// The slice.
+        #[inline]
         pub fn as_slice(&self) -> &[T] {
             &self.0
         }
     }
 
     impl<T> super::TryClone for RcSlice<T> {
+        #[inline]
         fn try_clone(&self) -> Result<Self, AllocError> {
             Ok(RcSlice(Arc::clone(&self.0)))
         }
@@ -91,6 +93,7 @@ pub trait TryClone: Sized {
 }
 
 impl<T: Clone> TryClone for T {
+    #[inline]
     fn try_clone(&self) -> Result<Self, AllocError> {
         Ok(self.clone())
     }

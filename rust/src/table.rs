@@ -1,7 +1,8 @@
 //! Tables and element segments without an allocator.
 
 use crate::limiter::with;
-use crate::proved::store::{ElementSegment as ProvedSegment, SegmentError, Table as Proved};
+use crate::proved::store::{ElementSegment as ProvedSegment, Table as Proved};
+use crate::rattle::Vec;
 use crate::{
     ElementSegmentRef, Fuel, RawRef, RefType, ResourceLimiterRef, TableError, TableType,
     TypedRawRef,
@@ -206,11 +207,17 @@ impl ElementSegment {
     where
         I: IntoIterator<Item = RawRef>,
     {
-        match ProvedSegment::new(ty, items) {
-            Ok(segment) => Self(segment),
-            Err(SegmentError::TooManyItems) => panic!("element segment has too many items"),
-            Err(SegmentError::OutOfSystemMemory) => panic!("out of memory for an element segment"),
+        // The proved function reads one item after another.
+        let mut list = Vec::new();
+        let most = usize::try_from(u32::MAX).unwrap_or(usize::MAX);
+        if list
+            .read(items.into_iter(), most.saturating_add(1))
+            .is_err()
+        {
+            panic!("out of memory for an element segment");
         }
+        assert!(list.len() <= most, "element segment has too many items");
+        Self(ProvedSegment { ty, items: list })
     }
 
     #[doc = docs!(store ElementSegment.as_ref)]

@@ -21,6 +21,8 @@ EDITS = [
     ("typed", "pub struct Global {\n    value: RawVal", "pub struct Global {\n    pub(crate) value: RawVal", 1),
     ("typed", "pub content: ValType", "pub(crate) content: ValType", 1),
     ("typed", "pub mutability: Mutability", "pub(crate) mutability: Mutability", 1),
+    ("store", "pub struct ElementSegment {\n    ty: RefType,\n    items: Vec<RawRef>",
+     "pub struct ElementSegment {\n    pub(crate) ty: RefType,\n    pub(crate) items: Vec<RawRef>", 1),
     # Rust derives `TryFrom` from upstream's `From`, which panics: Rattle's conversion, an answer in its place, becomes a function.
     ("meter", "impl TryFrom<FuelError> for TableError {\n    type Error = FuelError;\n", "impl TableError {\n", 1),
     ("meter", "fn try_from(error: FuelError)", "pub(crate) fn of_fuel(error: FuelError)", 1),
@@ -111,6 +113,60 @@ EDITS += [
     # The bounds one by one, as they were tested before: LLVM tests their sum once more.
     ("store", "elements[index..index + items.len()]", "elements[index..][..items.len()]", 1),
     ("machine", "memory[offset..offset + len]", "memory[offset..][..len]", 1),
+]
+
+# Function types: an array is filled by one loop over its cells, which LLVM unrolls; what is above it is made out of line; and no gap of 7
+# bytes stands in front of the array, which LLVM copies by two overlapping words.
+EDITS += [
+    ("types", "enum Kept {", "#[repr(u16)]\n    enum Kept {", 1),
+    ("types", "let kept = entries.kept()?;", """
+            if entries.rest.is_empty() {
+                let kept = Kept::Inline(entries.inline);
+                return Ok(FuncType { len_params, len_results, kept });
+            }
+            let kept = entries.kept()?;""", 1),
+    ("types", "#[inline] fn kept(", "#[inline(never)]\n        fn kept(", 1),
+    ("types", "let types = match &self.kept { Kept::Inline(types) => &types[..], Kept::Big(types) => types.as_slice(), };"
+     " &types[..usize::from(self.len_params) + usize::from(self.len_results)]", """
+            let count = usize::from(self.len_params) + usize::from(self.len_results);
+            match &self.kept {
+                Kept::Inline(types) => &types[..count],
+                Kept::Big(types) => &types.as_slice()[..count],
+            }""", 1),
+    ("types", "let mut items = Vec::from_slice(&self.inline)?;", """
+            let mut items = Vec::with_capacity(INLINE_SIZE + self.rest.len())?;
+            items.extend_from_slice(&self.inline)?;""", 1),
+    ("types", "for count in 0..MAX_LEN { match self.push_next(types) { Ok(true) => {} Ok(false) => return Ok(count),"
+     " Err(_) => return Err(FuncTypeError::OutOfMemory), } } match types.next() { Some(_) => Err(too_many), None => Ok(MAX_LEN), }", """
+            let cells = &mut self.inline[self.len..];
+            let (room, mut count) = (cells.len(), 0);
+            for (cell, ty) in cells.iter_mut().zip(types.by_ref()) {
+                *cell = ty;
+                count += 1;
+            }
+            self.len += count;
+            if count < room {
+                return Ok(count as u16);
+            }
+            self.read_rest(types, count, too_many)""", 1),
+    ("types", "/// Appends the next type, and answers whether there was one.", """
+        /// Appends what follows on `count` types, and answers how many there are with them.
+        #[inline(never)]
+        fn read_rest<I>(&mut self, types: &mut I, count: usize, too_many: FuncTypeError) -> Result<u16, FuncTypeError>
+        where
+            I: Iterator<Item = ValType>,
+        {
+            let (before, most) = (self.rest.len(), usize::from(MAX_LEN));
+            if self.rest.read(types, most + 1 - count).is_err() {
+                return Err(FuncTypeError::OutOfMemory);
+            }
+            match count + self.rest.len() - before {
+                count if count > most => Err(too_many),
+                count => Ok(count as u16),
+            }
+        }
+
+        /// Appends the next type, and answers whether there was one.""", 1),
 ]
 
 # The printer's texts, piece by piece: Rattle makes code of each piece, and rustc a call of `core::fmt`.

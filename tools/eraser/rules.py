@@ -171,7 +171,7 @@ class File(Source):
 
     def hint(self, head):
         """A function without a hint gets one: rustc inlines few across crates, and Rattle all."""
-        returned = re.search(r"-> (\w+(?:<\w+>)?)\s*(?:«q\d+»\s*)*\Z", head)
+        returned = re.search(r"-> (\w+(?:<[\w', <>]+>)?)\s*(?:«q\d+»\s*)*\Z", head)
         return "#[inline(always)]\n" if returned and returned[1] in INLINED_ALWAYS else "#[inline]\n"
 
     def tests_of(self, name, head, opening, clauses, is_public):

@@ -115,8 +115,8 @@ STANDARD_NAMES = {"load_u32": "i32.load", "load_u64": "i64.load", "store32": "i3
 PROPOSED = {"i64.add128", "i64.sub128", "i64.mul_wide_s", "i64.mul_wide_u"}
 
 # Functions that return one of these are inlined always: a value that a call returns through memory is stored by words and read as a
-# whole, which stalls a run of calls.
-INLINED_ALWAYS = {"Reply", "Option<Reply>"}
+# whole, which stalls a run of calls, or the call itself where a memory or a table is made.
+INLINED_ALWAYS = {"Reply", "Option<Reply>", "Result<Memory<'r>, MemoryError>", "Result<ByteBuffer<'r>, MemoryError>", "Result<Self, TableError>"}
 
 
 def module_of(crate):

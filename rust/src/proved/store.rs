@@ -2,7 +2,7 @@
 pub mod bulk {
     //! What is written over a range of a memory's bytes or of a table's elements, wherever these lie.
     //! The bounds are tested first, then the fuel, also for no item. A write that is refused writes and
-    //! takes nothing. A cast of a bound comes after the test, so that it is no greater than a length.
+    //! takes nothing. A bound is cast after the test alone, when it is no greater than a length.
     //!
     //! Own: upstream's crate has no bulk instructions for memories. They are tested and charged as its
     //! calls on tables.
@@ -794,7 +794,7 @@ mod memory {
             /// ```
             ///
             /// Definitions: [`zeros_in`](crate::specs::store::BufferSpecs#zeros_in), [`Owned`](crate::specs::store::BufferSpecs#Owned).
-            #[inline]
+            #[inline(always)]
             pub fn new(size: usize) -> Result<ByteBuffer<'r>, MemoryError> {
                 let bytes = Vec::filled(0u8, size).map_err(|_| MemoryError::OutOfSystemMemory)?;
                 let storage = Storage::Owned(bytes);
@@ -821,7 +821,7 @@ mod memory {
             /// ```
             ///
             /// Definitions: [`fits_room`](crate::specs::store::BufferSpecs#fits_room), [`Lent`](crate::specs::store::BufferSpecs#Lent), [`zeros_in`](crate::specs::store::BufferSpecs#zeros_in).
-            #[inline]
+            #[inline(always)]
             pub fn new_static(
                 region: &'r mut [u8],
                 size: usize,
@@ -1374,7 +1374,7 @@ mod memory {
         /// Definitions: [`KeepsLoan`](crate::specs::meter::LimiterSpecs#KeepsLoan), [`MakesMemory`](crate::specs::store::MemorySpecs#MakesMemory), [`optional_rules`](crate::specs::meter::LimiterSpecs#optional_rules), [`Owned`](crate::specs::store::BufferSpecs#Owned), [`lent_limiter`](crate::specs::meter::LimiterSpecs#lent_limiter).
         ///
         /// `L` is the type of the limiter, a [`ResourceLimiter`](crate::machine::ResourceLimiter#contract).
-        #[inline]
+        #[inline(always)]
         pub fn new<L: ResourceLimiter>(
             ty: MemoryType,
             limiter: &mut ResourceLimiterRef<L>,
@@ -1407,7 +1407,7 @@ mod memory {
         /// Definitions: [`KeepsLoan`](crate::specs::meter::LimiterSpecs#KeepsLoan), [`MakesMemory`](crate::specs::store::MemorySpecs#MakesMemory), [`optional_rules`](crate::specs::meter::LimiterSpecs#optional_rules), [`Lent`](crate::specs::store::BufferSpecs#Lent), [`lent_limiter`](crate::specs::meter::LimiterSpecs#lent_limiter).
         ///
         /// `L` is the type of the limiter, a [`ResourceLimiter`](crate::machine::ResourceLimiter#contract).
-        #[inline]
+        #[inline(always)]
         pub fn new_static<L: ResourceLimiter>(
             ty: MemoryType,
             limiter: &mut ResourceLimiterRef<L>,
@@ -1436,7 +1436,7 @@ mod memory {
         /// Definitions: [`MakesMemory`](crate::specs::store::MemorySpecs#MakesMemory), [`optional_rules`](crate::specs::meter::LimiterSpecs#optional_rules), [`Owned`](crate::specs::store::BufferSpecs#Owned).
         ///
         /// `L` is the type of the limiter, a [`ResourceLimiter`](crate::machine::ResourceLimiter#contract).
-        #[inline]
+        #[inline(always)]
         pub fn new_lending<L: ResourceLimiter>(
             ty: MemoryType,
             limiter: &mut L,
@@ -2091,8 +2091,8 @@ mod table {
         ///
         /// Definitions: [`SegmentValue`](crate::specs::store::SegmentSpecs#SegmentValue), [`IsKept`](crate::specs::store::SegmentSpecs#IsKept).
         pub struct ElementSegment {
-            ty: RefType,
-            items: Vec<RawRef>,
+            pub(crate) ty: RefType,
+            pub(crate) items: Vec<RawRef>,
         }
 
         /// A shared reference to the items of an element segment, with their type.
@@ -2672,7 +2672,7 @@ mod table {
         /// Definitions: [`KeepsLoan`](crate::specs::meter::LimiterSpecs#KeepsLoan), [`MakesTable`](crate::specs::store::TableSpecs#MakesTable), [`optional_rules`](crate::specs::meter::LimiterSpecs#optional_rules), [`lent_limiter`](crate::specs::meter::LimiterSpecs#lent_limiter).
         ///
         /// `L` is the type of the limiter, a [`ResourceLimiter`](crate::machine::ResourceLimiter#contract).
-        #[inline]
+        #[inline(always)]
         pub fn new<L: ResourceLimiter>(
             ty: TableType,
             init: TypedRawRef,
@@ -2706,7 +2706,7 @@ mod table {
         /// Definitions: [`MakesTable`](crate::specs::store::TableSpecs#MakesTable), [`optional_rules`](crate::specs::meter::LimiterSpecs#optional_rules).
         ///
         /// `L` is the type of the limiter, a [`ResourceLimiter`](crate::machine::ResourceLimiter#contract).
-        #[inline]
+        #[inline(always)]
         pub fn new_lending<L: ResourceLimiter>(
             ty: TableType,
             init: TypedRawRef,

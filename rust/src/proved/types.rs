@@ -65,6 +65,7 @@ mod func_type {
     }
 
     /// The parameters, then the results.
+    #[repr(u16)]
     enum Kept {
         /// After them stand entries that mean nothing.
         Inline([ValType; INLINE_SIZE]),
@@ -165,6 +166,14 @@ mod func_type {
             len_params: u16,
             len_results: u16,
         ) -> Result<Self, AllocError> {
+            if entries.rest.is_empty() {
+                let kept = Kept::Inline(entries.inline);
+                return Ok(FuncType {
+                    len_params,
+                    len_results,
+                    kept,
+                });
+            }
             let kept = entries.kept()?;
             Ok(FuncType {
                 len_params,
@@ -271,11 +280,11 @@ mod func_type {
         /// Definitions: [`entries`](crate::specs::types::FunctionTypeSpecs#entries).
         #[inline]
         fn entries(&self) -> &[ValType] {
-            let types = match &self.kept {
-                Kept::Inline(types) => &types[..],
-                Kept::Big(types) => types.as_slice(),
-            };
-            &types[..usize::from(self.len_params) + usize::from(self.len_results)]
+            let count = usize::from(self.len_params) + usize::from(self.len_results);
+            match &self.kept {
+                Kept::Inline(types) => &types[..count],
+                Kept::Big(types) => &types.as_slice()[..count],
+            }
         }
     }
 
@@ -460,14 +469,37 @@ mod func_type {
         /// ```
         ///
         /// Definitions: [`KeepsEntries`](crate::specs::types::FunctionTypeSpecs#KeepsEntries).
-        #[inline]
+        #[inline(never)]
         fn kept(&self) -> Result<Kept, AllocError> {
             if self.rest.is_empty() {
                 return Ok(Kept::Inline(self.inline));
             }
-            let mut items = Vec::from_slice(&self.inline)?;
+
+            let mut items = Vec::with_capacity(INLINE_SIZE + self.rest.len())?;
+            items.extend_from_slice(&self.inline)?;
             items.extend_from_slice(self.rest.as_slice())?;
             Ok(Kept::Big(RcSlice::from_vec(items)?))
+        }
+
+        /// Appends what follows on `count` types, and answers how many there are with them.
+        #[inline(never)]
+        fn read_rest<I>(
+            &mut self,
+            types: &mut I,
+            count: usize,
+            too_many: FuncTypeError,
+        ) -> Result<u16, FuncTypeError>
+        where
+            I: Iterator<Item = ValType>,
+        {
+            let (before, most) = (self.rest.len(), usize::from(MAX_LEN));
+            if self.rest.read(types, most + 1 - count).is_err() {
+                return Err(FuncTypeError::OutOfMemory);
+            }
+            match count + self.rest.len() - before {
+                count if count > most => Err(too_many),
+                count => Ok(count as u16),
+            }
         }
 
         /// Appends the next type, and answers whether there was one.
@@ -517,17 +549,17 @@ mod func_type {
         where
             I: Iterator<Item = ValType>,
         {
-            for count in 0..MAX_LEN {
-                match self.push_next(types) {
-                    Ok(true) => {}
-                    Ok(false) => return Ok(count),
-                    Err(_) => return Err(FuncTypeError::OutOfMemory),
-                }
+            let cells = &mut self.inline[self.len..];
+            let (room, mut count) = (cells.len(), 0);
+            for (cell, ty) in cells.iter_mut().zip(types.by_ref()) {
+                *cell = ty;
+                count += 1;
             }
-            match types.next() {
-                Some(_) => Err(too_many),
-                None => Ok(MAX_LEN),
+            self.len += count;
+            if count < room {
+                return Ok(count as u16);
             }
+            self.read_rest(types, count, too_many)
         }
     }
 }

@@ -86,6 +86,30 @@ impl<T> Vec<T> {
         Ok(list)
     }
 
+    /// Appends the items of an iterator up to its first `None`, but at most so many.
+    ///
+    /// Where the iterator says how many there are, they come at once. Room for more than it said is made by `extend`, which
+    /// ends the program if it is refused.
+    ///
+    /// # Errors
+    ///
+    /// [`AllocError`] if memory is refused for what it said, or for an item.
+    #[inline]
+    pub fn read<I>(&mut self, items: I, most: usize) -> Result<(), AllocError>
+    where
+        I: Iterator<Item = T>,
+    {
+        let (at_least, at_most) = items.size_hint();
+        let expected = at_least.min(most);
+        self.try_reserve(expected)?;
+        let mut items = items.take(most);
+        if at_most == Some(expected) {
+            self.0.extend(items);
+            return Ok(());
+        }
+        items.try_for_each(|item| self.push(item).map_err(AllocError::from))
+    }
+
     /// Appends an item.
     ///
     /// # Errors
@@ -116,6 +140,7 @@ impl<T> Vec<T> {
     /// # Errors
     ///
     /// [`AllocError`] if memory is refused. Then none is appended.
+    #[inline]
     pub fn extend_from_slice(&mut self, items: &[T]) -> Result<(), AllocError>
     where
         T: Copy,
@@ -140,6 +165,7 @@ impl<T> Vec<T> {
     /// # Errors
     ///
     /// [`AllocError`] if memory is refused. Then nothing is appended.
+    #[inline]
     pub fn resize(&mut self, count: usize, item: T) -> Result<(), AllocError>
     where
         T: Copy,
@@ -253,5 +279,66 @@ impl<'a, T> IntoIterator for &'a Vec<T> {
 
     fn into_iter(self) -> Self::IntoIter {
         self.0.iter()
+    }
+}
+
+#[cfg(test)]
+mod tests {
+    //! What is read of iterators that say how many items they have, that don't, and that say too few or too many.
+    use super::Vec;
+
+    /// The numbers from 1 on, with one `None` after some of them, and a claim of how many there are.
+    struct Numbers {
+        given: usize,
+        end: usize,
+        said: (usize, Option<usize>),
+    }
+
+    impl Iterator for Numbers {
+        type Item = usize;
+
+        fn next(&mut self) -> Option<usize> {
+            assert!(self.given != self.end + 1, "read past the end");
+            self.given += 1;
+            (self.given <= self.end).then_some(self.given)
+        }
+
+        fn size_hint(&self) -> (usize, Option<usize>) {
+            self.said
+        }
+    }
+
+    #[test]
+    fn all_items_up_to_the_first_none_are_read_and_at_most_so_many() {
+        for end in [0, 1, 4, 5, 6, 9] {
+            for said in [
+                (0, None),
+                (0, Some(5)),
+                (3, Some(3)),
+                (end, Some(end)),
+                (5, Some(5)),
+                (100, None),
+            ] {
+                let mut numbers = Numbers {
+                    given: 0,
+                    end,
+                    said,
+                };
+                let mut list = Vec::new();
+                assert!(list.push(0).is_ok() && list.read(&mut numbers, 5).is_ok());
+                let items: std::vec::Vec<usize> = (0..=end.min(5)).collect();
+                assert_eq!(list.as_slice(), items, "{end} {said:?}");
+                assert!(numbers.given <= 5, "{end} {said:?}");
+            }
+        }
+    }
+
+    #[test]
+    fn room_that_is_refused_is_an_error() {
+        assert!(
+            Vec::<u64>::new()
+                .read(std::iter::repeat(1), usize::MAX)
+                .is_err()
+        );
     }
 }

@@ -174,9 +174,7 @@ impl<const N: usize> Mask<N> {
     pub fn select<T: Lane>(self, chosen: Simd<T, N>, other: Simd<T, N>) -> Simd<T, N> {
         let mut lanes = other.0;
         for i in 0..N {
-            if self.0[i] {
-                lanes[i] = chosen.0[i];
-            }
+            lanes[i] = if self.0[i] { chosen.0[i] } else { other.0[i] };
         }
         Simd(lanes)
     }
