@@ -3,7 +3,7 @@ ghost use Rattle.wasmi_c.specs.Script.{AnswersScript};
 
 use crate::status::TEXT_TOO_SHORT;
 use std::alloc::Global;
-use wasmi_script::replay;
+use wasmi_script::replay_bytes;
 
 /// Runs a script, and writes what it prints to the front of `text`; `needed` becomes its length in
 /// bytes. The status is the program's (docs/SCRIPT.md), or 5 if `text` is shorter: then nothing is
@@ -12,8 +12,7 @@ pub fn run(alloc: Global, script: &[u8], text: &mut [u8], needed: &mut usize) ->
     ensures answers { AnswersScript script.now text.old text.new needed.new result }
 {
     let mut printed = Vec::new(alloc);
-    let mut reader = script;
-    let status = replay(alloc, &mut reader, &mut printed);
+    let status = replay_bytes(alloc, script, &mut printed);
     *needed = printed.len();
     if text.len() < printed.len() {
         return TEXT_TOO_SHORT;
