@@ -239,6 +239,7 @@ mod printing {
     use crate::proved::meter::Amounts;
     use crate::proved::script::error::ReplayError;
     use crate::proved::script::running::{Held, Ran};
+    use crate::proved::script::streams::Output;
     use crate::proved::script::wording::Wording;
     use crate::rattle::arrayvec::ArrayString;
     use crate::rattle::arrayvec::{Show, Sink};
@@ -258,20 +259,21 @@ mod printing {
         pub ran: Ran,
     }
 
-    /// Prints the outcome to its last byte.
+    /// Prints the outcome to its last byte, and flushes the writer.
     ///
     /// # Contract
     ///
     /// ```text
     /// ensures ok: OnOk result
     ///     (Appends (W.contents writer.old) (W.contents writer.new) (outcome_text outcome.now))
+    /// ensures flushed: OnOk result (W.is_flushed writer.new)
     /// ensures front: OnErr result
     ///     (AppendsFront (W.contents writer.old) (W.contents writer.new) (outcome_text outcome.now))
     /// ```
     ///
     /// Definitions: [`outcome_text`](crate::specs::script::Outcomes#outcome_text), [`AppendsFront`](crate::specs::script::Printing#AppendsFront).
     #[inline]
-    pub fn print<W: io::Write>(
+    pub fn print<W: Output>(
         writer: &mut W,
         outcome: &Result<Replayed, ReplayError>,
     ) -> fmt::Result {
@@ -286,20 +288,21 @@ mod printing {
         flushed
     }
 
-    /// Prints a line for each call with its reply, to the last byte.
+    /// Prints a line for each call with its reply, to the last byte, and flushes the writer.
     ///
     /// # Contract
     ///
     /// ```text
     /// ensures ok: OnOk result (Appends (W.contents writer.old) (W.contents writer.new)
     ///     (replies_text calls.now replies.now))
+    /// ensures flushed: OnOk result (W.is_flushed writer.new)
     /// ensures front: OnErr result (AppendsFront (W.contents writer.old) (W.contents writer.new)
     ///     (replies_text calls.now replies.now))
     /// ```
     ///
     /// Definitions: [`replies_text`](crate::specs::script::Outcomes#replies_text), [`AppendsFront`](crate::specs::script::Printing#AppendsFront).
     #[inline]
-    pub fn print_lines<W: io::Write>(
+    pub fn print_lines<W: Output>(
         writer: &mut W,
         calls: &[Call],
         replies: &[Reply],
@@ -544,22 +547,6 @@ mod printing {
             Ok(())
         }
 
-        /// Sends what waits to the writer, and flushes it, if all texts were printed.
-        ///
-        /// # Contract
-        ///
-        /// ```text
-        /// ensures: Flushes W.contents printed self.old result self.new
-        /// ```
-        ///
-        /// Definitions: [`Flushes`](crate::specs::script::Printing#Flushes).
-        #[inline]
-        pub fn flush(&mut self, printed: fmt::Result) -> fmt::Result {
-            printed?;
-            self.send()?;
-            self.writer.flush().map_err(|_| fmt::Error)
-        }
-
         /// Sends what waits to the writer.
         ///
         /// # Contract
@@ -576,6 +563,25 @@ mod printing {
             send_all(self.writer, self.chunk.as_str())?;
             self.chunk.clear();
             Ok(())
+        }
+    }
+
+    impl<W: Output> Printer<'_, W> {
+        /// Sends what waits to the writer, and flushes it, if all texts were printed.
+        ///
+        /// # Contract
+        ///
+        /// ```text
+        /// ensures sent: Flushes W.contents printed self.old result self.new
+        /// ensures flushed: OnOk result (W.is_flushed self.new.writer.now)
+        /// ```
+        ///
+        /// Definitions: [`Flushes`](crate::specs::script::Printing#Flushes).
+        #[inline]
+        pub fn flush(&mut self, printed: fmt::Result) -> fmt::Result {
+            printed?;
+            self.send()?;
+            self.writer.flush_all().map_err(|_| fmt::Error)
         }
     }
 
@@ -609,6 +615,7 @@ mod replaying {
     use crate::proved::script::error::ReplayError;
     use crate::proved::script::printing::{Replayed, print};
     use crate::proved::script::running::run_script;
+    use crate::proved::script::streams::{Input, Output};
     use crate::rattle::Vec;
     use std::io;
 
@@ -650,22 +657,54 @@ mod replaying {
     }
 
     /// Reads the script, runs it and prints its replies, or prints why it isn't run. A line that can't
-    /// be printed makes the status `Fault`; what went out before it stays.
+    /// be printed, or a flush that fails, makes the status `Fault`; what went out before it stays.
     ///
     /// # Contract
     ///
     /// ```text
-    /// ensures ends: Replays (R.remaining reader.old) (W.contents writer.old)
-    ///     (W.contents writer.new) result
+    /// ensures ends: Replays
+    ///     (IsOutcomeOfReader (R.remaining reader.old) (R.has_failed reader.new))
+    ///     (W.contents writer.old) (W.contents writer.new) (W.is_flushed writer.new) result
     /// ```
     ///
-    /// Definitions: [`Replays`](crate::specs::script::Outcomes#Replays).
+    /// Definitions: [`Replays`](crate::specs::script::Outcomes#Replays), [`IsOutcomeOfReader`](crate::specs::script::Outcomes#IsOutcomeOfReader).
     #[doc = examples!(script replay)]
     #[inline]
-    pub fn replay<R: io::Read, W: io::Write>(reader: &mut R, writer: &mut W) -> Status {
-        let outcome = outcome_of(reader);
-        match print(writer, &outcome) {
-            Ok(()) => status_of(&outcome),
+    pub fn replay<R: Input, W: Output>(reader: &mut R, writer: &mut W) -> Status {
+        let outcome = outcome_of_reader(reader);
+        tell(writer, &outcome)
+    }
+
+    /// Runs the script of these bytes and prints its replies, as [`replay`] does. No reader fails.
+    ///
+    /// # Contract
+    ///
+    /// ```text
+    /// ensures ends: Replays (IsOutcomeOf script.now)
+    ///     (W.contents writer.old) (W.contents writer.new) (W.is_flushed writer.new) result
+    /// ```
+    ///
+    /// Definitions: [`Replays`](crate::specs::script::Outcomes#Replays), [`IsOutcomeOf`](crate::specs::script::Outcomes#IsOutcomeOf).
+    #[inline]
+    pub fn replay_bytes<W: Output>(script: &[u8], writer: &mut W) -> Status {
+        let outcome = outcome_of(script);
+        tell(writer, &outcome)
+    }
+
+    /// Prints the outcome, and says how the replay ends.
+    ///
+    /// # Contract
+    ///
+    /// ```text
+    /// ensures: PrintsOutcome (W.contents writer.old) (W.contents writer.new)
+    ///     (W.is_flushed writer.new) outcome.now result
+    /// ```
+    ///
+    /// Definitions: [`PrintsOutcome`](crate::specs::script::Outcomes#PrintsOutcome).
+    #[inline]
+    fn tell<W: Output>(writer: &mut W, outcome: &Result<Replayed, ReplayError>) -> Status {
+        match print(writer, outcome) {
+            Ok(()) => status_of(outcome),
             Err(_) => Status::Fault,
         }
     }
@@ -675,14 +714,34 @@ mod replaying {
     /// # Contract
     ///
     /// ```text
-    /// ensures outcome: IsOutcomeOfReader (R.remaining reader.old) result
+    /// ensures: IsOutcomeOfReader (R.remaining reader.old) (R.has_failed reader.new) result
     /// ```
     ///
     /// Definitions: [`IsOutcomeOfReader`](crate::specs::script::Outcomes#IsOutcomeOfReader).
     #[inline]
-    fn outcome_of<R: io::Read>(reader: &mut R) -> Result<Replayed, ReplayError> {
-        let bytes = read(&mut CountedReader { reader, taken: 0 })?;
-        let script = parse(bytes.as_slice())?;
+    fn outcome_of_reader<R: Input>(reader: &mut R) -> Result<Replayed, ReplayError> {
+        let mut counted = CountedReader { reader, taken: 0 };
+        let script = read(&mut counted);
+        // No effect at run time: the proof reads what the reader is then from this use.
+        let _ = &*counted.reader;
+        outcome_of(script?.as_slice())
+    }
+
+    /// Runs the script that these bytes write.
+    ///
+    /// # Contract
+    ///
+    /// ```text
+    /// ensures: IsOutcomeOf bytes.now result
+    /// ```
+    ///
+    /// Definitions: [`IsOutcomeOf`](crate::specs::script::Outcomes#IsOutcomeOf).
+    #[inline]
+    fn outcome_of(bytes: &[u8]) -> Result<Replayed, ReplayError> {
+        if LIMIT < bytes.len() {
+            return Err(ReplayError::TooLong);
+        }
+        let script = parse(bytes)?;
         let ran = run_script(&script)?;
         Ok(Replayed { script, ran })
     }
@@ -715,24 +774,26 @@ mod replaying {
         taken: usize,
     }
 
-    impl<R: io::Read> CountedReader<'_, R> {
+    impl<R: Input> CountedReader<'_, R> {
         /// One turn more.
         ///
         /// # Contract
         ///
         /// ```text
         /// requires turns: self.old.taken ≤ script_limit
+        /// ensures reader: self.new.reader.ghost_name ≡ self.old.reader.ghost_name
         /// ensures taken: self.new.taken ≡ self.old.taken + 1
         /// ensures bound: ReadsAtMost result buffer.new
         /// ensures bytes: ReadConsumes (R.remaining self.old.reader.now)
         ///     (R.remaining self.new.reader.now) result buffer.new
+        /// ensures failed: OnErr result (R.has_failed self.new.reader.now)
         /// ```
         ///
         /// Definitions: [`script_limit`](crate::specs::script::Outcomes#script_limit).
         #[inline]
         fn turn(&mut self, buffer: &mut [u8]) -> io::Result<usize> {
             self.taken += 1;
-            self.reader.read(buffer)
+            self.reader.read_some(buffer)
         }
     }
 
@@ -742,16 +803,18 @@ mod replaying {
     ///
     /// ```text
     /// requires fresh: reader.old.taken ≡ 0
+    /// ensures reader: reader.new.reader.ghost_name ≡ reader.old.reader.ghost_name
     /// ensures bounded: IfOk result (λ script. vec_len script ≤ LIMIT)
     /// ensures whole: IfOk result
     ///     (λ script. IfSome (R.remaining reader.old.reader.now) (λ bytes. script.items ≡ bytes))
-    /// ensures refused: IfErr result (IsReadError (R.remaining reader.old.reader.now))
+    /// ensures refused: IfErr result (IsReadError (R.remaining reader.old.reader.now)
+    ///     (R.has_failed reader.new.reader.now))
     /// ensures turns: reader.new.taken ≤ script_limit + 1
     /// ```
     ///
     /// Definitions: [`IsReadError`](crate::specs::script::Outcomes#IsReadError), [`script_limit`](crate::specs::script::Outcomes#script_limit).
     #[inline]
-    fn read<R: io::Read>(reader: &mut CountedReader<'_, R>) -> Result<Vec<u8>, ReplayError> {
+    fn read<R: Input>(reader: &mut CountedReader<'_, R>) -> Result<Vec<u8>, ReplayError> {
         let mut script = Vec::new();
         let mut chunk = [0u8; 4096];
         for _turn in 0..LIMIT + 1 {
@@ -994,6 +1057,77 @@ mod running {
         Ok(pool)
     }
 }
+mod streams {
+    //! Readers whose failures, and writers whose flushes, a contract names.
+
+    use std::io;
+
+    /// A reader of a script. Each [`io::Read`] is one.
+    ///
+    /// # Contract
+    ///
+    /// ```text
+    /// has_failed: Self → Type 0
+    /// ```
+    pub trait Input: io::Read {
+        /// Reads bytes, as [`io::Read::read`] does.
+        ///
+        /// # Contract
+        ///
+        /// ```text
+        /// ensures bound: ReadsAtMost result buffer.new
+        /// ensures bytes: ReadConsumes (Self.remaining self.old) (Self.remaining self.new) result
+        ///     buffer.new
+        /// ensures failed: OnErr result (has_failed self.new)
+        /// ```
+        fn read_some(&mut self, buffer: &mut [u8]) -> io::Result<usize>;
+    }
+
+    /// # Contract
+    ///
+    /// ```text
+    /// has_failed = λ _. Unit {0}
+    /// ```
+    impl<R: io::Read> Input for R {
+        #[inline]
+        fn read_some(&mut self, buffer: &mut [u8]) -> io::Result<usize> {
+            self.read(buffer)
+        }
+    }
+
+    /// A writer of what a script prints. Each [`io::Write`] is one.
+    ///
+    /// # Contract
+    ///
+    /// ```text
+    /// is_flushed: Self → Type 0
+    /// ```
+    pub trait Output: io::Write {
+        /// Flushes it, as [`io::Write::flush`] does.
+        ///
+        /// # Contract
+        ///
+        /// ```text
+        /// ensures bytes: KeepsContents (Self.contents self.old) (Self.contents self.new)
+        /// ensures flushed: OnOk result (is_flushed self.new)
+        /// ```
+        ///
+        /// Definitions: [`KeepsContents`](crate::specs::machine::Laws#Keeps).
+        fn flush_all(&mut self) -> io::Result<()>;
+    }
+
+    /// # Contract
+    ///
+    /// ```text
+    /// is_flushed = λ _. Unit {0}
+    /// ```
+    impl<W: io::Write> Output for W {
+        #[inline]
+        fn flush_all(&mut self) -> io::Result<()> {
+            self.flush()
+        }
+    }
+}
 mod wording {
     //! What a reply says, as words and numbers.
 
@@ -1128,4 +1262,5 @@ pub use crate::proved::grammar::ParseError;
 pub use error::ReplayError;
 pub use lines::write_lines;
 pub use printing::{ReplyHead, print_lines};
-pub use replaying::{LIMIT, Status, replay};
+pub use replaying::{LIMIT, Status, replay, replay_bytes};
+pub use streams::{Input, Output};

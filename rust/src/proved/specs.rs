@@ -5137,7 +5137,9 @@ abbrev pub <b id="IsLiveSlot">IsLiveSlot</b> : {X : Type 0} → Slot X → Type 
 abbrev pub <b id="IsLive">IsLive</b> : (location : <a href="../../laws/Places/index.html#Location">Location</a>) → <a href="../../laws/Places/index.html#Content">Content</a> location → Type 0
 <a href="../../laws/Places/index.html#IsLive">IsLive</a> (<a href="../../laws/Places/index.html#MemoryAt">MemoryAt</a> k) x = <a href="../../laws/Places/index.html#IsLiveSlot">IsLiveSlot</a> x
 <a href="../../laws/Places/index.html#IsLive">IsLive</a> (<a href="../../laws/Places/index.html#TableAt">TableAt</a> k) x = <a href="../../laws/Places/index.html#IsLiveSlot">IsLiveSlot</a> x
-<a href="../../laws/Places/index.html#IsLive">IsLive</a> location x = Unit {0}
+<a href="../../laws/Places/index.html#IsLive">IsLive</a> (<a href="../../laws/Places/index.html#SegmentAt">SegmentAt</a> k) x = Unit {0}
+<a href="../../laws/Places/index.html#IsLive">IsLive</a> (<a href="../../laws/Places/index.html#GlobalAt">GlobalAt</a> k) x = Unit {0}
+<a href="../../laws/Places/index.html#IsLive">IsLive</a> (<a href="../../laws/Places/index.html#RegisterAt">RegisterAt</a> k) x = Unit {0}
 
 -- something is at an index, and this holds of it
 abbrev pub <b id="HasAt">HasAt</b> : (location : <a href="../../laws/Places/index.html#Location">Location</a>) → <a href="../../machine/State/index.html#State">State</a> → (<a href="../../laws/Places/index.html#Content">Content</a> location → Type 0) → Type 0
@@ -5304,14 +5306,35 @@ pub record <b id="IsRunInTwo">IsRunInTwo</b> {S : Type 0} (rules : <a href="../.
   pub <b id="rest_run">rest_run</b> : <a href="../../machine/Steps/index.html#IsRunOf">IsRunOf</a> rules rest <a href="../../laws/Runs/index.html#between">between</a> (drop (length first) replies) w
 
 -- The reply is a refusal that is found before the limiter is asked and before anything is charged: a trap, an index
--- that names nothing, an access past the end, another type, metering that is off, or no place for a new slot.
+-- that names nothing, an access past the end, another type, metering that is off, or no place for a new slot. Each reply
+-- has a line, and so has each error of a memory or a table.
 abbrev pub <b id="IsPlainRefusal">IsPlainRefusal</b> : Reply → Type 0
+<a href="../../laws/Runs/index.html#IsPlainRefusal">IsPlainRefusal</a> reply.Done = ⊥
+<a href="../../laws/Runs/index.html#IsPlainRefusal">IsPlainRefusal</a> (reply.Made index) = ⊥
+<a href="../../laws/Runs/index.html#IsPlainRefusal">IsPlainRefusal</a> (reply.Value value) = ⊥
+<a href="../../laws/Runs/index.html#IsPlainRefusal">IsPlainRefusal</a> (reply.Number number) = ⊥
+<a href="../../laws/Runs/index.html#IsPlainRefusal">IsPlainRefusal</a> (reply.Bytes bytes) = ⊥
+<a href="../../laws/Runs/index.html#IsPlainRefusal">IsPlainRefusal</a> (reply.Reference value) = ⊥
+<a href="../../laws/Runs/index.html#IsPlainRefusal">IsPlainRefusal</a> (reply.Memory memory.OutOfSystemMemory) = ⊥
+<a href="../../laws/Runs/index.html#IsPlainRefusal">IsPlainRefusal</a> (reply.Memory memory.OutOfBoundsGrowth) = ⊥
 <a href="../../laws/Runs/index.html#IsPlainRefusal">IsPlainRefusal</a> (reply.Memory memory.OutOfBoundsAccess) = Unit {0}
+<a href="../../laws/Runs/index.html#IsPlainRefusal">IsPlainRefusal</a> (reply.Memory memory.InvalidMemoryType) = ⊥
+<a href="../../laws/Runs/index.html#IsPlainRefusal">IsPlainRefusal</a> (reply.Memory memory.InvalidStaticBufferSize) = ⊥
+<a href="../../laws/Runs/index.html#IsPlainRefusal">IsPlainRefusal</a> (reply.Memory memory.ResourceLimiterDeniedAllocation) = ⊥
+<a href="../../laws/Runs/index.html#IsPlainRefusal">IsPlainRefusal</a> (reply.Memory memory.MinimumSizeOverflow) = ⊥
+<a href="../../laws/Runs/index.html#IsPlainRefusal">IsPlainRefusal</a> (reply.Memory memory.MaximumSizeOverflow) = ⊥
+<a href="../../laws/Runs/index.html#IsPlainRefusal">IsPlainRefusal</a> (reply.Memory (memory.OutOfFuel required)) = ⊥
+<a href="../../laws/Runs/index.html#IsPlainRefusal">IsPlainRefusal</a> (reply.Table table.OutOfSystemMemory) = ⊥
+<a href="../../laws/Runs/index.html#IsPlainRefusal">IsPlainRefusal</a> (reply.Table table.MinimumSizeOverflow) = ⊥
+<a href="../../laws/Runs/index.html#IsPlainRefusal">IsPlainRefusal</a> (reply.Table table.MaximumSizeOverflow) = ⊥
+<a href="../../laws/Runs/index.html#IsPlainRefusal">IsPlainRefusal</a> (reply.Table table.ResourceLimiterDeniedAllocation) = ⊥
+<a href="../../laws/Runs/index.html#IsPlainRefusal">IsPlainRefusal</a> (reply.Table table.GrowOutOfBounds) = ⊥
 <a href="../../laws/Runs/index.html#IsPlainRefusal">IsPlainRefusal</a> (reply.Table table.InitOutOfBounds) = Unit {0}
 <a href="../../laws/Runs/index.html#IsPlainRefusal">IsPlainRefusal</a> (reply.Table table.FillOutOfBounds) = Unit {0}
 <a href="../../laws/Runs/index.html#IsPlainRefusal">IsPlainRefusal</a> (reply.Table table.SetOutOfBounds) = Unit {0}
 <a href="../../laws/Runs/index.html#IsPlainRefusal">IsPlainRefusal</a> (reply.Table table.CopyOutOfBounds) = Unit {0}
 <a href="../../laws/Runs/index.html#IsPlainRefusal">IsPlainRefusal</a> (reply.Table table.ElementTypeMismatch) = Unit {0}
+<a href="../../laws/Runs/index.html#IsPlainRefusal">IsPlainRefusal</a> (reply.Table (table.OutOfFuel required)) = ⊥
 <a href="../../laws/Runs/index.html#IsPlainRefusal">IsPlainRefusal</a> (reply.Fuel error) = Unit {0}
 <a href="../../laws/Runs/index.html#IsPlainRefusal">IsPlainRefusal</a> (reply.Global error) = Unit {0}
 <a href="../../laws/Runs/index.html#IsPlainRefusal">IsPlainRefusal</a> (reply.Segment error) = Unit {0}
@@ -5319,7 +5342,6 @@ abbrev pub <b id="IsPlainRefusal">IsPlainRefusal</b> : Reply → Type 0
 <a href="../../laws/Runs/index.html#IsPlainRefusal">IsPlainRefusal</a> reply.NoSuch = Unit {0}
 <a href="../../laws/Runs/index.html#IsPlainRefusal">IsPlainRefusal</a> reply.NoRegion = Unit {0}
 <a href="../../laws/Runs/index.html#IsPlainRefusal">IsPlainRefusal</a> reply.NoRoom = Unit {0}
-<a href="../../laws/Runs/index.html#IsPlainRefusal">IsPlainRefusal</a> other = ⊥
 
 module _ {S : Type 0} (rules : <a href="../../meter/Limiter/index.html#Rules">Rules</a> S) where
   -- a run of turns is, at each place, a run of those before it, and a run of the others from where these end
@@ -6568,12 +6590,12 @@ abbrev pub <b id="status_after">status_after</b> : {A : Type 0} → Result A Rep
 abbrev pub <b id="script_limit">script_limit</b> : ℕ
 <a href="../../script/Outcomes/index.html#script_limit">script_limit</a> = 1048576
 
--- why the bytes that a reader has left aren&#x27;t read
-abbrev pub <b id="IsReadError">IsReadError</b> : Option (List ℕ) → ReplayError → Type 0
-<a href="../../script/Outcomes/index.html#IsReadError">IsReadError</a> left (Parse (Errors.BadCommand number)) = ⊥
-<a href="../../script/Outcomes/index.html#IsReadError">IsReadError</a> left (Parse Errors.OutOfMemory) = ⊤
-<a href="../../script/Outcomes/index.html#IsReadError">IsReadError</a> left TooLong = IfSome left (λ bytes. <a href="../../script/Outcomes/index.html#script_limit">script_limit</a> &lt; length bytes)
-<a href="../../script/Outcomes/index.html#IsReadError">IsReadError</a> left ReadFault = ⊤
+-- why the bytes that a reader has left aren&#x27;t read; a fault only if it has failed
+abbrev pub <b id="IsReadError">IsReadError</b> : Option (List ℕ) → Type 0 → ReplayError → Type 0
+<a href="../../script/Outcomes/index.html#IsReadError">IsReadError</a> left failed (Parse (Errors.BadCommand number)) = ⊥
+<a href="../../script/Outcomes/index.html#IsReadError">IsReadError</a> left failed (Parse Errors.OutOfMemory) = ⊤
+<a href="../../script/Outcomes/index.html#IsReadError">IsReadError</a> left failed TooLong = IfSome left (λ bytes. <a href="../../script/Outcomes/index.html#script_limit">script_limit</a> &lt; length bytes)
+<a href="../../script/Outcomes/index.html#IsReadError">IsReadError</a> left failed ReadFault = failed
 
 -- a line for each call, with its reply
 abbrev pub <b id="replies_text">replies_text</b> : List Call → List Reply → List ℕ
@@ -6609,31 +6631,35 @@ abbrev pub <b id="outcome_text">outcome_text</b> : <a href="../../script/Outcome
     <a href="../../script/Outcomes/index.html#replies_text">replies_text</a> (<a href="../../grammar/Lines/index.html#calls_of">calls_of</a> replayed.script) replayed.ran.replies.items ++ <a href="../../script/Outcomes/index.html#held_text">held_text</a> replayed.ran.held
 <a href="../../script/Outcomes/index.html#outcome_text">outcome_text</a> (Err error) = <a href="../../script/Printing/index.html#line">line</a> (<a href="../../script/Texts/index.html#error_text">error_text</a> error)
 
--- The outcome of the bytes of a reader: a run of the script that they write, a line that is no command, or that they
--- are too many. Memory may be refused at any script, and the reader may fail.
+-- The outcome of some bytes: a run of the script that they write, a line that is no command, or that they are too
+-- many. Memory may be refused at any script.
 abbrev pub <b id="IsOutcomeOf">IsOutcomeOf</b> : List ℕ → <a href="../../script/Outcomes/index.html#ReplayOutcome">ReplayOutcome</a> → Type 0
 <a href="../../script/Outcomes/index.html#IsOutcomeOf">IsOutcomeOf</a> bytes (Ok replayed) =
     (length bytes ≤ <a href="../../script/Outcomes/index.html#script_limit">script_limit</a>) × <a href="../../grammar/Lines/index.html#WritesScript">WritesScript</a> bytes replayed.script × <a href="../../script/ScriptRuns/index.html#IsReplayOf">IsReplayOf</a> replayed.script replayed.ran
 <a href="../../script/Outcomes/index.html#IsOutcomeOf">IsOutcomeOf</a> bytes (Err (Parse (Errors.BadCommand number))) = (length bytes ≤ <a href="../../script/Outcomes/index.html#script_limit">script_limit</a>) × <a href="../../grammar/Lines/index.html#IsFirstBadLine">IsFirstBadLine</a> bytes number
 <a href="../../script/Outcomes/index.html#IsOutcomeOf">IsOutcomeOf</a> bytes (Err (Parse Errors.OutOfMemory)) = ⊤
 <a href="../../script/Outcomes/index.html#IsOutcomeOf">IsOutcomeOf</a> bytes (Err TooLong) = <a href="../../script/Outcomes/index.html#script_limit">script_limit</a> &lt; length bytes
-<a href="../../script/Outcomes/index.html#IsOutcomeOf">IsOutcomeOf</a> bytes (Err ReadFault) = ⊤
+<a href="../../script/Outcomes/index.html#IsOutcomeOf">IsOutcomeOf</a> bytes (Err ReadFault) = ⊥
 
--- the writer has got the whole text and the status is the outcome&#x27;s, or it has got a front of the text and failed
-abbrev pub <b id="PrintsOutcome">PrintsOutcome</b> : Option (List ℕ) → Option (List ℕ) → <a href="../../script/Outcomes/index.html#ReplayOutcome">ReplayOutcome</a> → Status → Type 0
-<a href="../../script/Outcomes/index.html#PrintsOutcome">PrintsOutcome</a> old new <a href="../../script/Outcomes/index.html#outcome">outcome</a> status =
-    (Appends old new (<a href="../../script/Outcomes/index.html#outcome_text">outcome_text</a> <a href="../../script/Outcomes/index.html#outcome">outcome</a>) × (status ≡ <a href="../../script/Outcomes/index.html#status_after">status_after</a> <a href="../../script/Outcomes/index.html#outcome">outcome</a>))
+-- the outcome of a reader: a fault if it has failed, else an outcome of some bytes, which are its own where it tells them
+abbrev pub <b id="IsOutcomeOfReader">IsOutcomeOfReader</b> : Option (List ℕ) → Type 0 → <a href="../../script/Outcomes/index.html#ReplayOutcome">ReplayOutcome</a> → Type 0
+<a href="../../script/Outcomes/index.html#IsOutcomeOfReader">IsOutcomeOfReader</a> given failed (Err ReadFault) = failed
+<a href="../../script/Outcomes/index.html#IsOutcomeOfReader">IsOutcomeOfReader</a> given failed <a href="../../script/Outcomes/index.html#outcome">outcome</a> =
+    (bytes : List ℕ) × IfSome given (λ told. told ≡ bytes) × <a href="../../script/Outcomes/index.html#IsOutcomeOf">IsOutcomeOf</a> bytes <a href="../../script/Outcomes/index.html#outcome">outcome</a>
+
+-- the writer has got the whole text and is flushed, and the status is the outcome&#x27;s, or it has got a front of the text
+-- and failed
+abbrev pub <b id="PrintsOutcome">PrintsOutcome</b> : Option (List ℕ) → Option (List ℕ) → Type 0 → <a href="../../script/Outcomes/index.html#ReplayOutcome">ReplayOutcome</a> → Status → Type 0
+<a href="../../script/Outcomes/index.html#PrintsOutcome">PrintsOutcome</a> old new flushed <a href="../../script/Outcomes/index.html#outcome">outcome</a> status =
+    (Appends old new (<a href="../../script/Outcomes/index.html#outcome_text">outcome_text</a> <a href="../../script/Outcomes/index.html#outcome">outcome</a>) × flushed × (status ≡ <a href="../../script/Outcomes/index.html#status_after">status_after</a> <a href="../../script/Outcomes/index.html#outcome">outcome</a>))
     ⊎ (<a href="../../script/Printing/index.html#AppendsFront">AppendsFront</a> old new (<a href="../../script/Outcomes/index.html#outcome_text">outcome_text</a> <a href="../../script/Outcomes/index.html#outcome">outcome</a>) × (status ≡ Fault))
 
--- an outcome of some bytes, which are those of a reader where it tells them
-abbrev pub <b id="IsOutcomeOfReader">IsOutcomeOfReader</b> : Option (List ℕ) → <a href="../../script/Outcomes/index.html#ReplayOutcome">ReplayOutcome</a> → Type 0
-<a href="../../script/Outcomes/index.html#IsOutcomeOfReader">IsOutcomeOfReader</a> given <a href="../../script/Outcomes/index.html#outcome">outcome</a> = (bytes : List ℕ) × IfSome given (λ told. told ≡ bytes) × <a href="../../script/Outcomes/index.html#IsOutcomeOf">IsOutcomeOf</a> bytes <a href="../../script/Outcomes/index.html#outcome">outcome</a>
-
--- the bytes of a reader have an outcome, and a writer has got it
-pub record <b id="Replays">Replays</b> (given old new : Option (List ℕ)) (status : Status) : Type 0 where
+-- a script has an outcome of this kind, and a writer has got it
+pub record <b id="Replays">Replays</b> (IsOutcome : <a href="../../script/Outcomes/index.html#ReplayOutcome">ReplayOutcome</a> → Type 0) (old new : Option (List ℕ)) (flushed : Type 0)
+    (status : Status) : Type 0 where
   pub <b id="outcome">outcome</b> : <a href="../../script/Outcomes/index.html#ReplayOutcome">ReplayOutcome</a>
-  pub <b id="of_bytes">of_bytes</b> : <a href="../../script/Outcomes/index.html#IsOutcomeOfReader">IsOutcomeOfReader</a> given <a href="../../script/Outcomes/index.html#outcome">outcome</a>
-  pub <b id="printed">printed</b> : <a href="../../script/Outcomes/index.html#PrintsOutcome">PrintsOutcome</a> old new <a href="../../script/Outcomes/index.html#outcome">outcome</a> status
+  pub <b id="of_script">of_script</b> : IsOutcome <a href="../../script/Outcomes/index.html#outcome">outcome</a>
+  pub <b id="printed">printed</b> : <a href="../../script/Outcomes/index.html#PrintsOutcome">PrintsOutcome</a> old new flushed <a href="../../script/Outcomes/index.html#outcome">outcome</a> status
 </code></pre>
 "####]
     pub mod Outcomes {}
