@@ -79,3 +79,15 @@ uint8_t __wrap_wasmi_binary(uint16_t number, wasmi_words a, wasmi_words b, wasmi
     }
     return status;
 }
+
+#if FAULT == 10
+wasmi_reply __real_wasmi_pool_run_lines(wasmi_pool *pool, size_t tenant, const uint8_t *lines, size_t lines_len,
+                                        uint8_t *text, size_t text_len);
+
+wasmi_reply __wrap_wasmi_pool_run_lines(wasmi_pool *pool, size_t tenant, const uint8_t *lines, size_t lines_len,
+                                        uint8_t *text, size_t text_len) {
+    if (wasmi_pool_tenant_totals(pool, tenant).status == WASMI_NO_TENANT)
+        lines_len = 0;
+    return __real_wasmi_pool_run_lines(pool, tenant, lines, lines_len, text, text_len);
+}
+#endif
