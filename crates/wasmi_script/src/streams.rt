@@ -10,6 +10,10 @@ pub trait Input: io::Read {
     ghost has_failed: { Self → Type 0 };
 
     /// Reads bytes, as [`io::Read::read`] does.
+    ///
+    /// # Errors
+    ///
+    /// That of the reader, which has failed then.
     fn read_some(&mut self, buffer: &mut [u8]) -> io::Result<usize>
         ensures bound { ReadsAtMost result buffer.new }
         ensures bytes { ReadConsumes (Self.remaining self.old) (Self.remaining self.new) result
@@ -30,6 +34,10 @@ pub trait Output: io::Write {
     ghost is_flushed: { Self → Type 0 };
 
     /// Flushes it, as [`io::Write::flush`] does.
+    ///
+    /// # Errors
+    ///
+    /// That of the writer, which then isn't known to be flushed.
     fn flush_all(&mut self) -> io::Result<()>
         ensures bytes { KeepsContents (Self.contents self.old) (Self.contents self.new) }
         ensures flushed { OnOk result (is_flushed self.new) };

@@ -1115,6 +1115,10 @@ mod streams {
     pub trait Input: io::Read {
         /// Reads bytes, as [`io::Read::read`] does.
         ///
+        /// # Errors
+        ///
+        /// That of the reader, which has failed then.
+        ///
         /// # Contract
         ///
         /// ```text
@@ -1147,6 +1151,10 @@ mod streams {
     /// ```
     pub trait Output: io::Write {
         /// Flushes it, as [`io::Write::flush`] does.
+        ///
+        /// # Errors
+        ///
+        /// That of the writer, which then isn't known to be flushed.
         ///
         /// # Contract
         ///
