@@ -18,7 +18,7 @@ fn lists_have_room_for_no_more() {
         Vec::from_slice(&[1_u64, 2, 3]).map(|it| (it.to_vec(), it.capacity())) => Ok((vec![1, 2, 3], 3)),
         [1_u64, 2, 3].try_to_vec().map(|it| (it.to_vec(), it.capacity())) => Ok((vec![1, 2, 3], 3)),
         Vec::of([1_u64, 2, 3]).map(|it| (it.to_vec(), it.capacity())) => Ok((vec![1, 2, 3], 3)),
-        Vec::<u64>::new().capacity() => 0,
+        (Vec::<u64>::new().capacity(), Vec::<u64>::default().len()) => (0, 0),
         Vec::<u64>::with_capacity(usize::MAX).map(|it| it.len()) => Err(AllocError),
         Vec::filled(0_u64, usize::MAX).map(|it| it.len()) => Err(AllocError),
     );
