@@ -1,12 +1,12 @@
 //! Calls on a memory and a table, as bytes, with each meter and under a limiter, beside the plain models of the crate's tests.
+#![no_main]
 // Of the files of tests only the models are taken.
 #![allow(dead_code, unused_imports, unused_macros)]
-#![no_main]
 use model::{ANSWERS, Asked, Meter, Source, with_each, write};
 use std::fmt::Debug;
 use std::panic::{AssertUnwindSafe, catch_unwind};
-use wasmi_core_proved::{ElementSegment, Fuel, Memory, RawRef, RefType, ResourceLimiterRef};
-use wasmi_core_proved::{Table, TableError, TableType, TypedRawRef};
+use wasmi_core_proved::{ElementSegment, Fuel, Memory, RawRef, RefType, ResourceLimiterRef, Table, TableError};
+use wasmi_core_proved::{TableType, TypedRawRef};
 use wasmi_fuzz::{agree, fuzz_target, is_planted};
 
 #[path = "../../../rust/tests/facade/memories.rs"]
@@ -18,55 +18,34 @@ mod tables;
 
 fuzz_target!(is_kept);
 
-const MOST_CALLS: usize = 64;
 /// The bytes and references of what is copied from.
 const OTHER: [u8; 6] = [1, 2, 3, 4, 5, 6];
 
+/// What is called, and its numbers.
+type Call = (u8, [u64; 3]);
 /// What a call gives, and the bytes, the references and the fuel that are there after it.
 type Seen = (String, Vec<u8>, Vec<Option<u32>>, Option<u64>);
 
-#[derive(Clone, Copy, Debug)]
-struct Call {
-    kind: u8,
-    element: RefType,
-    to: u64,
-    from: u64,
-    len: u64,
+fn call(bytes: &[u8]) -> Call {
+    let edges = [65_535, 65_537, (1 << 32) - 4, 1 << 32, (1 << 32) + 1, 1 << 63, u64::MAX - 3, u64::MAX];
+    let number = |it: u8| if it < 224 { u64::from(it % 32) } else { edges[usize::from(it % 8)] };
+    (bytes[0] % 16, [number(bytes[1]), number(bytes[2]), number(bytes[3])])
 }
 
-impl Call {
-    fn new(bytes: &[u8]) -> Self {
-        let edges = [65_535, 65_537, (1 << 32) - 4, 1 << 32, (1 << 32) + 1, 1 << 63, u64::MAX - 3, u64::MAX];
-        let number = |it: u8| if it < 224 { u64::from(it % 32) } else { edges[usize::from(it % 8)] };
-        let element = tables::KINDS[usize::from(bytes[0] >= 240)];
-        Call { kind: bytes[0] % 16, element, to: number(bytes[1]), from: number(bytes[2]), len: number(bytes[3]) }
-    }
-
-    /// The types of what is made.
-    fn types(self) -> (memories::Row, TableType) {
-        let (least, most) = (self.to % 8, self.to % 8 + self.len % 40);
-        (memories::Row(least, Some(most), 0, None), TableType::new(RefType::Func, least as u32, Some(most as u32)))
-    }
+/// The types of what is made.
+fn types(number: u64, more: u64) -> (memories::Row, TableType) {
+    let (least, most) = (number % 8, number % 8 + more % 40);
+    (memories::Row(least, Some(most), 0, None), TableType::new(RefType::Func, least as u32, Some(most as u32)))
 }
 
 fn is_kept(input: &[u8]) -> bool {
-    let calls: Vec<Call> = input.get(1..).unwrap_or(&[]).chunks_exact(4).take(MOST_CALLS).map(Call::new).collect();
+    let calls: Vec<Call> = input.get(1..).unwrap_or(&[]).chunks_exact(4).take(64).map(call).collect();
     let answers = [ANSWERS[usize::from(input.first().unwrap_or(&0) % 5)]];
-    let result = catch_unwind(AssertUnwindSafe(|| {
-        with_each(
-            &calls,
-            &answers,
-            |fuel, asked| by_crate(&calls, fuel, asked),
-            |meter, asked| by_model(&calls, meter, asked),
-        )
-    }));
+    let here = |fuel: Option<&mut Fuel>, limiter: &mut ResourceLimiterRef<'_>| by_crate(&calls, fuel, limiter);
+    let model = |meter: Option<&mut Meter>, asked: &mut Asked| by_model(&calls, meter, asked);
+    let result = catch_unwind(AssertUnwindSafe(|| with_each(&calls, &answers, here, model)));
     agree("calls", &true, &result.is_ok());
     !calls.is_empty()
-}
-
-fn consumed(left: &mut u64, amount: u64) -> Option<u64> {
-    *left = left.checked_sub(amount)?;
-    Some(*left)
 }
 
 fn told<T: Debug, E: Debug>(result: Result<T, E>) -> String {
@@ -74,37 +53,31 @@ fn told<T: Debug, E: Debug>(result: Result<T, E>) -> String {
 }
 
 fn by_crate(calls: &[Call], mut fuel: Option<&mut Fuel>, limiter: &mut ResourceLimiterRef<'_>) -> Vec<Seen> {
-    let ((row, ty), mut nobody) = (Call::new(&[0, 4, 0, 28]).types(), ResourceLimiterRef::default());
-    let mut memory = Memory::new(row.ty(), &mut nobody).expect("a memory");
-    let mut table = Table::new(ty, TypedRawRef::null(RefType::Func), &mut nobody).expect("a table");
+    let ((row, ty), mut nobody) = (types(4, 28), ResourceLimiterRef::default());
+    let memory = Memory::new(row.ty(), &mut nobody).expect("a memory");
+    let mut made = (memory, Table::new(ty, TypedRawRef::null(RefType::Func), &mut nobody).expect("a table"));
     let seen = calls.iter().map(|call| {
-        let told = of_crate(*call, &mut memory, &mut table, fuel.as_deref_mut(), limiter);
-        let items = (0..table.size() + 1).map(|index| table.get(index).map(|it| it.raw().into())).collect();
-        (told, memory.data().to_vec(), items, fuel.as_ref().and_then(|fuel| fuel.get_fuel().ok()))
+        let told = of_crate(*call, &mut made, fuel.as_deref_mut(), limiter);
+        let items = (0..made.1.size() + 1).map(|index| made.1.get(index).map(|it| it.raw().into())).collect();
+        (told, made.0.data().to_vec(), items, fuel.as_ref().and_then(|fuel| fuel.get_fuel().ok()))
     });
     seen.skip(usize::from(is_planted("calls"))).collect()
 }
 
-fn of_crate(
-    call: Call,
-    memory: &mut Memory,
-    table: &mut Table,
-    fuel: Option<&mut Fuel>,
-    limiter: &mut ResourceLimiterRef<'_>,
-) -> String {
-    let Call { to, from, len, .. } = call;
-    let (byte, src, count) = (from as u8, from as u32, len as u32);
-    let item = TypedRawRef::new(RawRef::from(src), call.element);
+#[rustfmt::skip]
+fn of_crate((kind, [to, from, len]): Call, (memory, table): &mut (Memory, Table), fuel: Option<&mut Fuel>, limiter: &mut ResourceLimiterRef<'_>) -> String {
+    let (src, count, (row, ty)) = (from as u32, len as u32, types(to, len));
+    let item = TypedRawRef::new(RawRef::from(src), RefType::Func);
     let segment = ElementSegment::new(RefType::Func, OTHER.map(|it| RawRef::from(u32::from(it))));
-    match call.kind {
-        0 => told(Memory::new(call.types().0.ty(), limiter).map(|made| *memory = made)),
+    match kind {
+        0 => told(Memory::new(row.ty(), limiter).map(|made| *memory = made)),
         1 => told(memory.grow(len, fuel, limiter)),
-        2 => told(memory.fill(to, byte, len, fuel)),
+        2 => told(memory.fill(to, from as u8, len, fuel)),
         3 => told(memory.copy_within(to, from, len, fuel)),
         4 => told(memory.init(&OTHER, to, src, count, fuel)),
         5 => told(memory.write(to as usize, &OTHER[..from as usize % 7])),
         6 => told(memory.read(to as usize, &mut vec![0; from as usize % 32])),
-        7 => told(Table::new(call.types().1, item, limiter).map(|made| *table = made)),
+        7 => told(Table::new(ty, item, limiter).map(|made| *table = made)),
         8 => told(table.grow(len, item, fuel, limiter)),
         9 => told(table.fill(to, item, len, fuel)),
         10 => told(table.copy_within(to, from, len, fuel)),
@@ -116,44 +89,32 @@ fn of_crate(
 }
 
 fn by_model(calls: &[Call], mut meter: Option<&mut Meter>, asked: &mut Asked) -> Vec<Seen> {
-    let (row, ty) = Call::new(&[0, 4, 0, 28]).types();
-    let mut memory = memories::Model::new(row, &mut None).expect("a memory");
-    let mut table = tables::Model::new(ty, 0, None, &mut None).expect("a table");
+    let (row, ty) = types(4, 28);
+    let memory = memories::Model::new(row, &mut None).expect("a memory");
+    let mut made = (memory, tables::Model::new(ty, 0, None, &mut None).expect("a table"));
     let seen = calls.iter().map(|call| {
-        let told = of_model(*call, &mut memory, &mut table, meter.as_deref_mut(), asked);
-        let items = table.items.iter().copied().map(Some).chain([None]).collect();
-        (told, memory.bytes.clone(), items, meter.as_ref().and_then(|meter| meter.left))
+        let told = of_model(*call, &mut made, meter.as_deref_mut(), asked);
+        let items = made.1.items.iter().copied().map(Some).chain([None]).collect();
+        (told, made.0.bytes.clone(), items, meter.as_ref().and_then(|meter| meter.left))
     });
     seen.collect()
 }
 
-fn of_model(
-    call: Call,
-    memory: &mut memories::Model,
-    table: &mut tables::Model,
-    meter: Option<&mut Meter>,
-    asked: &mut Asked,
-) -> String {
-    let Call { to, from, len, .. } = call;
-    let (src, count, item) = (u64::from(from as u32), u64::from(len as u32), from as u32);
+#[rustfmt::skip]
+fn of_model((kind, [to, from, len]): Call, (memory, table): &mut (memories::Model, tables::Model), meter: Option<&mut Meter>, asked: &mut Asked) -> String {
+    let (src, count, item, (row, ty)) = (u64::from(from as u32), u64::from(len as u32), from as u32, types(to, len));
     let (bytes, items, other) = (memory.bytes.clone(), table.items.clone(), OTHER.map(u32::from));
-    if call.element == RefType::Extern && [7, 8, 9, 12].contains(&call.kind) {
-        return told(Err::<(), _>(TableError::ElementTypeMismatch));
-    }
-    let mut put = |len, source, meter| {
-        told(write(&mut memory.bytes, to, len, source, meter, memories::OUTSIDE, memories::unpaid))
-    };
-    let mut set =
-        |len, source, meter, outside| told(write(&mut table.items, to, len, source, meter, outside, tables::unpaid));
-    match call.kind {
-        0 => told(memories::Model::new(call.types().0, asked).map(|made| *memory = made)),
+    let mut put = |len, source, meter| told(write(&mut memory.bytes, to, len, source, meter, memories::OUTSIDE, memories::unpaid));
+    let mut set = |len, source, meter, outside| told(write(&mut table.items, to, len, source, meter, outside, tables::unpaid));
+    match kind {
+        0 => told(memories::Model::new(row, asked).map(|made| *memory = made)),
         1 => told(memory.grow(len, meter, asked)),
         2 => put(len, Source::Filled(from as u8), meter),
         3 => put(len, Source::Items(&bytes, from), meter),
         4 => put(count, Source::Items(&OTHER, src), meter),
         5 => put(from % 7, Source::Items(&OTHER, 0), None),
         6 => put(from % 32, Source::Items(&bytes, to), None),
-        7 => told(tables::Model::new(call.types().1, item, None, asked).map(|made| *table = made)),
+        7 => told(tables::Model::new(ty, item, None, asked).map(|made| *table = made)),
         8 => told(table.grow(len, item, meter, asked)),
         9 => set(len, Source::Filled(item), meter, TableError::FillOutOfBounds),
         10 => set(len, Source::Items(&items, from), meter, TableError::CopyOutOfBounds),
@@ -161,6 +122,6 @@ fn of_model(
         11 => set(count, Source::Items(&other, src), meter.filter(|_| count > 0), TableError::InitOutOfBounds),
         12 => set(1, Source::Filled(item), None, TableError::SetOutOfBounds),
         13 => told(meter.and_then(|meter| meter.left.as_mut()).map(|left| *left = from).ok_or(())),
-        _ => told(meter.and_then(|meter| meter.left.as_mut()).and_then(|left| consumed(left, len)).ok_or(())),
+        _ => told(meter.and_then(|meter| meter.left.as_mut()).and_then(|left| left.checked_sub(len).inspect(|now| *left = *now)).ok_or(())),
     }
 }
