@@ -1,0 +1,38 @@
+//! The engine's decoder and validator: whatever the bytes are, a module is made or refused with a text, and what is taken without floats
+//! is taken with them.
+#![no_main]
+use engine::Module;
+use std::sync::LazyLock;
+use wasmi_fuzz::{agree, fuzz_target, is_planted};
+
+// The random modules with which engines are compared.
+#[allow(dead_code)]
+#[path = "../../../examples/engine/fuzz/src/body.rs"]
+mod body;
+#[path = "../../../examples/engine/fuzz/src/instructions.rs"]
+mod instructions;
+#[allow(dead_code)]
+#[path = "../../../examples/engine/fuzz/src/module.rs"]
+mod module;
+#[allow(dead_code)]
+#[path = "../../../examples/engine/fuzz/src/random.rs"]
+mod random;
+
+fuzz_target!(is_kept, changed);
+
+fn is_kept(input: &[u8]) -> bool {
+    let [strict, lenient] =
+        [Module::new(input), Module::new_lenient(input)].map(|made| made.map_err(|it| it.to_string()));
+    let is_refused = [&strict, &lenient].map(|made| made.as_ref().is_err());
+    let has_text = [&strict, &lenient].map(|made| made.as_ref().is_err_and(|text| !text.is_empty()));
+    agree("decoder", &is_refused, &has_text);
+    let is_taken = lenient.is_ok() != is_planted("decoder");
+    agree("decoder", &(is_taken || strict.is_err()), &true);
+    true
+}
+
+/// One of sixteen inputs is a random module.
+fn changed(_: &[u8], seed: u32) -> Option<Vec<u8>> {
+    static INSTRUCTIONS: LazyLock<Vec<instructions::Instruction>> = LazyLock::new(instructions::instructions);
+    (seed % 16 == 0).then(|| module::case(seed.into(), &INSTRUCTIONS).bytes)
+}

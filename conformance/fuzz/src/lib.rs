@@ -1,0 +1,47 @@
+//! What the targets share: how libFuzzer calls them, and what is said where two sides differ.
+use std::fmt::Debug;
+use std::sync::LazyLock;
+
+unsafe extern "C" {
+    /// libFuzzer's own change of an input; the length of the new one.
+    pub fn LLVMFuzzerMutate(data: *mut u8, size: usize, max: usize) -> usize;
+}
+
+/// Has libFuzzer call a function, which is false for an input that isn't worth keeping, and make inputs by another one,
+/// which may leave that to libFuzzer.
+#[macro_export]
+macro_rules! fuzz_target {
+    ($tried:path $(, $changed:path)?) => {
+        #[unsafe(no_mangle)]
+        pub extern "C" fn LLVMFuzzerTestOneInput(data: *const u8, size: usize) -> i32 {
+            let input = if size == 0 { &[] } else { unsafe { std::slice::from_raw_parts(data, size) } };
+            if $tried(input) { 0 } else { -1 }
+        }
+
+        $(#[unsafe(no_mangle)]
+        pub extern "C" fn LLVMFuzzerCustomMutator(data: *mut u8, size: usize, max: usize, seed: u32) -> usize {
+            // Where an input is made smaller it is longer than the most that is wanted.
+            let made: Option<Vec<u8>> = $changed(unsafe { std::slice::from_raw_parts(data, size) }, seed);
+            let Some(made) = made.filter(|made| !made.is_empty()) else {
+                return unsafe { $crate::LLVMFuzzerMutate(data, size, max) };
+            };
+            let len = made.len().min(max);
+            unsafe { std::slice::from_raw_parts_mut(data, len) }.copy_from_slice(&made[..len]);
+            len
+        })?
+    };
+}
+
+/// Ends the process, as libFuzzer wants it of an input that shows a fault, unless two sides agree.
+pub fn agree<T: Debug + PartialEq>(comparison: &str, expected: &T, found: &T) {
+    if expected != found {
+        eprintln!("{expected:?}\n--- expected, and found:\n{found:?}\nDIFFERS {comparison}");
+        std::process::abort();
+    }
+}
+
+/// Whether a comparison is to be handed a wrong side: FUZZ_PLANTED names it, by which `run` sees that it doesn't agree always.
+pub fn is_planted(comparison: &str) -> bool {
+    static PLANTED: LazyLock<String> = LazyLock::new(|| std::env::var("FUZZ_PLANTED").unwrap_or_default());
+    *PLANTED == comparison
+}
