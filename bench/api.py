@@ -18,7 +18,7 @@ COUNTED = 500
 # Rows that may take more than MOST: docs/SPEED.md has the reasons.
 EXPECTED = {
     "ElementSegment::new_0": 1.2, "ElementSegment::new_4": 1.3, "ElementSegment::new_100_mapped": 1.7,
-    "ElementSegment::new_100_of_a_list": 2.0, "ElementSegment::drop_items": 1.1,
+    "ElementSegment::new_100": 1.1, "ElementSegment::new_100_of_a_list": 2.2, "ElementSegment::drop_items": 1.1,
     "FuncType::new_3_of_slices": 1.1, "FuncType::new_40": 1.2, "FuncType::new_40_of_slices": 1.3, "FuncType::new_refused": 250,
     "FuncType::clone_3": 1.3, "FuncType::eq_40": 1.1, "FuncType::cmp_40": 1.15, "FuncType::params": 1.15,
     "Memory::data": 1.25, "Memory::data_mut": 1.3, "Memory::size": 1.3, "Memory::grow_0": 1.2, "Memory::read_8": 1.3,
