@@ -211,7 +211,7 @@ impl ElementSegment {
         let mut list = Vec::new();
         let most = usize::try_from(u32::MAX).unwrap_or(usize::MAX);
         if list
-            .read(items.into_iter(), most.saturating_add(1))
+            .read_all(items.into_iter(), most.saturating_add(1))
             .is_err()
         {
             panic!("out of memory for an element segment");

@@ -113,6 +113,8 @@ EDITS += [
     # The bounds one by one, as they were tested before: LLVM tests their sum once more.
     ("store", "elements[index..index + items.len()]", "elements[index..][..items.len()]", 1),
     ("machine", "memory[offset..offset + len]", "memory[offset..][..len]", 1),
+    ("store", "let end = offset + buffer.len(); buffer.copy_from_slice(&bytes[offset..end]);",
+     "        buffer.copy_from_slice(&bytes[offset..][..buffer.len()]);", 1),
 ]
 
 # Function types: an array is filled by one loop over its cells, which LLVM unrolls; what is above it is made out of line; and no gap of 7
@@ -167,6 +169,29 @@ EDITS += [
         }
 
         /// Appends the next type, and answers whether there was one.""", 1),
+]
+
+# Where lanes are arrays, a lane at an index is that of the array: the instruction that picks bytes is a loop there.
+EDITS += [
+    ("lanes", f"let bytes = bytes_at(vector, BYTES_OF_{name}[", f"""if AS_ARRAYS {{
+                return {name.lower()}::lanes_of(vector).to_array()[usize::from(u8::from(at))];
+            }}
+            let bytes = bytes_at(vector, BYTES_OF_{name}[""", 1) for name in ("U16", "U32")
+]
+EDITS += [
+    ("lanewise", "#[inline] pub fn i8x16_shuffle(", "#[inline(always)]\n    pub fn i8x16_shuffle(", 1),
+    ("lanes", "let numbers = u8x16::from_array([0, 1, 2,", """if AS_ARRAYS {
+                let mut items = u8::lanes_of(vector).to_array();
+                items[usize::from(u8::from(at))] = item;
+                return u8::vector_of(u8x16::from_array(items));
+            }
+            let numbers = u8x16::from_array([0, 1, 2,""", 1),
+    ("lanewise", "// An index above 15 becomes 128 or more,", """if AS_ARRAYS {
+            let table = bytes_of(a).to_array();
+            let chosen = |i: u8| if i < 16 { table[usize::from(i)] } else { 0 };
+            return from_bytes(u8x16::from_array(bytes_of(s).to_array().map(chosen)));
+        }
+        // An index above 15 becomes 128 or more,""", 1),
 ]
 
 # The printer's texts, piece by piece: Rattle makes code of each piece, and rustc a call of `core::fmt`.

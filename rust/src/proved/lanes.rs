@@ -1642,6 +1642,11 @@ mod simd_lane {
 
         #[inline(always)]
         fn with_lane(vector: V128, at: ImmLaneIdx16, item: u8) -> V128 {
+            if AS_ARRAYS {
+                let mut items = u8::lanes_of(vector).to_array();
+                items[usize::from(u8::from(at))] = item;
+                return u8::vector_of(u8x16::from_array(items));
+            }
             let numbers = u8x16::from_array([0, 1, 2, 3, 4, 5, 6, 7, 8, 9, 10, 11, 12, 13, 14, 15]);
             let here = numbers.simd_eq(u8x16::splat(u8::from(at)));
             u8::vector_of(here.select(u8x16::splat(item), u8::lanes_of(vector)))
@@ -1651,6 +1656,9 @@ mod simd_lane {
     impl VariableLane for u16 {
         #[inline(always)]
         fn lane_at(vector: V128, at: ImmLaneIdx8) -> u16 {
+            if AS_ARRAYS {
+                return u16::lanes_of(vector).to_array()[usize::from(u8::from(at))];
+            }
             let bytes = bytes_at(vector, BYTES_OF_U16[usize::from(u8::from(at))]);
             let [item, ..] = u16x8::from_le_bytes(bytes).to_array();
             item
@@ -1668,6 +1676,9 @@ mod simd_lane {
     impl VariableLane for u32 {
         #[inline(always)]
         fn lane_at(vector: V128, at: ImmLaneIdx4) -> u32 {
+            if AS_ARRAYS {
+                return u32::lanes_of(vector).to_array()[usize::from(u8::from(at))];
+            }
             let bytes = bytes_at(vector, BYTES_OF_U32[usize::from(u8::from(at))]);
             let [item, ..] = u32x4::from_le_bytes(bytes).to_array();
             item

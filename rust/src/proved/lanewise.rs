@@ -2121,7 +2121,7 @@ pub mod simd {
     ///
     /// Definitions: [`shuffle`](crate::specs::lanewise::VectorTableSpecs#shuffle).
     #[must_use]
-    #[inline]
+    #[inline(always)]
     pub fn i8x16_shuffle(a: V128, b: V128, s: [ImmLaneIdx32; 16]) -> V128 {
         let indices = bytes_of_indices(s);
         let low = picked(bytes_of(a), indices);
@@ -2141,6 +2141,11 @@ pub mod simd {
     #[must_use]
     #[inline]
     pub fn i8x16_swizzle(a: V128, s: V128) -> V128 {
+        if AS_ARRAYS {
+            let table = bytes_of(a).to_array();
+            let chosen = |i: u8| if i < 16 { table[usize::from(i)] } else { 0 };
+            return from_bytes(u8x16::from_array(bytes_of(s).to_array().map(chosen)));
+        }
         // An index above 15 becomes 128 or more, at which the processor's instruction gives 0. LLVM
         // leaves the last mask out, since that instruction reads no other bits.
         let biased = bytes_of(s).simd_min(u8x16::splat(16)) + u8x16::splat(0x70);

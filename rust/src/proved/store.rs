@@ -1868,8 +1868,7 @@ pub mod range {
         if !lies_within(bytes, offset as u64, buffer.len() as u64) {
             return Err(MemoryError::OutOfBoundsAccess);
         }
-        let end = offset + buffer.len();
-        buffer.copy_from_slice(&bytes[offset..end]);
+        buffer.copy_from_slice(&bytes[offset..][..buffer.len()]);
         Ok(())
     }
 

@@ -41,6 +41,9 @@ impl<T> Vec<T> {
     where
         T: Copy,
     {
+        if count == 0 {
+            return Ok(Vec::new());
+        }
         let mut list = Vec::with_capacity(count)?;
         list.0.resize(count, item);
         Ok(list)
@@ -108,6 +111,26 @@ impl<T> Vec<T> {
             return Ok(());
         }
         items.try_for_each(|item| self.push(item).map_err(AllocError::from))
+    }
+
+    /// Appends the items of an iterator up to its first `None`: at most so many, or as many as it says that there are.
+    ///
+    /// # Errors
+    ///
+    /// As of [`read`](Self::read).
+    #[inline]
+    pub fn read_all<I>(&mut self, items: I, most: usize) -> Result<(), AllocError>
+    where
+        I: Iterator<Item = T>,
+    {
+        let (at_least, at_most) = items.size_hint();
+        if at_most != Some(at_least) || at_least > most {
+            return self.read(items, most);
+        }
+        // Behind `take` the items of a list come one by one.
+        self.try_reserve(at_least)?;
+        self.0.extend(items);
+        Ok(())
     }
 
     /// Appends an item.
@@ -329,6 +352,22 @@ mod tests {
                 let items: std::vec::Vec<usize> = (0..=end.min(5)).collect();
                 assert_eq!(list.as_slice(), items, "{end} {said:?}");
                 assert!(numbers.given <= 5, "{end} {said:?}");
+
+                // All items are read of an iterator that says how many there are.
+                let numbers = Numbers {
+                    given: 0,
+                    end,
+                    said,
+                };
+                let mut list = Vec::new();
+                assert!(list.read_all(numbers, 5).is_ok());
+                let most = if said.1 == Some(said.0) && said.0 <= 5 {
+                    end
+                } else {
+                    5
+                };
+                let items: std::vec::Vec<usize> = (1..=end.min(most)).collect();
+                assert_eq!(list.as_slice(), items, "all {end} {said:?}");
             }
         }
     }
@@ -340,5 +379,7 @@ mod tests {
                 .read(std::iter::repeat(1), usize::MAX)
                 .is_err()
         );
+        let many = std::iter::repeat_n(1, usize::MAX);
+        assert!(Vec::<u64>::new().read_all(many, usize::MAX).is_err());
     }
 }

@@ -23,6 +23,8 @@ pub mod prelude {
     pub type i32x4 = Simd<i32, 4>;
     /// 2 signed lanes of 64 bits.
     pub type i64x2 = Simd<i64, 2>;
+    /// Whether lanes are arrays.
+    pub const AS_ARRAYS: bool = true;
 }
 
 /// `N` lanes of an integer.
@@ -202,13 +204,9 @@ impl Simd<u8, 16> {
     /// The lanes at the lowest 4 bits of the indices, 0 where the highest bit of an index is set.
     #[inline(always)]
     pub fn swizzle_dyn_within<const K: usize>(self, indices: Self) -> Self {
-        indices.each(|i| {
-            if i < 0x80 {
-                self.0[usize::from(i & 0xf)]
-            } else {
-                0
-            }
-        })
+        let mut table = [0; 32];
+        table[..16].copy_from_slice(&self.0);
+        indices.each(|i| table[usize::from(i & 0xf | i >> 3 & 0x10)])
     }
 }
 

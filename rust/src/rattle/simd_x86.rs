@@ -11,6 +11,8 @@ use core::ops::{Add, BitAnd, BitOr, BitXor, Mul, Not, Shl, Shr, Sub};
 /// The types by their names.
 pub mod prelude {
     pub use super::{i16x8, i32x4, i64x2, u8x16, u16x8, u32x4, u32x8, u64x2};
+    /// Whether lanes are arrays.
+    pub const AS_ARRAYS: bool = false;
 }
 
 // The instructions used. The unsafe blocks of this file are the crate's only ones.

@@ -85,6 +85,18 @@ fn shuffles() {
 }
 
 #[test]
+fn swizzles() {
+    let table = vector(std::array::from_fn(|lane| lane as u8 * 9 + 100));
+    for start in 0..=255_u8 {
+        let indices: [u8; 16] = std::array::from_fn(|lane| start.wrapping_add(lane as u8 * 5));
+        let chosen = indices.map(|index| if index < 16 { index * 9 + 100 } else { 0 });
+        assert_eq!(simd::i8x16_swizzle(table, vector(indices)), vector(chosen));
+        let relaxed = simd::i8x16_relaxed_swizzle(table, vector(indices));
+        assert_eq!(relaxed, vector(chosen));
+    }
+}
+
+#[test]
 fn values_on_lanes() {
     let extract = ExtractKind::I8x16ExtractLaneU;
     assert_eq!(
