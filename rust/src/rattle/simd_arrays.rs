@@ -24,6 +24,10 @@ pub mod prelude {
     /// 2 signed lanes of 64 bits.
     pub type i64x2 = Simd<i64, 2>;
     /// Whether lanes are arrays.
+    #[cfg_attr(
+        feature = "sse2",
+        allow(dead_code, reason = "read where lanes are arrays")
+    )]
     pub const AS_ARRAYS: bool = true;
 }
 
