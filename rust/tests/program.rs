@@ -1,14 +1,28 @@
 //! The program `wasmi_replay`: its statuses, its texts, and that it reads and writes all, whatever the lengths are.
 #![cfg(all(feature = "std", unix))]
+use std::env;
 use std::fs::File;
 use std::io::Write;
 use std::process::{Child, Command, Stdio};
 
+/// The program, run by what runs the programs of another processor, if cargo was told one for these tests.
+fn program() -> Command {
+    let program = env!("CARGO_BIN_EXE_wasmi_replay");
+    let runner = env::vars_os().find(|(name, _)| {
+        let name = name.to_string_lossy();
+        name.starts_with("CARGO_TARGET_") && name.ends_with("_RUNNER")
+    });
+    let Some((_, runner)) = runner else {
+        return Command::new(program);
+    };
+    let mut command = Command::new(runner);
+    command.arg(program);
+    command
+}
+
 /// The program with such an input and output.
 fn started(input: impl Into<Stdio>, output: impl Into<Stdio>) -> Child {
-    let program = env!("CARGO_BIN_EXE_wasmi_replay");
-    let mut command = Command::new(program);
-    command
+    program()
         .stdin(input)
         .stdout(output)
         .spawn()
