@@ -76,7 +76,7 @@
 //!   function panics, overflows or reads past an end if its `requires` are met; each function ends.
 //! - **Tested**, of this crate: that it does what the proved library does, by each instruction on
 //!   edges and random operands, by lists of calls and scripts, and by refusing each allocation. A
-//!   `usize` of 32 bits is tested, and not proved.
+//!   `usize` of 32 bits and big-endian targets are tested, and not proved.
 //! - **Trusted**: the program that leaves the contracts out, the files of this crate that have no
 //!   contract (they turn the proved library's API into that of `wasmi_core`, and stand for what
 //!   Rattle's standard library has otherwise), and rustc.
@@ -94,7 +94,6 @@
 //! - [`Memory::data_ptr`] returns a `*const u8`, so a write through it doesn't compile.
 //! - Where `usize` has 32 bits, sizes of 2^32 and more are refused, and a greater maximum counts as
 //!   2^32 - 1: that of a table too, which `wasmi_core` doesn't make then.
-//! - Big-endian targets are a compile error.
 //!
 //! The repository's `docs/DIFFERENCES.md` has the whole list.
 //!
@@ -120,9 +119,6 @@
     clippy::missing_panics_doc,
     clippy::must_use_candidate
 )]
-
-#[cfg(target_endian = "big")]
-compile_error!("this crate was tested on little-endian targets alone");
 
 extern crate alloc;
 #[cfg(any(feature = "std", test))]
