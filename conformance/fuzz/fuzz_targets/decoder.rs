@@ -7,15 +7,15 @@ use wasmi_fuzz::{agree, fuzz_target, is_planted};
 
 // The random modules with which engines are compared.
 #[allow(dead_code)]
-#[path = "../../../examples/engine/fuzz/src/body.rs"]
+#[path = "../../../engine/fuzz/src/body.rs"]
 mod body;
-#[path = "../../../examples/engine/fuzz/src/instructions.rs"]
+#[path = "../../../engine/fuzz/src/instructions.rs"]
 mod instructions;
 #[allow(dead_code)]
-#[path = "../../../examples/engine/fuzz/src/module.rs"]
+#[path = "../../../engine/fuzz/src/module.rs"]
 mod module;
 #[allow(dead_code)]
-#[path = "../../../examples/engine/fuzz/src/random.rs"]
+#[path = "../../../engine/fuzz/src/random.rs"]
 mod random;
 
 fuzz_target!(is_kept, changed);

@@ -24,7 +24,7 @@ pub struct Instruction {
 
 /// All that have neither floats nor results that an implementation may choose.
 pub fn instructions() -> Vec<Instruction> {
-    let text = include_str!("../../../../conformance/instructions.txt");
+    let text = include_str!("../../../conformance/instructions.txt");
     let shuffle = Instruction {
         code: vec![0xfd, 13],
         operands: vec![V128, V128],
