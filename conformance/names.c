@@ -541,7 +541,7 @@ static void compare_scripts(void) {
 int main(int count, char **words) {
     FILE *file = count == 2 ? fopen(words[1], "r") : NULL;
     if (file == NULL) {
-        fprintf(stderr, "usage: names examples/c/scalar_answers.txt\n");
+        fprintf(stderr, "usage: names conformance/scalar_answers.txt\n");
         return 2;
     }
     list[0] = '\n';
