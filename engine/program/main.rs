@@ -1,14 +1,14 @@
 //! The program: runs an exported function of a module.
 
-use engine::library::{Fuel, FuelCostsProvider};
-use engine::{Caps, Failure, Instance, Module, Store};
+use engine::{Caps, Config, Engine, Error, Instance, Linker, Module, Store, Val};
 use script::Script;
+use spectest::Host;
 use std::process::ExitCode;
-use std::sync::Arc;
 use std::time::Duration;
 use std::{env, fs, io, thread};
 
 mod script;
+mod spectest;
 mod values;
 
 const HELP: &str = "\
@@ -94,28 +94,44 @@ fn run(options: &Options) -> Result<(), Failed> {
     };
     let bytes = fs::read(file).map_err(|it| misused(format!("{file} can't be read: {it}")))?;
     let refused = |what: String| Failed(3, format!("{file}: {what}"));
-    let module = Arc::new(Module::new(&bytes).map_err(|it| refused(it.to_string()))?);
-    let args = values::arguments(&module, function, words.iter().map(String::as_str)).map_err(misused)?;
-    let mut fuel = Fuel::new(options.fuel.is_some(), FuelCostsProvider::default());
-    let _ = fuel.set_fuel(options.fuel.unwrap_or(0));
-    let mut store = Store::new(fuel, options.caps);
+    let engine = Engine::new(Config::default().consume_fuel(options.fuel.is_some()));
+    let module = Module::new(&engine, &bytes).map_err(|it| refused(it.to_string()))?;
+    let ty = values::type_of(&module, function).map_err(misused)?;
+    let args = values::arguments(&ty, function, words.iter().map(String::as_str)).map_err(misused)?;
+    let mut store = Store::new(&engine, Host::default());
+    store.set_caps(options.caps);
     let failed = |it| match it {
-        Failure::Unlinkable(what) => refused(what),
-        Failure::Misused(what) => misused(what),
-        Failure::Trapped(trap) => Failed(1, trap.to_string()),
+        Error::Module(_) | Error::Link(_) => refused(it.to_string()),
+        Error::Misused(what) => misused(what),
+        Error::Trap(trap) => Failed(1, trap.to_string()),
     };
-    let made = Instance::new(&module, &mut store);
+    if let Some(fuel) = options.fuel {
+        store.set_fuel(fuel).map_err(failed)?;
+    }
+    let mut linker = Linker::new(&engine);
+    spectest::define(&mut linker, &mut store, &module).map_err(failed)?;
+    let made = linker.instantiate(&mut store, &module);
     let begun = processor_time();
-    let results = made.and_then(|mut it| it.call(&mut store, function, &args)).map_err(failed);
+    let results = made.and_then(|it| call(&it, &mut store, function, &args)).map_err(failed);
     let time = processor_time() - begun;
-    let printed = results.map(|results| results.into_iter().for_each(|it| println!("{}", values::print(it))));
+    let printed = results.map(|results| results.iter().for_each(|it| println!("{it}")));
     if options.has_time {
         eprintln!("time: {:.3} ms", time.as_secs_f64() * 1000.0);
     }
-    if let (Some(given), Ok(left)) = (options.fuel, store.fuel.get_fuel()) {
+    if let (Some(given), Ok(left)) = (options.fuel, store.get_fuel()) {
         eprintln!("fuel: {}", given - left);
     }
     printed
+}
+
+/// The results of a call, as text.
+fn call(instance: &Instance, store: &mut Store<Host>, name: &str, args: &[Val]) -> Result<Vec<String>, Error> {
+    let missing = || Error::Misused(format!("there is no function {name}"));
+    let function = instance.get_func(&*store, name).ok_or_else(missing)?;
+    let args: Option<Vec<_>> = args.iter().map(|it| values::referring(instance, &mut *store, *it)).collect();
+    let args = args.ok_or(Error::Misused("there is no function of this number".into()))?;
+    let results = function.call(&mut *store, &args)?;
+    Ok(results.into_iter().map(|it| values::print(values::numbered(instance, &*store, it))).collect())
 }
 
 /// The processor time of this thread, as Linux counts it; elsewhere the time of the clock.

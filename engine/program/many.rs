@@ -4,10 +4,8 @@
 //! usage: `cargo run --release --example many -- FILE FUNCTION ARGUMENT COUNT`. Times are those of the processor, as
 //! Linux counts them; the bytes are those of the machine's memory that the process has more while all instances are there.
 
-use engine::library::{Fuel, FuelCostsProvider, TypedRawVal};
-use engine::{Caps, Instance, Module, Store};
+use engine::{Caps, Config, Engine, Instance, Linker, Module, Store, TypedFunc};
 use std::error::Error;
-use std::sync::Arc;
 use std::time::Duration;
 use std::{env, fs, thread};
 
@@ -16,47 +14,53 @@ type Outcome<T> = Result<T, Box<dyn Error + Send + Sync>>;
 /// A module, and a call of it.
 #[derive(Clone)]
 struct Guest {
-    module: Arc<Module>,
+    engine: Engine,
+    module: Module,
     function: String,
     argument: i32,
 }
 
+/// An instance, and the function of it that is called.
+type Made = (Instance, TypedFunc<i32, i32>);
+
 impl Guest {
-    fn instance(&self, store: &mut Store) -> Outcome<Instance> {
-        Instance::new(&self.module, store).map_err(|it| it.to_string().into())
+    fn store(&self) -> Outcome<Store<()>> {
+        let mut store = Store::new(&self.engine, ());
+        store.set_fuel(u64::MAX)?;
+        store.set_caps(Caps { bytes: 1 << 34, elements: 1 << 30 });
+        Ok(store)
     }
 
-    fn run(&self, instance: &mut Instance, store: &mut Store) -> Outcome<()> {
-        let args = [TypedRawVal::from(self.argument)];
-        instance.call(store, &self.function, &args).map(drop).map_err(|it| it.to_string().into())
+    fn instance(&self, store: &mut Store<()>) -> Outcome<Made> {
+        let instance = Linker::new(&self.engine).instantiate(&mut *store, &self.module)?;
+        let function = instance.get_typed_func(&*store, &self.function)?;
+        Ok((instance, function))
     }
-}
 
-fn store() -> Outcome<Store> {
-    let mut fuel = Fuel::new(true, FuelCostsProvider::default());
-    fuel.set_fuel(u64::MAX).map_err(|it| it.to_string())?;
-    Ok(Store::new(fuel, Caps { bytes: 1 << 34, elements: 1 << 30 }))
+    fn run(&self, (_, function): &Made, store: &mut Store<()>) -> Outcome<()> {
+        Ok(function.call(store, self.argument).map(drop)?)
+    }
 }
 
 fn one_after_another(guest: &Guest, count: u32) -> Outcome<Duration> {
-    let (mut store, begun) = (store()?, processor_time()?);
+    let (mut store, begun) = (guest.store()?, processor_time()?);
     for _ in 0..count {
-        let mut instance = guest.instance(&mut store)?;
-        guest.run(&mut instance, &mut store)?;
-        instance.release(&mut store);
+        let made = guest.instance(&mut store)?;
+        guest.run(&made, &mut store)?;
     }
     Ok((processor_time()? - begun) / count)
 }
 
 /// The times of making, running and dropping an instance, and its bytes.
 fn all_at_once(guest: &Guest, count: u32) -> Outcome<([Duration; 3], u64)> {
-    let mut store = store()?;
+    let mut store = guest.store()?;
     let (before, begun) = (resident()?, processor_time()?);
-    let mut instances = (0..count).map(|_| guest.instance(&mut store)).collect::<Outcome<Vec<_>>>()?;
+    let instances = (0..count).map(|_| guest.instance(&mut store)).collect::<Outcome<Vec<_>>>()?;
     let made = processor_time()?;
-    instances.iter_mut().try_for_each(|it| guest.run(it, &mut store))?;
+    instances.iter().try_for_each(|it| guest.run(it, &mut store))?;
     let (run, bytes) = (processor_time()?, resident()?.saturating_sub(before));
-    instances.into_iter().for_each(|it| it.release(&mut store));
+    drop(instances);
+    store.caps();
     let times = [made - begun, run - made, processor_time()? - run];
     Ok((times.map(|it| it / count), bytes / u64::from(count)))
 }
@@ -64,10 +68,10 @@ fn all_at_once(guest: &Guest, count: u32) -> Outcome<([Duration; 3], u64)> {
 /// Calls an instance so often on each of so many threads. The time is the longest one of a thread.
 fn on_threads(guest: &Guest, threads: u32, count: u32) -> Outcome<Duration> {
     let run = move |guest: Guest| -> Outcome<Duration> {
-        let mut store = store()?;
-        let mut instance = guest.instance(&mut store)?;
+        let mut store = guest.store()?;
+        let made = guest.instance(&mut store)?;
         let begun = processor_time()?;
-        (0..count).try_for_each(|_| guest.run(&mut instance, &mut store))?;
+        (0..count).try_for_each(|_| guest.run(&made, &mut store))?;
         Ok((processor_time()? - begun) / count)
     };
     let running: Vec<_> = (0..threads).map(|_| guest.clone()).map(|it| thread::spawn(move || run(it))).collect();
@@ -95,8 +99,9 @@ fn main() -> Outcome<()> {
     let [file, function, argument, count] = &words[..] else {
         return Err("usage: many FILE FUNCTION ARGUMENT COUNT".into());
     };
-    let module = Arc::new(Module::new(&fs::read(file)?)?);
-    let guest = Guest { module, function: function.clone(), argument: argument.parse()? };
+    let engine = Engine::new(Config::default().consume_fuel(true));
+    let module = Module::new(&engine, &fs::read(file)?)?;
+    let guest = Guest { engine, module, function: function.clone(), argument: argument.parse()? };
     let count: u32 = count.parse()?;
     println!("one after another: {:?} each", one_after_another(&guest, count)?);
     let ([made, run, dropped], bytes) = all_at_once(&guest, count)?;

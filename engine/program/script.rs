@@ -6,7 +6,7 @@
 //! | `invoke FUNCTION ARGS..` | `ok: V..`, the results |
 //! | `get GLOBAL` | `ok: V` |
 //! | `digest` | `ok:` and a line that tells contents apart |
-//! | `fuel N` | `ok:`; from now on fuel is charged, and so much is there |
+//! | `fuel N` | `ok:`; from now on fuel is charged, and so much is there; the first such line drops the module |
 //! | `left` | `ok: N`, the fuel that is left |
 //! | `lenient` | `ok:`; from now on a module may have functions with floats, which stop when they are called |
 //!
@@ -14,33 +14,42 @@
 //! Other replies than `ok:` are `malformed:`, `invalid:`, `unsupported:` (floats, or beyond a limit), `unlinkable:`,
 //! `trap:`, and `error:` for a line that makes no sense; after one of them the module is the one before.
 
+use crate::spectest::{self, Host};
 use crate::values;
-use engine::library::{Fuel, FuelCostsProvider, Global, V128, ValType};
-use engine::{Caps, Failure, Instance, Module, Refusal, RefusalKind, Stopped, Store};
+use engine::library::{RawRef, TypedRawRef, V128, ValType};
+use engine::{
+    Caps, Config, Contents, Engine, Error, Instance, Linker, Module, Refusal, RefusalKind, Store, Unsupported, Val,
+};
 use std::fmt::Display;
 use std::fs;
 use std::io::{BufRead, Write};
-use std::sync::Arc;
 
 /// A script while it runs.
 pub struct Script {
-    store: Store,
-    instance: Option<Instance>,
+    caps: Caps,
+    store: Store<Host>,
+    made: Option<(Module, Instance)>,
     is_lenient: bool,
+}
+
+fn store(is_metered: bool, caps: Caps) -> Store<Host> {
+    let engine = Engine::new(Config::default().consume_fuel(is_metered));
+    let mut store = Store::new(&engine, Host::default());
+    store.set_caps(caps);
+    store
 }
 
 impl Script {
     /// A script whose modules share these caps. No fuel is charged.
     pub fn new(caps: Caps) -> Script {
-        let store = Store::new(Fuel::new(false, FuelCostsProvider::default()), caps);
-        Script { store, instance: None, is_lenient: false }
+        Script { caps, store: store(false, caps), made: None, is_lenient: false }
     }
 
     /// Replies to each line of the input.
     pub fn run(mut self, input: impl BufRead, mut output: impl Write) -> std::io::Result<()> {
         for line in input.lines() {
             let reply = self.reply(&line?).unwrap_or_else(|reply| reply);
-            self.store.output.flush()?;
+            self.store.data_mut().output.flush()?;
             writeln!(output, "{reply}")?;
             output.flush()?;
         }
@@ -54,18 +63,21 @@ impl Script {
             "module" => self.module(rest),
             "invoke" => self.invoke(rest),
             "get" => {
-                let value =
-                    self.instance()?.global(&name(rest)?).ok_or("error: there is no exported global of this name")?;
-                Ok(format!("ok: {}", values::print(value)))
+                let (_, instance) = self.made()?;
+                let global = instance.get_global(&self.store, &name(rest)?);
+                let value = global.ok_or("error: there is no exported global of this name")?.get(&self.store);
+                Ok(format!("ok: {}", values::print(values::numbered(instance, &self.store, value))))
             }
-            "digest" => Ok(format!("ok: {}", digest(self.instance()?))),
+            "digest" => Ok(format!("ok: {}", digest(&self.made()?.1, &self.store))),
             "fuel" => {
                 let fuel = rest.parse().or(Err("error: fuel is a number"))?;
-                self.store.fuel = Fuel::new(true, FuelCostsProvider::default());
-                self.store.fuel.set_fuel(fuel).map_err(error)?;
+                if !self.store.engine().is_metered() {
+                    (self.store, self.made) = (store(true, self.caps), None);
+                }
+                self.store.set_fuel(fuel).map_err(error)?;
                 Ok("ok:".into())
             }
-            "left" => Ok(format!("ok: {}", self.store.fuel.get_fuel().map_err(error)?)),
+            "left" => Ok(format!("ok: {}", self.store.get_fuel().map_err(error)?)),
             "lenient" => {
                 self.is_lenient = true;
                 Ok("ok:".into())
@@ -74,28 +86,34 @@ impl Script {
         }
     }
 
-    fn instance(&self) -> Result<&Instance, String> {
-        self.instance.as_ref().ok_or("error: there is no module".into())
+    fn made(&self) -> Result<&(Module, Instance), String> {
+        self.made.as_ref().ok_or("error: there is no module".into())
     }
 
     fn module(&mut self, file: &str) -> Result<String, String> {
         let bytes = fs::read(file).map_err(|it| format!("error: {file} can't be read: {it}"))?;
-        let module = if self.is_lenient { Module::new_lenient(&bytes) } else { Module::new(&bytes) };
-        let module = Arc::new(module.map_err(refused)?);
-        let made = Instance::new(&module, &mut self.store).map_err(failed)?;
-        if let Some(before) = self.instance.replace(made) {
-            before.release(&mut self.store);
-        }
+        let engine = self.store.engine().clone();
+        let read = if self.is_lenient { Module::new_lenient } else { Module::new };
+        let module = read(&engine, &bytes).map_err(refused)?;
+        let mut linker = Linker::new(&engine);
+        spectest::define(&mut linker, &mut self.store, &module).map_err(failed)?;
+        let instance = linker.instantiate(&mut self.store, &module).map_err(failed)?;
+        self.made = Some((module, instance));
         Ok("ok:".into())
     }
 
     fn invoke(&mut self, rest: &str) -> Result<String, String> {
-        let instance = self.instance.as_mut().ok_or("error: there is no module")?;
+        let (module, instance) = self.made.as_ref().ok_or("error: there is no module")?;
         let mut words = rest.split_whitespace();
         let function = name(words.next().unwrap_or(""))?;
-        let args = values::arguments(instance.module(), &function, words).map_err(error)?;
-        let results = instance.call(&mut self.store, &function, &args).map_err(failed)?;
-        Ok(results.iter().fold("ok:".into(), |line, it| line + " " + &values::print(*it)))
+        let ty = values::type_of(module, &function).map_err(error)?;
+        let args = values::arguments(&ty, &function, words).map_err(error)?;
+        let args = args.into_iter().map(|it| values::referring(instance, &mut self.store, it));
+        let args: Vec<_> = args.collect::<Option<_>>().ok_or("error: there is no function of this number")?;
+        let function = instance.get_func(&self.store, &function).ok_or("error: there is no such function")?;
+        let results = function.call(&mut self.store, &args).map_err(failed)?;
+        let results = results.into_iter().map(|it| values::numbered(instance, &self.store, it));
+        Ok(results.fold("ok:".into(), |line, it| line + " " + &values::print(it)))
     }
 }
 
@@ -112,13 +130,14 @@ fn refused(refusal: Refusal) -> String {
     format!("{kind}: {refusal}")
 }
 
-fn failed(failure: Failure) -> String {
-    match failure {
-        Failure::Unlinkable(what) => format!("unlinkable: {what}"),
-        Failure::Misused(what) => error(what),
-        Failure::Trapped(trap) => match trap.downcast_ref::<Stopped>() {
-            Some(Stopped::Unsupported) => format!("unsupported: {trap}"),
-            _ => format!("trap: {trap}"),
+fn failed(error: Error) -> String {
+    match error {
+        Error::Module(refusal) => refused(refusal),
+        Error::Link(what) => format!("unlinkable: {what}"),
+        Error::Misused(what) => format!("error: {what}"),
+        Error::Trap(trap) => match trap.downcast_ref::<Unsupported>() {
+            Some(_) => format!("unsupported: {trap}"),
+            None => format!("trap: {trap}"),
         },
     }
 }
@@ -139,24 +158,25 @@ fn name(text: &str) -> Result<String, String> {
 /// One line that tells contents apart: of each memory its pages, of each table its elements, of the globals their
 /// number, and of each of these the FNV-1a of 64 bits of its bytes. An element has 4 bytes, 0 or the number of its
 /// function and 1; a global has 16. The least byte comes first.
-fn digest(instance: &Instance) -> String {
-    let (memories, tables, globals) = instance.contents();
+fn digest(instance: &Instance, store: &Store<Host>) -> String {
+    let Contents { memories, tables, globals } = instance.contents(store);
+    let numbered = |value| values::numbered(instance, store, value);
     let mut words = vec![];
     for memory in memories {
         words.push(format!("memory {} {:016x}", memory.size(), fnv(memory.data().iter().copied())));
     }
     for table in tables {
-        let elements = (0..table.size()).map(|i| table.get(i).map_or(0, |it| u32::from(it.raw())));
+        let element = |it: TypedRawRef| u32::from(RawRef::from(numbered(it.into()).raw()));
+        let elements = (0..table.size()).map(|i| table.get(i).map_or(0, element));
         words.push(format!("table {} {:016x}", table.size(), fnv(elements.flat_map(u32::to_le_bytes))));
     }
-    let bytes = globals.iter().map(bits).flat_map(u128::to_le_bytes);
+    let bytes = globals.iter().map(|it| bits(numbered(it.get()))).flat_map(u128::to_le_bytes);
     words.push(format!("globals {} {:016x}", globals.len(), fnv(bytes)));
     words.join(" ")
 }
 
-/// The bits of a global, zero above the width of its type.
-fn bits(global: &Global) -> u128 {
-    let value = global.get();
+/// The bits of a value, zero above the width of its type.
+fn bits(value: Val) -> u128 {
     match value.ty() {
         ValType::V128 => V128::from(value.raw()).as_u128(),
         ValType::I64 | ValType::F64 => u64::from(value.raw()).into(),

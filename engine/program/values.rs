@@ -1,7 +1,7 @@
 //! Values as text: what a user writes as an argument, and what a result is printed as.
 
-use engine::Module;
-use engine::library::{RawRef, RawVal, TypedRawVal, V128, ValType};
+use engine::library::{FuncType, RawRef, RawVal, TypedRawVal, V128, ValType};
+use engine::{AsContext, AsContextMut, ExternType, Instance, Module, Val};
 
 /// Reads an argument of this type: a number in decimal or, after `0x`, in hexadecimal, or `null`. A number of a reference
 /// is that of a function or of an object of the host.
@@ -17,13 +17,39 @@ pub fn parse(text: &str, ty: ValType) -> Option<TypedRawVal> {
     Some(TypedRawVal::new(ty, raw))
 }
 
+/// The type of an exported function. An error is a sentence.
+pub fn type_of(module: &Module, function: &str) -> Result<FuncType, String> {
+    match module.get_export(function) {
+        Some(ExternType::Func(ty)) => Ok(ty),
+        _ => Err("there is no exported function of this name".into()),
+    }
+}
+
+/// A value that was [parsed](parse), with a function of the instance in place of its number.
+pub fn referring(instance: &Instance, context: impl AsContextMut, value: Val) -> Option<Val> {
+    let reference = RawRef::from(value.raw());
+    if value.ty() != ValType::FuncRef || reference.is_null() {
+        return Some(value);
+    }
+    let reference = instance.function_reference(context, u32::from(reference) - 1)?;
+    Some(Val::new(ValType::FuncRef, reference.into()))
+}
+
+/// A value to be [printed](print), with a number in place of a function of the instance.
+pub fn numbered(instance: &Instance, context: impl AsContext, value: Val) -> Val {
+    let number = instance.function_number(context, value.raw().into());
+    match (value.ty(), number) {
+        (ValType::FuncRef, Some(number)) => Val::new(ValType::FuncRef, RawRef::from(number + 1).into()),
+        _ => value,
+    }
+}
+
 /// Reads the arguments of an exported function. An error is a sentence.
 pub fn arguments<'a>(
-    module: &Module,
+    ty: &FuncType,
     function: &str,
     words: impl Iterator<Item = &'a str>,
 ) -> Result<Vec<TypedRawVal>, String> {
-    let ty = module.function_type(function).ok_or("there is no exported function of this name")?;
     let words: Vec<&str> = words.collect();
     if words.len() != ty.params().len() {
         return Err(format!("{function} takes {} arguments", ty.params().len()));

@@ -4,23 +4,28 @@
 
 #[cfg(feature = "crate")]
 use crate::bulk::Bulk;
-use crate::instance::{Instance, of_memory, of_table};
 use crate::instructions::{Code, Op, instructions};
 use crate::library::{
     Fuel, Memory, MemoryError, RawRef, RawVal, ReadAs, Table, TableError, TrapCode, TypedRawVal, WriteAs,
 };
 use crate::limits;
-use crate::store::{self, Caps, Frame, SLOTS, Store};
+use crate::stack::{self, Activation, Frame, SLOTS, Stack};
+use crate::store::{Caps, Entity, Inner, Items};
 
 /// The functions of instructions.
 mod library {
     pub use crate::library::{simd::*, wasm::*};
 }
 
-/// Why the loop ends: all calls have returned, or a function of the host was called, after which it goes on there.
+/// Why the loop ends.
 pub(crate) enum Exit {
+    /// All calls have returned.
     Done,
-    Host(u32, Frame),
+    /// An imported function was called, whose arguments begin the frame.
+    Host(u32),
+    /// A function of another instance was called through a table, with arguments that begin at this value. Its type has to
+    /// be this one of the module.
+    Foreign { reference: u32, ty: u32, base: usize },
 }
 
 /// The slots that instructions name, of which the first ones are those of the frame.
@@ -74,15 +79,18 @@ fn lane<T: TryFrom<u8>>(op: &Op) -> Result<T, TrapCode> {
     T::try_from(op.lane as u8).map_err(|_| TrapCode::UnreachableCodeReached)
 }
 
-/// Runs code from a place on, until the first call returns or a function of the host is called.
-pub(crate) fn execute(instance: &mut Instance, store: &mut Store, frame: Frame) -> Result<Exit, TrapCode> {
-    let Store { fuel, caps, values, frames, .. } = store;
-    let Frame { mut function, mut next, mut base } = frame;
+/// Runs the code of an instance from a place on, until its first call returns or a function outside of it is called. The
+/// place is then that at which it goes on.
+pub(crate) fn execute(inner: &mut Inner, at: &mut Activation) -> Result<Exit, TrapCode> {
+    let Inner { fuel, caps, instances, items, stack, .. } = inner;
+    let Stack { values, frames } = stack.as_mut().map(|it| &mut **it).ok_or(TrapCode::StackOverflow)?;
+    let Activation { instance, floor, frame: Frame { mut function, mut next, mut base } } = *at;
+    let instance = &mut instances[instance];
     let mut current = 0;
     'memory: loop {
-        let Instance { module, memories, tables, globals, .. } = &mut *instance;
+        let Entity { module, memories, tables, globals, first, .. } = &mut *instance;
         // The library lends the bytes of a memory until it is used in another way.
-        let bytes = memories.get_mut(current).map_or(&mut [][..], |it| it.data_mut());
+        let bytes = memories.get(current).map_or(&mut [][..], |it| items.memories[*it].data_mut());
         'frame: loop {
             let body = &module.code[function];
             let code = &body.code[..];
@@ -149,17 +157,30 @@ pub(crate) fn execute(instance: &mut Instance, store: &mut Store, frame: Frame) 
                                     1 => slots.set::<RawVal>(0, slots.get(op.a)),
                                     count => slots.copy(0, op.a, count),
                                 }
-                                let Some(frame) = frames.pop() else { return Ok(Exit::Done) };
-                                Frame { function, next, base } = frame;
+                                if frames.len() == floor {
+                                    return Ok(Exit::Done);
+                                }
+                                if let Some(frame) = frames.pop() {
+                                    Frame { function, next, base } = frame;
+                                }
                                 continue 'frame;
                             }
                             Code::call | Code::call_indirect => {
                                 let mut callee = op.imm;
                                 if op.code == Code::call_indirect {
-                                    let element = tables[usize::from(op.lane)].get(slots.number(op.b));
-                                    let reference = u32::from(element.ok_or(TrapCode::TableOutOfBounds)?.raw());
-                                    callee = reference.checked_sub(1).ok_or(TrapCode::IndirectCallToNull)?;
-                                    if module.same[module.functions[callee as usize] as usize] != op.imm {
+                                    let table = &items.tables[tables[usize::from(op.lane)]];
+                                    let element = table.get(slots.number(op.b)).ok_or(TrapCode::TableOutOfBounds)?;
+                                    let reference = u32::from(element.raw());
+                                    callee = reference.wrapping_sub(*first);
+                                    let Some(ty) = module.functions.get(callee as usize) else {
+                                        if reference == 0 {
+                                            return Err(TrapCode::IndirectCallToNull);
+                                        }
+                                        at.frame = Frame { function, next, base };
+                                        let base = base + usize::from(op.a);
+                                        return Ok(Exit::Foreign { reference, ty: op.imm, base });
+                                    };
+                                    if module.same[*ty as usize] != op.imm {
                                         return Err(TrapCode::BadSignature);
                                     }
                                 }
@@ -168,17 +189,23 @@ pub(crate) fn execute(instance: &mut Instance, store: &mut Store, frame: Frame) 
                                 }
                                 frames.push(Frame { function, next, base });
                                 (function, next, base) = (callee as usize, 0, base + usize::from(op.a));
-                                store::enter(values, &module.code[function], base)?;
+                                stack::enter(values, &module.code[function], base)?;
                                 continue 'frame;
                             }
-                            Code::host => return Ok(Exit::Host(op.imm, Frame { function, next, base })),
+                            Code::host => {
+                                at.frame = Frame { function, next, base };
+                                return Ok(Exit::Host(op.imm));
+                            }
                             Code::unreachable => return Err(TrapCode::UnreachableCodeReached),
-                            Code::global_get => slots.set(op.d, *globals[op.imm as usize].get_raw()),
+                            Code::global_get => {
+                                slots.set(op.d, *items.globals[globals[op.imm as usize]].get_raw());
+                            }
                             Code::global_set => {
-                                let global = &mut globals[op.imm as usize];
+                                let global = &mut items.globals[globals[op.imm as usize]];
                                 let value = TypedRawVal::new(global.ty().content(), slots.get(op.a));
                                 global.set(value).map_err(|_| TrapCode::UnreachableCodeReached)?;
                             }
+                            Code::ref_func => slots.set(op.d, *first + op.imm),
                             Code::is_null => slots.set(op.d, slots.reference(op.a).is_null()),
                             Code::i64_add128 | Code::i64_sub128 => {
                                 let f = if op.code == Code::i64_add128 { library::i64_add128 } else { library::i64_sub128 };
@@ -205,7 +232,7 @@ pub(crate) fn execute(instance: &mut Instance, store: &mut Store, frame: Frame) 
                             Code::memory_size | Code::memory_grow | Code::memory_fill | Code::memory_copy | Code::memory_init
                             | Code::data_drop | Code::table_get | Code::table_set | Code::table_size | Code::table_grow
                             | Code::table_fill | Code::table_copy | Code::table_init | Code::elem_drop => {
-                                bulk(*op, instance, fuel, caps, slots)?;
+                                bulk(*op, instance, items, fuel, caps, slots)?;
                                 continue 'memory;
                             }
                         }
@@ -219,50 +246,84 @@ pub(crate) fn execute(instance: &mut Instance, store: &mut Store, frame: Frame) 
 
 /// An instruction on a memory, a table or a segment. Afterwards the bytes of memories may lie elsewhere.
 #[inline(never)]
-fn bulk(op: Op, instance: &mut Instance, fuel: &mut Fuel, caps: &mut Caps, mut slots: Slots) -> Result<(), TrapCode> {
-    let Instance { module, memories, tables, elements, is_dropped, .. } = instance;
+fn bulk(
+    op: Op,
+    instance: &mut Entity,
+    items: &mut Items,
+    fuel: &mut Fuel,
+    caps: &mut Caps,
+    mut slots: Slots,
+) -> Result<(), TrapCode> {
+    let Entity { module, memories, tables, elements, is_dropped, .. } = instance;
     let (number, second) = (op.imm as usize, usize::from(op.lane));
+    macro_rules! memory {
+        ($number:expr) => {
+            items.memories[memories[$number]]
+        };
+    }
+    macro_rules! table {
+        ($number:expr) => {
+            items.tables[tables[$number]]
+        };
+    }
     let [a, b, c] = [op.a, op.b, op.c].map(|slot| slots.number(slot));
     match op.code {
-        Code::memory_size => slots.set(op.d, memories[number].size()),
+        Code::memory_size => slots.set(op.d, memory!(number).size()),
         Code::memory_grow => {
-            let size = match memories[number].grow(a, Some(fuel), &mut caps.lent()) {
+            let size = match memory!(number).grow(a, Some(fuel), &mut caps.lent()) {
                 Err(MemoryError::OutOfBoundsGrowth | MemoryError::OutOfSystemMemory) => None,
                 grown => Some(grown.map_err(of_memory)?),
             };
-            slots.set_size(op.d, size, memories[number].ty().is_64());
+            slots.set_size(op.d, size, memory!(number).ty().is_64());
         }
-        Code::memory_fill => memories[number].fill(a, b as u8, c, Some(fuel)).map_err(of_memory)?,
-        Code::memory_copy => match memories.get_disjoint_mut([number, second]) {
-            Ok([target, source]) => Memory::copy(target, a, source, b, c, Some(fuel)).map_err(of_memory)?,
-            Err(_) => memories[number].copy_within(a, b, c, Some(fuel)).map_err(of_memory)?,
+        Code::memory_fill => memory!(number).fill(a, b as u8, c, Some(fuel)).map_err(of_memory)?,
+        Code::memory_copy => match items.memories.pair([memories[number], memories[second]]) {
+            Some([target, source]) => Memory::copy(target, a, source, b, c, Some(fuel)).map_err(of_memory)?,
+            None => memory!(number).copy_within(a, b, c, Some(fuel)).map_err(of_memory)?,
         },
         Code::memory_init => {
             let bytes = if is_dropped[number] { &[] } else { &module.data[number].bytes[..] };
-            memories[second].init(bytes, a, b as u32, c as u32, Some(fuel)).map_err(of_memory)?;
+            memory!(second).init(bytes, a, b as u32, c as u32, Some(fuel)).map_err(of_memory)?;
         }
         Code::data_drop => is_dropped[number] = true,
-        Code::table_get => slots.set(op.d, tables[number].get(a).ok_or(TrapCode::TableOutOfBounds)?.raw()),
-        Code::table_set => tables[number].set_raw(a, slots.reference(op.b)).map_err(of_table)?,
-        Code::table_size => slots.set(op.d, tables[number].size()),
+        Code::table_get => slots.set(op.d, table!(number).get(a).ok_or(TrapCode::TableOutOfBounds)?.raw()),
+        Code::table_set => table!(number).set_raw(a, slots.reference(op.b)).map_err(of_table)?,
+        Code::table_size => slots.set(op.d, table!(number).size()),
         Code::table_grow => {
-            let size = match tables[number].grow_raw(b, slots.reference(op.a), Some(fuel), &mut caps.lent()) {
+            let size = match table!(number).grow_raw(b, slots.reference(op.a), Some(fuel), &mut caps.lent()) {
                 Err(TableError::GrowOutOfBounds | TableError::OutOfSystemMemory) => None,
                 grown => Some(grown.map_err(of_table)?),
             };
-            slots.set_size(op.d, size, tables[number].ty().is_64());
+            slots.set_size(op.d, size, table!(number).ty().is_64());
         }
-        Code::table_fill => tables[number].fill_raw(a, slots.reference(op.b), c, Some(fuel)).map_err(of_table)?,
-        Code::table_copy => match tables.get_disjoint_mut([number, second]) {
-            Ok([target, source]) => Table::copy(target, a, source, b, c, Some(fuel)).map_err(of_table)?,
-            Err(_) => tables[number].copy_within(a, b, c, Some(fuel)).map_err(of_table)?,
+        Code::table_fill => table!(number).fill_raw(a, slots.reference(op.b), c, Some(fuel)).map_err(of_table)?,
+        Code::table_copy => match items.tables.pair([tables[number], tables[second]]) {
+            Some([target, source]) => Table::copy(target, a, source, b, c, Some(fuel)).map_err(of_table)?,
+            None => table!(number).copy_within(a, b, c, Some(fuel)).map_err(of_table)?,
         },
         Code::table_init => {
-            let items = elements[number].as_ref();
-            tables[second].init(items, a, b as u32, c as u32, Some(fuel)).map_err(of_table)?;
+            let segment = elements[number].as_ref();
+            table!(second).init(segment, a, b as u32, c as u32, Some(fuel)).map_err(of_table)?;
         }
         Code::elem_drop => elements[number].drop_items(),
         _ => return Err(TrapCode::UnreachableCodeReached),
     }
     Ok(())
 }
+
+/// How the error of a memory or a table stops a guest.
+macro_rules! traps {
+    ($name:ident, $error:ident, $out_of_bounds:ident) => {
+        #[cold]
+        pub(crate) fn $name(error: $error) -> TrapCode {
+            match error {
+                $error::OutOfFuel { .. } => TrapCode::OutOfFuel,
+                $error::ResourceLimiterDeniedAllocation => TrapCode::GrowthOperationLimited,
+                $error::OutOfSystemMemory => TrapCode::OutOfSystemMemory,
+                _ => TrapCode::$out_of_bounds,
+            }
+        }
+    };
+}
+traps!(of_memory, MemoryError, MemoryOutOfBounds);
+traps!(of_table, TableError, TableOutOfBounds);

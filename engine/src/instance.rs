@@ -1,208 +1,338 @@
-//! Instances: made from a module, called, and read. WebAssembly core specification, 4.5.
+//! Instances: made from a module, and read. WebAssembly core specification, 4.5.
 
 #[cfg(feature = "crate")]
 use crate::bulk::Bulk;
-use crate::execute::{self, Exit};
-use crate::host::{self, HostFunction, Provided};
-use crate::library::{
-    ElementSegment, Global, Memory, MemoryError, RawVal, Table, TableError, Trap, TrapCode, TypedRawRef, TypedRawVal,
-    ValType,
-};
-use crate::module::{Extern, Mode, Module};
-use crate::store::{self, Frame, Store};
-use std::fmt;
-use std::sync::Arc;
+use crate::call::Callee;
+use crate::compiled::Module;
+use crate::context::{AsContext, AsContextMut, StoreContext};
+use crate::error::Error;
+use crate::execute::{of_memory, of_table};
+use crate::func::{Func, Host, TypedFunc};
+use crate::handle::{Kept, Owner};
+use crate::items::{Extern, Global, Memory, Table};
+use crate::library::{self, ElementSegment, FuncType, RawRef, TypedRawRef, ValType};
+use crate::module::{self, Import, Item, Mode};
+use crate::store::{Entity, Inner, Items, Store};
+use crate::values::WasmValues;
+use std::sync::{Arc, Weak};
 
-/// An instance of a module: its memories, tables and globals, and what is left of its segments.
+/// An instance of a module.
+///
+/// It is kept as long as a handle of it or of something that it exports is, or an instance that imports from it, and no
+/// longer than its store. Then its memories and tables are freed, and what they took of the store's
+/// [caps](crate::Caps) is given back. An instance whose functions others may have, through a table, a global or an
+/// argument, is kept as long as its store.
+#[derive(Clone, Debug)]
 pub struct Instance {
-    pub(crate) module: Arc<Module>,
-    pub(crate) host: Vec<HostFunction>,
-    pub(crate) memories: Vec<Memory>,
-    pub(crate) tables: Vec<Table>,
-    pub(crate) globals: Vec<Global>,
-    pub(crate) elements: Vec<ElementSegment>,
-    pub(crate) is_dropped: Vec<bool>,
+    pub(crate) owner: Arc<Owner>,
 }
 
-/// Why there is no instance, or why a call gives no results.
-#[derive(Debug)]
-pub enum Failure {
-    /// The host lacks an import, or has it with another type.
-    Unlinkable(String),
-    /// The instance exports no such function, or the function takes other arguments.
-    Misused(&'static str),
-    /// The guest stops: also where a memory or a table can't be made, or a segment doesn't fit.
-    Trapped(Trap),
+/// What a module is given for an import.
+pub(crate) enum Given<T> {
+    Host(Host<T>),
+    Item(Extern),
 }
 
-impl<T: Into<Trap>> From<T> for Failure {
-    fn from(trap: T) -> Self {
-        Self::Trapped(trap.into())
-    }
-}
-
-impl fmt::Display for Failure {
-    fn fmt(&self, f: &mut fmt::Formatter<'_>) -> fmt::Result {
-        match self {
-            Self::Unlinkable(what) => f.write_str(what),
-            Self::Misused(what) => f.write_str(what),
-            Self::Trapped(trap) => trap.fmt(f),
-        }
-    }
+/// The memories, tables and globals of an instance, those that are imported first.
+pub struct Contents<'a> {
+    /// The memories.
+    pub memories: Vec<&'a library::Memory>,
+    /// The tables.
+    pub tables: Vec<&'a library::Table>,
+    /// The globals.
+    pub globals: Vec<&'a library::Global>,
 }
 
 impl Instance {
-    /// Makes an instance: imports, memories, tables, globals, segments, and then the start function.
+    /// Makes an instance, given its imports in order: memories, tables, globals, segments, and then the start function.
     ///
-    /// Active segments are charged as `table.init` and `memory.init` are. If there is no instance, what its memories and
-    /// tables took of the caps is given back.
-    pub fn new(module: &Arc<Module>, store: &mut Store) -> Result<Instance, Failure> {
-        let caps = store.caps;
-        let made = Self::allocate(module, store).and_then(|mut it| it.initialize(store).map(|()| it));
-        if made.is_err() {
-            store.caps = caps;
+    /// Active segments are charged as `table.init` and `memory.init` are.
+    ///
+    /// # Errors
+    ///
+    /// If an import is missing or has another type, if the store's caps or the system don't allow a memory or a table, if a
+    /// segment doesn't fit, and if the start function stops.
+    pub fn new(mut context: impl AsContextMut, module: &Module, imports: &[Extern]) -> Result<Instance, Error> {
+        if imports.len() != module.inner.imports.len() {
+            return Err(Error::Link(format!("the module has {} imports", module.inner.imports.len())));
         }
-        made
+        let imports = imports.iter().cloned().map(Given::Item).collect();
+        instantiate(context.as_context_mut().store, module, imports)
     }
 
-    fn allocate(module: &Arc<Module>, store: &mut Store) -> Result<Instance, Failure> {
-        let mut it = Instance {
-            module: module.clone(),
-            host: vec![],
-            memories: vec![],
-            tables: vec![],
-            globals: vec![],
-            elements: vec![],
-            is_dropped: vec![false; module.data.len()],
+    /// What it exports by this name.
+    pub fn get_export(&self, context: impl AsContext, name: &str) -> Option<Extern> {
+        let context = context.as_context();
+        let (_, entity) = context.store.inner.instance(&self.owner);
+        let item = entity.module.exports.get(name)?;
+        Some(self.item(entity, *item))
+    }
+
+    /// What it exports, by name.
+    pub fn exports(&self, context: impl AsContext) -> Vec<(String, Extern)> {
+        let context = context.as_context();
+        let (_, entity) = context.store.inner.instance(&self.owner);
+        entity.module.exports.iter().map(|(name, item)| (name.clone(), self.item(entity, *item))).collect()
+    }
+
+    fn item(&self, entity: &Entity, item: Item) -> Extern {
+        let owner = self.owner.clone();
+        match item {
+            Item::Function(function) => Func { owner, function }.into(),
+            Item::Memory(it) => Memory { owner, number: entity.memories[it as usize] }.into(),
+            Item::Table(it) => Table { owner, number: entity.tables[it as usize] }.into(),
+            Item::Global(it) => Global { owner, number: entity.globals[it as usize] }.into(),
+        }
+    }
+
+    /// An exported function.
+    pub fn get_func(&self, context: impl AsContext, name: &str) -> Option<Func> {
+        self.get_export(context, name)?.into_func()
+    }
+
+    /// An exported function of these types.
+    ///
+    /// # Errors
+    ///
+    /// If there is no such function, or it has other types.
+    ///
+    /// # Examples
+    ///
+    /// ```
+    /// # use engine::{Engine, Linker, Module, Store};
+    /// # let engine = Engine::default();
+    /// # let wasm = b"\0asm\x01\0\0\0\x01\x07\x01\x60\x02\x7f\x7f\x01\x7f\x03\x02\x01\0\x07\x07\x01\x03sum\0\0\
+    /// #     \x0a\x09\x01\x07\0\x20\0\x20\x01\x6a\x0b";
+    /// # let module = Module::new(&engine, wasm)?;
+    /// # let mut store = Store::new(&engine, ());
+    /// # let instance = Linker::new(&engine).instantiate(&mut store, &module)?;
+    /// let sum = instance.get_typed_func::<(i32, i32), i32>(&store, "sum")?;
+    /// assert_eq!(sum.call(&mut store, (20, 22))?, 42);
+    /// # Ok::<(), engine::Error>(())
+    /// ```
+    pub fn get_typed_func<P, R>(&self, context: impl AsContext, name: &str) -> Result<TypedFunc<P, R>, Error>
+    where
+        P: WasmValues,
+        R: WasmValues,
+    {
+        let missing = || Error::Misused(format!("there is no exported function {name}"));
+        self.get_func(&context, name).ok_or_else(missing)?.typed(&context)
+    }
+
+    /// An exported memory.
+    pub fn get_memory(&self, context: impl AsContext, name: &str) -> Option<Memory> {
+        self.get_export(context, name)?.into_memory()
+    }
+
+    /// An exported table.
+    pub fn get_table(&self, context: impl AsContext, name: &str) -> Option<Table> {
+        self.get_export(context, name)?.into_table()
+    }
+
+    /// An exported global.
+    pub fn get_global(&self, context: impl AsContext, name: &str) -> Option<Global> {
+        self.get_export(context, name)?.into_global()
+    }
+
+    /// All memories, tables and globals, also those that aren't exported.
+    pub fn contents<'a, T: 'a>(&self, context: impl Into<StoreContext<'a, T>>) -> Contents<'a> {
+        let inner = &context.into().store.inner;
+        let (_, entity) = inner.instance(&self.owner);
+        Contents {
+            memories: entity.memories.iter().map(|it| &inner.items.memories[*it]).collect(),
+            tables: entity.tables.iter().map(|it| &inner.items.tables[*it]).collect(),
+            globals: entity.globals.iter().map(|it| &inner.items.globals[*it]).collect(),
+        }
+    }
+
+    /// The number in the module of the function that a reference is to, if it is one of this instance.
+    pub fn function_number(&self, context: impl AsContext, reference: RawRef) -> Option<u32> {
+        let context = context.as_context();
+        let (_, entity) = context.store.inner.instance(&self.owner);
+        let number = u32::from(reference).checked_sub(entity.first)?;
+        Some(number).filter(|it| (*it as usize) < entity.module.functions.len())
+    }
+
+    /// A reference to a function of this instance, by its number in the module.
+    pub fn function_reference(&self, mut context: impl AsContextMut, number: u32) -> Option<RawRef> {
+        let inner = &mut context.as_context_mut().store.inner;
+        let (_, entity) = inner.instance(&self.owner);
+        let reference = ((number as usize) < entity.module.functions.len()).then(|| entity.first + number)?;
+        inner.pin(&self.owner);
+        Some(reference.into())
+    }
+}
+
+/// Makes an instance. If there is none, what its memories and tables took of the caps is given back.
+pub(crate) fn instantiate<T>(store: &mut Store<T>, module: &Module, given: Vec<Given<T>>) -> Result<Instance, Error> {
+    if !module.engine.is_same(&store.inner.engine) {
+        return Err(Error::misused("the module and the store are of two engines"));
+    }
+    store.collect();
+    let made = make(store, &module.inner, given);
+    store.collect();
+    made
+}
+
+fn make<T>(store: &mut Store<T>, module: &Arc<module::Module>, given: Vec<Given<T>>) -> Result<Instance, Error> {
+    let mut linked = Linked { callees: vec![], memories: vec![], tables: vec![], globals: vec![], providers: vec![] };
+    for (import, given) in module.imports.iter().zip(given) {
+        linked.link(store, module, import, given)?;
+    }
+    let Linked { callees, memories, tables, globals, providers } = linked;
+    let owner = insert(store, module.clone(), callees, providers)?;
+    let Kept::Instance(number) = owner.kept else { unreachable!("an instance") };
+    let inner = &mut store.inner;
+    let entity = &mut inner.instances[number];
+    (entity.memories, entity.tables, entity.globals) = (memories, tables, globals);
+    allocate(inner, number)?;
+    if passes_functions(module) {
+        inner.pin(&owner);
+    }
+    initialize(inner, number)?;
+    if let Some(start) = module.start {
+        store.call(&owner, start, |_| (), |_| ())?;
+    }
+    Ok(Instance { owner })
+}
+
+/// The imports of an instance.
+struct Linked<T> {
+    callees: Vec<Callee<T>>,
+    memories: Vec<u32>,
+    tables: Vec<u32>,
+    globals: Vec<u32>,
+    providers: Vec<Arc<Owner>>,
+}
+
+impl<T> Linked<T> {
+    /// Takes what is given for an import, if it has the right type.
+    fn link(
+        &mut self,
+        store: &Store<T>,
+        module: &module::Module,
+        import: &Import,
+        given: Given<T>,
+    ) -> Result<(), Error> {
+        let items = &store.inner.items;
+        let provider = match (import.item, given) {
+            (Item::Function(function), Given::Host(host)) if host.ty == *module.type_of(function) => {
+                self.callees.push(host.callee());
+                return Ok(());
+            }
+            (Item::Function(function), Given::Item(Extern::Func(it))) if it.ty(store) == *module.type_of(function) => {
+                let (instance, _) = store.inner.instance(&it.owner);
+                self.callees.push(store.callee(instance, it.function));
+                it.owner
+            }
+            (Item::Memory(memory), Given::Item(Extern::Memory(it)))
+                if it.ty(store).is_subtype_of(&module.memories[memory as usize]) =>
+            {
+                self.memories.push(it.number);
+                it.owner
+            }
+            (Item::Table(table), Given::Item(Extern::Table(it)))
+                if it.ty(store).is_subtype_of(&module.tables[table as usize].0) =>
+            {
+                self.tables.push(it.number);
+                it.owner
+            }
+            (Item::Global(global), Given::Item(Extern::Global(it)))
+                if items.globals[it.number].ty() == module.globals[global as usize].0 =>
+            {
+                store.inner.check(&it.owner);
+                self.globals.push(it.number);
+                it.owner
+            }
+            _ => return Err(Error::Link(format!("{}.{}: the item has another type", import.module, import.name))),
         };
-        for import in &module.imports {
-            match host::provide(module, import, &mut store.caps)? {
-                Provided::Function(function) => it.host.push(function),
-                Provided::Table(table) => it.tables.push(table),
-                Provided::Memory(memory) => it.memories.push(memory),
-                Provided::Global(global) => it.globals.push(global),
-            }
-        }
-        let imported = module.imported;
-        for (ty, init) in &module.globals[imported.globals..] {
-            it.globals.push(Global::new(init.value(&it.globals), *ty));
-        }
-        for ty in &module.memories[imported.memories..] {
-            it.memories.push(Memory::new(*ty, &mut store.caps.lent()).map_err(of_memory)?);
-        }
-        for (ty, init) in &module.tables[imported.tables..] {
-            let init = TypedRawRef::new(init.value(&it.globals).into(), ty.element());
-            it.tables.push(Table::new(*ty, init, &mut store.caps.lent()).map_err(of_table)?);
-        }
-        for segment in &module.elements {
-            let items = segment.items.iter().map(|item| item.value(&it.globals).into());
-            it.elements.push(ElementSegment::new(segment.ty, items));
-        }
-        Ok(it)
-    }
-
-    fn initialize(&mut self, store: &mut Store) -> Result<(), Failure> {
-        let module = self.module.clone();
-        let fuel = &mut store.fuel;
-        for (segment, items) in module.elements.iter().zip(&mut self.elements) {
-            if let Mode::Active(table, offset) = &segment.mode {
-                let (table, offset) = (&mut self.tables[*table as usize], offset.value(&self.globals));
-                table.init(items.as_ref(), offset.into(), 0, items.size(), Some(fuel)).map_err(of_table)?;
-            }
-            if !matches!(segment.mode, Mode::Passive) {
-                items.drop_items();
-            }
-        }
-        for (segment, is_dropped) in module.data.iter().zip(&mut self.is_dropped) {
-            if let Mode::Active(memory, offset) = &segment.mode {
-                let (memory, offset) = (&mut self.memories[*memory as usize], offset.value(&self.globals));
-                let len = segment.bytes.len() as u32;
-                memory.init(&segment.bytes, offset.into(), 0, len, Some(fuel)).map_err(of_memory)?;
-                *is_dropped = true;
-            }
-        }
-        match module.start {
-            Some(start) => Ok(self.run(store, start, &[])?),
-            None => Ok(()),
-        }
-    }
-
-    /// Calls an exported function.
-    pub fn call(&mut self, store: &mut Store, name: &str, args: &[TypedRawVal]) -> Result<Vec<TypedRawVal>, Failure> {
-        let module = self.module.clone();
-        let Some(Extern::Function(function)) = module.exports.get(name) else {
-            return Err(Failure::Misused("there is no exported function of this name"));
-        };
-        let ty = module.type_of(*function);
-        if !args.iter().map(TypedRawVal::ty).eq(ty.params().iter().copied()) {
-            return Err(Failure::Misused("the arguments aren't those of the function's type"));
-        }
-        let raw: Vec<RawVal> = args.iter().copied().map(canonical).collect();
-        self.run(store, *function, &raw)?;
-        Ok(ty.results().iter().zip(&store.values).map(|(ty, value)| TypedRawVal::new(*ty, *value)).collect())
-    }
-
-    /// Runs a function. Its results are the first values of the store.
-    fn run(&mut self, store: &mut Store, function: u32, args: &[RawVal]) -> Result<(), Trap> {
-        store.frames.clear();
-        store.values[..args.len()].copy_from_slice(args);
-        let function = function as usize;
-        store::enter(&mut store.values, &self.module.code[function], 0)?;
-        let mut frame = Frame { function, next: 0, base: 0 };
-        while let Exit::Host(number, at) = execute::execute(self, store, frame)? {
-            host::call(self, store, number, at.base)?;
-            frame = at;
-        }
+        self.providers.push(provider);
         Ok(())
     }
-
-    /// The value of an exported global.
-    pub fn global(&self, name: &str) -> Option<TypedRawVal> {
-        match self.module.exports.get(name)? {
-            Extern::Global(global) => Some(self.globals[*global as usize].get()),
-            _ => None,
-        }
-    }
-
-    /// The module.
-    pub fn module(&self) -> &Module {
-        &self.module
-    }
-
-    /// All memories, tables and globals, those that are imported first.
-    pub fn contents(&self) -> (&[Memory], &[Table], &[Global]) {
-        (&self.memories, &self.tables, &self.globals)
-    }
-
-    /// Drops the instance, and gives back what its memories and tables took of the store's caps.
-    pub fn release(self, store: &mut Store) {
-        store.caps.bytes += self.memories.iter().map(Memory::data_size).sum::<usize>();
-        store.caps.elements += self.tables.iter().map(|it| it.size() as usize).sum::<usize>();
-    }
 }
 
-/// A raw value that is zero above the width of its type, as code takes addresses, indices and lengths to be.
-fn canonical(value: TypedRawVal) -> RawVal {
-    match value.ty() {
-        ValType::V128 => value.raw(),
-        ValType::I64 | ValType::F64 => u64::from(value.raw()).into(),
-        _ => u32::from(value.raw()).into(),
-    }
+/// Puts an instance without memories, tables and globals into a store.
+pub(crate) fn insert<T>(
+    store: &mut Store<T>,
+    module: Arc<module::Module>,
+    callees: Vec<Callee<T>>,
+    providers: Vec<Arc<Owner>>,
+) -> Result<Arc<Owner>, Error> {
+    let Inner { instances, references, .. } = &mut store.inner;
+    let first = references.take(module.functions.len());
+    let first = first.ok_or(Error::misused("the store has too many functions"))?;
+    let is_dropped = vec![false; module.data.len()];
+    let (memories, tables, globals, elements, owner) = (vec![], vec![], vec![], vec![], Weak::new());
+    let entity = Entity { module, memories, tables, globals, elements, is_dropped, first, owner, providers };
+    let number = instances.insert(entity);
+    references.give(first, number);
+    let owner = store.inner.owner(Kept::Instance(number));
+    store.inner.instances[number].owner = Arc::downgrade(&owner);
+    store.callees.resize_with(store.callees.len().max(number as usize + 1), Arc::default);
+    store.callees[number as usize] = callees.into();
+    Ok(owner)
 }
 
-/// How the error of a memory or a table stops a guest.
-macro_rules! traps {
-    ($name:ident, $error:ident, $out_of_bounds:ident) => {
-        #[cold]
-        pub(crate) fn $name(error: $error) -> TrapCode {
-            match error {
-                $error::OutOfFuel { .. } => TrapCode::OutOfFuel,
-                $error::ResourceLimiterDeniedAllocation => TrapCode::GrowthOperationLimited,
-                $error::OutOfSystemMemory => TrapCode::OutOfSystemMemory,
-                _ => TrapCode::$out_of_bounds,
-            }
-        }
+/// Whether functions of an instance can come to others: by what it imports, or by a global that it exports.
+fn passes_functions(module: &module::Module) -> bool {
+    let has_functions = |ty: &FuncType| ty.params().iter().chain(ty.results()).any(|it| *it == ValType::FuncRef);
+    let is_open = |item: &Item| match *item {
+        Item::Function(it) => has_functions(module.type_of(it)),
+        Item::Table(it) => module.tables[it as usize].0.element() == library::RefType::Func,
+        Item::Global(it) => module.globals[it as usize].0.content() == ValType::FuncRef,
+        Item::Memory(_) => false,
     };
+    let is_open_global = |item: &Item| matches!(item, Item::Global(_)) && is_open(item);
+    module.imports.iter().any(|it| is_open(&it.item)) || module.exports.values().any(is_open_global)
 }
-traps!(of_memory, MemoryError, MemoryOutOfBounds);
-traps!(of_table, TableError, TableOutOfBounds);
+
+/// Makes the memories, tables, globals and segments of an instance.
+fn allocate(inner: &mut Inner, number: u32) -> Result<(), Error> {
+    let Inner { instances, items, caps, .. } = inner;
+    let Items { memories, tables, globals } = items;
+    let entity = &mut instances[number];
+    let (module, first) = (entity.module.clone(), entity.first);
+    for (ty, init) in &module.globals[module.imported.globals..] {
+        let init = init.value(first, &|it| *globals[entity.globals[it as usize]].get_raw());
+        entity.globals.push(globals.insert(library::Global::new(init, *ty)));
+    }
+    let global = |it: u32| *globals[entity.globals[it as usize]].get_raw();
+    for ty in &module.memories[module.imported.memories..] {
+        let memory = library::Memory::new(*ty, &mut caps.lent()).map_err(of_memory)?;
+        entity.memories.push(memories.insert(memory));
+    }
+    for (ty, init) in &module.tables[module.imported.tables..] {
+        let init = TypedRawRef::new(init.value(first, &global).into(), ty.element());
+        let table = library::Table::new(*ty, init, &mut caps.lent()).map_err(of_table)?;
+        entity.tables.push(tables.insert(table));
+    }
+    for segment in &module.elements {
+        let values = segment.items.iter().map(|item| item.value(first, &global).into());
+        entity.elements.push(ElementSegment::new(segment.ty, values));
+    }
+    Ok(())
+}
+
+/// Writes the active segments.
+fn initialize(inner: &mut Inner, number: u32) -> Result<(), Error> {
+    let Inner { instances, items, fuel, .. } = inner;
+    let Entity { module, memories, tables, globals, elements, is_dropped, first, .. } = &mut instances[number];
+    let globals = |it: u32| *items.globals[globals[it as usize]].get_raw();
+    for (segment, values) in module.elements.iter().zip(elements) {
+        if let Mode::Active(table, offset) = &segment.mode {
+            let (table, offset) = (&mut items.tables[tables[*table as usize]], offset.value(*first, &globals));
+            table.init(values.as_ref(), offset.into(), 0, values.size(), Some(fuel)).map_err(of_table)?;
+        }
+        if !matches!(segment.mode, Mode::Passive) {
+            values.drop_items();
+        }
+    }
+    for (segment, is_dropped) in module.data.iter().zip(is_dropped) {
+        if let Mode::Active(memory, offset) = &segment.mode {
+            let (memory, offset) = (&mut items.memories[memories[*memory as usize]], offset.value(*first, &globals));
+            memory.init(&segment.bytes, offset.into(), 0, segment.bytes.len() as u32, Some(fuel)).map_err(of_memory)?;
+            *is_dropped = true;
+        }
+    }
+    Ok(())
+}

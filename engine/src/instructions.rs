@@ -142,7 +142,7 @@ macro_rules! codes {
             // Control: `imm` is the place that is jumped to, the amount of fuel, or the number of values or of a function.
             fuel, branch, branch_if, branch_unless, branch_table, ret, call, call_indirect, host, unreachable,
             // Values: from slot `a` to slot `d`.
-            copy, copy_many, select, global_get, global_set, is_null, shuffle, i64_add128, i64_sub128, i64_mul_wide_s,
+            copy, copy_many, select, global_get, global_set, is_null, ref_func, shuffle, i64_add128, i64_sub128, i64_mul_wide_s,
             i64_mul_wide_u,
             // Memories and tables: `imm` is the number of a memory, table or segment, `lane` that of a second one.
             memory_use, add_offset, memory_size, memory_grow, memory_fill, memory_copy, memory_init, data_drop,

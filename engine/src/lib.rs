@@ -10,9 +10,11 @@
 //! | `module` | sections, and what they must keep |
 //! | `instructions` | the table of the library's instructions, and the form of the code that runs |
 //! | `translate` | the validation of a function, and its translation |
-//! | `store` | fuel, caps and the stack |
-//! | `host` | what a module may import |
-//! | `instance` | instances, calls |
+//! | `engine`, `store`, `stack` | what tenants share, what a tenant has, and what calls run on |
+//! | `handle`, `arena`, `references` | who needs an item of a store, items by number, and references of functions |
+//! | `instance`, `compiled`, `items` | instances, modules, memories, tables and globals, as an embedder has them |
+//! | `values`, `func`, `caller`, `linker` | functions of the host and of guests, and what modules may import |
+//! | `call` | calls between the host and instances |
 //! | `execute` | the loop |
 //!
 //! The program stands in `program/`.
@@ -25,23 +27,43 @@ pub use wasmi_core as library;
 #[cfg(not(feature = "crate"))]
 pub use wasmi_core_proved as library;
 
+mod arena;
 #[cfg(feature = "crate")]
 #[path = "../crate/bulk.rs"]
 mod bulk;
+mod call;
+mod caller;
+mod compiled;
+mod context;
+mod engine;
+mod error;
 mod execute;
-mod host;
+mod func;
+mod handle;
 mod instance;
 mod instructions;
+mod items;
+mod linker;
 mod module;
 mod reader;
+mod references;
+mod stack;
 mod store;
 mod translate;
+mod values;
 
-pub use host::Stopped;
-pub use instance::{Failure, Instance};
-pub use module::Module;
+pub use caller::Caller;
+pub use compiled::{ExternType, ImportType, Module};
+pub use context::{AsContext, AsContextMut, StoreContext, StoreContextMut};
+pub use engine::{Config, Engine};
+pub use error::{Error, Unsupported};
+pub use func::{Func, IntoFunc, TypedFunc};
+pub use instance::{Contents, Instance};
+pub use items::{Extern, Global, Memory, Table};
+pub use linker::Linker;
 pub use reader::{Refusal, RefusalKind};
 pub use store::{Caps, Store};
+pub use values::{HostResults, Val, WasmTy, WasmValues};
 
 /// Bounds on what a module may have, so that a hostile one costs no more than its size. WebAssembly core specification,
 /// A.2 (implementation limitations).
@@ -66,6 +88,11 @@ mod limits {
     /// Of a store: the values in the frames of all calls, and the calls that are open at once.
     pub(crate) const VALUES: usize = 1 << 17;
     pub(crate) const CALLS: usize = 1 << 15;
+    /// The calls of the host that are open at once, each in a function of the host that a guest has called.
+    pub(crate) const NESTED: usize = 100;
+
+    /// Of an engine: the stacks that are kept for later calls.
+    pub(crate) const STACKS: usize = 16;
 
     /// The number of no function of the host: that of a function that is left out for its floats.
     pub(crate) const NO_HOST: u32 = u32::MAX;

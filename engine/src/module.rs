@@ -2,7 +2,7 @@
 //!
 //! WebAssembly core specification, 5.5 (sections) and 3.5 (validation of modules).
 
-use crate::library::{FuncType, Global, GlobalType, MemoryType, RawRef, RawVal, RefType, TableType, ValType, wasm};
+use crate::library::{FuncType, GlobalType, MemoryType, RawRef, RawVal, RefType, TableType, ValType, wasm};
 use crate::limits;
 use crate::reader::{Read, Reader, Refusal, RefusalKind, ensure};
 use crate::translate::{self, Function};
@@ -10,7 +10,7 @@ use std::collections::{BTreeMap, HashMap};
 
 /// What a module imports or exports, by its number in the module.
 #[derive(Clone, Copy, Debug, PartialEq, Eq)]
-pub(crate) enum Extern {
+pub(crate) enum Item {
     Function(u32),
     Table(u32),
     Memory(u32),
@@ -21,34 +21,38 @@ pub(crate) enum Extern {
 pub(crate) struct Import {
     pub module: String,
     pub name: String,
-    pub item: Extern,
+    pub item: Item,
 }
 
 /// A constant expression: a value, or terms in postfix notation.
 pub(crate) enum Constant {
     Value(RawVal),
+    Function(u32),
     Terms(Vec<Term>),
 }
 
 #[derive(Clone, Copy)]
 pub(crate) enum Term {
     Value(RawVal),
+    Function(u32),
     Global(u32),
     Operator(u8),
 }
 
 impl Constant {
-    /// The value, given the globals that the expression may read.
-    pub fn value(&self, globals: &[Global]) -> RawVal {
+    /// The value in an instance, given the reference of its first function, and the globals that the expression may read.
+    pub fn value(&self, first: u32, global: &dyn Fn(u32) -> RawVal) -> RawVal {
         let terms = match self {
             Self::Value(value) => return *value,
+            Self::Function(function) => return (first + function).into(),
             Self::Terms(terms) => terms,
         };
         let mut stack: Vec<RawVal> = vec![];
         for term in terms {
             let value = match *term {
                 Term::Value(value) => value,
-                Term::Global(global) => *globals[global as usize].get_raw(),
+                Term::Function(function) => (first + function).into(),
+                Term::Global(number) => global(number),
                 Term::Operator(opcode) => {
                     let (right, left) = (stack.pop().unwrap_or_default(), stack.pop().unwrap_or_default());
                     match opcode {
@@ -85,9 +89,9 @@ pub(crate) struct Data {
     pub bytes: Vec<u8>,
 }
 
-/// A module that was read, validated and translated. It can be instantiated any number of times.
+/// A module that was read, validated and translated.
 #[derive(Default)]
-pub struct Module {
+pub(crate) struct Module {
     pub(crate) types: Vec<FuncType>,
     /// For each type the first one that is equal to it.
     pub(crate) same: Vec<u32>,
@@ -98,7 +102,7 @@ pub struct Module {
     pub(crate) memories: Vec<MemoryType>,
     pub(crate) globals: Vec<(GlobalType, Constant)>,
     pub(crate) imported: Imported,
-    pub(crate) exports: BTreeMap<String, Extern>,
+    pub(crate) exports: BTreeMap<String, Item>,
     pub(crate) start: Option<u32>,
     pub(crate) elements: Vec<Elements>,
     pub(crate) data: Vec<Data>,
@@ -117,11 +121,6 @@ pub(crate) struct Imported {
     pub globals: usize,
 }
 
-/// The reference of a function: its number and 1, since 0 is null.
-pub(crate) fn reference(function: u32) -> RawRef {
-    RawRef::from(function + 1)
-}
-
 impl Module {
     /// Reads a module in the binary format. A function with a type, a constant or an instruction of floats is refused.
     pub fn new(bytes: &[u8]) -> Result<Module, Refusal> {
@@ -133,12 +132,11 @@ impl Module {
         Self::read(Reader::new(bytes, true))
     }
 
-    /// The type of an exported function.
-    pub fn function_type(&self, name: &str) -> Option<&FuncType> {
-        match self.exports.get(name)? {
-            Extern::Function(function) => Some(self.type_of(*function)),
-            _ => None,
-        }
+    /// A module of one function, which it imports.
+    pub(crate) fn of_host(ty: &FuncType) -> Module {
+        let imported = Imported { functions: 1, ..Imported::default() };
+        let code = vec![Function::of_host(0, ty)];
+        Module { types: vec![ty.clone()], same: vec![0], functions: vec![0], imported, code, ..Module::default() }
     }
 
     pub(crate) fn type_of(&self, function: u32) -> &FuncType {
@@ -223,24 +221,24 @@ impl Module {
     fn import(&mut self, reader: &mut Reader) -> Read<Import> {
         let (module, name) = (reader.name()?.into(), reader.name()?.into());
         let begin = *reader;
-        let (count, kind): (_, fn(u32) -> Extern) = match reader.byte()? {
+        let (count, kind): (_, fn(u32) -> Item) = match reader.byte()? {
             0 => {
                 let ty = self.known(reader, self.types.len(), "a type is unknown")?;
                 self.functions.push(ty);
                 self.code.push(Function::of_host(self.imported.functions as u32, &self.types[ty as usize]));
-                (&mut self.imported.functions, Extern::Function)
+                (&mut self.imported.functions, Item::Function)
             }
             1 => {
                 self.tables.push((reader.table_type()?, Constant::Value(RawVal::default())));
-                (&mut self.imported.tables, Extern::Table)
+                (&mut self.imported.tables, Item::Table)
             }
             2 => {
                 self.memories.push(reader.memory_type()?);
-                (&mut self.imported.memories, Extern::Memory)
+                (&mut self.imported.memories, Item::Memory)
             }
             3 => {
                 self.globals.push((reader.global_type()?, Constant::Value(RawVal::default())));
-                (&mut self.imported.globals, Extern::Global)
+                (&mut self.imported.globals, Item::Global)
             }
             _ => return Err(begin.malformed("an import is of an unknown kind")),
         };
@@ -270,10 +268,10 @@ impl Module {
         let name = reader.name()?.to_owned();
         let kind = *reader;
         let item = match reader.byte()? {
-            0 => Extern::Function(self.known_function(reader)?),
-            1 => Extern::Table(self.known(reader, self.tables.len(), "a table is unknown")?),
-            2 => Extern::Memory(self.known(reader, self.memories.len(), "a memory is unknown")?),
-            3 => Extern::Global(self.known(reader, self.globals.len(), "a global is unknown")?),
+            0 => Item::Function(self.known_function(reader)?),
+            1 => Item::Table(self.known(reader, self.tables.len(), "a table is unknown")?),
+            2 => Item::Memory(self.known(reader, self.memories.len(), "a memory is unknown")?),
+            3 => Item::Global(self.known(reader, self.globals.len(), "a global is unknown")?),
             _ => return Err(kind.malformed("an export is of an unknown kind")),
         };
         ensure(self.exports.insert(name, item).is_none(), begin.invalid("two exports have one name"))
@@ -313,7 +311,7 @@ impl Module {
         let is_right = table.is_none_or(|table| table == ty);
         ensure(is_right, begin.invalid("an element segment has another type than its table"))?;
         let items = match kind & 4 {
-            0 => reader.list(|it| Ok(Constant::Value(reference(self.known_function(it)?).into())))?,
+            0 => reader.list(|it| Ok(Constant::Function(self.known_function(it)?)))?,
             _ => reader.list(|it| self.constant(it, ty.into()))?,
         };
         ensure(items.len() <= limits::ELEMENTS, begin.unsupported("an element segment is too long"))?;
@@ -371,6 +369,7 @@ impl Module {
         match (&types[..], &terms[..]) {
             ([ty], _) if *ty != wanted => Err(begin.invalid("a constant expression has another type")),
             ([_], [Term::Value(value)]) => Ok(Constant::Value(*value)),
+            ([_], [Term::Function(function)]) => Ok(Constant::Function(*function)),
             ([_], _) => Ok(Constant::Terms(terms)),
             _ => Err(begin.invalid("a constant expression doesn't give one value")),
         }
@@ -398,7 +397,7 @@ impl Module {
                 (ty, Term::Operator(opcode))
             }
             0xd0 => (reader.ref_type()?.into(), Term::Value(RawRef::null().into())),
-            0xd2 => (ValType::FuncRef, Term::Value(reference(self.known_function(reader)?).into())),
+            0xd2 => (ValType::FuncRef, Term::Function(self.known_function(reader)?)),
             0xfd if reader.u32()? == 12 => (ValType::V128, Term::Value(reader.v128()?.into())),
             _ => return Err(at.invalid("a constant expression has another instruction")),
         })

@@ -1,17 +1,36 @@
-//! What instances share: fuel, a limiter, the stack, and where the host prints. WebAssembly core specification, 4.2.
+//! Stores: fuel, caps, data of the host, and all instances that may import from each other. WebAssembly core
+//! specification, 4.2.
 
-use crate::library::{Fuel, LimiterError, RawVal, ResourceLimiter, ResourceLimiterRef, TrapCode};
+use crate::arena::Arena;
+use crate::call::Callee;
+use crate::context::{StoreContext, StoreContextMut};
+use crate::engine::Engine;
+use crate::error::Error;
+use crate::handle::{Dropped, Kept, Owner};
+use crate::library::{
+    ElementSegment, Fuel, FuelCostsProvider, Global, LimiterError, Memory, ResourceLimiter, ResourceLimiterRef, Table,
+    TrapCode,
+};
 use crate::limits;
-use crate::translate::Function;
-use std::io::Write;
+use crate::module::Module;
+use crate::references::References;
+use crate::stack::Stack;
+use std::sync::{Arc, Weak};
 
-/// Two caps, on the bytes of all memories and on the elements of all tables: what is left of each.
+/// Two caps, on the bytes of all memories and on the elements of all tables of a store: what is left of each.
 #[derive(Clone, Copy, Debug, PartialEq, Eq)]
 pub struct Caps {
     /// How many bytes memories may still take.
     pub bytes: usize,
     /// How many elements tables may still take.
     pub elements: usize,
+}
+
+impl Default for Caps {
+    /// 1 GiB, and 10,000,000 elements.
+    fn default() -> Self {
+        Self { bytes: 1 << 30, elements: 10_000_000 }
+    }
 }
 
 impl Caps {
@@ -38,46 +57,189 @@ impl ResourceLimiter for Caps {
     fn memories(&self) -> usize { limits::MEMORIES }
 }
 
-/// Where a call goes on: a function, the number of its next instruction, and the first of the values of its frame.
-#[derive(Clone, Copy)]
-pub(crate) struct Frame {
-    pub function: usize,
-    pub next: usize,
-    pub base: usize,
+/// What a tenant has: fuel, caps, its instances with their memories and tables, and data of the host.
+///
+/// What one instance imports from another one, or is given of it, is of one store. The handles of a store's items
+/// ([`Instance`](crate::Instance), [`Memory`](crate::Memory), [`Func`](crate::Func) ..) go with that store, and their
+/// methods panic with another one. A thread has a store of its own; stores may share an [`Engine`].
+pub struct Store<T> {
+    pub(crate) inner: Inner,
+    /// What each instance imports as functions.
+    pub(crate) callees: Vec<Arc<[Callee<T>]>>,
+    pub(crate) data: T,
 }
 
-/// How many slots an instruction can name.
-pub(crate) const SLOTS: usize = 1 << 16;
-
-/// What instances share. A thread has a store of its own.
-pub struct Store {
-    /// The fuel that is left.
+/// What of a store doesn't depend on the type of the host's data.
+pub(crate) struct Inner {
+    pub engine: Engine,
     pub fuel: Fuel,
-    /// What memories and tables may still take.
     pub caps: Caps,
-    /// Where the functions of the host print.
-    pub output: Box<dyn Write + Send>,
-    pub(crate) values: Vec<RawVal>,
-    pub(crate) frames: Vec<Frame>,
+    pub instances: Arena<Entity>,
+    pub items: Items,
+    pub references: References,
+    /// The stack, while a call runs.
+    pub stack: Option<Box<Stack>>,
+    /// The first value above those of the open calls.
+    pub top: usize,
+    /// How many calls of the host are open, each in a function of the host that the one before has called.
+    pub nested: usize,
+    pub dropped: Arc<Dropped>,
+    /// The instances that are needed as long as the store is.
+    pub pinned: Vec<Arc<Owner>>,
 }
 
-impl Store {
-    /// A store that prints to the standard output.
-    pub fn new(fuel: Fuel, caps: Caps) -> Store {
-        let values = vec![RawVal::default(); limits::VALUES + SLOTS];
-        Store { fuel, caps, output: Box::new(std::io::stdout()), values, frames: vec![] }
+/// The memories, tables and globals of a store.
+#[derive(Default)]
+pub(crate) struct Items {
+    pub memories: Arena<Memory>,
+    pub tables: Arena<Table>,
+    pub globals: Arena<Global>,
+}
+
+/// An instance: its module, and the numbers of its items in the store, those that are imported first.
+pub(crate) struct Entity {
+    pub module: Arc<Module>,
+    pub memories: Vec<u32>,
+    pub tables: Vec<u32>,
+    pub globals: Vec<u32>,
+    pub elements: Vec<ElementSegment>,
+    pub is_dropped: Vec<bool>,
+    /// The reference of its first function.
+    pub first: u32,
+    pub owner: Weak<Owner>,
+    /// What it imports from.
+    pub providers: Vec<Arc<Owner>>,
+}
+
+impl<T> Store<T> {
+    /// A store with data of the host. It has no fuel yet, and the caps of [`Caps::default`].
+    pub fn new(engine: &Engine, data: T) -> Store<T> {
+        let inner = Inner {
+            engine: engine.clone(),
+            fuel: Fuel::new(engine.is_metered(), FuelCostsProvider::default()),
+            caps: Caps::default(),
+            instances: Arena::default(),
+            items: Items::default(),
+            references: References::default(),
+            stack: None,
+            top: 0,
+            nested: 0,
+            dropped: Arc::default(),
+            pinned: vec![],
+        };
+        Store { inner, callees: vec![], data }
+    }
+
+    /// The engine.
+    pub fn engine(&self) -> &Engine {
+        &self.inner.engine
+    }
+
+    /// The data of the host.
+    pub fn data(&self) -> &T {
+        &self.data
+    }
+
+    /// The data of the host, to be changed.
+    pub fn data_mut(&mut self) -> &mut T {
+        &mut self.data
+    }
+
+    /// The data of the host. All instances are dropped.
+    pub fn into_data(self) -> T {
+        self.data
+    }
+
+    /// The fuel that is left. An engine that doesn't [consume fuel](crate::Config::consume_fuel) has none.
+    pub fn get_fuel(&self) -> Result<u64, Error> {
+        StoreContext::from(self).get_fuel()
+    }
+
+    /// Sets the fuel that is left.
+    pub fn set_fuel(&mut self, fuel: u64) -> Result<(), Error> {
+        StoreContextMut::from(self).set_fuel(fuel)
+    }
+
+    /// What memories and tables may still take.
+    pub fn caps(&mut self) -> Caps {
+        self.collect();
+        self.inner.caps
+    }
+
+    /// Sets what memories and tables may take from now on.
+    pub fn set_caps(&mut self, caps: Caps) {
+        self.collect();
+        self.inner.caps = caps;
+    }
+
+    /// Frees what nobody needs any more, and gives back what it took of the caps.
+    pub(crate) fn collect(&mut self) {
+        while let Some(kept) = self.inner.dropped.next() {
+            match kept {
+                Kept::Instance(number) => self.release(number),
+                _ => self.inner.free(kept),
+            }
+        }
+    }
+
+    fn release(&mut self, number: u32) {
+        let Some(entity) = self.inner.instances.remove(number) else { return };
+        let Entity { module, memories, tables, globals, first, providers, .. } = entity;
+        let imported = module.imported;
+        memories[imported.memories.min(memories.len())..].iter().for_each(|it| self.inner.free(Kept::Memory(*it)));
+        tables[imported.tables.min(tables.len())..].iter().for_each(|it| self.inner.free(Kept::Table(*it)));
+        globals[imported.globals.min(globals.len())..].iter().for_each(|it| self.inner.free(Kept::Global(*it)));
+        self.inner.references.give_back(first, module.functions.len());
+        self.callees[number as usize] = Arc::default();
+        drop(providers);
     }
 }
 
-/// Makes the frame of a function whose parameters lie there already.
-#[inline(always)]
-pub(crate) fn enter(values: &mut [RawVal], function: &Function, base: usize) -> Result<(), TrapCode> {
-    if base + function.slots > limits::VALUES {
-        return Err(TrapCode::StackOverflow);
+impl Inner {
+    fn free(&mut self, kept: Kept) {
+        match kept {
+            Kept::Memory(number) => {
+                let memory = self.items.memories.remove(number);
+                self.caps.bytes += memory.map_or(0, |it| it.data_size());
+            }
+            Kept::Table(number) => {
+                let table = self.items.tables.remove(number);
+                self.caps.elements += table.map_or(0, |it| it.size() as usize);
+            }
+            Kept::Global(number) => drop(self.items.globals.remove(number)),
+            Kept::Instance(_) => {}
+        }
     }
-    let begun = base + function.params;
-    values[begun..begun + function.zeros].fill(RawVal::default());
-    let begun = begun + function.zeros;
-    values[begun..begun + function.constants.len()].copy_from_slice(&function.constants);
-    Ok(())
+
+    /// An owner of what has been made.
+    pub fn owner(&self, kept: Kept) -> Arc<Owner> {
+        Arc::new(Owner { store: self.dropped.clone(), kept })
+    }
+
+    /// Checks that a handle is one of this store.
+    pub fn check(&self, owner: &Owner) {
+        assert!(Arc::ptr_eq(&owner.store, &self.dropped), "a handle is used with another store than its own");
+    }
+
+    /// The instance of a handle.
+    pub fn instance(&self, owner: &Owner) -> (u32, &Entity) {
+        self.check(owner);
+        match owner.kept {
+            Kept::Instance(number) => (number, &self.instances[number]),
+            kept => unreachable!("{kept:?} has no functions"),
+        }
+    }
+
+    /// Keeps an instance as long as the store: functions of it may be in tables, globals and values of others.
+    pub fn pin(&mut self, owner: &Arc<Owner>) {
+        if !self.pinned.iter().any(|it| Arc::ptr_eq(it, owner)) {
+            self.pinned.push(owner.clone());
+        }
+    }
+
+    /// Takes fuel for copying so many bytes, as a bulk instruction does.
+    pub fn charge(&mut self, bytes: u64) -> Result<(), TrapCode> {
+        let price = |costs: &FuelCostsProvider| costs.fuel_for_copying_values::<u8>(bytes);
+        self.fuel.consume_fuel_if(price).map(drop).map_err(|_| TrapCode::OutOfFuel)
+    }
 }

@@ -13,7 +13,7 @@ use crate::instructions::{self, Code, Form, Op};
 use crate::library::simd::ImmLaneIdx32;
 use crate::library::{self, FuelCostsProvider, FuncType, RawRef, RawVal, ValType, ValType::*};
 use crate::limits;
-use crate::module::{self, Module};
+use crate::module::Module;
 use crate::reader::{Read, Reader, Refusal, RefusalKind, ensure};
 use std::collections::HashMap;
 
@@ -48,6 +48,8 @@ const CONSTANTS: u16 = 0x8000;
 enum Place {
     Local(u16),
     Constant(u16),
+    /// In its own slot, but it is still to be paid for as a copied constant is.
+    Reference,
     Own,
 }
 
@@ -193,6 +195,14 @@ impl<'m> Translator<'m, '_> {
 
     /// An instruction that costs so many units of fuel.
     fn emit_for(&mut self, op: Op, units: u32) {
+        if !self.block().is_dead {
+            self.pay(units);
+            self.code.push(op);
+        }
+    }
+
+    /// So many units of fuel for what comes next.
+    fn pay(&mut self, units: u32) {
         if self.block().is_dead {
             return;
         }
@@ -202,7 +212,6 @@ impl<'m> Translator<'m, '_> {
         });
         self.code[fuel].imm += units;
         self.last = None;
-        self.code.push(op);
     }
 
     /// The place of the next instruction, to which something may jump.
@@ -217,7 +226,7 @@ impl<'m> Translator<'m, '_> {
         match operand.place {
             Place::Local(local) => local,
             Place::Constant(constant) => CONSTANTS + constant,
-            Place::Own => self.own(height),
+            Place::Reference | Place::Own => self.own(height),
         }
     }
 
@@ -337,11 +346,13 @@ impl<'m> Translator<'m, '_> {
     /// Copies an operand to its own slot.
     fn settle(&mut self, height: usize) {
         let operand = self.stack[height];
-        if operand.place != Place::Own {
-            self.emit(Op { d: self.own(height), a: self.slot(operand, height), ..Op::new(Code::copy) });
-            self.forget(operand.place);
-            self.stack[height].place = Place::Own;
+        match operand.place {
+            Place::Own => {}
+            Place::Reference => self.pay(1),
+            _ => self.emit(Op { d: self.own(height), a: self.slot(operand, height), ..Op::new(Code::copy) }),
         }
+        self.forget(operand.place);
+        self.stack[height].place = Place::Own;
     }
 
     /// Copies the last operands to their own slots.
@@ -415,6 +426,9 @@ impl<'m> Translator<'m, '_> {
             return self.emit_for(Op { a, ..Op::of(Code::ret, count as u32) }, 1 + price(count));
         }
         let d = self.own(self.blocks[index].height);
+        if count == 1 && a == d && self.stack[top].place == Place::Reference {
+            self.pay(1);
+        }
         match count {
             _ if count == 0 || a == d => {}
             1 => self.emit(Op { d, a, ..Op::new(Code::copy) }),
@@ -706,7 +720,11 @@ impl<'m> Translator<'m, '_> {
         let is_declared =
             self.module.is_declared.get(function as usize).ok_or(self.invalid("a function is unknown"))?;
         ensure(*is_declared, self.invalid("a reference is to a function that isn't declared"))?;
-        self.constant(FuncRef, u32::from(module::reference(function)))
+        // A reference depends on the instance, but is paid for as a constant.
+        self.constant_slot((function + 1).into())?;
+        let d = self.push_at(Some(FuncRef), Place::Reference)?;
+        self.emit_for(Op { d, ..Op::of(Code::ref_func, function) }, 0);
+        Ok(())
     }
 
     /// A table, with the types of its indices and of its elements.

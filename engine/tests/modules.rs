@@ -1,9 +1,9 @@
 //! Modules that are refused, and where; what instances share; memories beyond the first one and beyond 32 bits; fuel that
 //! can't be cheated, and stacks that end.
 
-use engine::library::{Fuel, FuelCostsProvider, TrapCode, TypedRawVal};
-use engine::{Caps, Failure, Instance, Module, Refusal, RefusalKind, Store};
-use std::sync::Arc;
+use engine::library::TrapCode;
+use engine::{Caps, Config, Engine, Error, Instance, Linker, Module, Refusal, RefusalKind, Store, Val};
+use std::sync::LazyLock;
 use std::thread;
 
 // ---- modules are written, and stores made for them
@@ -75,38 +75,46 @@ impl Wasm {
         bytes
     }
 
-    fn module(&self) -> Result<Arc<Module>, Refusal> {
-        Module::new(&self.bytes()).map(Arc::new)
+    fn module(&self) -> Result<Module, Refusal> {
+        Module::new(&ENGINE, &self.bytes())
     }
 }
 
-/// A store with so much fuel, whose host prints nowhere.
-fn store(fuel: u64) -> Store {
+static ENGINE: LazyLock<Engine> = LazyLock::new(|| Engine::new(Config::default().consume_fuel(true)));
+
+/// A store with so much fuel.
+fn store(fuel: u64) -> Store<()> {
     store_with(fuel, Caps { bytes: 1 << 30, elements: 1 << 20 })
 }
 
-fn store_with(fuel: u64, caps: Caps) -> Store {
-    let mut meter = Fuel::new(true, FuelCostsProvider::default());
-    meter.set_fuel(fuel).unwrap();
-    let mut store = Store::new(meter, caps);
-    store.output = Box::new(std::io::sink());
+fn store_with(fuel: u64, caps: Caps) -> Store<()> {
+    let mut store = Store::new(&ENGINE, ());
+    store.set_fuel(fuel).unwrap();
+    store.set_caps(caps);
     store
 }
 
-/// What a call of `f` gives: its first result, or why it stops.
-fn called(wasm: &Wasm, store: &mut Store, args: &[TypedRawVal]) -> Result<i64, String> {
-    let module = wasm.module().map_err(|it| it.to_string())?;
-    let mut instance = Instance::new(&module, store).map_err(|it| it.to_string())?;
-    call(&mut instance, store, "f", args)
+/// An instance whose host has a function `print` that does nothing.
+fn instance(module: &Module, store: &mut Store<()>) -> Result<Instance, Error> {
+    let mut linker = Linker::new(&ENGINE);
+    linker.func_wrap("host", "print", || ())?;
+    linker.instantiate(store, module)
 }
 
-fn call(instance: &mut Instance, store: &mut Store, name: &str, args: &[TypedRawVal]) -> Result<i64, String> {
-    match instance.call(store, name, args) {
+/// What a call of `f` gives: its first result, or why it stops.
+fn called(wasm: &Wasm, store: &mut Store<()>, args: &[Val]) -> Result<i64, String> {
+    let module = wasm.module().map_err(|it| it.to_string())?;
+    let instance = instance(&module, store).map_err(|it| it.to_string())?;
+    call(&instance, store, "f", args)
+}
+
+fn call(instance: &Instance, store: &mut Store<()>, name: &str, args: &[Val]) -> Result<i64, String> {
+    match instance.get_func(&*store, name).unwrap().call(store, args) {
         Ok(results) => Ok(results.first().map_or(0, |it| match it.ty() {
             engine::library::ValType::I32 => i32::from(*it).into(),
             _ => i64::from(*it),
         })),
-        Err(Failure::Trapped(trap)) => Err(trap.to_string()),
+        Err(Error::Trap(trap)) => Err(trap.to_string()),
         Err(it) => panic!("{it}"),
     }
 }
@@ -114,7 +122,7 @@ fn call(instance: &mut Instance, store: &mut Store, name: &str, args: &[TypedRaw
 // ---- modules and instances
 
 fn refused(bytes: &[u8]) -> (RefusalKind, usize) {
-    Module::new(bytes).map(drop).map_err(|it| (it.kind, it.offset)).unwrap_err()
+    Module::new(&ENGINE, bytes).map(drop).map_err(|it| (it.kind, it.offset)).unwrap_err()
 }
 
 #[test]
@@ -123,7 +131,7 @@ fn what_is_no_module() {
     assert_eq!(refused(b"\x7fELF"), (RefusalKind::Malformed, 0));
     assert_eq!(refused(b"\0asm\x02\0\0\0"), (RefusalKind::Malformed, 4));
     assert_eq!(refused(b"\0asm\x01\0\0\0\x01\x05"), (RefusalKind::Malformed, 10));
-    assert!(Module::new(b"\0asm\x01\0\0\0").is_ok());
+    assert!(Module::new(&ENGINE, b"\0asm\x01\0\0\0").is_ok());
 }
 
 #[test]
@@ -135,11 +143,11 @@ fn floats_are_refused_with_their_place() {
     assert_eq!(refused(&bytes), (RefusalKind::Unsupported, place));
     assert_eq!(refused(&Wasm::default().function(&[0x7d], &[], &[], &[]).bytes()), (RefusalKind::Unsupported, 13));
 
-    let module = Module::new_lenient(&bytes).unwrap().into();
+    let module = Module::new_lenient(&ENGINE, &bytes).unwrap();
     let mut store = store(1000);
-    let mut instance = Instance::new(&module, &mut store).unwrap();
-    assert_eq!(call(&mut instance, &mut store, "f", &[]), Err("a function with floats was called".into()));
-    assert_eq!(call(&mut instance, &mut store, "g", &[]), Ok(7));
+    let instance = instance(&module, &mut store).unwrap();
+    assert_eq!(call(&instance, &mut store, "f", &[]), Err("a function with floats was called".into()));
+    assert_eq!(call(&instance, &mut store, "g", &[]), Ok(7));
 }
 
 #[test]
@@ -199,16 +207,16 @@ fn ten_thousand_instances_under_one_limiter() {
     let caps = Caps { bytes: 3 << 16, elements: 30 };
     let mut store = store_with(u64::MAX, caps);
     for _ in 0..10_000 {
-        let mut instance = Instance::new(&module, &mut store).unwrap();
-        assert_eq!(call(&mut instance, &mut store, "f", &[]), Ok(1));
-        instance.release(&mut store);
-        assert_eq!(store.caps, caps);
+        let instance = instance(&module, &mut store).unwrap();
+        assert_eq!(call(&instance, &mut store, "f", &[]), Ok(1));
+        drop(instance);
+        assert_eq!(store.caps(), caps);
     }
-    let kept: Vec<_> = (0..3).map(|_| Instance::new(&module, &mut store).unwrap()).collect();
-    let refused = Instance::new(&module, &mut store).map(drop).unwrap_err().to_string();
+    let kept: Vec<_> = (0..3).map(|_| instance(&module, &mut store).unwrap()).collect();
+    let refused = instance(&module, &mut store).map(drop).unwrap_err().to_string();
     assert_eq!(refused, TrapCode::GrowthOperationLimited.to_string());
-    kept.into_iter().for_each(|it| it.release(&mut store));
-    assert_eq!(store.caps, caps);
+    drop(kept);
+    assert_eq!(store.caps(), caps);
 }
 
 #[test]
@@ -222,8 +230,8 @@ fn four_threads() {
                 let module = &module;
                 scope.spawn(move || {
                     let mut store = store(u64::MAX);
-                    let mut instance = Instance::new(module, &mut store).unwrap();
-                    call(&mut instance, &mut store, "f", &[(thread * 10_000).into()])
+                    let instance = instance(module, &mut store).unwrap();
+                    call(&instance, &mut store, "f", &[(thread * 10_000).into()])
                 })
             })
             .collect();
@@ -238,12 +246,12 @@ fn four_threads() {
 fn a_failed_instance_gives_back_what_it_took() {
     let start = Wasm::default().function(&[], &[], &[], &[0x41, 1, 0x40, 0, 0x1a, 0x00]).memory(&[0, 1]).item(8, [0]);
     let mut store = store(1_000_000);
-    let caps = store.caps;
+    let caps = store.caps();
     assert_eq!(called(&start, &mut store, &[]), Err(TrapCode::UnreachableCodeReached.to_string()));
-    assert_eq!(store.caps, caps);
+    assert_eq!(store.caps(), caps);
     let data = Wasm::default().memory(&[0, 1]).item(11, [&[0, 0x41, 0xff, 0xff, 3, 0x0b][..], &[2, 1, 2]].concat());
     assert_eq!(called(&data, &mut store, &[]), Err(TrapCode::MemoryOutOfBounds.to_string()));
-    assert_eq!(store.caps, caps);
+    assert_eq!(store.caps(), caps);
 }
 
 #[test]
@@ -344,7 +352,7 @@ fn the_locals_of_a_call_are_paid_for() {
     let used = |locals| {
         let mut store = store(SOME);
         called(&Wasm::default().function(&[], &[], &[(locals, I64)], &[]), &mut store, &[]).unwrap();
-        SOME - store.fuel.get_fuel().unwrap()
+        SOME - store.get_fuel().unwrap()
     };
     assert_eq!(used(0), 2);
     assert_eq!(used(16_000), 2 + 16_000 * 16 / 64);
@@ -356,7 +364,7 @@ fn a_block_is_paid_for_once() {
     let sum = Wasm::default().function(&[I32], &[I32], &[], &[0x20, 0, 0x41, 1, 0x6a]);
     let mut store = store(SOME);
     assert_eq!(called(&sum, &mut store, &[41.into()]), Ok(42));
-    assert_eq!(SOME - store.fuel.get_fuel().unwrap(), 3);
+    assert_eq!(SOME - store.get_fuel().unwrap(), 3);
 }
 
 /// A loop without an end around some code.
@@ -394,7 +402,7 @@ fn what_a_bulk_instruction_costs() {
         let code = [&[0x41, 0, 0x41, 7, 0x41][..], &[len | 0x80, 1], &[0xfc, 11, 0]].concat();
         let mut store = store(SOME);
         called(&Wasm::default().function(&[], &[], &[], &code).memory(&[0, 1]), &mut store, &[]).unwrap();
-        SOME - store.fuel.get_fuel().unwrap()
+        SOME - store.get_fuel().unwrap()
     };
     // 128 and 192 bytes, of which 64 cost one unit.
     assert_eq!(used(64) - used(0), 1);

@@ -1,0 +1,167 @@
+//! Calls: from the host to a guest, from a guest to the host, and from one instance to another. WebAssembly core
+//! specification, 4.4.10 (function calls).
+
+use crate::error::{Error, Unsupported};
+use crate::execute::{self, Exit};
+use crate::handle::Owner;
+use crate::library::{RawVal, TrapCode};
+use crate::limits;
+use crate::stack::{self, Activation, Frame, Stack};
+use crate::store::{Inner, Store};
+use std::sync::Arc;
+
+/// A function of the host: it is given the instance that calls, reads its arguments from the values that begin at this
+/// number, and writes its results there.
+pub(crate) type HostFn<T> = dyn Fn(&mut Store<T>, u32, usize) -> Result<(), Error> + Send + Sync;
+
+/// What an instance imports as a function.
+pub(crate) enum Callee<T> {
+    /// With the number of values that arguments and results take.
+    Host {
+        call: Arc<HostFn<T>>,
+        slots: usize,
+    },
+    Guest {
+        instance: u32,
+        function: u32,
+    },
+}
+
+impl<T> Clone for Callee<T> {
+    fn clone(&self) -> Self {
+        match self {
+            Self::Host { call, slots } => Self::Host { call: call.clone(), slots: *slots },
+            Self::Guest { instance, function } => Self::Guest { instance: *instance, function: *function },
+        }
+    }
+}
+
+impl<T> Store<T> {
+    /// Calls a function of an instance. Its arguments are written, and its results read, at the beginning of the values
+    /// that are lent.
+    pub(crate) fn call<R>(
+        &mut self,
+        owner: &Owner,
+        function: u32,
+        write: impl FnOnce(&mut [RawVal]),
+        read: impl FnOnce(&[RawVal]) -> R,
+    ) -> Result<R, Error> {
+        let (instance, _) = self.inner.instance(owner);
+        self.collect();
+        let base = self.inner.begin()?;
+        let floor = self.inner.stack().frames.len();
+        write(&mut self.inner.stack_mut().values[base..]);
+        let ended = self.run(instance, function, base);
+        let results = ended.map(|()| read(&self.inner.stack().values[base..]));
+        self.inner.end(base, floor);
+        results
+    }
+
+    /// Runs a function whose frame begins at this value, with its parameters.
+    fn run(&mut self, instance: u32, function: u32, base: usize) -> Result<(), Error> {
+        let mut callees = self.callees[instance as usize].clone();
+        let mut at = self.inner.enter(instance, function, base)?;
+        let mut away = vec![];
+        loop {
+            let found;
+            let (callee, base) = match execute::execute(&mut self.inner, &mut at)? {
+                Exit::Done => {
+                    let Some(before) = away.pop() else { return Ok(()) };
+                    at = before;
+                    callees = self.callees[at.instance as usize].clone();
+                    continue;
+                }
+                Exit::Host(limits::NO_HOST) => return Err(Unsupported.into()),
+                Exit::Host(number) => (&callees[number as usize], at.frame.base),
+                Exit::Foreign { reference, ty, base } => {
+                    found = self.foreign(at.instance, reference, ty)?;
+                    (&found, base)
+                }
+            };
+            match callee {
+                Callee::Host { call, slots } => {
+                    self.inner.top = base + slots;
+                    call(self, at.instance, base)?;
+                }
+                Callee::Guest { instance, function } => {
+                    let (instance, function) = (*instance, *function);
+                    away.push(at);
+                    at = self.inner.enter(instance, function, base)?;
+                    callees = self.callees[instance as usize].clone();
+                }
+            }
+        }
+    }
+
+    /// What a reference to a function of another instance leads to. Its type has to be one of the caller's.
+    fn foreign(&self, caller: u32, reference: u32, ty: u32) -> Result<Callee<T>, TrapCode> {
+        let inner = &self.inner;
+        let (instance, function) = inner.references.find(reference).ok_or(TrapCode::IndirectCallToNull)?;
+        let module = &inner.instances[instance].module;
+        if function as usize >= module.functions.len() {
+            return Err(TrapCode::IndirectCallToNull);
+        }
+        if *module.type_of(function) != inner.instances[caller].module.types[ty as usize] {
+            return Err(TrapCode::BadSignature);
+        }
+        Ok(self.callee(instance, function))
+    }
+
+    /// A function of an instance, or what the instance imports as that function.
+    pub(crate) fn callee(&self, instance: u32, function: u32) -> Callee<T> {
+        match self.callees[instance as usize].get(function as usize) {
+            Some(imported) => imported.clone(),
+            None => Callee::Guest { instance, function },
+        }
+    }
+}
+
+impl Inner {
+    /// The first value for a call from the host.
+    fn begin(&mut self) -> Result<usize, TrapCode> {
+        if self.nested == limits::NESTED {
+            return Err(TrapCode::StackOverflow);
+        }
+        self.nested += 1;
+        let engine = &self.engine;
+        self.stack.get_or_insert_with(|| engine.stack());
+        Ok(self.top)
+    }
+
+    /// Ends a call from the host.
+    fn end(&mut self, base: usize, floor: usize) {
+        self.stack_mut().frames.truncate(floor);
+        (self.nested, self.top) = (self.nested - 1, base);
+        if self.nested == 0 {
+            self.stack.take().into_iter().for_each(|stack| self.engine.keep(stack));
+        }
+    }
+
+    /// Makes the frame of a function.
+    fn enter(&mut self, instance: u32, function: u32, base: usize) -> Result<Activation, TrapCode> {
+        let Self { instances, stack, .. } = self;
+        let Stack { values, frames } = &mut **stack.as_mut().expect(RUNS);
+        if frames.len() >= limits::CALLS {
+            return Err(TrapCode::StackOverflow);
+        }
+        let function = function as usize;
+        stack::enter(values, &instances[instance].module.code[function], base)?;
+        Ok(Activation { instance, floor: frames.len(), frame: Frame { function, next: 0, base } })
+    }
+
+    /// The values from a place on, of a call that runs.
+    pub fn values(&mut self, base: usize) -> &mut [RawVal] {
+        &mut self.stack_mut().values[base..]
+    }
+
+    fn stack(&self) -> &Stack {
+        self.stack.as_ref().expect(RUNS)
+    }
+
+    fn stack_mut(&mut self) -> &mut Stack {
+        self.stack.as_mut().expect(RUNS)
+    }
+}
+
+/// Why there is a stack.
+const RUNS: &str = "a call runs on a stack";

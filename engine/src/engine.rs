@@ -1,0 +1,62 @@
+//! What tenants share: how modules are translated, and the stacks that calls run on.
+
+use crate::limits;
+use crate::stack::Stack;
+use std::sync::{Arc, Mutex, PoisonError};
+
+/// How an [`Engine`] translates and runs modules.
+#[derive(Clone, Copy, Debug, Default)]
+pub struct Config {
+    is_metered: bool,
+}
+
+impl Config {
+    /// Whether code takes fuel. If not, which is so at first, a store has no meter.
+    pub fn consume_fuel(&mut self, is_metered: bool) -> &mut Self {
+        self.is_metered = is_metered;
+        self
+    }
+}
+
+/// An engine: modules are made for it, and stores run them. A clone is the same engine.
+#[derive(Clone, Debug, Default)]
+pub struct Engine {
+    shared: Arc<Shared>,
+}
+
+#[derive(Debug, Default)]
+struct Shared {
+    config: Config,
+    /// The stacks that no call runs on.
+    stacks: Mutex<Vec<Box<Stack>>>,
+}
+
+impl Engine {
+    /// An engine with this configuration.
+    pub fn new(config: &Config) -> Self {
+        Self { shared: Arc::new(Shared { config: *config, stacks: Mutex::default() }) }
+    }
+
+    /// Whether its modules take fuel.
+    pub fn is_metered(&self) -> bool {
+        self.shared.config.is_metered
+    }
+
+    pub(crate) fn is_same(&self, other: &Self) -> bool {
+        Arc::ptr_eq(&self.shared, &other.shared)
+    }
+
+    /// A stack that no call runs on.
+    pub(crate) fn stack(&self) -> Box<Stack> {
+        let stack = self.shared.stacks.lock().unwrap_or_else(PoisonError::into_inner).pop();
+        stack.unwrap_or_default()
+    }
+
+    /// Takes a stack back.
+    pub(crate) fn keep(&self, stack: Box<Stack>) {
+        let mut stacks = self.shared.stacks.lock().unwrap_or_else(PoisonError::into_inner);
+        if stacks.len() < limits::STACKS {
+            stacks.push(stack);
+        }
+    }
+}
