@@ -25,11 +25,11 @@ def all_below(crate, named):
     return found
 
 
-def words_for(crate):
-    """Returns rattle's words for a library of this name in the current folder, over the libraries that stand there."""
-    named = crates()
-    library = {it: f"{TOP}/crates/{it}/out/rlib" for it in all_below(crate, named)}
-    words = ["--crate-name", crate, "src/lib.rt", "--extern", f"std={KIT}/rlibs/std.rlib", "-L", f"dependency={KIT}/rlibs"]
+def words_for(crate, library=None):
+    """Returns rattle's words for a crate of this name in the current folder, over the libraries that stand there, or in the folders of `library`."""
+    named, root = crates(), "src/lib.rt" if (TOP / "crates" / crate / "src/lib.rt").exists() else "src/main.rt"
+    library = library or {it: f"{TOP}/crates/{it}/out/rlib" for it in all_below(crate, named)}
+    words = ["--crate-name", crate, root, "--extern", f"std={KIT}/rlibs/std.rlib", "-L", f"dependency={KIT}/rlibs"]
     for it in named[crate]:
         words += ["--extern", f"{it}={library.get(it, f'{KIT}/rlibs')}/{it}.rlib"]
     for folder in library.values():
