@@ -28,7 +28,7 @@ SHAPES = {"UNARY": ("SCALAR_UNARIES",), "BINARY": ("SCALAR_BINARIES",), "LOAD": 
 # The words of clauses that the functions of the library don't have, and where they stand.
 OWN = {
     "Gives": "Rattle.wasmi_c.specs.Instruction", "StoresBytes": "Rattle.wasmi_c.specs.Instruction",
-    "as_raw": "Rattle.wasmi_ops.specs.ScalarOps", "raw_of_vector": "Rattle.wasmi_raw.specs.RawVal",
+    "as_raw": "Rattle.wasmi_ops.specs.LoadStoreOps", "raw_of_vector": "Rattle.wasmi_raw.specs.RawVal",
 }
 
 

@@ -1,4 +1,4 @@
-"""The instructions of crates/wasmi_ops and their numbers. A shape of several lists there has its numbers in rows, which tools/header writes
+"""The instructions of crates/wasmi_ops and crates/wasmi_scalar_ops, and their numbers. A shape of several lists there has its numbers in rows, which tools/header writes
 to crates/wasmi_c/src/instruction/numbers.rt; in a shape of one list the number is the place. What the proofs compare with both is the names
 and the statuses in crates/wasmi_c/specs/ReleasedNumbers.antt."""
 import functools
@@ -9,6 +9,7 @@ import sys
 import textwrap
 
 CRATES = pathlib.Path(__file__).resolve().parent.parent / "crates"
+CRATES_OF_LISTS = ("wasmi_ops", "wasmi_scalar_ops")
 SOURCE = CRATES / "wasmi_c/src/instruction/numbers.rt"
 SPECIFICATION = CRATES / "wasmi_c/specs/ReleasedNumbers.antt"
 ROWS = re.compile(r"^macro_rules! (\w+) \{\n    \(\$make:ident!(.*?)\n\}", re.M | re.S)
@@ -26,9 +27,9 @@ TEXTS = {
     "store_lane": "stores of a lane",
 }
 HEAD = """\
-//! The number of each instruction of a shape that has several lists in `wasmi_ops`: its place among
-//! the rows. `tools/header` writes this file: first the numbers of `include/numbers.tsv`, then what
-//! the lists have besides.
+//! The number of each instruction of a shape that has several lists in `wasmi_ops` and
+//! `wasmi_scalar_ops`: its place among the rows. `tools/header` writes this file: first the numbers
+//! of `include/numbers.tsv`, then what the lists have besides.
 
 """
 SPECIFICATION_HEAD = """\
@@ -41,10 +42,14 @@ use Rattle.wasmi_c.specs.declared.status.TheConstants as status
 """
 
 
+def text_of(crate):
+    return "\n".join(path.read_text() for path in sorted((CRATES / crate / "src").rglob("*.rt")))
+
+
 @functools.cache
 def lists():
-    """Each list of wasmi_ops by its name: the type of its instructions, and its rows in their order, a variant and the name of its function."""
-    text = "\n".join(path.read_text() for path in sorted((CRATES / "wasmi_ops/src").rglob("*.rt")))
+    """Each list by its name: the type of its instructions, and its rows in their order, a variant and the name of its function."""
+    text = "\n".join(map(text_of, CRATES_OF_LISTS))
     rows = {macro: ROW.findall(body) for macro, body in ROWS.findall(text)}
     made = {}
     for name, kind, count, macro in LIST.findall(text):
@@ -68,14 +73,14 @@ def rows_of(shape):
     for part, kind in re.findall(r"^    (\w+)\((\w+)\),$", body, re.M):
         found = [rows for its, rows in lists().values() if its == kind]
         if len(found) != 1:
-            sys.exit(f"{SEVERAL[shape]}::{part} is of {kind}, which {len(found)} lists of wasmi_ops have")
+            sys.exit(f"{SEVERAL[shape]}::{part} is of {kind}, which {len(found)} lists have")
         made |= {function: (part, kind, variant) for variant, function in found[0]}
     return made | {name: (variant, None, None) for name, variant in re.findall(r"^    /// `(\w+)`\n    (\w+),$", body, re.M)}
 
 
 def names_by_number(released):
     """The names of each shape in the order of their numbers: those of the last version, which are by shape in `released`, then the
-    others as their lists have them. Each list of wasmi_ops has to be one of a shape's."""
+    others as their lists have them. Each list has to be one of a shape's."""
     named, kinds = {}, set()
     for shape in TEXTS:
         names = names_of(SINGLE[shape]) if shape in SINGLE else list(rows_of(shape))
@@ -92,13 +97,23 @@ def wrapped(words, indent):
     return textwrap.fill(" ".join(words), 99, initial_indent=" " * indent, subsequent_indent=" " * indent) + "\n"
 
 
+def imports_of(kinds):
+    """The lines of numbers.rt that import types of instructions."""
+    made = ""
+    for crate in CRATES_OF_LISTS:
+        its = sorted(kind for kind in kinds if f"pub enum {kind} {{" in text_of(crate))
+        line = f"use {crate}::{{{', '.join(its)}}};\n"
+        made += line if len(line) <= 101 else f"use {crate}::{{\n{wrapped([f'{kind},' for kind in its], 4)}}};\n"
+    return made
+
+
 def source(named):
     """The text of numbers.rt."""
     uses, kinds, text, macros = ["use crate::instruction::rows::numbered;\n"], set(), "", ""
     for shape, enum in SEVERAL.items():
         rows, name = [rows_of(shape)[function] for function in named[shape]], f"{shape.upper()}_INSTRUCTIONS"
         uses.append(f"use crate::instruction::{shape}::{enum};\n")
-        kinds |= {f"{kind}," for _, kind, _ in rows if kind}
+        kinds |= {kind for _, kind, _ in rows if kind}
         value = f"{shape}_numbers!(numbered! {enum})"
         if any(kind is None for _, kind, _ in rows):
             value = "[\n" + "".join(f"    {enum}::{part}({kind}::{variant}),\n" if kind else f"    {enum}::{part},\n" for part, kind, variant in rows) + "]"
@@ -110,7 +125,7 @@ def source(named):
             macros += f"pub(crate) use {shape}_numbers;\n"
         text += f"\n/// The instructions that `{enum}` has, by number.\npub const {name}: [{enum}; {len(rows)}] = {value};\n"
     macros = "".join(sorted(macros.splitlines(True)))
-    return f"{HEAD}{''.join(sorted(uses))}use wasmi_ops::{{\n{wrapped(sorted(kinds), 4)}}};\n{text}\n{macros}"
+    return f"{HEAD}{''.join(sorted(uses))}{imports_of(kinds)}{text}\n{macros}"
 
 
 def antt_list(entries):

@@ -164,6 +164,7 @@ pub mod laws {
 mod limiter;
 pub mod machine;
 mod memory;
+pub mod ops;
 #[allow(
     unused,
     unknown_lints,
@@ -244,7 +245,7 @@ pub use crate::proved::typed::{
     Global, GlobalError, GlobalType, Mutability, ShiftAmount, Typed, TypedRawRef, TypedRawVal,
 };
 pub use crate::proved::types::{IndexType, RefType, TrapCode, ValType, hint};
-pub use crate::proved::{budget as pool, ops, region};
+pub use crate::proved::{budget as pool, region};
 #[cfg(feature = "std")]
 pub use crate::proved::{grammar, script};
 pub use func_type::{FuncType, FuncTypeError};

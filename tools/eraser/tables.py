@@ -72,11 +72,13 @@ UNTESTED = {
 }
 
 # The module of each crate under `proved` is its name without the prefix, except these.
-MODULES = {"wasmi_core": "machine", "wasmi_simd": "widening", "wasmi_access": "accesses"}
+MODULES = {"wasmi_core": "facade", "wasmi_simd": "widening", "wasmi_access": "accesses"}
 # The crates that have laws alone: pages of the reference.
 CRATES_OF_LAWS = {"wasmi_laws"}
+# The crates that tests alone use: rust/src/machine.rs has what the facade re-exports.
+CRATES_OF_TESTS = {"wasmi_core"}
 # The modules of the Rust crate's root that have another name than under `proved`.
-PUBLIC = {"wasmi_budget": "pool"}
+PUBLIC = {"wasmi_budget": "pool", "wasmi_core": "machine"}
 
 # The errors of a function that has a clause of such a form.
 ERRORS = {

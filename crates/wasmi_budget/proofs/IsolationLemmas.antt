@@ -12,15 +12,15 @@ use Rattle.wasmi_meter.specs.declared.limiter.Kind.TheVariants.{Bytes, Elements}
 use Rattle.wasmi_meter.specs.declared.amounts.Amounts.{Amounts}
 use Rattle.wasmi_meter.specs.Capped.{amount_of, nothing, held_together, Asked}
 use Rattle.wasmi_meter.specs.Limiter.{Question, Answer, Failure, NoticeAnswer, optional_rules}
-use Rattle.wasmi_core.specs.declared.calls.Call.{Call}
-use Rattle.wasmi_core.specs.declared.calls.Reply.{Reply}
-use Rattle.wasmi_core.specs.State.{State}
-use Rattle.wasmi_core.proofs.CarryingLemmas.{Carries, runs_too}
+use Rattle.wasmi_machine.specs.declared.calls.Call.{Call}
+use Rattle.wasmi_machine.specs.declared.calls.Reply.{Reply}
+use Rattle.wasmi_machine.specs.State.{State}
+use Rattle.wasmi_machine.proofs.CarryingLemmas.{Carries, runs_too}
 use Rattle.wasmi_budget.specs.declared.tenant.Tenant.{Tenant}
 use Rattle.wasmi_budget.specs.Pool.{capped_tenant, tenant_rules, without_others, PoolValue, tenant_at, RunsTenantBy, RunsTenant}
 use Rattle.wasmi_budget.specs.Laws.{PoolTurn, Added, Ran, Refused, PoolRun, PermittingRun, own_turns, OthersDontShow, RunsAsAlone, RepliesPermit}
-use Rattle.wasmi_core.specs.Determinism.{permitting, TellsNoDenial}
-use Rattle.wasmi_core.proofs.RevealingLemmas.{permitted_run}
+use Rattle.wasmi_machine.specs.Determinism.{permitting, TellsNoDenial}
+use Rattle.wasmi_machine.proofs.RevealingLemmas.{permitted_run}
 
 -- an answer isn't both yes and no
 no_permission : {answer : Answer} {taken : Bool} → answer ≡ Ok true → answer ≡ Ok taken → taken ≡ false → ⊥

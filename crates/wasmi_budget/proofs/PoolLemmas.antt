@@ -5,11 +5,11 @@ use Rattle.wasmi_meter.specs.declared.limiter.Kind.{Kind}
 use Rattle.wasmi_meter.specs.Capped.{amount_of, amounts_of, IsWithin, Asked, Noticed, held_together}
 use Rattle.wasmi_meter.specs.Limiter.{Question, Answer, Failure, NoticeAnswer, optional_rules}
 use Rattle.wasmi_meter.proofs.CappedLemmas.{KeepsCaps, caps_kept, others_kept, asked_is_within, noticed_is_within}
-use Rattle.wasmi_core.specs.State.{World, Turn, world, State, total, HoldsTotals}
-use Rattle.wasmi_core.specs.Steps.{Run, IsRunOf}
-use Rattle.wasmi_core.specs.Determinism.{IsDeterministic, AcceptsNotices}
-use Rattle.wasmi_core.proofs.DeterminismLemmas.{capped_unique}
-use Rattle.wasmi_core.proofs.HoldingLemmas.{run_keeps, totals_are_held}
+use Rattle.wasmi_machine.specs.State.{World, Turn, world, State, total, HoldsTotals}
+use Rattle.wasmi_machine.specs.Steps.{Run, IsRunOf}
+use Rattle.wasmi_machine.specs.Determinism.{IsDeterministic, AcceptsNotices}
+use Rattle.wasmi_machine.proofs.DeterminismLemmas.{capped_unique}
+use Rattle.wasmi_machine.proofs.HoldingLemmas.{run_keeps, totals_are_held}
 use Rattle.wasmi_budget.specs.declared.tenant.Tenant.{Tenant}
 use Rattle.wasmi_budget.specs.Pool.{capped_tenant, tenant_rules, holdings, PoolValue, total_of, IsWithinCaps, IsKept, HasNothing, tenant_at, AddsTenant, RunsTenant}
 use Rattle.std.proofs.lemmas.List.Sums.{sum_by-remove, sum_by-set, sum_by_push}
@@ -18,8 +18,8 @@ use Rattle.std.specs.Prelude.{slice_get, slice_set, remove}
 use Rattle.wasmi_meter.specs.declared.limiter.Kind.TheVariants.{Bytes, Elements}
 use Rattle.wasmi_meter.specs.declared.amounts.Amounts.{Amounts}
 use Rattle.wasmi_meter.specs.CappedProofs.{asked_reserves, noticed_gives_back}
-use Rattle.wasmi_core.specs.declared.calls.Call.{Call}
-use Rattle.wasmi_core.specs.declared.calls.Reply.{Reply}
+use Rattle.wasmi_machine.specs.declared.calls.Call.{Call}
+use Rattle.wasmi_machine.specs.declared.calls.Reply.{Reply}
 use Rattle.wasmi_budget.specs.Laws.{PoolTurn, Added, Ran, Refused, PoolStep, PoolRun}
 
 -- the caps, and what the others hold, are the same with other holdings

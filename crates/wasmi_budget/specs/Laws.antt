@@ -1,12 +1,12 @@
 -- What holds of all calls on a pool, one after another, and of all runs of a tenant's machine.
 use Rattle.std.specs.Prelude.{◌≡◌, ℕ, List, [], ◌∷◌, nat_eq, if◌then◌else◌, MatchBool, Some, All, slice_get}
-use Rattle.wasmi_core.specs.declared.calls.Call.{Call}
-use Rattle.wasmi_core.specs.declared.calls.Reply.{Reply}
-use Rattle.wasmi_core.specs.State.{State, Turn}
+use Rattle.wasmi_machine.specs.declared.calls.Call.{Call}
+use Rattle.wasmi_machine.specs.declared.calls.Reply.{Reply}
+use Rattle.wasmi_machine.specs.State.{State, Turn}
 use Rattle.wasmi_budget.specs.Pool.{PoolValue, AddsTenant, RunsTenant, tenant_rules, without_others, RunsTenantBy, IsWithinCaps}
 use Rattle.wasmi_meter.specs.Limiter.{optional_rules}
-use Rattle.wasmi_core.specs.Determinism.{permitting, TellsNoDenial}
-use Rattle.wasmi_core.specs.Steps.{Run}
+use Rattle.wasmi_machine.specs.Determinism.{permitting, TellsNoDenial}
+use Rattle.wasmi_machine.specs.Steps.{Run}
 use Rattle.wasmi_budget.specs.declared.tenant.Tenant.{Tenant}
 
 -- one call on a pool: a machine was added, a tenant's machine has run, or the call was refused

@@ -1,5 +1,5 @@
 //! What holds of all pools. These functions do nothing: each states a law as its contract.
-ghost use Rattle.wasmi_core.specs.Determinism.{IsDeterministic, AcceptsNotices};
+ghost use Rattle.wasmi_machine.specs.Determinism.{IsDeterministic, AcceptsNotices};
 ghost use Rattle.wasmi_budget.specs.Laws.{CapsHold, OthersDontShow, RepliesPermit, RunsAsAlone};
 ghost use Rattle.wasmi_budget.specs.Pool.{tenant_rules};
 

@@ -3,14 +3,14 @@ ghost use Rattle.std.specs.Prelude.{◌≡◌, ◌≤◌, ◌↔◌, length, [],
 ghost use Rattle.std.specs.Option.{option_map, option_copied};
 ghost use Rattle.wasmi_meter.specs.declared.limiter.Kind.TheVariants.{Bytes, Elements};
 ghost use Rattle.wasmi_meter.specs.Capped.{amounts_of};
-ghost use Rattle.wasmi_core.specs.State.{total};
+ghost use Rattle.wasmi_machine.specs.State.{total};
 ghost use Rattle.wasmi_budget.specs.Pool.{IsWithinCaps, tenant_at, total_of, AddsTenant, IsAddRefusal, RunsTenant};
 
 use crate::error::{AddError, PoolError};
 use crate::tenant::{CountedMachine, Tenant};
 use std::alloc::Global as Allocator;
 use std::marker::Model;
-use wasmi_core::{Call, Machine, Reply};
+use wasmi_machine::{Call, Machine, Reply};
 use wasmi_meter::Amounts;
 
 /// Machines that share a cap on the bytes of their memories, and one on the elements of their

@@ -3,13 +3,13 @@ ghost use Rattle.std.specs.Prelude.{◌≡◌, ◌<◌, ◌^◌, None, Some, IfO
 ghost use Rattle.wasmi_meter.specs.declared.limiter.Kind.{Kind};
 ghost use Rattle.wasmi_meter.specs.Capped.{amounts_of, held_together};
 ghost use Rattle.wasmi_meter.specs.Limiter.{optional_rules};
-ghost use Rattle.wasmi_core.specs.Steps.{IsRunOf};
-ghost use Rattle.wasmi_core.specs.State.{total, HoldsTotals, world};
+ghost use Rattle.wasmi_machine.specs.Steps.{IsRunOf};
+ghost use Rattle.wasmi_machine.specs.State.{total, HoldsTotals, world};
 ghost use Rattle.wasmi_budget.specs.Pool.{holdings, capped_tenant, tenant_rules};
 
 use std::alloc::AllocError;
 use std::marker::Model;
-use wasmi_core::{Call, Machine, Reply, run_reserving};
+use wasmi_machine::{Call, Machine, Reply, run_reserving};
 use wasmi_meter::{Amounts, CappedLimiter, Holdings, Kind};
 
 /// The limiter of one machine of a pool: it permits what keeps all tenants together within the
@@ -77,7 +77,7 @@ pub(crate) struct CountedMachine<'r> {
 impl<'r> Model for CountedMachine<'r> {
     ghost use Rattle.std.specs.Prelude.{◌≡◌};
     ghost use Rattle.wasmi_meter.specs.Capped.{amounts_of};
-    ghost use Rattle.wasmi_core.specs.State.{State, total};
+    ghost use Rattle.wasmi_machine.specs.State.{State, total};
 
     ghost Value = { State };
 

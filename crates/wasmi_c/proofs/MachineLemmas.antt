@@ -10,19 +10,19 @@ use Rattle.wasmi_meter.specs.Capped.{holdings, quota_rules, IsWithinCaps, SameCa
 use Rattle.wasmi_meter.specs.declared.any_limiter.AnyLimiter.{AnyLimiter}
 use Rattle.wasmi_meter.specs.declared.limiter.Kind.TheVariants.{Bytes, Elements}
 use Rattle.wasmi_meter.specs.declared.quota.Quota.{Quota}
-use Rattle.wasmi_core.specs.Determinism.{RelatesByKind, RunsKeepKind}
-use Rattle.wasmi_core.specs.Laws.{HoldsTotalsAlways, QuotasStayWithin}
-use Rattle.wasmi_core.specs.Steps.{IsRunOf, Run, RepliesWith}
-use Rattle.wasmi_core.specs.State.{State, with_memories, HoldsTotals, total, Turn, world}
-use Rattle.wasmi_core.specs.declared.calls.Call.{Call}
-use Rattle.wasmi_core.specs.declared.calls.Reply.{Reply}
+use Rattle.wasmi_machine.specs.Determinism.{RelatesByKind, RunsKeepKind}
+use Rattle.wasmi_machine.specs.Laws.{HoldsTotalsAlways, QuotasStayWithin}
+use Rattle.wasmi_machine.specs.Steps.{IsRunOf, Run, RepliesWith}
+use Rattle.wasmi_machine.specs.State.{State, with_memories, HoldsTotals, total, Turn, world}
+use Rattle.wasmi_machine.specs.declared.calls.Call.{Call}
+use Rattle.wasmi_machine.specs.declared.calls.Reply.{Reply}
 use Rattle.wasmi_c.specs.Machine.Caps.{IsKept, Keeps, MachineValue}
 use Rattle.wasmi_c.specs.Machine.Calls.{QuotasAreKept, CallsAreRuns}
 use Rattle.wasmi_c.specs.Machine.Calls.{MachineReplies}
 use Rattle.wasmi_c.specs.Machine.NewMachines.{IsAnswer, IsNewWithAnswers, MakesMachine, MakesWithAnswers, answer_of}
 use Rattle.wasmi_c.specs.declared.machine.limits.Limits.{Limits}
-use Rattle.wasmi_core.proofs.MemoryEffectsLemmas.{vector_store_kept}
-use Rattle.wasmi_core.specs.MemoryEffects.{StoresMemoryAt}
+use Rattle.wasmi_machine.proofs.MemoryEffectsLemmas.{vector_store_kept}
+use Rattle.wasmi_machine.specs.MemoryEffects.{StoresMemoryAt}
 use Rattle.wasmi_meter.specs.declared.any_limiter.AnyLimiter.TheVariants as limiter
 
 -- what a limiter holds after a run: what the machine has, within the caps of the one before

@@ -1,9 +1,9 @@
 -- Runs of a tenant's machine.
 use Rattle.std.proofs.Common.{◌≡◌, ◌∷◌, ◌∙◌, [], ℕ, List, ap, inr, subst, sym}
-use Rattle.wasmi_core.specs.Steps.{IsRunOf}
-use Rattle.wasmi_core.specs.State.{World}
-use Rattle.wasmi_core.specs.declared.calls.Call.{Call}
-use Rattle.wasmi_core.specs.declared.calls.Reply.{Reply}
+use Rattle.wasmi_machine.specs.Steps.{IsRunOf}
+use Rattle.wasmi_machine.specs.State.{World}
+use Rattle.wasmi_machine.specs.declared.calls.Call.{Call}
+use Rattle.wasmi_machine.specs.declared.calls.Reply.{Reply}
 use Rattle.wasmi_meter.specs.Limiter.{Rules}
 use Rattle.wasmi_budget.specs.Pool.{PoolValue, RunsTenant}
 use Rattle.wasmi_c.specs.Machine.Replies.{reply_struct}

@@ -16,7 +16,8 @@ use Rattle.wasmi_types.specs.Access.{overwrite}
 use Rattle.wasmi_types.specs.Numbers.{le_bytes}
 use Rattle.wasmi_types.specs.declared.trap.TrapCode.TheVariants.{MemoryOutOfBounds}
 use Rattle.wasmi_access.specs.LoadStore.{accessed}
-use Rattle.wasmi_ops.specs.ScalarOps.{as_raw, loaded_raw, stored_bytes, unary_raw, binary_raw, load_name, store_name, scalar_unary_name, scalar_binary_name}
+use Rattle.wasmi_ops.specs.LoadStoreOps.{as_raw, loaded_raw, stored_bytes, load_name, store_name}
+use Rattle.wasmi_scalar_ops.specs.ScalarOps.{unary_raw, binary_raw, scalar_unary_name, scalar_binary_name}
 use Rattle.wasmi_ops.specs.VectorOps.{loaded_vector, loaded_lane, stored_lane, made_vector, unary_vector, tested_raw, binary_vector, shifted_vector, ternary_vector, vector_load_name, make_name, unary_name, test_name, binary_name, shift_name}
 use Rattle.wasmi_c.specs.declared.instruction.numbers.TheConstants.{LOAD_INSTRUCTIONS, STORE_INSTRUCTIONS, UNARY_INSTRUCTIONS, BINARY_INSTRUCTIONS}
 use Rattle.wasmi_c.specs.declared.instruction.load.Load.{Load}

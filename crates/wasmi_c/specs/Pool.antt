@@ -2,9 +2,9 @@
 use Rattle.std.specs.Prelude.{◌≡◌, ◌⊎◌, ◌≤◌, ◌<◌, ◌∷◌, [], ⊤, ℕ, List, length, slice_get, Option, Some, None, MatchOption, Vec}
 use Rattle.std.specs.Global.{Global}
 use Rattle.wasmi_meter.specs.declared.limiter.Kind.TheVariants.{Bytes, Elements}
-use Rattle.wasmi_core.specs.State.{new_state, total}
-use Rattle.wasmi_core.specs.declared.calls.Call.{Call}
-use Rattle.wasmi_core.specs.declared.calls.Reply.{Reply}
+use Rattle.wasmi_machine.specs.State.{new_state, total}
+use Rattle.wasmi_machine.specs.declared.calls.Call.{Call}
+use Rattle.wasmi_machine.specs.declared.calls.Reply.{Reply}
 use Rattle.wasmi_budget.specs.Pool.{PoolValue, AddsTenant, IsWithinCaps, RunsTenant, total_of}
 use Rattle.wasmi_grammar.specs.Lines.{WritesScript}
 use Rattle.wasmi_grammar.specs.declared.script.Script.{Script}

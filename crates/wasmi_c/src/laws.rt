@@ -13,7 +13,7 @@ ghost use Rattle.wasmi_c.specs.Machine.Calls.{CallsAreRuns, MachineRunsJoin, Quo
 ghost use Rattle.wasmi_c.specs.SharedQuota.{OneQuotaHoldsAll};
 ghost use Rattle.wasmi_c.specs.Placement.{SettlementsAreGrowths, TableSettlementsAreGrowths, SettlementsAreCreations, TableSettlementsAreCreations};
 
-use wasmi_core::laws;
+use wasmi_machine::laws;
 use wasmi_meter::{AnyLimiter, Quota, ResourceLimiter};
 
 /// A quota that holds what its machine has before a run does so after it, and has the same caps. A
@@ -29,7 +29,7 @@ pub fn quotas_are_kept()
 
 /// A call on a machine that is held by a handle is a run of this call alone, and two runs in a row
 /// are one. So calls and lines by a handle, one after the other, are one run of its machine, of
-/// which the laws of `wasmi_core` hold. Fuel that is taken between two calls ends a run.
+/// which the laws of `wasmi_machine` hold. Fuel that is taken between two calls ends a run.
 #[tactic(auto, using(crate::proofs::MachineLemmas::calls_run))]
 pub fn calls_are_runs()
     ensures call { CallsAreRuns }

@@ -1,7 +1,7 @@
 //! A pool of machines under common caps that C holds by a handle, or none. A call takes the pool
 //! out and puts it back. `include/wasmi_machine.h` says which statuses calls return, in which order.
 ghost use Rattle.std.specs.Prelude.{◌≡◌, IfErr, IfOk, Some, None, is_some, MatchOption};
-ghost use Rattle.wasmi_core.specs.declared.calls.Call.TheVariants.{Write};
+ghost use Rattle.wasmi_machine.specs.declared.calls.Call.TheVariants.{Write};
 ghost use Rattle.wasmi_c.specs.Machine.Calls.{ActsOnHeld};
 ghost use Rattle.wasmi_c.specs.Machine.Replies.{only};
 ghost use Rattle.wasmi_c.specs.Pool.{KeepsCaps, MakesPool, TenantRepliesToStruct};
@@ -20,7 +20,7 @@ use std::alloc::Global;
 use std::marker::Model;
 use std::{mem, slice};
 use wasmi_budget::{Pool, PoolError};
-use wasmi_core::{Call, Machine, Reply};
+use wasmi_machine::{Call, Machine, Reply};
 
 /// What a call on the pool of a handle returns; or what is returned where there is none.
 #[macro_export]

@@ -6,7 +6,7 @@ ghost use Rattle.std.specs.Prelude.{◌+◌};
 ghost use Rattle.wasmi_access.specs.LoadStore.{loaded};
 ghost use Rattle.wasmi_c.specs.Instruction.{Gives};
 ghost use Rattle.wasmi_lanes.specs.Vector.{splat_of};
-ghost use Rattle.wasmi_ops.specs.ScalarOps.{as_raw};
+ghost use Rattle.wasmi_ops.specs.LoadStoreOps.{as_raw};
 ghost use Rattle.wasmi_raw.specs.RawVal.{raw_of_vector};
 ghost use Rattle.wasmi_simd.specs.WideningTable as vector;
 ghost use Rattle.wasmi_types.specs.Numbers.{w8, w16, w32, w64};

@@ -16,8 +16,8 @@ pub use Rattle.wasmi_meter.specs.declared.fuel.CustomFuelCosts.{CustomFuelCosts}
 pub use Rattle.wasmi_meter.specs.declared.limiter.Kind.{Kind}
 pub use Rattle.wasmi_meter.specs.declared.quota.Quota.{Quota}
 pub use Rattle.wasmi_store.specs.declared.table.element.SegmentError.{SegmentError}
-pub use Rattle.wasmi_ops.specs.declared.scalar.LoadOp.{LoadOp}
-pub use Rattle.wasmi_ops.specs.declared.scalar.StoreOp.{StoreOp}
+pub use Rattle.wasmi_ops.specs.declared.load_store.LoadOp.{LoadOp}
+pub use Rattle.wasmi_ops.specs.declared.load_store.StoreOp.{StoreOp}
 pub use Rattle.wasmi_ops.specs.declared.vector.BinaryOp.{BinaryOp}
 pub use Rattle.wasmi_ops.specs.declared.vector.UnaryOp.{UnaryOp}
 pub use Rattle.wasmi_ops.specs.declared.vector.TernaryOp.{TernaryOp}
@@ -29,6 +29,6 @@ pub use Rattle.wasmi_ops.specs.declared.vector.ReplaceOp.{ReplaceOp}
 pub use Rattle.wasmi_ops.specs.declared.vector.VectorLoadOp.{VectorLoadOp}
 pub use Rattle.wasmi_ops.specs.declared.vector.LoadLaneOp.{LoadLaneOp}
 pub use Rattle.wasmi_ops.specs.declared.vector.StoreLaneOp.{StoreLaneOp}
-pub use Rattle.wasmi_core.specs.declared.calls.Call.{Call}
-pub use Rattle.wasmi_core.specs.declared.calls.Reply.{Reply}
-pub use Rattle.wasmi_core.specs.declared.slots.Slot.{Slot}
+pub use Rattle.wasmi_machine.specs.declared.calls.Call.{Call}
+pub use Rattle.wasmi_machine.specs.declared.calls.Reply.{Reply}
+pub use Rattle.wasmi_machine.specs.declared.slots.Slot.{Slot}

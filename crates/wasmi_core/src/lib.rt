@@ -1,25 +1,13 @@
-//! Metered WebAssembly memories and tables under a resource limiter, and a machine that runs lists
-//! of calls on them.
+//! Metered WebAssembly memories and tables under a resource limiter, instructions on numbers and
+//! vectors, and a machine that runs lists of calls: the crates of this library under one name.
 #![tactic(auto)]
 
-mod calls;
-pub mod laws;
-mod machine;
-mod memories;
-mod registers;
-mod running;
 pub mod simd;
-mod slots;
-mod store;
-mod tables;
-mod values;
 pub mod wasm;
 
-pub use calls::{ByteList, Call, Reply};
-pub use machine::Machine;
-pub use running::{run, run_lending, run_reserving};
 pub use wasmi_access::{access, laws as access_laws};
 pub use wasmi_lanes::{laws as lane_laws, on_vectors, words};
+pub use wasmi_machine::{ByteList, Call, Machine, Reply, laws, run, run_lending, run_reserving};
 pub use wasmi_meter::{
     Amounts, AnswerList, AnyLimiter, CustomFuelCosts, Fuel, FuelCosts, FuelCostsProvider,
     FuelError, Holdings, Kind, Lender, LimiterAnswer, LimiterByKind, LimiterError, LimiterRef,
@@ -27,13 +15,14 @@ pub use wasmi_meter::{
     ValueSize,
 };
 pub use wasmi_ops::{
-    BinaryOp, ExtractOp, LoadLaneOp, LoadOp, MakeOp, ReplaceOp, ScalarBinaryOp, ScalarUnaryOp,
-    ShiftOp, StoreLaneOp, StoreOp, TernaryOp, TestOp, UnaryOp, VectorLoadOp,
+    BinaryOp, ExtractOp, LoadLaneOp, LoadOp, MakeOp, ReplaceOp, ShiftOp, StoreLaneOp, StoreOp,
+    TernaryOp, TestOp, UnaryOp, VectorLoadOp,
 };
 pub use wasmi_raw::{
     F32, F64, Number, RawRef, RawVal, ReadAs, ReadBack, V128, WriteAs, laws as raw_laws,
 };
 pub use wasmi_scalar::value::{Integer, SignExtendFrom, Unsigned};
+pub use wasmi_scalar_ops::{ScalarBinaryOp, ScalarUnaryOp};
 pub use wasmi_simd::laws as widening_laws;
 pub use wasmi_store::{
     Buffer, ByteBuffer, ElementSegment, ElementSegmentRef, LinearMemory, Memory, MemoryType,

@@ -4,8 +4,7 @@ use Rattle.std.proofs.lemmas.Option.{same_Some}
 use Rattle.wasmi_meter.specs.declared.limiter.Kind.TheVariants.{Bytes, Elements}
 use Rattle.wasmi_meter.specs.Meter.{Meter, amount_left}
 use Rattle.wasmi_meter.specs.Capped.{holdings, IsWithinCaps, SameCaps}
-use Rattle.wasmi_core.specs.declared.calls.Call.{Call}
-use Rattle.wasmi_core.specs.declared.calls.Reply.{Reply}
+use Rattle.wasmi_core.specs.Types.{Call, Reply}
 use Rattle.wasmi_core.specs.State.{State, new_state, world, World, total, HoldsTotals}
 use Rattle.wasmi_core.specs.Laws.{QuotasStayWithin, ChargesAreSpent}
 use Rattle.wasmi_example_callers.specs.Host.{RunsUnderQuota, at_most_rules, Accounts, IsBill}

@@ -15,14 +15,13 @@ use Rattle.wasmi_meter.specs.Meter.{Meter, amount_left, meter_after, ConsumesFue
 use Rattle.wasmi_raw.specs.declared.raw.RawVal.{RawVal}
 use Rattle.wasmi_raw.specs.RawVal.{raw_of, signed_in}
 use Rattle.wasmi_scalar.specs.Numerics.{iadd, imul}
-use Rattle.wasmi_ops.specs.declared.scalar.StoreOp.TheVariants.{Store64}
+use Rattle.wasmi_ops.specs.declared.load_store.StoreOp.TheVariants.{Store64}
 use Rattle.wasmi_ops.specs.declared.vector.VectorLoadOp.TheVariants.{V128Load64Zero}
 use Rattle.wasmi_store.specs.Memory.{MemoryValue, pages_of}
-use Rattle.wasmi_core.specs.declared.calls.Call.{Call}
-use Rattle.wasmi_core.specs.declared.calls.Call.TheVariants.{SetFuel, GrowMemory, SetRegister, VectorLoad}
-use Rattle.wasmi_core.specs.declared.calls.Call.TheVariants as call
-use Rattle.wasmi_core.specs.declared.calls.Reply.{Reply}
-use Rattle.wasmi_core.specs.declared.calls.Reply.TheVariants.{Done, Fuel, Number, Memory}
+use Rattle.wasmi_core.specs.Types.{Call, Reply}
+use Rattle.wasmi_core.specs.Calls.{SetFuel, GrowMemory, SetRegister, VectorLoad}
+use Rattle.wasmi_core.specs.Calls as call
+use Rattle.wasmi_core.specs.Replies.{Done, Fuel, Number, Memory}
 use Rattle.wasmi_core.specs.Account.{SetsNoFuel, charges, has_written, bytes_written, writing_turns, charges_for_writing}
 use Rattle.wasmi_core.specs.State.{State, live_at, World, Turn, world}
 use Rattle.wasmi_core.specs.Steps.{Step, RepliesWith, Run, AreTurns}

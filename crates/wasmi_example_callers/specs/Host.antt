@@ -5,8 +5,7 @@ use Rattle.wasmi_meter.specs.declared.quota.Quota.{Quota}
 use Rattle.wasmi_meter.specs.Limiter.{optional_rules, Rules}
 use Rattle.wasmi_meter.specs.Meter.{Meter, amount_left}
 use Rattle.wasmi_meter.specs.Capped.{cap_of, quota_rules}
-use Rattle.wasmi_core.specs.declared.calls.Call.{Call}
-use Rattle.wasmi_core.specs.declared.calls.Reply.{Reply}
+use Rattle.wasmi_core.specs.Types.{Call, Reply}
 use Rattle.wasmi_core.specs.State.{State, new_state, world, World, Turn}
 use Rattle.wasmi_core.specs.Steps.{IsRunOf, Run}
 use Rattle.wasmi_meter.specs.declared.limiter.Kind.{Kind}

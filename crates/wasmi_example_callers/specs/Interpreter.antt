@@ -10,11 +10,10 @@ use Rattle.wasmi_ops.specs.declared.vector.VectorLoadOp.TheVariants.{V128Load64Z
 use Rattle.wasmi_meter.specs.Limiter.{Rules}
 use Rattle.wasmi_meter.specs.Meter.{Meter, meter_after}
 use Rattle.wasmi_store.specs.Memory.{pages_of}
-use Rattle.wasmi_core.specs.declared.calls.Call.{Call}
-use Rattle.wasmi_core.specs.declared.calls.Call.TheVariants as call
-use Rattle.wasmi_core.specs.declared.calls.Reply.{Reply}
-use Rattle.wasmi_core.specs.declared.calls.Reply.TheVariants.{Done, Number, Memory}
-use Rattle.wasmi_ops.specs.declared.scalar.StoreOp.TheVariants.{Store64}
+use Rattle.wasmi_core.specs.Types.{Call, Reply}
+use Rattle.wasmi_core.specs.Calls as call
+use Rattle.wasmi_core.specs.Replies.{Done, Number, Memory}
+use Rattle.wasmi_ops.specs.declared.load_store.StoreOp.TheVariants.{Store64}
 use Rattle.wasmi_core.specs.State.{State, live_at, World, Turn, world}
 use Rattle.wasmi_core.specs.Steps.{Run, IsRunOf, AreTurns}
 use Rattle.wasmi_core.specs.Account.{IsSpent}

@@ -8,8 +8,8 @@ use Rattle.wasmi_typed.specs.declared.typed_ref.TypedRawRef.{TypedRawRef}
 use Rattle.wasmi_types.specs.declared.value.ValType.{ValType}
 use Rattle.wasmi_typed.specs.declared.global.Mutability.{Mutability}
 use Rattle.wasmi_raw.specs.declared.raw.RawVal.{RawVal}
-use Rattle.wasmi_ops.specs.declared.scalar.LoadOp.{LoadOp}
-use Rattle.wasmi_ops.specs.declared.scalar.StoreOp.{StoreOp}
+use Rattle.wasmi_ops.specs.declared.load_store.LoadOp.{LoadOp}
+use Rattle.wasmi_ops.specs.declared.load_store.StoreOp.{StoreOp}
 use Rattle.wasmi_ops.specs.declared.vector.VectorLoadOp.{VectorLoadOp}
 use Rattle.wasmi_ops.specs.declared.vector.LoadLaneOp.{LoadLaneOp}
 use Rattle.wasmi_ops.specs.declared.vector.StoreLaneOp.{StoreLaneOp}
@@ -19,8 +19,8 @@ use Rattle.wasmi_ops.specs.declared.vector.ShiftOp.{ShiftOp}
 use Rattle.wasmi_ops.specs.declared.vector.TernaryOp.{TernaryOp}
 use Rattle.wasmi_ops.specs.declared.vector.TestOp.{TestOp}
 use Rattle.wasmi_ops.specs.declared.vector.UnaryOp.{UnaryOp}
-use Rattle.wasmi_core.specs.declared.calls.Call.{Call}
-use Rattle.wasmi_core.specs.declared.calls.Call.TheVariants as call
+use Rattle.wasmi_machine.specs.declared.calls.Call.{Call}
+use Rattle.wasmi_machine.specs.declared.calls.Call.TheVariants as call
 use Rattle.wasmi_operands.specs.declared.error.LineError.{LineError}
 use Rattle.wasmi_operands.specs.LineWords.{Accepts, LineWords, WritesNumber, word_at}
 use Rattle.wasmi_operands.specs.Names.{reference_word}

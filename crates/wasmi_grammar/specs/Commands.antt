@@ -7,13 +7,13 @@ use Rattle.wasmi_store.specs.Memory.{MemoryTypeValue, page_log2}
 use Rattle.wasmi_types.specs.declared.value.RefType.{RefType}
 use Rattle.wasmi_store.specs.Table.{TableTypeValue}
 use Rattle.wasmi_raw.specs.RawVal.{raw_of}
-use Rattle.wasmi_ops.specs.ScalarOps.{load_name, store_name}
+use Rattle.wasmi_ops.specs.LoadStoreOps.{load_name, store_name}
 use Rattle.wasmi_ops.specs.VectorOps.{make_name, unary_name, binary_name, ternary_name, shift_name, test_name, vector_load_name}
 use Rattle.wasmi_ops.specs.LaneOps.{extract_name, extract_op, replace_name, replace_op, load_lane_name, load_lane_op, store_lane_name, store_lane_op}
-use Rattle.wasmi_core.specs.declared.calls.Call.{Call}
+use Rattle.wasmi_machine.specs.declared.calls.Call.{Call}
 use Rattle.wasmi_store.specs.Memory as memory_type
 use Rattle.wasmi_store.specs.Table as table_type
-use Rattle.wasmi_core.specs.declared.calls.Call.TheVariants as call
+use Rattle.wasmi_machine.specs.declared.calls.Call.TheVariants as call
 
 -- the limits of a memory or of a table: the type of its indices, its minimum and its maximum, if it has one
 pub record Limits : Type 0 where

@@ -2,7 +2,7 @@
 use Rattle.std.specs.Prelude.{◌≡◌, ◌≤◌, ℕ, Option, List, Some, None, length, codes, replicate}
 use Rattle.std.specs.Option.{option_map, option_map_or}
 use Rattle.wasmi_meter.specs.Meter.{default_costs, Meter}
-use Rattle.wasmi_core.specs.State.{State, new_state}
+use Rattle.wasmi_machine.specs.State.{State, new_state}
 use Rattle.wasmi_grammar.specs.declared.header.Header.{Header}
 use Rattle.wasmi_grammar.specs.declared.header.MeterLine.{MeterLine}
 use Rattle.wasmi_grammar.specs.declared.header.MeterLine.TheVariants.{Off, On}

@@ -2,8 +2,8 @@
 use Rattle.std.specs.Prelude.{◌≡◌, ℕ, List, Option, map}
 use Rattle.std.specs.Option.{option_map}
 use Rattle.wasmi_types.specs.declared.value.RefType.{RefType}
-use Rattle.wasmi_core.specs.declared.calls.Call.{Call}
-use Rattle.wasmi_core.specs.declared.calls.Call.TheVariants.{Write, NewSegment}
+use Rattle.wasmi_machine.specs.declared.calls.Call.{Call}
+use Rattle.wasmi_machine.specs.declared.calls.Call.TheVariants.{Write, NewSegment}
 use Rattle.wasmi_grammar.specs.declared.script.Script.{Script}
 use Rattle.wasmi_grammar.specs.declared.header.MeterLine.{MeterLine}
 use Rattle.wasmi_grammar.specs.declared.header.RegionLine.{RegionLine}

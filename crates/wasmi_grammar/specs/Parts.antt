@@ -1,6 +1,6 @@
 -- The calls of a script by parts.
 use Rattle.std.specs.Prelude.{◌≡◌, ◌≤◌, ◌-◌, ℕ, List, [], ◌∷◌, ◌++◌, take, drop, length, flat_map}
-use Rattle.wasmi_core.specs.declared.calls.Call.{Call}
+use Rattle.wasmi_machine.specs.declared.calls.Call.{Call}
 use Rattle.wasmi_grammar.specs.declared.script.Span.{Span}
 
 -- the calls between two `as` lines, and whose they are

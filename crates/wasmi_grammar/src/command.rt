@@ -6,13 +6,15 @@ ghost use Rattle.wasmi_operands.specs.Names.{WritesLanes};
 ghost use Rattle.wasmi_grammar.specs.Commands.{NamesAfter, IsValueWord, IsMemoryWord, IsAccessWord, IsTableWord, IsVectorWord, NamesType, NamesTableType};
 
 use std::alloc::Global;
-use wasmi_core::simd::ImmLaneIdx32;
-use wasmi_core::{
-    Call, GlobalType, IndexType, MemoryType, RawVal, RefType, TableType, TypedRawRef, TypedRawVal,
-};
+use wasmi_lanes::ImmLaneIdx32;
+use wasmi_machine::Call;
 use wasmi_operands::lane::{extract_op, load_lane_op, replace_op, store_lane_op};
 use wasmi_operands::operand::{self, Operand, list_of};
 use wasmi_operands::{LineError, number};
+use wasmi_raw::RawVal;
+use wasmi_store::{MemoryType, TableType};
+use wasmi_typed::{GlobalType, TypedRawRef, TypedRawVal};
+use wasmi_types::{IndexType, RefType};
 
 /// The call of a kind, each part of which is what an operand writes.
 macro_rules! call {

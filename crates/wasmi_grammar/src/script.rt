@@ -11,7 +11,7 @@ use crate::header::{
 use std::alloc::{AllocError, Global};
 use std::marker::Model;
 use std::str;
-use wasmi_core::Call;
+use wasmi_machine::Call;
 use wasmi_operands::{LineError, operand, read_words};
 
 /// What a script asks for: what its lines say that were taken in.

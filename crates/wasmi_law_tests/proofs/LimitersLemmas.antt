@@ -10,16 +10,16 @@ use Rattle.wasmi_meter.specs.Capped.{IsWithinCaps}
 use Rattle.wasmi_store.specs.Growth.{IsDenied}
 use Rattle.wasmi_store.specs.Memory.{MemoryValue, GrowsMemoryCharging, pages_of, growth_of, page_bytes}
 use Rattle.wasmi_law_tests.specs.Limiters.{event_of, recorder_rules, OneGrows, LeavesTrace}
-use Rattle.wasmi_core.specs.declared.calls.Reply.{Reply}
-use Rattle.wasmi_core.specs.declared.calls.Reply.TheVariants.{Number, Memory}
-use Rattle.wasmi_core.specs.Effects.{ActsAt, reply_of}
-use Rattle.wasmi_core.specs.Laws.{IsRefusal, LentGrowthsSucceed}
-use Rattle.wasmi_core.specs.Steps.{Run, Sequence, MemoryGrown, HasEffect, effect_of, Step}
-use Rattle.wasmi_core.specs.State.{live_at, with_memories, World, Turn, world}
-use Rattle.wasmi_core.proofs.StoreLemmas.{each_turn}
+use Rattle.wasmi_machine.specs.declared.calls.Reply.{Reply}
+use Rattle.wasmi_machine.specs.declared.calls.Reply.TheVariants.{Number, Memory}
+use Rattle.wasmi_machine.specs.Effects.{ActsAt, reply_of}
+use Rattle.wasmi_machine.specs.Laws.{IsRefusal, LentGrowthsSucceed}
+use Rattle.wasmi_machine.specs.Steps.{Run, Sequence, MemoryGrown, HasEffect, effect_of, Step}
+use Rattle.wasmi_machine.specs.State.{live_at, with_memories, World, Turn, world}
+use Rattle.wasmi_machine.proofs.StoreLemmas.{each_turn}
 use Rattle.wasmi_law_tests.specs.Runs.{CanGrowInRegion, IsGrownOrDenied, GrowsInRegion}
 use Rattle.std.proofs.lemmas.Option.{same_Some}
-use Rattle.wasmi_core.specs.Exchange.{Exchange, Nothing, Denial, Permission, Notice, Place, Nowhere, New, At, Passes, GrowsAsAsked, GrowsBy}
+use Rattle.wasmi_machine.specs.Exchange.{Exchange, Nothing, Denial, Permission, Notice, Place, Nowhere, New, At, Passes, GrowsAsAsked, GrowsBy}
 use Rattle.wasmi_law_tests.specs.declared.recorder.Recorder.{Recorder}
 use Rattle.wasmi_meter.proofs.CappedLemmas.{nothing_within}
 use Rattle.wasmi_c.specs.Numbers.{quota_of}

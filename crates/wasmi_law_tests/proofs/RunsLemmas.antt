@@ -5,17 +5,17 @@ use Rattle.std.proofs.lemmas.Option.{same_Some}
 use Rattle.std.specs.Prelude.{All, slice_get, ◌≢◌, nat_eq, slice_set, MatchOption}
 use Rattle.wasmi_store.specs.Memory.{MemoryTypeValue}
 use Rattle.wasmi_meter.specs.Limiter.{Rules, optional_rules}
-use Rattle.wasmi_core.specs.declared.calls.Call.{Call}
-use Rattle.wasmi_core.specs.declared.calls.Call.TheVariants.{NewMemory, NewLentMemory}
-use Rattle.wasmi_core.specs.declared.calls.Reply.{Reply}
-use Rattle.wasmi_core.specs.State.{World, Turn, world, IsValid, IsValidCall, State, HoldsTotals}
-use Rattle.wasmi_core.specs.Steps.{Step, RepliesWith, Run, Sequence, IsRunOf}
-use Rattle.wasmi_core.specs.LentMemory.{RunInRegions, owned_world, unlent_world}
-use Rattle.wasmi_core.specs.Determinism.{IsNotOutOfMemory, AreNotOutOfMemory, IsDeterministic, AcceptsNotices, permitting}
+use Rattle.wasmi_machine.specs.declared.calls.Call.{Call}
+use Rattle.wasmi_machine.specs.declared.calls.Call.TheVariants.{NewMemory, NewLentMemory}
+use Rattle.wasmi_machine.specs.declared.calls.Reply.{Reply}
+use Rattle.wasmi_machine.specs.State.{World, Turn, world, IsValid, IsValidCall, State, HoldsTotals}
+use Rattle.wasmi_machine.specs.Steps.{Step, RepliesWith, Run, Sequence, IsRunOf}
+use Rattle.wasmi_machine.specs.LentMemory.{RunInRegions, owned_world, unlent_world}
+use Rattle.wasmi_machine.specs.Determinism.{IsNotOutOfMemory, AreNotOutOfMemory, IsDeterministic, AcceptsNotices, permitting}
 use Rattle.wasmi_laws.specs.Runs.{IsWithinCapsOf, RunsOfCallsAreCut}
 use Rattle.wasmi_laws.proofs.RunsLemmas.{held_within}
 use Rattle.wasmi_law_tests.specs.Runs.{FitsAnyRegions, HasRegionFor, IsRunInParts, RunsAlone, RunsBeside, KeepsCaps, KeepsTenant, RunsBoth}
-use Rattle.wasmi_core.specs.Laws.{LentRunsAreOwned, LentCreationsAreOwned, HoldsTotalsAlways, QuotasStayWithin, RunsKeepValidity, RepliesAreOne}
+use Rattle.wasmi_machine.specs.Laws.{LentRunsAreOwned, LentCreationsAreOwned, HoldsTotalsAlways, QuotasStayWithin, RunsKeepValidity, RepliesAreOne}
 use Rattle.wasmi_meter.specs.declared.quota.Quota.{Quota}
 use Rattle.wasmi_meter.specs.Capped.{holdings, cap_of, IsWithinCaps, SameCaps, quota_rules}
 use Rattle.wasmi_laws.specs.Places.{IsIndependent, LeavesAlone, MemoryAt, NumberStore, store_call}

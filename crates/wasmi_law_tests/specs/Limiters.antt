@@ -3,7 +3,7 @@ use Rattle.std.specs.Prelude.{◌≡◌, ◌+◌, ℕ, Ok, Err, length, ◌<◌,
 use Rattle.wasmi_meter.specs.declared.limiter.Kind.{Kind}
 use Rattle.std.specs.Vec.{vec_capacity}
 use Rattle.wasmi_meter.specs.Limiter.{Question, Answer, kind_of, NoticeAnswer, Rules}
-use Rattle.wasmi_core.specs.Exchange.{NothingGrows}
+use Rattle.wasmi_machine.specs.Exchange.{NothingGrows}
 use Rattle.wasmi_law_tests.specs.declared.recorder.Event.{Event}
 use Rattle.wasmi_law_tests.specs.declared.recorder.Event.TheVariants.{Permitted, Failed}
 use Rattle.wasmi_law_tests.specs.declared.recorder.Recorder.{Recorder}

@@ -6,18 +6,18 @@ use Rattle.wasmi_meter.specs.Meter.{Meter}
 use Rattle.wasmi_store.specs.Buffer.{Lent, fits_room}
 use Rattle.wasmi_store.specs.Growth.{IsDenied}
 use Rattle.wasmi_store.specs.Memory.{MemoryValue, pages_of, growth_of, MemoryTypeValue, minimum_bytes, page_bytes, in_bounds}
-use Rattle.wasmi_core.specs.declared.calls.Call.{Call}
-use Rattle.wasmi_core.specs.declared.calls.Call.TheVariants.{GrowMemory}
-use Rattle.wasmi_core.specs.declared.calls.Reply.{Reply}
-use Rattle.wasmi_core.specs.declared.calls.Reply.TheVariants.{Number}
-use Rattle.wasmi_core.specs.State.{World, Turn, world, State, live_at, IsValid}
-use Rattle.wasmi_core.specs.Exchange.{Exchanges}
-use Rattle.wasmi_core.specs.Steps.{Step, Sequence, Run, AreTurns, IsRunOf}
-use Rattle.wasmi_core.specs.declared.slots.Slot.TheVariants.{Live}
-use Rattle.wasmi_core.specs.Account.{opened, account_after, Balances, IsBounded, IsSpent}
-use Rattle.wasmi_core.specs.Determinism.{IsNotOutOfMemory}
-use Rattle.wasmi_core.specs.Laws.{IsRefusal, Keeps, KeepsMeter}
-use Rattle.wasmi_core.specs.LentMemory.{FitsRegions}
+use Rattle.wasmi_machine.specs.declared.calls.Call.{Call}
+use Rattle.wasmi_machine.specs.declared.calls.Call.TheVariants.{GrowMemory}
+use Rattle.wasmi_machine.specs.declared.calls.Reply.{Reply}
+use Rattle.wasmi_machine.specs.declared.calls.Reply.TheVariants.{Number}
+use Rattle.wasmi_machine.specs.State.{World, Turn, world, State, live_at, IsValid}
+use Rattle.wasmi_machine.specs.Exchange.{Exchanges}
+use Rattle.wasmi_machine.specs.Steps.{Step, Sequence, Run, AreTurns, IsRunOf}
+use Rattle.wasmi_machine.specs.declared.slots.Slot.TheVariants.{Live}
+use Rattle.wasmi_machine.specs.Account.{opened, account_after, Balances, IsBounded, IsSpent}
+use Rattle.wasmi_machine.specs.Determinism.{IsNotOutOfMemory}
+use Rattle.wasmi_machine.specs.Laws.{IsRefusal, Keeps, KeepsMeter}
+use Rattle.wasmi_machine.specs.LentMemory.{FitsRegions}
 use Rattle.wasmi_meter.specs.declared.quota.Quota.{Quota}
 use Rattle.wasmi_laws.specs.Runs.{IsRunInTwo, IsWithinCapsOf, world_with_more}
 use Rattle.wasmi_access.specs.LoadStore.{IsSameOutside}

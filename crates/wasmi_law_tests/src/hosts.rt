@@ -2,7 +2,7 @@
 //! only a host sees, and of the numbers of instructions.
 ghost use Rattle.std.specs.Prelude.{◌≡◌, ◌≢◌, ℕ, Some, true, Option, length, slice_get};
 ghost use Rattle.std.specs.Option.{option_map};
-ghost use Rattle.wasmi_core.specs.declared.calls.Call.{Call};
+ghost use Rattle.wasmi_machine.specs.declared.calls.Call.{Call};
 ghost use Rattle.wasmi_c.specs.Instruction.{name_of_binary};
 ghost use Rattle.wasmi_c.specs.ReleasedNumbers.{binary_names};
 ghost use Rattle.wasmi_c.specs.Machine.CallStructs.{call_of};
@@ -37,7 +37,8 @@ use wasmi_c::{
     HostAnswers, MemoryNumbers, MeterNumbers, QuotaNumbers, TableNumbers, memory as host_memory,
     table as host_table,
 };
-use wasmi_core::{MemoryError, MemoryType, ResourceLimiter, TableError, TableType};
+use wasmi_meter::{MemoryError, ResourceLimiter, TableError};
+use wasmi_store::{MemoryType, TableType};
 
 /// Makes two calls, one after the other. If there is a machine and the numbers stand for calls,
 /// both are one run of the machine.

@@ -1,4 +1,4 @@
-//! Callers of the laws of `wasmi_core`, its parts, `wasmi_budget` and `wasmi_c`: each law is called
+//! Callers of the laws of `wasmi_machine`, its parts, `wasmi_budget` and `wasmi_c`: each law is called
 //! by a function whose contract a user of the law would want.
 #![tactic(auto)]
 

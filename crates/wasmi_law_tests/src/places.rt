@@ -1,14 +1,15 @@
 //! Callers of the laws of what is at an index of a machine.
 ghost use Rattle.std.specs.Prelude.{◌≡◌, ◌≢◌, [], ◌∷◌, Some, IfOk, All};
 ghost use Rattle.wasmi_meter.specs.Limiter.{optional_rules};
-ghost use Rattle.wasmi_core.specs.declared.calls.Reply.TheVariants.{Done, Value};
-ghost use Rattle.wasmi_core.specs.Steps.{IsRunOf};
-ghost use Rattle.wasmi_core.specs.State.{world};
+ghost use Rattle.wasmi_machine.specs.declared.calls.Reply.TheVariants.{Done, Value};
+ghost use Rattle.wasmi_machine.specs.Steps.{IsRunOf};
+ghost use Rattle.wasmi_machine.specs.State.{world};
 ghost use Rattle.wasmi_law_tests.specs.Runs.{KeepsOtherBytes};
 ghost use Rattle.wasmi_laws.specs.Places.{Content, DropsNot, HasAt, IsIndependent, IsLater, IsLive, IsLocal, LeavesAlone, Location, MemoryAt, NumberStore, StaysAt, content_at, load_call, store_call, stored_part};
 
 use std::alloc::AllocError;
-use wasmi_core::{Call, Machine, Reply, ResourceLimiter, run_lending};
+use wasmi_machine::{Call, Machine, Reply, run_lending};
+use wasmi_meter::ResourceLimiter;
 
 /// Makes one call. What is at each index that it may not change is as it was: so a call on one
 /// memory leaves every other memory, and all tables, element segments, globals and registers. If it

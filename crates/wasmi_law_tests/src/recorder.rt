@@ -1,10 +1,11 @@
 //! A limiter that keeps a trace of what it is asked and told.
 ghost use Rattle.std.specs.Prelude.{◌≡◌, IfOk, length};
-ghost use Rattle.wasmi_core.specs.State.{sizes};
+ghost use Rattle.wasmi_machine.specs.State.{sizes};
 ghost use Rattle.wasmi_law_tests.specs.Limiters.{recorder_rules, LeavesTrace};
 
 use std::alloc::{AllocError, Global};
-use wasmi_core::{Call, Kind, LimiterByKind, LimiterError, Machine, Reply, laws, run_lending};
+use wasmi_machine::{Call, Machine, Reply, laws, run_lending};
+use wasmi_meter::{Kind, LimiterByKind, LimiterError};
 
 /// What a limiter was asked and has permitted, or was told.
 #[derive(Clone, Copy, Debug, PartialEq, Eq)]

@@ -5,11 +5,11 @@ ghost use Rattle.std.specs.Prelude.{◌≡◌, ◌≤◌, ℕ, Option, Some, len
 ghost use Rattle.wasmi_meter.specs.Limiter.{optional_rules, lent_limiter};
 ghost use Rattle.wasmi_store.specs.Memory.{IsSized};
 ghost use Rattle.wasmi_region.specs.Memory.{memory_in};
-ghost use Rattle.wasmi_core.specs.declared.calls.Call.TheVariants.{GrowMemory};
-ghost use Rattle.wasmi_core.specs.declared.calls.Reply.TheVariants.{Number, Memory};
-ghost use Rattle.wasmi_core.specs.Effects.{reply_of};
-ghost use Rattle.wasmi_core.specs.State.{live_at, World, world};
-ghost use Rattle.wasmi_core.specs.Steps.{RepliesWith};
+ghost use Rattle.wasmi_machine.specs.declared.calls.Call.TheVariants.{GrowMemory};
+ghost use Rattle.wasmi_machine.specs.declared.calls.Reply.TheVariants.{Number, Memory};
+ghost use Rattle.wasmi_machine.specs.Effects.{reply_of};
+ghost use Rattle.wasmi_machine.specs.State.{live_at, World, world};
+ghost use Rattle.wasmi_machine.specs.Steps.{RepliesWith};
 ghost use Rattle.wasmi_laws.specs.Places.{with_memory_at, with_meter};
 ghost use Rattle.wasmi_meter.specs.Capped.{quota_rules};
 ghost use Rattle.wasmi_store.specs.Growth.{metered_value};
@@ -18,13 +18,12 @@ ghost use Rattle.wasmi_store.specs.Table.{MakesTable, GrowsTableRaw};
 ghost use Rattle.wasmi_region.specs.Laws.{CanGrowIn};
 ghost use Rattle.wasmi_region.specs.Table.{table_in, typed_as};
 
-use wasmi_core::{
-    Fuel, MemoryError, MemoryType, Quota, ResourceLimiter, ResourceLimiterRef, TableType,
-};
+use wasmi_meter::{Fuel, MemoryError, Quota, ResourceLimiter, ResourceLimiterRef};
 use wasmi_region::laws::{
     region_tables_are_tables, table_creations_succeed, table_growths_succeed,
 };
 use wasmi_region::{memory, table};
+use wasmi_store::{MemoryType, TableType};
 
 /// Grows a memory in a region, as a machine does that has the same memory at an index, and the same
 /// meter and limiter: with the same reply, and leaving the same.

@@ -5,20 +5,21 @@ ghost use Rattle.wasmi_meter.specs.Limiter.{optional_rules};
 ghost use Rattle.wasmi_meter.specs.Meter.{amount_left};
 ghost use Rattle.wasmi_meter.specs.declared.limiter.Kind.{Kind};
 ghost use Rattle.wasmi_meter.specs.Capped.{holdings, IsWithinCaps, quota_rules};
-ghost use Rattle.wasmi_core.specs.Account.{SetsNoFuel};
-ghost use Rattle.wasmi_core.specs.Exchange.{Nowhere, place_of};
-ghost use Rattle.wasmi_core.specs.LentMemory.{owned_world, unlent_world};
-ghost use Rattle.wasmi_core.specs.Laws.{IsRefusal, SameContents, KeepsSpare};
-ghost use Rattle.wasmi_core.specs.Determinism.{permitting, TellsNoDenial};
-ghost use Rattle.wasmi_core.specs.Steps.{IsRunOf};
-ghost use Rattle.wasmi_core.specs.State.{sizes, total, HoldsTotals, IsValid, IsValidCall, world};
+ghost use Rattle.wasmi_machine.specs.Account.{SetsNoFuel};
+ghost use Rattle.wasmi_machine.specs.Exchange.{Nowhere, place_of};
+ghost use Rattle.wasmi_machine.specs.LentMemory.{owned_world, unlent_world};
+ghost use Rattle.wasmi_machine.specs.Laws.{IsRefusal, SameContents, KeepsSpare};
+ghost use Rattle.wasmi_machine.specs.Determinism.{permitting, TellsNoDenial};
+ghost use Rattle.wasmi_machine.specs.Steps.{IsRunOf};
+ghost use Rattle.wasmi_machine.specs.State.{sizes, total, HoldsTotals, IsValid, IsValidCall, world};
 ghost use Rattle.wasmi_laws.specs.Runs.{HasFuel, IsPlainRefusal, IsWithinCapsOf, NamesNoFuel};
 ghost use Rattle.wasmi_budget.specs.Pool as pools;
 ghost use Rattle.wasmi_law_tests.specs.Runs.{KeepsCaps, RunsAlone, RunsBeside, IsBilled, IsBoundedBy, IsSpentBy, IsExchanged, KeepsWhereRefused, IsMeterKept, StaysValid, IsRunOfBoth, FitsAnyRegions, NeitherIsOutOfMemory, AreSameTurns, HasRegionFor, GrowsInRegions, IsRunInParts, RunsWithMore, StaysWithin};
 
 use std::alloc::AllocError;
 use wasmi_budget::{Pool, PoolError, Tenant, laws as pool_laws};
-use wasmi_core::{Call, Machine, Quota, Reply, ResourceLimiter, laws, run_lending};
+use wasmi_machine::{Call, Machine, Reply, laws, run_lending};
+use wasmi_meter::{Quota, ResourceLimiter};
 
 /// Makes one call. Where it is refused, the machine has the contents that it had; the spare region,
 /// unless a memory was to be made in it; and the meter, unless it is a growth that was paid before

@@ -3,19 +3,19 @@ use Rattle.std.proofs.Common.{Err, List, None, Ok, Option, Result, Some, [], ap,
 use Rattle.std.proofs.lemmas.List.Elements.{All-head, All-tail}
 use Rattle.std.specs.Option.{option_and_then, option_map}
 use Rattle.std.specs.Prelude.{All, slice_get, slice_set}
-use Rattle.wasmi_core.specs.Effects.{ChangesAt, ChangesItem, ChangesPart, DropsAt, OnLive, reply_of}
-use Rattle.wasmi_core.specs.MemoryEffects.{ReadsBytes, StoresMemory, WritesMemoryAt, load_reply}
-use Rattle.wasmi_core.specs.RegisterEffects.{StoresVectorAt, SetsAt, SetsRegister, given_vector, lane_loaded, of_one, of_three, of_two, raw_reply, vector_at, vector_loaded}
-use Rattle.wasmi_core.specs.Steps.{Run, BytesRead, BytesStored, BytesWritten, Change, Changed, Effect, ElementSet, GlobalMade, GlobalSet, ItemsDropped, MemoryDropped, RegisterSet, SegmentMade, Step, TableDropped, HasChange, HasEffect, Told, effect_of}
-use Rattle.wasmi_core.specs.State.{State, live_at, live_value, with_globals, with_memories, with_registers, with_segments, with_tables, byte_count, Turn, World}
-use Rattle.wasmi_core.specs.TableEffects.{SetsElementAt, element_reply}
-use Rattle.wasmi_core.specs.ValueEffects.{DropsItemsAt, SetsGlobalAt, global_reply}
-use Rattle.wasmi_core.specs.declared.calls.Call.{Call}
-use Rattle.wasmi_core.specs.declared.calls.Call.TheVariants as call
-use Rattle.wasmi_core.specs.declared.calls.Reply.{Reply}
-use Rattle.wasmi_core.specs.declared.calls.Reply.TheVariants.{Done, NoSuch, Trap}
-use Rattle.wasmi_core.specs.declared.slots.Slot.{Slot}
-use Rattle.wasmi_core.specs.declared.slots.Slot.TheVariants.{Gone, Live}
+use Rattle.wasmi_machine.specs.Effects.{ChangesAt, ChangesItem, ChangesPart, DropsAt, OnLive, reply_of}
+use Rattle.wasmi_machine.specs.MemoryEffects.{ReadsBytes, StoresMemory, WritesMemoryAt, load_reply}
+use Rattle.wasmi_machine.specs.RegisterEffects.{StoresVectorAt, SetsAt, SetsRegister, given_vector, lane_loaded, of_one, of_three, of_two, raw_reply, vector_at, vector_loaded}
+use Rattle.wasmi_machine.specs.Steps.{Run, BytesRead, BytesStored, BytesWritten, Change, Changed, Effect, ElementSet, GlobalMade, GlobalSet, ItemsDropped, MemoryDropped, RegisterSet, SegmentMade, Step, TableDropped, HasChange, HasEffect, Told, effect_of}
+use Rattle.wasmi_machine.specs.State.{State, live_at, live_value, with_globals, with_memories, with_registers, with_segments, with_tables, byte_count, Turn, World}
+use Rattle.wasmi_machine.specs.TableEffects.{SetsElementAt, element_reply}
+use Rattle.wasmi_machine.specs.ValueEffects.{DropsItemsAt, SetsGlobalAt, global_reply}
+use Rattle.wasmi_machine.specs.declared.calls.Call.{Call}
+use Rattle.wasmi_machine.specs.declared.calls.Call.TheVariants as call
+use Rattle.wasmi_machine.specs.declared.calls.Reply.{Reply}
+use Rattle.wasmi_machine.specs.declared.calls.Reply.TheVariants.{Done, NoSuch, Trap}
+use Rattle.wasmi_machine.specs.declared.slots.Slot.{Slot}
+use Rattle.wasmi_machine.specs.declared.slots.Slot.TheVariants.{Gone, Live}
 use Rattle.wasmi_laws.proofs.ListLemmas.{set_other}
 use Rattle.wasmi_laws.proofs.LocationLemmas.{changed_by, changed_in, changed_is}
 use Rattle.wasmi_laws.specs.Places.{Content, GlobalAt, IndependentTurnsSwap, IsIndependent, IsLocal, Location, MemoryAt, RegisterAt, SegmentAt, TableAt, changed_location, content_at, read_locations}

@@ -4,12 +4,12 @@ use Rattle.std.proofs.lemmas.Bool.{cases_eq}
 use Rattle.std.proofs.lemmas.Option.{none-some, same_Some}
 use Rattle.std.specs.Option.{option_and_then}
 use Rattle.std.specs.Prelude.{slice_get, slice_set}
-use Rattle.wasmi_core.proofs.EffectLemmas.{on_live}
-use Rattle.wasmi_core.specs.Effects.{ActsAt, AddsEntry, ChangesAt, ChangesItem, Creates, DropsAt}
-use Rattle.wasmi_core.specs.State.{live_at, live_value}
-use Rattle.wasmi_core.specs.declared.calls.Reply.{Reply}
-use Rattle.wasmi_core.specs.declared.slots.Slot.{Slot}
-use Rattle.wasmi_core.specs.declared.slots.Slot.TheVariants.{Gone, Live}
+use Rattle.wasmi_machine.proofs.EffectLemmas.{on_live}
+use Rattle.wasmi_machine.specs.Effects.{ActsAt, AddsEntry, ChangesAt, ChangesItem, Creates, DropsAt}
+use Rattle.wasmi_machine.specs.State.{live_at, live_value}
+use Rattle.wasmi_machine.specs.declared.calls.Reply.{Reply}
+use Rattle.wasmi_machine.specs.declared.slots.Slot.{Slot}
+use Rattle.wasmi_machine.specs.declared.slots.Slot.TheVariants.{Gone, Live}
 use Rattle.wasmi_meter.specs.Attempt.{MeteredValue, with_value}
 
 module _ {X : Type 0} where

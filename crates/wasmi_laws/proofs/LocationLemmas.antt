@@ -2,20 +2,20 @@
 use Rattle.std.proofs.Common.{Err, List, None, Ok, Option, Result, Some, [], ap, ⊎_elim, inl, inr, map, refl, subst, sym, ℕ, ◌∙◌, ◌∷◌, ◌≡◌, ◌⊎◌}
 use Rattle.std.proofs.lemmas.List.Elements.{All-head, All-tail}
 use Rattle.std.specs.Prelude.{slice_get}
-use Rattle.wasmi_core.proofs.TableEffectsLemmas.{write_type}
-use Rattle.wasmi_core.proofs.EffectLemmas.{on_live}
-use Rattle.wasmi_core.specs.Effects.{reply_of}
-use Rattle.wasmi_core.specs.MemoryEffects.{CreatesLent}
-use Rattle.wasmi_core.specs.RegisterEffects.{StoresVectorAt, SetsAt}
-use Rattle.wasmi_core.specs.State.{MemoryPart, State, memory_part, with_globals, with_registers, with_segments, byte_count, Turn, World}
-use Rattle.wasmi_core.specs.Steps.{BytesRead, BytesStored, BytesWritten, Change, Changed, Effect, ElementSet, FuelSet, GlobalMade, GlobalSet, ItemsDropped, LentMemoryMade, MemoryDropped, MemoryGrown, MemoryMade, RangeWritten, RegisterSet, SegmentMade, Step, TableDropped, TableGrown, TableMade, HasChange, HasEffect, Told, effect_of}
-use Rattle.wasmi_core.specs.TableEffects.{MeteredTables, WritesRangeAt, write_of}
-use Rattle.wasmi_core.specs.ValueEffects.{CreatesGlobal, CreatesSegment}
-use Rattle.wasmi_core.specs.declared.calls.Call.{Call}
-use Rattle.wasmi_core.specs.declared.calls.Call.TheVariants.{SetFuel}
-use Rattle.wasmi_core.specs.declared.calls.Reply.{Reply}
-use Rattle.wasmi_core.specs.declared.slots.Slot.{Slot}
-use Rattle.wasmi_core.specs.declared.slots.Slot.TheVariants.{Gone, Live}
+use Rattle.wasmi_machine.proofs.TableEffectsLemmas.{write_type}
+use Rattle.wasmi_machine.proofs.EffectLemmas.{on_live}
+use Rattle.wasmi_machine.specs.Effects.{reply_of}
+use Rattle.wasmi_machine.specs.MemoryEffects.{CreatesLent}
+use Rattle.wasmi_machine.specs.RegisterEffects.{StoresVectorAt, SetsAt}
+use Rattle.wasmi_machine.specs.State.{MemoryPart, State, memory_part, with_globals, with_registers, with_segments, byte_count, Turn, World}
+use Rattle.wasmi_machine.specs.Steps.{BytesRead, BytesStored, BytesWritten, Change, Changed, Effect, ElementSet, FuelSet, GlobalMade, GlobalSet, ItemsDropped, LentMemoryMade, MemoryDropped, MemoryGrown, MemoryMade, RangeWritten, RegisterSet, SegmentMade, Step, TableDropped, TableGrown, TableMade, HasChange, HasEffect, Told, effect_of}
+use Rattle.wasmi_machine.specs.TableEffects.{MeteredTables, WritesRangeAt, write_of}
+use Rattle.wasmi_machine.specs.ValueEffects.{CreatesGlobal, CreatesSegment}
+use Rattle.wasmi_machine.specs.declared.calls.Call.{Call}
+use Rattle.wasmi_machine.specs.declared.calls.Call.TheVariants.{SetFuel}
+use Rattle.wasmi_machine.specs.declared.calls.Reply.{Reply}
+use Rattle.wasmi_machine.specs.declared.slots.Slot.{Slot}
+use Rattle.wasmi_machine.specs.declared.slots.Slot.TheVariants.{Gone, Live}
 use Rattle.wasmi_laws.proofs.ListLemmas.{EachAfter, ItemAfter, appended, entry_added, item_changed, put, slot_acted, slot_changed, slot_dropped, slot_made, unchanged}
 use Rattle.wasmi_laws.specs.Places.{Content, DropsNot, GlobalAt, IndicesLast, IsLater, IsLaterSlot, IsLive, LeavesAlone, LiveUntilDropped, Location, MemoryAt, OthersStay, OthersStayInRuns, RegisterAt, SegmentAt, TableAt, changed_location, content_at, dropped_location}
 use Rattle.wasmi_meter.specs.Attempt.{AttemptOutcome, Met, MeteredValue, value_after, with_value}
@@ -43,7 +43,7 @@ use Rattle.wasmi_types.specs.declared.trap.TrapCode.{TrapCode}
 use Rattle.wasmi_types.specs.declared.value.RefType.{RefType}
 use Rattle.wasmi_store.specs.Memory as memory
 use Rattle.wasmi_store.specs.Table as table
-use Rattle.wasmi_core.specs.declared.calls.Reply.TheVariants as replied
+use Rattle.wasmi_machine.specs.declared.calls.Reply.TheVariants as replied
 
 -- a memory that is written keeps its type
 written_type : (x x' : MemoryValue) (offset : ℕ) (source : List ℕ) (result : Result (Unit {0}) MemoryError)

@@ -5,7 +5,7 @@ use Rattle.std.proofs.lemmas.List.Elements.{All-head, All-tail}
 use Rattle.std.proofs.lemmas.Option.{same_Some}
 use Rattle.std.specs.Option.{option_map}
 use Rattle.std.specs.Prelude.{All, MatchBool, is_none, nat_le, ◌&&◌, if◌then◌else◌}
-use Rattle.wasmi_core.proofs.StoreLemmas.{acts_too, asks_too, changes_too}
+use Rattle.wasmi_machine.proofs.StoreLemmas.{acts_too, asks_too, changes_too}
 use Rattle.wasmi_typed.specs.declared.typed_ref.TypedRawRef.{TypedRawRef}
 use Rattle.wasmi_meter.specs.declared.error.TableError.{TableError}
 use Rattle.wasmi_meter.specs.declared.fuel.CustomFuelCosts.{CustomFuelCosts}
@@ -17,18 +17,18 @@ use Rattle.wasmi_store.specs.Memory as memory
 use Rattle.wasmi_store.specs.Memory.{GrowsMemoryCharging, pages_of}
 use Rattle.wasmi_store.specs.Table as table
 use Rattle.wasmi_store.specs.Table.{EndsBy, GrowsTableCharging, TableValue, TableWrite, WriteEnding, WritesTableCharging, element_price, size_of, same_type}
-use Rattle.wasmi_core.specs.declared.calls.Call.{Call}
-use Rattle.wasmi_core.specs.declared.calls.Call.TheVariants.{SetFuel, GetFuel}
-use Rattle.wasmi_core.specs.declared.calls.Reply.{Reply}
-use Rattle.wasmi_core.specs.declared.calls.Reply.TheVariants as replied
-use Rattle.wasmi_core.specs.declared.slots.Slot.{Slot}
-use Rattle.wasmi_core.specs.Determinism.{AcceptsNotices}
-use Rattle.wasmi_core.specs.Effects.{ActsAt, reply_of}
-use Rattle.wasmi_core.specs.Steps.{Run, BytesRead, BytesWritten, Change, Changed, Effect, FuelSet, LentMemoryMade, MemoryGrown, MemoryMade, RangeWritten, Step, TableGrown, TableMade, HasChange, HasEffect, Told, effect_of}
-use Rattle.wasmi_core.specs.State.{State, live_at, Turn, World}
-use Rattle.wasmi_core.specs.TableEffects.{WritesRangeAt, write_of}
-use Rattle.wasmi_core.proofs.AccountLemmas.{Growing, after, before, growing, grows_takes, write_takes}
-use Rattle.wasmi_core.proofs.EffectLemmas.{on_live_too, on_test_too}
+use Rattle.wasmi_machine.specs.declared.calls.Call.{Call}
+use Rattle.wasmi_machine.specs.declared.calls.Call.TheVariants.{SetFuel, GetFuel}
+use Rattle.wasmi_machine.specs.declared.calls.Reply.{Reply}
+use Rattle.wasmi_machine.specs.declared.calls.Reply.TheVariants as replied
+use Rattle.wasmi_machine.specs.declared.slots.Slot.{Slot}
+use Rattle.wasmi_machine.specs.Determinism.{AcceptsNotices}
+use Rattle.wasmi_machine.specs.Effects.{ActsAt, reply_of}
+use Rattle.wasmi_machine.specs.Steps.{Run, BytesRead, BytesWritten, Change, Changed, Effect, FuelSet, LentMemoryMade, MemoryGrown, MemoryMade, RangeWritten, Step, TableGrown, TableMade, HasChange, HasEffect, Told, effect_of}
+use Rattle.wasmi_machine.specs.State.{State, live_at, Turn, World}
+use Rattle.wasmi_machine.specs.TableEffects.{WritesRangeAt, write_of}
+use Rattle.wasmi_machine.proofs.AccountLemmas.{Growing, after, before, growing, grows_takes, write_takes}
+use Rattle.wasmi_machine.proofs.EffectLemmas.{on_live_too, on_test_too}
 use Rattle.wasmi_laws.specs.Runs.{HasFuel, MoreFuelChangesNothing, NamesNoFuel, meter_with_more, world_with_more}
 
 module _ {V E : Type 0} (refusal : E → Reply) (e : Request V E) where

@@ -5,24 +5,24 @@ use Rattle.std.proofs.lemmas.Option.{same_Some}
 use Rattle.std.specs.Int.{Width, w32, w64}
 use Rattle.std.specs.Option.{option_and_then}
 use Rattle.std.specs.Prelude.{slice_get, MatchOption, slice_set}
-use Rattle.wasmi_core.proofs.StoreLemmas.{acts, alters, replies}
+use Rattle.wasmi_machine.proofs.StoreLemmas.{acts, alters, replies}
 use Rattle.wasmi_access.proofs.AccessLemmas.{loaded-stored, outside-stored}
 use Rattle.wasmi_access.specs.LoadStore.{IsSameOutside, IsStore, loaded}
-use Rattle.wasmi_core.proofs.EffectLemmas.{on_live}
-use Rattle.wasmi_core.proofs.MemoryEffectsLemmas.{stored_count}
-use Rattle.wasmi_core.specs.Effects.{reply_of}
-use Rattle.wasmi_core.specs.MemoryEffects.{StoresMemory, load_reply}
-use Rattle.wasmi_core.specs.State.{State, live_at, live_value, World}
-use Rattle.wasmi_core.specs.Steps.{RepliesWith}
-use Rattle.wasmi_core.specs.declared.calls.Call.TheVariants.{Read}
-use Rattle.wasmi_core.specs.declared.calls.Reply.TheVariants.{Done, NoSuch, Trap, Value, Bytes, Memory}
-use Rattle.wasmi_core.specs.declared.slots.Slot.TheVariants.{Live}
+use Rattle.wasmi_machine.proofs.EffectLemmas.{on_live}
+use Rattle.wasmi_machine.proofs.MemoryEffectsLemmas.{stored_count}
+use Rattle.wasmi_machine.specs.Effects.{reply_of}
+use Rattle.wasmi_machine.specs.MemoryEffects.{StoresMemory, load_reply}
+use Rattle.wasmi_machine.specs.State.{State, live_at, live_value, World}
+use Rattle.wasmi_machine.specs.Steps.{RepliesWith}
+use Rattle.wasmi_machine.specs.declared.calls.Call.TheVariants.{Read}
+use Rattle.wasmi_machine.specs.declared.calls.Reply.TheVariants.{Done, NoSuch, Trap, Value, Bytes, Memory}
+use Rattle.wasmi_machine.specs.declared.slots.Slot.TheVariants.{Live}
 use Rattle.wasmi_laws.proofs.ListLemmas.{live_slot, set_same}
 use Rattle.wasmi_laws.proofs.LocationLemmas.{others_stay_in_runs}
 use Rattle.wasmi_laws.specs.Places.{MemoryAt, NumberStore, StoresAreReadBack, StoresKeepOtherBytes, load_of, store_call, stored_part, stored_size, MemoriesGrowAlike, TablesGrowAlike, MemoriesReadAlike, MemoriesWriteAlike}
 use Rattle.wasmi_meter.specs.Limiter.{Rules}
-use Rattle.wasmi_ops.specs.ScalarOps.{as_raw, signed_raw, loaded_raw, stored_bytes}
-use Rattle.wasmi_ops.specs.declared.scalar.StoreOp.{StoreOp}
+use Rattle.wasmi_ops.specs.LoadStoreOps.{as_raw, signed_raw, loaded_raw, stored_bytes}
+use Rattle.wasmi_ops.specs.declared.load_store.StoreOp.{StoreOp}
 use Rattle.wasmi_raw.specs.RawVal.{raw_of}
 use Rattle.wasmi_raw.specs.declared.raw.RawVal.{RawVal}
 use Rattle.wasmi_store.specs.Memory.{MemoryValue}
@@ -30,7 +30,7 @@ use Rattle.wasmi_types.specs.Numbers.{le_bytes}
 use Rattle.wasmi_types.specs.declared.trap.TrapCode.{TrapCode}
 use Rattle.wasmi_types.specs.Access.{at}
 use Rattle.wasmi_meter.specs.declared.error.MemoryError.TheVariants.{OutOfBoundsAccess}
-use Rattle.wasmi_ops.specs.declared.scalar.StoreOp.TheVariants as store
+use Rattle.wasmi_ops.specs.declared.load_store.StoreOp.TheVariants as store
 
 -- a number cut twice to as many bits
 cut_twice : (n k : ℕ) → n % 2 ^ k % 2 ^ k ≡ n % 2 ^ k

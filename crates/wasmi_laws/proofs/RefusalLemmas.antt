@@ -19,22 +19,22 @@ use Rattle.wasmi_store.specs.Memory.{GrowsMemoryCharging, MakesMemory, MemoryVal
 use Rattle.wasmi_store.specs.Table as table
 use Rattle.wasmi_store.specs.Table.{GrowsTableCharging, TableValue, new_table, size_of, TableTypeValue, same_type}
 use Rattle.wasmi_store.proofs.GrowthLemmas.{on_test}
-use Rattle.wasmi_core.specs.declared.calls.Call.{Call}
-use Rattle.wasmi_core.specs.declared.calls.Call.TheVariants.{NewMemory, NewLentMemory, GrowMemory, NewTable, GrowTable}
-use Rattle.wasmi_core.specs.declared.calls.Reply.{Reply}
-use Rattle.wasmi_core.specs.declared.calls.Reply.TheVariants as replied
-use Rattle.wasmi_core.specs.declared.slots.Slot.{Slot}
-use Rattle.wasmi_core.specs.declared.slots.Slot.TheVariants.{Live}
-use Rattle.wasmi_core.specs.Determinism.{IsOtherFailure}
-use Rattle.wasmi_core.specs.Effects.{ActsAt, AddsEntry, Creates, reply_of}
-use Rattle.wasmi_core.specs.Exchange.{AsksFor, At, Denial, Exchange, New, Nothing, Notice, Nowhere, Passes, Permission, failed_reply, place_of, question_of}
-use Rattle.wasmi_core.specs.Laws.{Keeps, KeepsMeter, KeepsSpare}
-use Rattle.wasmi_core.specs.MemoryEffects.{CreatesLent, spare_after}
-use Rattle.wasmi_core.specs.State.{MemoryPart, State, live_at, memory_part, IsRefusal, Turn, World}
-use Rattle.wasmi_core.specs.Steps.{Effect, LentMemoryMade, MemoryGrown, MemoryMade, Step, TableGrown, TableMade, HasEffect, effect_of}
-use Rattle.wasmi_core.proofs.EffectLemmas.{Creation, on_live}
-use Rattle.wasmi_core.proofs.ExchangeLemmas.{growths_are_permitted}
-use Rattle.wasmi_core.proofs.RefusalLemmas.{refusals_keep_contents}
+use Rattle.wasmi_machine.specs.declared.calls.Call.{Call}
+use Rattle.wasmi_machine.specs.declared.calls.Call.TheVariants.{NewMemory, NewLentMemory, GrowMemory, NewTable, GrowTable}
+use Rattle.wasmi_machine.specs.declared.calls.Reply.{Reply}
+use Rattle.wasmi_machine.specs.declared.calls.Reply.TheVariants as replied
+use Rattle.wasmi_machine.specs.declared.slots.Slot.{Slot}
+use Rattle.wasmi_machine.specs.declared.slots.Slot.TheVariants.{Live}
+use Rattle.wasmi_machine.specs.Determinism.{IsOtherFailure}
+use Rattle.wasmi_machine.specs.Effects.{ActsAt, AddsEntry, Creates, reply_of}
+use Rattle.wasmi_machine.specs.Exchange.{AsksFor, At, Denial, Exchange, New, Nothing, Notice, Nowhere, Passes, Permission, failed_reply, place_of, question_of}
+use Rattle.wasmi_machine.specs.Laws.{Keeps, KeepsMeter, KeepsSpare}
+use Rattle.wasmi_machine.specs.MemoryEffects.{CreatesLent, spare_after}
+use Rattle.wasmi_machine.specs.State.{MemoryPart, State, live_at, memory_part, IsRefusal, Turn, World}
+use Rattle.wasmi_machine.specs.Steps.{Effect, LentMemoryMade, MemoryGrown, MemoryMade, Step, TableGrown, TableMade, HasEffect, effect_of}
+use Rattle.wasmi_machine.proofs.EffectLemmas.{Creation, on_live}
+use Rattle.wasmi_machine.proofs.ExchangeLemmas.{growths_are_permitted}
+use Rattle.wasmi_machine.proofs.RefusalLemmas.{refusals_keep_contents}
 use Rattle.wasmi_laws.specs.Runs.{IsPlainRefusal, OtherRefusalsChangeNothing, PlainRefusalsChangeNothing, PlainlyRefusedRunsChangeNothing}
 
 -- a plain refusal is one

@@ -9,20 +9,20 @@ use Rattle.wasmi_meter.specs.declared.limiter.Kind.TheVariants.{Bytes, Elements}
 use Rattle.wasmi_meter.specs.Limiter.{Question, Rules, optional_rules}
 use Rattle.wasmi_meter.specs.declared.quota.Quota.{Quota}
 use Rattle.wasmi_meter.specs.Capped.{IsWithinCaps, SameCaps, holdings, quota_rules}
-use Rattle.wasmi_core.specs.State.{State, World, Turn, world, sizes, HoldsTotals}
-use Rattle.wasmi_core.specs.Steps.{Step, Sequence, Run}
-use Rattle.wasmi_core.specs.Laws.{HoldsTotalsAlways, QuotasStayWithin}
-use Rattle.wasmi_core.specs.Exchange.{Exchange, Nothing, Denial, Permission, Notice, Place, Nowhere, New, At, place_of, GrowsAsAsked, GrowsBy}
-use Rattle.wasmi_core.proofs.ExchangeLemmas.{growths_are_permitted}
-use Rattle.wasmi_core.proofs.StoreLemmas.{Run-push}
+use Rattle.wasmi_machine.specs.State.{State, World, Turn, world, sizes, HoldsTotals}
+use Rattle.wasmi_machine.specs.Steps.{Step, Sequence, Run}
+use Rattle.wasmi_machine.specs.Laws.{HoldsTotalsAlways, QuotasStayWithin}
+use Rattle.wasmi_machine.specs.Exchange.{Exchange, Nothing, Denial, Permission, Notice, Place, Nowhere, New, At, place_of, GrowsAsAsked, GrowsBy}
+use Rattle.wasmi_machine.proofs.ExchangeLemmas.{growths_are_permitted}
+use Rattle.wasmi_machine.proofs.StoreLemmas.{Run-push}
 use Rattle.wasmi_laws.specs.Runs.{CapsHoldInRuns, IsWithinCapsOf, RunsOfCallsAreCut, SizesNeverShrink, TotalsNeverShrink, CostsAreKept, FuelNeverRises, SwitchIsKept}
 use Rattle.std.proofs.lemmas.List.Elements.{All-head, All-tail}
 use Rattle.std.specs.Option.{option_map, unwrap_or}
 use Rattle.wasmi_meter.specs.Meter.{Meter, amount_left}
-use Rattle.wasmi_core.specs.declared.calls.Call.{Call}
-use Rattle.wasmi_core.specs.declared.calls.Call.TheVariants.{SetFuel}
-use Rattle.wasmi_core.specs.Account.{ChangesMeter, SetsNoFuel}
-use Rattle.wasmi_core.proofs.AccountLemmas.{step_meter}
+use Rattle.wasmi_machine.specs.declared.calls.Call.{Call}
+use Rattle.wasmi_machine.specs.declared.calls.Call.TheVariants.{SetFuel}
+use Rattle.wasmi_machine.specs.Account.{ChangesMeter, SetsNoFuel}
+use Rattle.wasmi_machine.proofs.AccountLemmas.{step_meter}
 
 -- where two lists are made of one, the first is made of as many as it has
 made_first : {X Y : Type 0} (f : X → Y) (xs : List X) (ys zs : List Y) → map f xs ≡ ys ++ zs

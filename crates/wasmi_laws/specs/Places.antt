@@ -4,21 +4,21 @@ use Rattle.std.specs.Prelude.{◌≡◌, ◌⊎◌, ◌*◌, ◌+◌, ◌%◌, �
 use Rattle.wasmi_raw.specs.declared.raw.RawVal.{RawVal}
 use Rattle.wasmi_raw.specs.RawVal.{raw_of}
 use Rattle.wasmi_access.specs.LoadStore.{IsSameOutside}
-use Rattle.wasmi_ops.specs.declared.scalar.LoadOp.{LoadOp}
-use Rattle.wasmi_ops.specs.declared.scalar.StoreOp.{StoreOp}
+use Rattle.wasmi_ops.specs.declared.load_store.LoadOp.{LoadOp}
+use Rattle.wasmi_ops.specs.declared.load_store.StoreOp.{StoreOp}
 use Rattle.wasmi_typed.specs.Global.{GlobalInstance}
 use Rattle.wasmi_typed.specs.declared.global.Mutability.TheVariants.{Const}
 use Rattle.wasmi_meter.specs.Limiter.{Rules}
 use Rattle.wasmi_store.specs.Memory.{MemoryValue, GrowsMemory, WritesMemory}
 use Rattle.wasmi_store.specs.Segment.{SegmentValue}
 use Rattle.wasmi_store.specs.Table.{TableValue, GrowsTable}
-use Rattle.wasmi_core.specs.declared.calls.Call.{Call}
-use Rattle.wasmi_core.specs.declared.slots.Slot.{Slot}
-use Rattle.wasmi_core.specs.declared.slots.Slot.TheVariants.{Live, Gone}
-use Rattle.wasmi_core.specs.declared.calls.Reply.{Reply}
-use Rattle.wasmi_core.specs.declared.calls.Reply.TheVariants.{Done, Value, Bytes, Memory, Number, Table}
-use Rattle.wasmi_core.specs.State.{State, live_at, with_memories, with_tables, World, Turn, world}
-use Rattle.wasmi_core.specs.Steps.{Step, RepliesWith, Run}
+use Rattle.wasmi_machine.specs.declared.calls.Call.{Call}
+use Rattle.wasmi_machine.specs.declared.slots.Slot.{Slot}
+use Rattle.wasmi_machine.specs.declared.slots.Slot.TheVariants.{Live, Gone}
+use Rattle.wasmi_machine.specs.declared.calls.Reply.{Reply}
+use Rattle.wasmi_machine.specs.declared.calls.Reply.TheVariants.{Done, Value, Bytes, Memory, Number, Table}
+use Rattle.wasmi_machine.specs.State.{State, live_at, with_memories, with_tables, World, Turn, world}
+use Rattle.wasmi_machine.specs.Steps.{Step, RepliesWith, Run}
 use Rattle.wasmi_types.specs.Access.{at}
 use Rattle.wasmi_typed.specs.declared.typed_ref.TypedRawRef.{TypedRawRef}
 use Rattle.wasmi_meter.specs.Meter.{Meter}
@@ -26,11 +26,11 @@ use Rattle.wasmi_meter.specs.declared.error.MemoryError.{MemoryError}
 use Rattle.wasmi_meter.specs.declared.error.MemoryError.TheVariants.{OutOfBoundsAccess}
 use Rattle.wasmi_meter.specs.declared.error.TableError.{TableError}
 use Rattle.wasmi_store.specs.Growth.{metered_value}
-use Rattle.wasmi_core.specs.declared.calls.Call.TheVariants.{GrowMemory, GrowTable, Read, Write}
-use Rattle.wasmi_core.specs.Effects.{reply_of}
-use Rattle.wasmi_ops.specs.declared.scalar.LoadOp.TheVariants as load
-use Rattle.wasmi_ops.specs.declared.scalar.StoreOp.TheVariants as store
-use Rattle.wasmi_core.specs.declared.calls.Call.TheVariants as call
+use Rattle.wasmi_machine.specs.declared.calls.Call.TheVariants.{GrowMemory, GrowTable, Read, Write}
+use Rattle.wasmi_machine.specs.Effects.{reply_of}
+use Rattle.wasmi_ops.specs.declared.load_store.LoadOp.TheVariants as load
+use Rattle.wasmi_ops.specs.declared.load_store.StoreOp.TheVariants as store
+use Rattle.wasmi_machine.specs.declared.calls.Call.TheVariants as call
 
 -- an index of a machine: of a memory, a table, an element segment or a global, by the order of their making, or of a
 -- register

@@ -4,20 +4,20 @@ use Rattle.wasmi_meter.specs.declared.limiter.Kind.{Kind}
 use Rattle.wasmi_meter.specs.Limiter.{Rules, optional_rules}
 use Rattle.wasmi_meter.specs.declared.quota.Quota.{Quota}
 use Rattle.wasmi_meter.specs.Capped.{IsWithinCaps, cap_of, holdings, quota_rules}
-use Rattle.wasmi_core.specs.declared.calls.Call.{Call}
-use Rattle.wasmi_core.specs.declared.calls.Reply.{Reply}
-use Rattle.wasmi_core.specs.State.{State, World, Turn, world, IsRefusal, sizes, total, HoldsTotals}
-use Rattle.wasmi_core.specs.Steps.{Step, Sequence, Run, IsRunOf}
-use Rattle.wasmi_core.specs.Exchange.{Nowhere, place_of}
+use Rattle.wasmi_machine.specs.declared.calls.Call.{Call}
+use Rattle.wasmi_machine.specs.declared.calls.Reply.{Reply}
+use Rattle.wasmi_machine.specs.State.{State, World, Turn, world, IsRefusal, sizes, total, HoldsTotals}
+use Rattle.wasmi_machine.specs.Steps.{Step, Sequence, Run, IsRunOf}
+use Rattle.wasmi_machine.specs.Exchange.{Nowhere, place_of}
 use Rattle.std.specs.Option.{option_map}
 use Rattle.wasmi_meter.specs.Meter.{Meter, amount_left}
-use Rattle.wasmi_core.specs.declared.calls.Call.TheVariants.{SetFuel, GetFuel}
-use Rattle.wasmi_core.specs.declared.calls.Reply.TheVariants.{Memory, Table}
-use Rattle.wasmi_core.specs.Account.{SetsNoFuel}
-use Rattle.wasmi_core.specs.Determinism.{AcceptsNotices}
+use Rattle.wasmi_machine.specs.declared.calls.Call.TheVariants.{SetFuel, GetFuel}
+use Rattle.wasmi_machine.specs.declared.calls.Reply.TheVariants.{Memory, Table}
+use Rattle.wasmi_machine.specs.Account.{SetsNoFuel}
+use Rattle.wasmi_machine.specs.Determinism.{AcceptsNotices}
 use Rattle.wasmi_meter.specs.declared.error.MemoryError.TheVariants as memory
 use Rattle.wasmi_meter.specs.declared.error.TableError.TheVariants as table
-use Rattle.wasmi_core.specs.declared.calls.Reply.TheVariants as reply
+use Rattle.wasmi_machine.specs.declared.calls.Reply.TheVariants as reply
 
 -- the replies are those of two runs in a row: of the first calls, and of the others from where these end
 pub record IsRunInTwo {S : Type 0} (rules : Rules S) (first rest : List Call) (u : World S) (replies : List Reply)

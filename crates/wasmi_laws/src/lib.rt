@@ -6,10 +6,11 @@ ghost use Rattle.wasmi_meter.specs.Limiter.{optional_rules};
 ghost use Rattle.wasmi_laws.specs.Places.{IndependentTurnsSwap, OthersStay, OthersStayInRuns, IndicesLast, LiveUntilDropped, MemoriesGrowAlike, MemoriesReadAlike, MemoriesWriteAlike, StoresAreReadBack, StoresKeepOtherBytes, TablesGrowAlike};
 ghost use Rattle.wasmi_laws.specs.Runs.{CostsAreKept, SwitchIsKept, FuelNeverRises, MoreFuelChangesNothing, RunsAreCut, RunsOfCallsAreCut, SizesNeverShrink, TotalsNeverShrink, PlainRefusalsChangeNothing, OtherRefusalsChangeNothing, PlainlyRefusedRunsChangeNothing, CapsHoldInRuns};
 
-use wasmi_core::{Quota, ResourceLimiter, laws};
+use wasmi_machine::laws;
+use wasmi_meter::{Quota, ResourceLimiter};
 
 /// A run can be cut at each place: what comes before it, of turns or of calls with the first
-/// replies, is a run, and the rest is a run from where that ends. `wasmi_core::laws::runs_join` is
+/// replies, is a run, and the rest is a run from where that ends. `wasmi_machine::laws::runs_join` is
 /// the converse.
 #[tactic(auto, using(crate::proofs::RunsLemmas::cuts))]
 pub fn runs_are_cut<L: ResourceLimiter>()

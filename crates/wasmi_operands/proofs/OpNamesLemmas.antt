@@ -2,9 +2,9 @@
 use Rattle.std.proofs.Common.{◌≡◌, ℕ, List, map, refl, true}
 use denote.Enum.Bare.{Bare}
 use denote.Enum.Declared.{Record}
-use Rattle.wasmi_ops.specs.declared.scalar.TheConstants.{LOADS, STORES}
+use Rattle.wasmi_ops.specs.declared.load_store.TheConstants.{LOADS, STORES}
 use Rattle.wasmi_ops.specs.declared.vector.TheConstants.{MAKES, UNARIES, BINARIES, TERNARIES, SHIFTS, TESTS, EXTRACTIONS, REPLACEMENTS, LANE_LOADS, LANE_STORES, VECTOR_LOADS}
-use Rattle.wasmi_ops.specs.ScalarOps.{load_name, store_name}
+use Rattle.wasmi_ops.specs.LoadStoreOps.{load_name, store_name}
 use Rattle.wasmi_ops.specs.VectorOps.{make_name, unary_name, binary_name, ternary_name, shift_name, test_name, vector_load_name}
 use Rattle.wasmi_ops.specs.LaneOps.{extract_name, extract_op, replace_name, replace_op, load_lane_name, load_lane_op, store_lane_name, store_lane_op}
 use Rattle.wasmi_ops.specs.contracts.scalar.LoadOp as load

@@ -4,7 +4,7 @@
 ghost use Rattle.std.specs.Prelude.{◌≡◌, ℕ, List, length, map};
 ghost use Rattle.wasmi_operands.specs.Names.{WritesAnswer, IsName, IsNamed, mutability_word, reference_word, value_word, width_word};
 ghost use Rattle.wasmi_operands.specs.LineWords.{Accepts, AcceptsWithMemory, WritesNumber, WritesLimit, WritesEach, word_at};
-ghost use Rattle.wasmi_ops.specs.ScalarOps.{load_name, store_name};
+ghost use Rattle.wasmi_ops.specs.LoadStoreOps.{load_name, store_name};
 ghost use Rattle.wasmi_ops.specs.VectorOps.{vector_load_name, binary_name, make_name, shift_name, ternary_name, test_name, unary_name};
 ghost use Rattle.wasmi_ops.specs.LaneOps.{extract_name, load_lane_name, replace_name, store_lane_name};
 

@@ -1,1 +1,1 @@
-pub mod ScalarOpsLemmas
+pub mod LoadStoreOpsLemmas

@@ -1,3 +1,3 @@
 pub mod LaneOps
-pub mod ScalarOps
+pub mod LoadStoreOps
 pub mod VectorOps

@@ -1,16 +1,15 @@
-//! The instructions as values: a variant for each function of a shape, what it gives, and its name.
+//! The instructions that a machine executes, as values: a variant for each function of a shape, what
+//! it gives, and its name.
 //!
 //! The variants of a type stand in the order of its list, which has their names. Own: upstream has
 //! no instructions as values.
 #![tactic(auto)]
 
+mod load_store;
 mod rows;
-mod scalar;
 mod vector;
 
-pub use scalar::{
-    LOADS, LoadOp, SCALAR_BINARIES, SCALAR_UNARIES, STORES, ScalarBinaryOp, ScalarUnaryOp, StoreOp,
-};
+pub use load_store::{LOADS, LoadOp, STORES, StoreOp};
 pub use vector::{
     BINARIES, BinaryOp, EXTRACTIONS, ExtractKind, ExtractOp, LANE_LOADS, LANE_STORES, LoadLaneKind,
     LoadLaneOp, MAKES, MakeOp, REPLACEMENTS, ReplaceKind, ReplaceOp, SHIFTS, ShiftOp,

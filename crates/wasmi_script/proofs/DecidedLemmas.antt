@@ -9,16 +9,16 @@ use Rattle.wasmi_meter.specs.declared.quota.Quota as quotas
 use Rattle.wasmi_meter.specs.Attempt.{MeteredValue}
 use Rattle.wasmi_meter.specs.Limiter.{Rules, unlimited_rules, optional_rules}
 use Rattle.wasmi_meter.specs.Capped.{holdings, quota_rules}
-use Rattle.wasmi_core.specs.declared.calls.Call.{Call}
-use Rattle.wasmi_core.specs.declared.calls.Call.TheVariants.{Write, NewSegment}
-use Rattle.wasmi_core.specs.declared.calls.Reply.{Reply}
-use Rattle.wasmi_core.specs.declared.calls.Reply.TheVariants.{Made}
-use Rattle.wasmi_core.specs.State.{State, new_state, World, Turn}
-use Rattle.wasmi_core.specs.Effects.{ActsMetered}
-use Rattle.wasmi_core.specs.Steps.{Effect, Told, BytesRead, FuelSet, Changed, MemoryMade, LentMemoryMade, MemoryGrown, TableMade, TableGrown, RangeWritten, effect_of, HasEffect, Step, Run, IsRunOf}
-use Rattle.wasmi_core.specs.Determinism.{IsDeterministic, AcceptsNotices, IsNotOutOfMemory}
-use Rattle.wasmi_core.proofs.DeterminismLemmas.{unlimited_unique, quota_unique}
-use Rattle.wasmi_core.proofs.ToldLemmas.{SeenRun, replies_are_one, unlimited_accepts, quota_accepts}
+use Rattle.wasmi_machine.specs.declared.calls.Call.{Call}
+use Rattle.wasmi_machine.specs.declared.calls.Call.TheVariants.{Write, NewSegment}
+use Rattle.wasmi_machine.specs.declared.calls.Reply.{Reply}
+use Rattle.wasmi_machine.specs.declared.calls.Reply.TheVariants.{Made}
+use Rattle.wasmi_machine.specs.State.{State, new_state, World, Turn}
+use Rattle.wasmi_machine.specs.Effects.{ActsMetered}
+use Rattle.wasmi_machine.specs.Steps.{Effect, Told, BytesRead, FuelSet, Changed, MemoryMade, LentMemoryMade, MemoryGrown, TableMade, TableGrown, RangeWritten, effect_of, HasEffect, Step, Run, IsRunOf}
+use Rattle.wasmi_machine.specs.Determinism.{IsDeterministic, AcceptsNotices, IsNotOutOfMemory}
+use Rattle.wasmi_machine.proofs.DeterminismLemmas.{unlimited_unique, quota_unique}
+use Rattle.wasmi_machine.proofs.ToldLemmas.{SeenRun, replies_are_one, unlimited_accepts, quota_accepts}
 use Rattle.wasmi_budget.specs.Pool.{PoolValue, RunsTenant, tenant_at, tenant_rules}
 use Rattle.wasmi_grammar.specs.declared.error.ParseError.TheVariants.{BadCommand, OutOfMemory}
 use Rattle.wasmi_script.specs.declared.error.ReplayError.TheVariants.{Parse, TooLong, ReadFault}

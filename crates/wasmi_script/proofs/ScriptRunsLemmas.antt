@@ -3,10 +3,10 @@ use Rattle.std.proofs.Common.{◌≡◌, ◌∙◌, ℕ, List, Option, None, Vec
 use Rattle.std.specs.Option.{option_map}
 use Rattle.wasmi_meter.specs.declared.limiter.NoLimits.{NoLimits}
 use Rattle.wasmi_meter.specs.Limiter.{optional_rules, unlimited_rules}
-use Rattle.wasmi_core.specs.declared.calls.Call.{Call}
-use Rattle.wasmi_core.specs.declared.calls.Reply.{Reply}
-use Rattle.wasmi_core.specs.State.{State, new_state, World, world}
-use Rattle.wasmi_core.specs.Steps.{IsRunOf}
+use Rattle.wasmi_machine.specs.declared.calls.Call.{Call}
+use Rattle.wasmi_machine.specs.declared.calls.Reply.{Reply}
+use Rattle.wasmi_machine.specs.State.{State, new_state, World, world}
+use Rattle.wasmi_machine.specs.Steps.{IsRunOf}
 use Rattle.wasmi_grammar.specs.declared.header.Header.{Header}
 use Rattle.wasmi_grammar.specs.Headers.{meter_of, region_bytes, start_of}
 use Rattle.wasmi_script.specs.ScriptRuns.{AnswersParts}
@@ -19,8 +19,8 @@ use Rattle.std.proofs.lemmas.List.Elements.{All-head, All-drop}
 use Rattle.wasmi_meter.specs.AnswerList.{answer_list_rules, notice_answer_by}
 use Rattle.wasmi_meter.specs.declared.answer_list.LimiterAnswer.{LimiterAnswer}
 use Rattle.wasmi_meter.specs.declared.answer_list.LimiterAnswer.TheVariants.{Permit}
-use Rattle.wasmi_core.specs.Determinism.{IsDeterministic}
-use Rattle.wasmi_core.proofs.ToldLemmas.{accepted_replies_are_one}
+use Rattle.wasmi_machine.specs.Determinism.{IsDeterministic}
+use Rattle.wasmi_machine.proofs.ToldLemmas.{accepted_replies_are_one}
 use Rattle.wasmi_script.specs.Decided.{NeverComplains, QuietListsAcceptNotices, QuietListsDecideReplies}
 
 -- a machine with the meter of these header lines and with their region is the one that a script starts with

@@ -1,6 +1,6 @@
 -- Outcomes that the bytes of a reader decide, and runs under lists in which no answer lets a notice be refused.
 use Rattle.std.specs.Prelude.{◌≡◌, ⊤, ℕ, List, All, Option, Some, Ok, Err}
-use Rattle.wasmi_core.specs.Determinism.{IsNotOutOfMemory, StaysAccepting}
+use Rattle.wasmi_machine.specs.Determinism.{IsNotOutOfMemory, StaysAccepting}
 use Rattle.wasmi_script.specs.declared.error.ReplayError.TheVariants.{Parse, ReadFault}
 use Rattle.wasmi_grammar.specs.declared.error.ParseError.TheVariants.{OutOfMemory}
 use Rattle.wasmi_grammar.specs.declared.header.LimiterLine.{LimiterLine}
@@ -8,10 +8,10 @@ use Rattle.wasmi_grammar.specs.declared.header.LimiterLine.TheVariants.{Answers}
 use Rattle.wasmi_meter.specs.AnswerList.{notice_answer_by, AnswersAhead, answer_list_rules}
 use Rattle.wasmi_script.specs.Outcomes.{ReplayOutcome, IsOutcomeOf, outcome_text, status_after}
 use Rattle.wasmi_meter.specs.Limiter.{optional_rules}
-use Rattle.wasmi_core.specs.declared.calls.Call.{Call}
-use Rattle.wasmi_core.specs.declared.calls.Reply.{Reply}
-use Rattle.wasmi_core.specs.State.{State, World, world}
-use Rattle.wasmi_core.specs.Steps.{IsRunOf}
+use Rattle.wasmi_machine.specs.declared.calls.Call.{Call}
+use Rattle.wasmi_machine.specs.declared.calls.Reply.{Reply}
+use Rattle.wasmi_machine.specs.State.{State, World, world}
+use Rattle.wasmi_machine.specs.Steps.{IsRunOf}
 
 -- no word of an `answers` line is `complain`: each notice is accepted
 abbrev pub HasNoComplain : Option LimiterLine → Type 0

@@ -1,5 +1,5 @@
 //! Laws of all scripts and of all that run them, each the contract of a function.
-ghost use Rattle.wasmi_core.specs.Determinism.{IsDeterministic};
+ghost use Rattle.wasmi_machine.specs.Determinism.{IsDeterministic};
 ghost use Rattle.wasmi_meter.specs.AnswerList.{answer_list_rules};
 ghost use Rattle.wasmi_script.specs.Decided.{QuietListsAcceptNotices, QuietListsDecideReplies, OutcomesAreOne};
 

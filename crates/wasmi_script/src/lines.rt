@@ -7,7 +7,7 @@ ghost use Rattle.wasmi_script.specs.Texts.{bytes_text, reply_text};
 
 use crate::printing::bytes_of;
 use crate::wording::Wording;
-use wasmi_core::{Call, Reply};
+use wasmi_machine::{Call, Reply};
 
 /// Writes a line for each call with its reply to the front of bytes, as much of the lines as fits.
 /// It returns the length of all the lines, or 2^64 - 1 if they are longer. It takes no memory.

@@ -13,8 +13,8 @@ use arrayvec::ArrayString;
 use std::fmt::{Display, Write};
 use std::{fmt, io};
 use wasmi_budget::Pool;
-use wasmi_core::{Call, Reply};
 use wasmi_grammar::Script;
+use wasmi_machine::{Call, Reply};
 use wasmi_meter::Amounts;
 
 /// How many bytes wait at most before they go to the writer.

@@ -2,17 +2,17 @@
 ghost use Rattle.std.specs.Prelude.{◌≡◌, None, Some, IfOk};
 ghost use Rattle.std.specs.Option.{option_map, option_copied_mut};
 ghost use Rattle.wasmi_grammar.specs.Headers.{meter_of, region_bytes, start_of};
-ghost use Rattle.wasmi_core.specs.State.{new_state};
+ghost use Rattle.wasmi_machine.specs.State.{new_state};
 ghost use Rattle.wasmi_script.specs.ScriptRuns.{IsReplayOf, IsReplayOnOne, IsListedReplay, IsPoolReplay, new_pool};
 
 use std::alloc::{AllocError, Global};
 use wasmi_budget::Pool;
-use wasmi_core::{
-    Call, CustomFuelCosts, Fuel, FuelCostsProvider, Machine, NoLimits, Quota, Reply,
-    ResourceLimiterRef, run, run_lending, run_reserving,
-};
 use wasmi_grammar::{Header, LimiterLine, MeterLine, RegionLine, Script, TenantsLine};
-use wasmi_meter::{Amounts, AnswerList, LimiterAnswer};
+use wasmi_machine::{Call, Machine, Reply, run, run_lending, run_reserving};
+use wasmi_meter::{
+    Amounts, AnswerList, CustomFuelCosts, Fuel, FuelCostsProvider, LimiterAnswer, NoLimits, Quota,
+    ResourceLimiterRef,
+};
 
 /// The replies of a script's run, and what is held afterwards.
 #[derive(Drop)]

@@ -5,7 +5,8 @@ ghost use Rattle.wasmi_script.specs.Printing.{AddsToFront};
 ghost use Rattle.wasmi_script.specs.Texts.{head_text, kind_text, wording_text};
 
 use crate::lines::{put, put_optional};
-use wasmi_core::{Call, RefType, Reply};
+use wasmi_machine::{Call, Reply};
+use wasmi_types::RefType;
 
 /// Words in two parts, then a number, if there is one, and then a second one after a space.
 #[derive(Clone, Copy)]

@@ -2,14 +2,15 @@
 mod command {
     //! The commands of a script, each of which is one call: what the words after its first say.
 
-    use crate::proved::machine::simd::ImmLaneIdx32;
-    use crate::proved::machine::{
-        Call, GlobalType, IndexType, MemoryType, RawVal, RefType, TableType, TypedRawRef,
-        TypedRawVal,
-    };
+    use crate::proved::lanes::ImmLaneIdx32;
+    use crate::proved::machine::Call;
     use crate::proved::operands::lane::{extract_op, load_lane_op, replace_op, store_lane_op};
     use crate::proved::operands::operand::{self, Operand, list_of};
     use crate::proved::operands::{LineError, number};
+    use crate::proved::raw::RawVal;
+    use crate::proved::store::{MemoryType, TableType};
+    use crate::proved::typed::{GlobalType, TypedRawRef, TypedRawVal};
+    use crate::proved::types::{IndexType, RefType};
     use crate::rattle::ArrayExt;
 
     /// The call of a kind, each part of which is what an operand writes.

@@ -1,10 +1,11 @@
 //! Laws of the machine over turns and runs, in the order of the README: each function does nothing,
 //! and states a law as its contract.
 
-use crate::proved::machine::{Quota, ResourceLimiter, laws};
+use crate::proved::machine::laws;
+use crate::proved::meter::{Quota, ResourceLimiter};
 
 /// A run can be cut at each place: what comes before it, of turns or of calls with the first
-/// replies, is a run, and the rest is a run from where that ends. `wasmi_core::laws::runs_join` is
+/// replies, is a run, and the rest is a run from where that ends. `wasmi_machine::laws::runs_join` is
 /// the converse.
 ///
 /// # Contract

@@ -9,6 +9,8 @@
 
 pub mod accesses;
 pub mod budget;
+#[cfg(test)]
+pub mod facade;
 #[cfg(feature = "std")]
 pub mod grammar;
 pub mod lanes;
@@ -23,6 +25,7 @@ pub mod ops;
 pub mod raw;
 pub mod region;
 pub mod scalar;
+pub mod scalar_ops;
 #[cfg(feature = "std")]
 pub mod script;
 pub mod store;

@@ -411,7 +411,7 @@ pub mod operand {
     /// writes = IsName load_name
     /// ```
     ///
-    /// Definitions: [`IsName`](crate::specs::operands::NamesSpecs#IsName), [`load_name`](crate::specs::ops::ScalarOpsSpecs#load_name).
+    /// Definitions: [`IsName`](crate::specs::operands::NamesSpecs#IsName), [`load_name`](crate::specs::ops::LoadStoreOpsSpecs#load_name).
     impl Operand for LoadOp {
         #[inline]
         fn from_word(word: &str) -> Result<Self, LineError> {
@@ -425,7 +425,7 @@ pub mod operand {
     /// writes = IsName store_name
     /// ```
     ///
-    /// Definitions: [`IsName`](crate::specs::operands::NamesSpecs#IsName), [`store_name`](crate::specs::ops::ScalarOpsSpecs#store_name).
+    /// Definitions: [`IsName`](crate::specs::operands::NamesSpecs#IsName), [`store_name`](crate::specs::ops::LoadStoreOpsSpecs#store_name).
     impl Operand for StoreOp {
         #[inline]
         fn from_word(word: &str) -> Result<Self, LineError> {

@@ -880,11 +880,11 @@ mod running {
 
     use crate::proved::budget::Pool;
     use crate::proved::grammar::{Header, LimiterLine, MeterLine, RegionLine, Script, TenantsLine};
-    use crate::proved::machine::{
-        Call, CustomFuelCosts, Fuel, FuelCostsProvider, Machine, NoLimits, Quota, Reply,
-        ResourceLimiterRef, run, run_lending, run_reserving,
+    use crate::proved::machine::{Call, Machine, Reply, run, run_lending, run_reserving};
+    use crate::proved::meter::{
+        Amounts, AnswerList, CustomFuelCosts, Fuel, FuelCostsProvider, LimiterAnswer, NoLimits,
+        Quota, ResourceLimiterRef,
     };
-    use crate::proved::meter::{Amounts, AnswerList, LimiterAnswer};
     use crate::rattle::alloc::AllocError;
     use crate::rattle::{SliceExt, Vec};
 
@@ -1182,8 +1182,9 @@ mod streams {
 mod wording {
     //! What a reply says, as words and numbers.
 
-    use crate::proved::machine::{Call, RefType, Reply};
+    use crate::proved::machine::{Call, Reply};
     use crate::proved::script::lines::{put, put_optional};
+    use crate::proved::types::RefType;
 
     /// Words in two parts, then a number, if there is one, and then a second one after a space.
     #[derive(Clone, Copy)]

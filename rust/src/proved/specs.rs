@@ -1558,224 +1558,89 @@ abbrev pub <b id="store_lane_name">store_lane_name</b> : StoreLaneKind → List 
 </code></pre>
 "####]
     pub mod LaneOpsSpecs {}
-    #[doc = r####"The scalar instructions: a row for each, its name and what it gives, as raw values.
+    #[doc = r####"The scalar loads and stores: a row for each, its name and what it gives or writes, as raw values.
 
-<pre><code>use Rattle.std.specs.Prelude.{Bool, ℤ, Result, Ok, Err, ℕ, List, codes, ◌*◌, ◌*ℤ◌, ◌/◌, ◌%◌, ◌^◌, pos}
-use Rattle.std.specs.Int.{Width, cast_unsigned, from_bool, w8, w16, w32, w64, int_wrap, w128, cast_signed}
+<pre><code>use Rattle.std.specs.Prelude.{ℤ, Result, Ok, Err, ℕ, List, codes, ◌/◌, ◌%◌, ◌^◌, pos}
+use Rattle.std.specs.Int.{Width, cast_unsigned, w8, w16, w32, w64, cast_signed}
 use Rattle.wasmi_types.specs.declared.trap.TrapCode.{TrapCode}
 use Rattle.wasmi_raw.specs.declared.raw.RawVal.{RawVal}
-use Rattle.wasmi_raw.specs.RawVal.{<a href="../../raw/RawValSpecs/index.html#raw_of">raw_of</a>, <a href="../../raw/RawValSpecs/index.html#signed_in">signed_in</a>, <a href="../../raw/RawValSpecs/index.html#unsigned_in">unsigned_in</a>, <a href="../../raw/RawValSpecs/index.html#raw_of_vector">raw_of_vector</a>, <a href="../../raw/RawValSpecs/index.html#vector_in">vector_in</a>}
-use Rattle.wasmi_scalar.specs.Numerics.{<a href="../../scalar/NumericsSpecs/index.html#iclz">iclz</a>, <a href="../../scalar/NumericsSpecs/index.html#ictz">ictz</a>, <a href="../../scalar/NumericsSpecs/index.html#ipopcnt">ipopcnt</a>, <a href="../../scalar/NumericsSpecs/index.html#ieqz">ieqz</a>, <a href="../../scalar/NumericsSpecs/index.html#iadd">iadd</a>, <a href="../../scalar/NumericsSpecs/index.html#isub">isub</a>, <a href="../../scalar/NumericsSpecs/index.html#imul">imul</a>, <a href="../../scalar/NumericsSpecs/index.html#idiv_s">idiv_s</a>, <a href="../../scalar/NumericsSpecs/index.html#idiv_u">idiv_u</a>, <a href="../../scalar/NumericsSpecs/index.html#irem_s">irem_s</a>, <a href="../../scalar/NumericsSpecs/index.html#irem_u">irem_u</a>, <a href="../../scalar/NumericsSpecs/index.html#iand">iand</a>, <a href="../../scalar/NumericsSpecs/index.html#ior">ior</a>, <a href="../../scalar/NumericsSpecs/index.html#ixor">ixor</a>, <a href="../../scalar/NumericsSpecs/index.html#ishl">ishl</a>, <a href="../../scalar/NumericsSpecs/index.html#ishr_s">ishr_s</a>, <a href="../../scalar/NumericsSpecs/index.html#ishr_u">ishr_u</a>, <a href="../../scalar/NumericsSpecs/index.html#irotl">irotl</a>, <a href="../../scalar/NumericsSpecs/index.html#irotr">irotr</a>, <a href="../../scalar/NumericsSpecs/index.html#ieq">ieq</a>, <a href="../../scalar/NumericsSpecs/index.html#ine">ine</a>, <a href="../../scalar/NumericsSpecs/index.html#ilt_s">ilt_s</a>, <a href="../../scalar/NumericsSpecs/index.html#ilt_u">ilt_u</a>, <a href="../../scalar/NumericsSpecs/index.html#igt_s">igt_s</a>, <a href="../../scalar/NumericsSpecs/index.html#igt_u">igt_u</a>, <a href="../../scalar/NumericsSpecs/index.html#ile_s">ile_s</a>, <a href="../../scalar/NumericsSpecs/index.html#ile_u">ile_u</a>, <a href="../../scalar/NumericsSpecs/index.html#ige_s">ige_s</a>, <a href="../../scalar/NumericsSpecs/index.html#ige_u">ige_u</a>, <a href="../../scalar/NumericsSpecs/index.html#add128">add128</a>, <a href="../../scalar/NumericsSpecs/index.html#sub128">sub128</a>}
-use Rattle.wasmi_ops.specs.declared.scalar.ScalarUnaryOp.{ScalarUnaryOp}
-use Rattle.wasmi_ops.specs.declared.scalar.ScalarBinaryOp.{ScalarBinaryOp}
+use Rattle.wasmi_raw.specs.RawVal.{<a href="../../raw/RawValSpecs/index.html#raw_of">raw_of</a>}
 use mir.Val.{bits}
 use Rattle.wasmi_types.specs.Numbers.{<a href="../../types/NumbersSpecs/index.html#le_bytes">le_bytes</a>}
 use Rattle.wasmi_access.specs.LoadStore.{<a href="../../accesses/LoadStoreSpecs/index.html#loaded">loaded</a>}
-use Rattle.wasmi_ops.specs.declared.scalar.LoadOp.{LoadOp}
-use Rattle.wasmi_ops.specs.declared.scalar.StoreOp.{StoreOp}
-use Rattle.wasmi_ops.specs.declared.scalar.ScalarUnaryOp.TheVariants as unary
-use Rattle.wasmi_ops.specs.declared.scalar.ScalarBinaryOp.TheVariants as binary
-use Rattle.wasmi_ops.specs.declared.scalar.LoadOp.TheVariants as load
-use Rattle.wasmi_ops.specs.declared.scalar.StoreOp.TheVariants as store
+use Rattle.wasmi_ops.specs.declared.load_store.LoadOp.{LoadOp}
+use Rattle.wasmi_ops.specs.declared.load_store.StoreOp.{StoreOp}
+use Rattle.wasmi_ops.specs.declared.load_store.LoadOp.TheVariants as load
+use Rattle.wasmi_ops.specs.declared.load_store.StoreOp.TheVariants as store
 
 -- the raw value of a signed number of a width
 abbrev pub <b id="signed_raw">signed_raw</b> : Width → ℤ → RawVal
-<a href="../../ops/ScalarOpsSpecs/index.html#signed_raw">signed_raw</a> w z = <a href="../../raw/RawValSpecs/index.html#raw_of">raw_of</a> (cast_unsigned w z)
-
--- the raw value of a Boolean, 0 or 1
-abbrev pub <b id="bool_raw">bool_raw</b> : Bool → RawVal
-<a href="../../ops/ScalarOpsSpecs/index.html#bool_raw">bool_raw</a> flag = <a href="../../raw/RawValSpecs/index.html#raw_of">raw_of</a> (from_bool flag)
+<a href="../../ops/LoadStoreOpsSpecs/index.html#signed_raw">signed_raw</a> w z = <a href="../../raw/RawValSpecs/index.html#raw_of">raw_of</a> (cast_unsigned w z)
 
 -- an answer as a raw value; a trap stays
 abbrev pub <b id="as_raw">as_raw</b> : {A : Type 0} → (A → RawVal) → Result A TrapCode → Result RawVal TrapCode
-<a href="../../ops/ScalarOpsSpecs/index.html#as_raw">as_raw</a> raw (Ok value) = Ok (raw value)
-<a href="../../ops/ScalarOpsSpecs/index.html#as_raw">as_raw</a> raw (Err trap) = Err trap
-
--- each instruction of one raw value: its name, and what it gives
-abbrev pub <b id="scalar_unary_row">scalar_unary_row</b> : ScalarUnaryOp → List ℕ × (RawVal → RawVal)
-<a href="../../ops/ScalarOpsSpecs/index.html#scalar_unary_row">scalar_unary_row</a> unary.I32Clz = (codes "i32_clz", λ raw. <a href="../../ops/ScalarOpsSpecs/index.html#signed_raw">signed_raw</a> w32 (<a href="../../scalar/NumericsSpecs/index.html#iclz">iclz</a> w32 (<a href="../../raw/RawValSpecs/index.html#signed_in">signed_in</a> w32 raw)))
-<a href="../../ops/ScalarOpsSpecs/index.html#scalar_unary_row">scalar_unary_row</a> unary.I32Ctz = (codes "i32_ctz", λ raw. <a href="../../ops/ScalarOpsSpecs/index.html#signed_raw">signed_raw</a> w32 (<a href="../../scalar/NumericsSpecs/index.html#ictz">ictz</a> w32 (<a href="../../raw/RawValSpecs/index.html#signed_in">signed_in</a> w32 raw)))
-<a href="../../ops/ScalarOpsSpecs/index.html#scalar_unary_row">scalar_unary_row</a> unary.I32Popcnt = (codes "i32_popcnt", λ raw. <a href="../../ops/ScalarOpsSpecs/index.html#signed_raw">signed_raw</a> w32 (<a href="../../scalar/NumericsSpecs/index.html#ipopcnt">ipopcnt</a> w32 (<a href="../../raw/RawValSpecs/index.html#signed_in">signed_in</a> w32 raw)))
-<a href="../../ops/ScalarOpsSpecs/index.html#scalar_unary_row">scalar_unary_row</a> unary.I32Eqz = (codes "i32_eqz", λ raw. <a href="../../ops/ScalarOpsSpecs/index.html#bool_raw">bool_raw</a> (<a href="../../scalar/NumericsSpecs/index.html#ieqz">ieqz</a> (<a href="../../raw/RawValSpecs/index.html#signed_in">signed_in</a> w32 raw)))
-<a href="../../ops/ScalarOpsSpecs/index.html#scalar_unary_row">scalar_unary_row</a> unary.I64Clz = (codes "i64_clz", λ raw. <a href="../../ops/ScalarOpsSpecs/index.html#signed_raw">signed_raw</a> w64 (<a href="../../scalar/NumericsSpecs/index.html#iclz">iclz</a> w64 (<a href="../../raw/RawValSpecs/index.html#signed_in">signed_in</a> w64 raw)))
-<a href="../../ops/ScalarOpsSpecs/index.html#scalar_unary_row">scalar_unary_row</a> unary.I64Ctz = (codes "i64_ctz", λ raw. <a href="../../ops/ScalarOpsSpecs/index.html#signed_raw">signed_raw</a> w64 (<a href="../../scalar/NumericsSpecs/index.html#ictz">ictz</a> w64 (<a href="../../raw/RawValSpecs/index.html#signed_in">signed_in</a> w64 raw)))
-<a href="../../ops/ScalarOpsSpecs/index.html#scalar_unary_row">scalar_unary_row</a> unary.I64Popcnt = (codes "i64_popcnt", λ raw. <a href="../../ops/ScalarOpsSpecs/index.html#signed_raw">signed_raw</a> w64 (<a href="../../scalar/NumericsSpecs/index.html#ipopcnt">ipopcnt</a> w64 (<a href="../../raw/RawValSpecs/index.html#signed_in">signed_in</a> w64 raw)))
-<a href="../../ops/ScalarOpsSpecs/index.html#scalar_unary_row">scalar_unary_row</a> unary.I64Eqz = (codes "i64_eqz", λ raw. <a href="../../ops/ScalarOpsSpecs/index.html#bool_raw">bool_raw</a> (<a href="../../scalar/NumericsSpecs/index.html#ieqz">ieqz</a> (<a href="../../raw/RawValSpecs/index.html#signed_in">signed_in</a> w64 raw)))
-<a href="../../ops/ScalarOpsSpecs/index.html#scalar_unary_row">scalar_unary_row</a> unary.I32WrapI64 = (codes "i32_wrap_i64", λ raw. <a href="../../ops/ScalarOpsSpecs/index.html#signed_raw">signed_raw</a> w32 (int_wrap w32 (<a href="../../raw/RawValSpecs/index.html#signed_in">signed_in</a> w64 raw)))
-<a href="../../ops/ScalarOpsSpecs/index.html#scalar_unary_row">scalar_unary_row</a> unary.I64ExtendI32S = (codes "i64_extend_i32_s", λ raw. <a href="../../ops/ScalarOpsSpecs/index.html#signed_raw">signed_raw</a> w64 (<a href="../../raw/RawValSpecs/index.html#signed_in">signed_in</a> w32 raw))
-<a href="../../ops/ScalarOpsSpecs/index.html#scalar_unary_row">scalar_unary_row</a> unary.I64ExtendI32U = (codes "i64_extend_i32_u", λ raw. <a href="../../raw/RawValSpecs/index.html#raw_of">raw_of</a> (<a href="../../raw/RawValSpecs/index.html#unsigned_in">unsigned_in</a> w32 raw))
-<a href="../../ops/ScalarOpsSpecs/index.html#scalar_unary_row">scalar_unary_row</a> unary.I32Extend8S = (codes "i32_extend8_s", λ raw. <a href="../../ops/ScalarOpsSpecs/index.html#signed_raw">signed_raw</a> w32 (int_wrap w8 (<a href="../../raw/RawValSpecs/index.html#signed_in">signed_in</a> w32 raw)))
-<a href="../../ops/ScalarOpsSpecs/index.html#scalar_unary_row">scalar_unary_row</a> unary.I32Extend16S = (codes "i32_extend16_s", λ raw. <a href="../../ops/ScalarOpsSpecs/index.html#signed_raw">signed_raw</a> w32 (int_wrap w16 (<a href="../../raw/RawValSpecs/index.html#signed_in">signed_in</a> w32 raw)))
-<a href="../../ops/ScalarOpsSpecs/index.html#scalar_unary_row">scalar_unary_row</a> unary.I64Extend8S = (codes "i64_extend8_s", λ raw. <a href="../../ops/ScalarOpsSpecs/index.html#signed_raw">signed_raw</a> w64 (int_wrap w8 (<a href="../../raw/RawValSpecs/index.html#signed_in">signed_in</a> w64 raw)))
-<a href="../../ops/ScalarOpsSpecs/index.html#scalar_unary_row">scalar_unary_row</a> unary.I64Extend16S = (codes "i64_extend16_s", λ raw. <a href="../../ops/ScalarOpsSpecs/index.html#signed_raw">signed_raw</a> w64 (int_wrap w16 (<a href="../../raw/RawValSpecs/index.html#signed_in">signed_in</a> w64 raw)))
-<a href="../../ops/ScalarOpsSpecs/index.html#scalar_unary_row">scalar_unary_row</a> unary.I64Extend32S = (codes "i64_extend32_s", λ raw. <a href="../../ops/ScalarOpsSpecs/index.html#signed_raw">signed_raw</a> w64 (int_wrap w32 (<a href="../../raw/RawValSpecs/index.html#signed_in">signed_in</a> w64 raw)))
-
--- what an instruction of one raw value gives
-abbrev pub <b id="unary_raw">unary_raw</b> : ScalarUnaryOp → RawVal → RawVal
-<a href="../../ops/ScalarOpsSpecs/index.html#unary_raw">unary_raw</a> op = (<a href="../../ops/ScalarOpsSpecs/index.html#scalar_unary_row">scalar_unary_row</a> op).1
-
--- the name of a scalar instruction of one operand
-abbrev pub <b id="scalar_unary_name">scalar_unary_name</b> : ScalarUnaryOp → List ℕ
-<a href="../../ops/ScalarOpsSpecs/index.html#scalar_unary_name">scalar_unary_name</a> op = (<a href="../../ops/ScalarOpsSpecs/index.html#scalar_unary_row">scalar_unary_row</a> op).0
-
--- what an instruction of two raw values gives, or its trap
-abbrev pub <b id="RawOperation">RawOperation</b> : Type 0
-<a href="../../ops/ScalarOpsSpecs/index.html#RawOperation">RawOperation</a> = RawVal → RawVal → Result RawVal TrapCode
-
--- an operation on two numbers that are read signed in a width
-abbrev pub <b id="signed_operation">signed_operation</b> : Width → (Width → ℤ → ℤ → ℤ) → <a href="../../ops/ScalarOpsSpecs/index.html#RawOperation">RawOperation</a>
-<a href="../../ops/ScalarOpsSpecs/index.html#signed_operation">signed_operation</a> w operator lhs rhs = Ok (<a href="../../ops/ScalarOpsSpecs/index.html#signed_raw">signed_raw</a> w (operator w (<a href="../../raw/RawValSpecs/index.html#signed_in">signed_in</a> w lhs) (<a href="../../raw/RawValSpecs/index.html#signed_in">signed_in</a> w rhs)))
-
--- the operation on two raw values whose numbers are read unsigned
-abbrev pub <b id="unsigned_operation">unsigned_operation</b> : Width → (Width → ℕ → ℕ → ℕ) → <a href="../../ops/ScalarOpsSpecs/index.html#RawOperation">RawOperation</a>
-<a href="../../ops/ScalarOpsSpecs/index.html#unsigned_operation">unsigned_operation</a> w operator lhs rhs = Ok (<a href="../../raw/RawValSpecs/index.html#raw_of">raw_of</a> (operator w (<a href="../../raw/RawValSpecs/index.html#unsigned_in">unsigned_in</a> w lhs) (<a href="../../raw/RawValSpecs/index.html#unsigned_in">unsigned_in</a> w rhs)))
-
--- an operation on two numbers that are read signed in a width, which may trap
-abbrev pub <b id="signed_partial">signed_partial</b> : Width → (ℤ → ℤ → Result ℤ TrapCode) → <a href="../../ops/ScalarOpsSpecs/index.html#RawOperation">RawOperation</a>
-<a href="../../ops/ScalarOpsSpecs/index.html#signed_partial">signed_partial</a> w operator lhs rhs = <a href="../../ops/ScalarOpsSpecs/index.html#as_raw">as_raw</a> (<a href="../../ops/ScalarOpsSpecs/index.html#signed_raw">signed_raw</a> w) (operator (<a href="../../raw/RawValSpecs/index.html#signed_in">signed_in</a> w lhs) (<a href="../../raw/RawValSpecs/index.html#signed_in">signed_in</a> w rhs))
-
--- the operation that may trap, on two raw values whose numbers are read unsigned
-abbrev pub <b id="unsigned_partial">unsigned_partial</b> : Width → (ℕ → ℕ → Result ℕ TrapCode) → <a href="../../ops/ScalarOpsSpecs/index.html#RawOperation">RawOperation</a>
-<a href="../../ops/ScalarOpsSpecs/index.html#unsigned_partial">unsigned_partial</a> w operator lhs rhs = <a href="../../ops/ScalarOpsSpecs/index.html#as_raw">as_raw</a> <a href="../../raw/RawValSpecs/index.html#raw_of">raw_of</a> (operator (<a href="../../raw/RawValSpecs/index.html#unsigned_in">unsigned_in</a> w lhs) (<a href="../../raw/RawValSpecs/index.html#unsigned_in">unsigned_in</a> w rhs))
-
--- a comparison of two numbers that are read signed in a width
-abbrev pub <b id="signed_comparison">signed_comparison</b> : Width → (ℤ → ℤ → Bool) → <a href="../../ops/ScalarOpsSpecs/index.html#RawOperation">RawOperation</a>
-<a href="../../ops/ScalarOpsSpecs/index.html#signed_comparison">signed_comparison</a> w relation lhs rhs = Ok (<a href="../../ops/ScalarOpsSpecs/index.html#bool_raw">bool_raw</a> (relation (<a href="../../raw/RawValSpecs/index.html#signed_in">signed_in</a> w lhs) (<a href="../../raw/RawValSpecs/index.html#signed_in">signed_in</a> w rhs)))
-
--- the comparison of two raw values whose numbers are read unsigned
-abbrev pub <b id="unsigned_comparison">unsigned_comparison</b> : Width → (ℕ → ℕ → Bool) → <a href="../../ops/ScalarOpsSpecs/index.html#RawOperation">RawOperation</a>
-<a href="../../ops/ScalarOpsSpecs/index.html#unsigned_comparison">unsigned_comparison</a> w relation lhs rhs = Ok (<a href="../../ops/ScalarOpsSpecs/index.html#bool_raw">bool_raw</a> (relation (<a href="../../raw/RawValSpecs/index.html#unsigned_in">unsigned_in</a> w lhs) (<a href="../../raw/RawValSpecs/index.html#unsigned_in">unsigned_in</a> w rhs)))
-
--- an operation on two numbers of 128 bits
-abbrev pub <b id="wide_operation">wide_operation</b> : (ℕ → ℕ → ℕ) → <a href="../../ops/ScalarOpsSpecs/index.html#RawOperation">RawOperation</a>
-<a href="../../ops/ScalarOpsSpecs/index.html#wide_operation">wide_operation</a> operator lhs rhs = Ok (<a href="../../raw/RawValSpecs/index.html#raw_of_vector">raw_of_vector</a> (operator (<a href="../../raw/RawValSpecs/index.html#vector_in">vector_in</a> lhs) (<a href="../../raw/RawValSpecs/index.html#vector_in">vector_in</a> rhs)))
-
--- each instruction of two raw values: its name, and its operation
-abbrev pub <b id="scalar_binary_row">scalar_binary_row</b> : ScalarBinaryOp → List ℕ × <a href="../../ops/ScalarOpsSpecs/index.html#RawOperation">RawOperation</a>
-<a href="../../ops/ScalarOpsSpecs/index.html#scalar_binary_row">scalar_binary_row</a> binary.I32Add = (codes "i32_add", <a href="../../ops/ScalarOpsSpecs/index.html#signed_operation">signed_operation</a> w32 <a href="../../scalar/NumericsSpecs/index.html#iadd">iadd</a>)
-<a href="../../ops/ScalarOpsSpecs/index.html#scalar_binary_row">scalar_binary_row</a> binary.I32Sub = (codes "i32_sub", <a href="../../ops/ScalarOpsSpecs/index.html#signed_operation">signed_operation</a> w32 <a href="../../scalar/NumericsSpecs/index.html#isub">isub</a>)
-<a href="../../ops/ScalarOpsSpecs/index.html#scalar_binary_row">scalar_binary_row</a> binary.I32Mul = (codes "i32_mul", <a href="../../ops/ScalarOpsSpecs/index.html#signed_operation">signed_operation</a> w32 <a href="../../scalar/NumericsSpecs/index.html#imul">imul</a>)
-<a href="../../ops/ScalarOpsSpecs/index.html#scalar_binary_row">scalar_binary_row</a> binary.I32Bitand = (codes "i32_bitand", <a href="../../ops/ScalarOpsSpecs/index.html#signed_operation">signed_operation</a> w32 <a href="../../scalar/NumericsSpecs/index.html#iand">iand</a>)
-<a href="../../ops/ScalarOpsSpecs/index.html#scalar_binary_row">scalar_binary_row</a> binary.I32Bitor = (codes "i32_bitor", <a href="../../ops/ScalarOpsSpecs/index.html#signed_operation">signed_operation</a> w32 <a href="../../scalar/NumericsSpecs/index.html#ior">ior</a>)
-<a href="../../ops/ScalarOpsSpecs/index.html#scalar_binary_row">scalar_binary_row</a> binary.I32Bitxor = (codes "i32_bitxor", <a href="../../ops/ScalarOpsSpecs/index.html#signed_operation">signed_operation</a> w32 <a href="../../scalar/NumericsSpecs/index.html#ixor">ixor</a>)
-<a href="../../ops/ScalarOpsSpecs/index.html#scalar_binary_row">scalar_binary_row</a> binary.I32Shl = (codes "i32_shl", <a href="../../ops/ScalarOpsSpecs/index.html#signed_operation">signed_operation</a> w32 <a href="../../scalar/NumericsSpecs/index.html#ishl">ishl</a>)
-<a href="../../ops/ScalarOpsSpecs/index.html#scalar_binary_row">scalar_binary_row</a> binary.I32ShrS = (codes "i32_shr_s", <a href="../../ops/ScalarOpsSpecs/index.html#signed_operation">signed_operation</a> w32 <a href="../../scalar/NumericsSpecs/index.html#ishr_s">ishr_s</a>)
-<a href="../../ops/ScalarOpsSpecs/index.html#scalar_binary_row">scalar_binary_row</a> binary.I32ShrU = (codes "i32_shr_u", <a href="../../ops/ScalarOpsSpecs/index.html#unsigned_operation">unsigned_operation</a> w32 <a href="../../scalar/NumericsSpecs/index.html#ishr_u">ishr_u</a>)
-<a href="../../ops/ScalarOpsSpecs/index.html#scalar_binary_row">scalar_binary_row</a> binary.I32Rotl = (codes "i32_rotl", <a href="../../ops/ScalarOpsSpecs/index.html#signed_operation">signed_operation</a> w32 <a href="../../scalar/NumericsSpecs/index.html#irotl">irotl</a>)
-<a href="../../ops/ScalarOpsSpecs/index.html#scalar_binary_row">scalar_binary_row</a> binary.I32Rotr = (codes "i32_rotr", <a href="../../ops/ScalarOpsSpecs/index.html#signed_operation">signed_operation</a> w32 <a href="../../scalar/NumericsSpecs/index.html#irotr">irotr</a>)
-<a href="../../ops/ScalarOpsSpecs/index.html#scalar_binary_row">scalar_binary_row</a> binary.I32DivS = (codes "i32_div_s", <a href="../../ops/ScalarOpsSpecs/index.html#signed_partial">signed_partial</a> w32 (<a href="../../scalar/NumericsSpecs/index.html#idiv_s">idiv_s</a> w32))
-<a href="../../ops/ScalarOpsSpecs/index.html#scalar_binary_row">scalar_binary_row</a> binary.I32DivU = (codes "i32_div_u", <a href="../../ops/ScalarOpsSpecs/index.html#unsigned_partial">unsigned_partial</a> w32 <a href="../../scalar/NumericsSpecs/index.html#idiv_u">idiv_u</a>)
-<a href="../../ops/ScalarOpsSpecs/index.html#scalar_binary_row">scalar_binary_row</a> binary.I32RemS = (codes "i32_rem_s", <a href="../../ops/ScalarOpsSpecs/index.html#signed_partial">signed_partial</a> w32 <a href="../../scalar/NumericsSpecs/index.html#irem_s">irem_s</a>)
-<a href="../../ops/ScalarOpsSpecs/index.html#scalar_binary_row">scalar_binary_row</a> binary.I32RemU = (codes "i32_rem_u", <a href="../../ops/ScalarOpsSpecs/index.html#unsigned_partial">unsigned_partial</a> w32 <a href="../../scalar/NumericsSpecs/index.html#irem_u">irem_u</a>)
-<a href="../../ops/ScalarOpsSpecs/index.html#scalar_binary_row">scalar_binary_row</a> binary.I32Eq = (codes "i32_eq", <a href="../../ops/ScalarOpsSpecs/index.html#signed_comparison">signed_comparison</a> w32 <a href="../../scalar/NumericsSpecs/index.html#ieq">ieq</a>)
-<a href="../../ops/ScalarOpsSpecs/index.html#scalar_binary_row">scalar_binary_row</a> binary.I32Ne = (codes "i32_ne", <a href="../../ops/ScalarOpsSpecs/index.html#signed_comparison">signed_comparison</a> w32 <a href="../../scalar/NumericsSpecs/index.html#ine">ine</a>)
-<a href="../../ops/ScalarOpsSpecs/index.html#scalar_binary_row">scalar_binary_row</a> binary.I32LtS = (codes "i32_lt_s", <a href="../../ops/ScalarOpsSpecs/index.html#signed_comparison">signed_comparison</a> w32 <a href="../../scalar/NumericsSpecs/index.html#ilt_s">ilt_s</a>)
-<a href="../../ops/ScalarOpsSpecs/index.html#scalar_binary_row">scalar_binary_row</a> binary.I32LtU = (codes "i32_lt_u", <a href="../../ops/ScalarOpsSpecs/index.html#unsigned_comparison">unsigned_comparison</a> w32 <a href="../../scalar/NumericsSpecs/index.html#ilt_u">ilt_u</a>)
-<a href="../../ops/ScalarOpsSpecs/index.html#scalar_binary_row">scalar_binary_row</a> binary.I32LeS = (codes "i32_le_s", <a href="../../ops/ScalarOpsSpecs/index.html#signed_comparison">signed_comparison</a> w32 <a href="../../scalar/NumericsSpecs/index.html#ile_s">ile_s</a>)
-<a href="../../ops/ScalarOpsSpecs/index.html#scalar_binary_row">scalar_binary_row</a> binary.I32LeU = (codes "i32_le_u", <a href="../../ops/ScalarOpsSpecs/index.html#unsigned_comparison">unsigned_comparison</a> w32 <a href="../../scalar/NumericsSpecs/index.html#ile_u">ile_u</a>)
-<a href="../../ops/ScalarOpsSpecs/index.html#scalar_binary_row">scalar_binary_row</a> binary.I32GtS = (codes "i32_gt_s", <a href="../../ops/ScalarOpsSpecs/index.html#signed_comparison">signed_comparison</a> w32 <a href="../../scalar/NumericsSpecs/index.html#igt_s">igt_s</a>)
-<a href="../../ops/ScalarOpsSpecs/index.html#scalar_binary_row">scalar_binary_row</a> binary.I32GtU = (codes "i32_gt_u", <a href="../../ops/ScalarOpsSpecs/index.html#unsigned_comparison">unsigned_comparison</a> w32 <a href="../../scalar/NumericsSpecs/index.html#igt_u">igt_u</a>)
-<a href="../../ops/ScalarOpsSpecs/index.html#scalar_binary_row">scalar_binary_row</a> binary.I32GeS = (codes "i32_ge_s", <a href="../../ops/ScalarOpsSpecs/index.html#signed_comparison">signed_comparison</a> w32 <a href="../../scalar/NumericsSpecs/index.html#ige_s">ige_s</a>)
-<a href="../../ops/ScalarOpsSpecs/index.html#scalar_binary_row">scalar_binary_row</a> binary.I32GeU = (codes "i32_ge_u", <a href="../../ops/ScalarOpsSpecs/index.html#unsigned_comparison">unsigned_comparison</a> w32 <a href="../../scalar/NumericsSpecs/index.html#ige_u">ige_u</a>)
-<a href="../../ops/ScalarOpsSpecs/index.html#scalar_binary_row">scalar_binary_row</a> binary.I64Add = (codes "i64_add", <a href="../../ops/ScalarOpsSpecs/index.html#signed_operation">signed_operation</a> w64 <a href="../../scalar/NumericsSpecs/index.html#iadd">iadd</a>)
-<a href="../../ops/ScalarOpsSpecs/index.html#scalar_binary_row">scalar_binary_row</a> binary.I64Sub = (codes "i64_sub", <a href="../../ops/ScalarOpsSpecs/index.html#signed_operation">signed_operation</a> w64 <a href="../../scalar/NumericsSpecs/index.html#isub">isub</a>)
-<a href="../../ops/ScalarOpsSpecs/index.html#scalar_binary_row">scalar_binary_row</a> binary.I64Mul = (codes "i64_mul", <a href="../../ops/ScalarOpsSpecs/index.html#signed_operation">signed_operation</a> w64 <a href="../../scalar/NumericsSpecs/index.html#imul">imul</a>)
-<a href="../../ops/ScalarOpsSpecs/index.html#scalar_binary_row">scalar_binary_row</a> binary.I64Bitand = (codes "i64_bitand", <a href="../../ops/ScalarOpsSpecs/index.html#signed_operation">signed_operation</a> w64 <a href="../../scalar/NumericsSpecs/index.html#iand">iand</a>)
-<a href="../../ops/ScalarOpsSpecs/index.html#scalar_binary_row">scalar_binary_row</a> binary.I64Bitor = (codes "i64_bitor", <a href="../../ops/ScalarOpsSpecs/index.html#signed_operation">signed_operation</a> w64 <a href="../../scalar/NumericsSpecs/index.html#ior">ior</a>)
-<a href="../../ops/ScalarOpsSpecs/index.html#scalar_binary_row">scalar_binary_row</a> binary.I64Bitxor = (codes "i64_bitxor", <a href="../../ops/ScalarOpsSpecs/index.html#signed_operation">signed_operation</a> w64 <a href="../../scalar/NumericsSpecs/index.html#ixor">ixor</a>)
-<a href="../../ops/ScalarOpsSpecs/index.html#scalar_binary_row">scalar_binary_row</a> binary.I64Shl = (codes "i64_shl", <a href="../../ops/ScalarOpsSpecs/index.html#signed_operation">signed_operation</a> w64 <a href="../../scalar/NumericsSpecs/index.html#ishl">ishl</a>)
-<a href="../../ops/ScalarOpsSpecs/index.html#scalar_binary_row">scalar_binary_row</a> binary.I64ShrS = (codes "i64_shr_s", <a href="../../ops/ScalarOpsSpecs/index.html#signed_operation">signed_operation</a> w64 <a href="../../scalar/NumericsSpecs/index.html#ishr_s">ishr_s</a>)
-<a href="../../ops/ScalarOpsSpecs/index.html#scalar_binary_row">scalar_binary_row</a> binary.I64ShrU = (codes "i64_shr_u", <a href="../../ops/ScalarOpsSpecs/index.html#unsigned_operation">unsigned_operation</a> w64 <a href="../../scalar/NumericsSpecs/index.html#ishr_u">ishr_u</a>)
-<a href="../../ops/ScalarOpsSpecs/index.html#scalar_binary_row">scalar_binary_row</a> binary.I64Rotl = (codes "i64_rotl", <a href="../../ops/ScalarOpsSpecs/index.html#signed_operation">signed_operation</a> w64 <a href="../../scalar/NumericsSpecs/index.html#irotl">irotl</a>)
-<a href="../../ops/ScalarOpsSpecs/index.html#scalar_binary_row">scalar_binary_row</a> binary.I64Rotr = (codes "i64_rotr", <a href="../../ops/ScalarOpsSpecs/index.html#signed_operation">signed_operation</a> w64 <a href="../../scalar/NumericsSpecs/index.html#irotr">irotr</a>)
-<a href="../../ops/ScalarOpsSpecs/index.html#scalar_binary_row">scalar_binary_row</a> binary.I64DivS = (codes "i64_div_s", <a href="../../ops/ScalarOpsSpecs/index.html#signed_partial">signed_partial</a> w64 (<a href="../../scalar/NumericsSpecs/index.html#idiv_s">idiv_s</a> w64))
-<a href="../../ops/ScalarOpsSpecs/index.html#scalar_binary_row">scalar_binary_row</a> binary.I64DivU = (codes "i64_div_u", <a href="../../ops/ScalarOpsSpecs/index.html#unsigned_partial">unsigned_partial</a> w64 <a href="../../scalar/NumericsSpecs/index.html#idiv_u">idiv_u</a>)
-<a href="../../ops/ScalarOpsSpecs/index.html#scalar_binary_row">scalar_binary_row</a> binary.I64RemS = (codes "i64_rem_s", <a href="../../ops/ScalarOpsSpecs/index.html#signed_partial">signed_partial</a> w64 <a href="../../scalar/NumericsSpecs/index.html#irem_s">irem_s</a>)
-<a href="../../ops/ScalarOpsSpecs/index.html#scalar_binary_row">scalar_binary_row</a> binary.I64RemU = (codes "i64_rem_u", <a href="../../ops/ScalarOpsSpecs/index.html#unsigned_partial">unsigned_partial</a> w64 <a href="../../scalar/NumericsSpecs/index.html#irem_u">irem_u</a>)
-<a href="../../ops/ScalarOpsSpecs/index.html#scalar_binary_row">scalar_binary_row</a> binary.I64Eq = (codes "i64_eq", <a href="../../ops/ScalarOpsSpecs/index.html#signed_comparison">signed_comparison</a> w64 <a href="../../scalar/NumericsSpecs/index.html#ieq">ieq</a>)
-<a href="../../ops/ScalarOpsSpecs/index.html#scalar_binary_row">scalar_binary_row</a> binary.I64Ne = (codes "i64_ne", <a href="../../ops/ScalarOpsSpecs/index.html#signed_comparison">signed_comparison</a> w64 <a href="../../scalar/NumericsSpecs/index.html#ine">ine</a>)
-<a href="../../ops/ScalarOpsSpecs/index.html#scalar_binary_row">scalar_binary_row</a> binary.I64LtS = (codes "i64_lt_s", <a href="../../ops/ScalarOpsSpecs/index.html#signed_comparison">signed_comparison</a> w64 <a href="../../scalar/NumericsSpecs/index.html#ilt_s">ilt_s</a>)
-<a href="../../ops/ScalarOpsSpecs/index.html#scalar_binary_row">scalar_binary_row</a> binary.I64LtU = (codes "i64_lt_u", <a href="../../ops/ScalarOpsSpecs/index.html#unsigned_comparison">unsigned_comparison</a> w64 <a href="../../scalar/NumericsSpecs/index.html#ilt_u">ilt_u</a>)
-<a href="../../ops/ScalarOpsSpecs/index.html#scalar_binary_row">scalar_binary_row</a> binary.I64LeS = (codes "i64_le_s", <a href="../../ops/ScalarOpsSpecs/index.html#signed_comparison">signed_comparison</a> w64 <a href="../../scalar/NumericsSpecs/index.html#ile_s">ile_s</a>)
-<a href="../../ops/ScalarOpsSpecs/index.html#scalar_binary_row">scalar_binary_row</a> binary.I64LeU = (codes "i64_le_u", <a href="../../ops/ScalarOpsSpecs/index.html#unsigned_comparison">unsigned_comparison</a> w64 <a href="../../scalar/NumericsSpecs/index.html#ile_u">ile_u</a>)
-<a href="../../ops/ScalarOpsSpecs/index.html#scalar_binary_row">scalar_binary_row</a> binary.I64GtS = (codes "i64_gt_s", <a href="../../ops/ScalarOpsSpecs/index.html#signed_comparison">signed_comparison</a> w64 <a href="../../scalar/NumericsSpecs/index.html#igt_s">igt_s</a>)
-<a href="../../ops/ScalarOpsSpecs/index.html#scalar_binary_row">scalar_binary_row</a> binary.I64GtU = (codes "i64_gt_u", <a href="../../ops/ScalarOpsSpecs/index.html#unsigned_comparison">unsigned_comparison</a> w64 <a href="../../scalar/NumericsSpecs/index.html#igt_u">igt_u</a>)
-<a href="../../ops/ScalarOpsSpecs/index.html#scalar_binary_row">scalar_binary_row</a> binary.I64GeS = (codes "i64_ge_s", <a href="../../ops/ScalarOpsSpecs/index.html#signed_comparison">signed_comparison</a> w64 <a href="../../scalar/NumericsSpecs/index.html#ige_s">ige_s</a>)
-<a href="../../ops/ScalarOpsSpecs/index.html#scalar_binary_row">scalar_binary_row</a> binary.I64GeU = (codes "i64_ge_u", <a href="../../ops/ScalarOpsSpecs/index.html#unsigned_comparison">unsigned_comparison</a> w64 <a href="../../scalar/NumericsSpecs/index.html#ige_u">ige_u</a>)
-<a href="../../ops/ScalarOpsSpecs/index.html#scalar_binary_row">scalar_binary_row</a> binary.I64Add128 = (codes "i64_add128", <a href="../../ops/ScalarOpsSpecs/index.html#wide_operation">wide_operation</a> <a href="../../scalar/NumericsSpecs/index.html#add128">add128</a>)
-<a href="../../ops/ScalarOpsSpecs/index.html#scalar_binary_row">scalar_binary_row</a> binary.I64Sub128 = (codes "i64_sub128", <a href="../../ops/ScalarOpsSpecs/index.html#wide_operation">wide_operation</a> <a href="../../scalar/NumericsSpecs/index.html#sub128">sub128</a>)
-<a href="../../ops/ScalarOpsSpecs/index.html#scalar_binary_row">scalar_binary_row</a> binary.I64MulWideS =
-    (codes "i64_mul_wide_s", λ lhs rhs. Ok (<a href="../../raw/RawValSpecs/index.html#raw_of_vector">raw_of_vector</a> (cast_unsigned w128 (<a href="../../raw/RawValSpecs/index.html#signed_in">signed_in</a> w64 lhs *ℤ <a href="../../raw/RawValSpecs/index.html#signed_in">signed_in</a> w64 rhs))))
-<a href="../../ops/ScalarOpsSpecs/index.html#scalar_binary_row">scalar_binary_row</a> binary.I64MulWideU =
-    (codes "i64_mul_wide_u", λ lhs rhs. Ok (<a href="../../raw/RawValSpecs/index.html#raw_of_vector">raw_of_vector</a> (<a href="../../raw/RawValSpecs/index.html#unsigned_in">unsigned_in</a> w64 lhs * <a href="../../raw/RawValSpecs/index.html#unsigned_in">unsigned_in</a> w64 rhs)))
-
--- the operation of each instruction
-abbrev pub <b id="binary_raw">binary_raw</b> : ScalarBinaryOp → <a href="../../ops/ScalarOpsSpecs/index.html#RawOperation">RawOperation</a>
-<a href="../../ops/ScalarOpsSpecs/index.html#binary_raw">binary_raw</a> op = (<a href="../../ops/ScalarOpsSpecs/index.html#scalar_binary_row">scalar_binary_row</a> op).1
-
--- the name of a scalar instruction of two operands
-abbrev pub <b id="scalar_binary_name">scalar_binary_name</b> : ScalarBinaryOp → List ℕ
-<a href="../../ops/ScalarOpsSpecs/index.html#scalar_binary_name">scalar_binary_name</a> op = (<a href="../../ops/ScalarOpsSpecs/index.html#scalar_binary_row">scalar_binary_row</a> op).0
+<a href="../../ops/LoadStoreOpsSpecs/index.html#as_raw">as_raw</a> raw (Ok value) = Ok (raw value)
+<a href="../../ops/LoadStoreOpsSpecs/index.html#as_raw">as_raw</a> raw (Err trap) = Err trap
 
 -- what a load from an address in a memory of these bytes gives, or its trap
 abbrev pub <b id="RawLoad">RawLoad</b> : Type 0
-<a href="../../ops/ScalarOpsSpecs/index.html#RawLoad">RawLoad</a> = List ℕ → ℕ → Result RawVal TrapCode
+<a href="../../ops/LoadStoreOpsSpecs/index.html#RawLoad">RawLoad</a> = List ℕ → ℕ → Result RawVal TrapCode
 
 -- the load of a number of a narrow width, sign-extended to a width
-abbrev pub <b id="sign_extended">sign_extended</b> : Width → Width → <a href="../../ops/ScalarOpsSpecs/index.html#RawLoad">RawLoad</a>
-<a href="../../ops/ScalarOpsSpecs/index.html#sign_extended">sign_extended</a> w narrow bytes a = <a href="../../ops/ScalarOpsSpecs/index.html#as_raw">as_raw</a> (<a href="../../ops/ScalarOpsSpecs/index.html#signed_raw">signed_raw</a> w) (<a href="../../accesses/LoadStoreSpecs/index.html#loaded">loaded</a> (bits narrow / 8) (cast_signed narrow) bytes a)
+abbrev pub <b id="sign_extended">sign_extended</b> : Width → Width → <a href="../../ops/LoadStoreOpsSpecs/index.html#RawLoad">RawLoad</a>
+<a href="../../ops/LoadStoreOpsSpecs/index.html#sign_extended">sign_extended</a> w narrow bytes a = <a href="../../ops/LoadStoreOpsSpecs/index.html#as_raw">as_raw</a> (<a href="../../ops/LoadStoreOpsSpecs/index.html#signed_raw">signed_raw</a> w) (<a href="../../accesses/LoadStoreSpecs/index.html#loaded">loaded</a> (bits narrow / 8) (cast_signed narrow) bytes a)
 
 -- the load of a number of a narrow width, zero-extended to a width
-abbrev pub <b id="zero_extended">zero_extended</b> : Width → Width → <a href="../../ops/ScalarOpsSpecs/index.html#RawLoad">RawLoad</a>
-<a href="../../ops/ScalarOpsSpecs/index.html#zero_extended">zero_extended</a> w narrow bytes a = <a href="../../ops/ScalarOpsSpecs/index.html#as_raw">as_raw</a> (<a href="../../ops/ScalarOpsSpecs/index.html#signed_raw">signed_raw</a> w) (<a href="../../accesses/LoadStoreSpecs/index.html#loaded">loaded</a> (bits narrow / 8) pos bytes a)
+abbrev pub <b id="zero_extended">zero_extended</b> : Width → Width → <a href="../../ops/LoadStoreOpsSpecs/index.html#RawLoad">RawLoad</a>
+<a href="../../ops/LoadStoreOpsSpecs/index.html#zero_extended">zero_extended</a> w narrow bytes a = <a href="../../ops/LoadStoreOpsSpecs/index.html#as_raw">as_raw</a> (<a href="../../ops/LoadStoreOpsSpecs/index.html#signed_raw">signed_raw</a> w) (<a href="../../accesses/LoadStoreSpecs/index.html#loaded">loaded</a> (bits narrow / 8) pos bytes a)
 
 -- the load of a value of a width
-abbrev pub <b id="unextended">unextended</b> : Width → <a href="../../ops/ScalarOpsSpecs/index.html#RawLoad">RawLoad</a>
-<a href="../../ops/ScalarOpsSpecs/index.html#unextended">unextended</a> w bytes a = <a href="../../ops/ScalarOpsSpecs/index.html#as_raw">as_raw</a> <a href="../../raw/RawValSpecs/index.html#raw_of">raw_of</a> (<a href="../../accesses/LoadStoreSpecs/index.html#loaded">loaded</a> (bits w / 8) (λ number. number) bytes a)
+abbrev pub <b id="unextended">unextended</b> : Width → <a href="../../ops/LoadStoreOpsSpecs/index.html#RawLoad">RawLoad</a>
+<a href="../../ops/LoadStoreOpsSpecs/index.html#unextended">unextended</a> w bytes a = <a href="../../ops/LoadStoreOpsSpecs/index.html#as_raw">as_raw</a> <a href="../../raw/RawValSpecs/index.html#raw_of">raw_of</a> (<a href="../../accesses/LoadStoreSpecs/index.html#loaded">loaded</a> (bits w / 8) (λ number. number) bytes a)
 
 -- each load: its name, and the load
-abbrev pub <b id="load_row">load_row</b> : LoadOp → List ℕ × <a href="../../ops/ScalarOpsSpecs/index.html#RawLoad">RawLoad</a>
-<a href="../../ops/ScalarOpsSpecs/index.html#load_row">load_row</a> load.I32Load8S = (codes "i32_load8_s", <a href="../../ops/ScalarOpsSpecs/index.html#sign_extended">sign_extended</a> w32 w8)
-<a href="../../ops/ScalarOpsSpecs/index.html#load_row">load_row</a> load.I32Load8U = (codes "i32_load8_u", <a href="../../ops/ScalarOpsSpecs/index.html#zero_extended">zero_extended</a> w32 w8)
-<a href="../../ops/ScalarOpsSpecs/index.html#load_row">load_row</a> load.I32Load16S = (codes "i32_load16_s", <a href="../../ops/ScalarOpsSpecs/index.html#sign_extended">sign_extended</a> w32 w16)
-<a href="../../ops/ScalarOpsSpecs/index.html#load_row">load_row</a> load.I32Load16U = (codes "i32_load16_u", <a href="../../ops/ScalarOpsSpecs/index.html#zero_extended">zero_extended</a> w32 w16)
-<a href="../../ops/ScalarOpsSpecs/index.html#load_row">load_row</a> load.I64Load8S = (codes "i64_load8_s", <a href="../../ops/ScalarOpsSpecs/index.html#sign_extended">sign_extended</a> w64 w8)
-<a href="../../ops/ScalarOpsSpecs/index.html#load_row">load_row</a> load.I64Load8U = (codes "i64_load8_u", <a href="../../ops/ScalarOpsSpecs/index.html#zero_extended">zero_extended</a> w64 w8)
-<a href="../../ops/ScalarOpsSpecs/index.html#load_row">load_row</a> load.I64Load16S = (codes "i64_load16_s", <a href="../../ops/ScalarOpsSpecs/index.html#sign_extended">sign_extended</a> w64 w16)
-<a href="../../ops/ScalarOpsSpecs/index.html#load_row">load_row</a> load.I64Load16U = (codes "i64_load16_u", <a href="../../ops/ScalarOpsSpecs/index.html#zero_extended">zero_extended</a> w64 w16)
-<a href="../../ops/ScalarOpsSpecs/index.html#load_row">load_row</a> load.I64Load32S = (codes "i64_load32_s", <a href="../../ops/ScalarOpsSpecs/index.html#sign_extended">sign_extended</a> w64 w32)
-<a href="../../ops/ScalarOpsSpecs/index.html#load_row">load_row</a> load.I64Load32U = (codes "i64_load32_u", <a href="../../ops/ScalarOpsSpecs/index.html#zero_extended">zero_extended</a> w64 w32)
-<a href="../../ops/ScalarOpsSpecs/index.html#load_row">load_row</a> load.LoadU32 = (codes "load_u32", <a href="../../ops/ScalarOpsSpecs/index.html#unextended">unextended</a> w32)
-<a href="../../ops/ScalarOpsSpecs/index.html#load_row">load_row</a> load.LoadU64 = (codes "load_u64", <a href="../../ops/ScalarOpsSpecs/index.html#unextended">unextended</a> w64)
+abbrev pub <b id="load_row">load_row</b> : LoadOp → List ℕ × <a href="../../ops/LoadStoreOpsSpecs/index.html#RawLoad">RawLoad</a>
+<a href="../../ops/LoadStoreOpsSpecs/index.html#load_row">load_row</a> load.I32Load8S = (codes "i32_load8_s", <a href="../../ops/LoadStoreOpsSpecs/index.html#sign_extended">sign_extended</a> w32 w8)
+<a href="../../ops/LoadStoreOpsSpecs/index.html#load_row">load_row</a> load.I32Load8U = (codes "i32_load8_u", <a href="../../ops/LoadStoreOpsSpecs/index.html#zero_extended">zero_extended</a> w32 w8)
+<a href="../../ops/LoadStoreOpsSpecs/index.html#load_row">load_row</a> load.I32Load16S = (codes "i32_load16_s", <a href="../../ops/LoadStoreOpsSpecs/index.html#sign_extended">sign_extended</a> w32 w16)
+<a href="../../ops/LoadStoreOpsSpecs/index.html#load_row">load_row</a> load.I32Load16U = (codes "i32_load16_u", <a href="../../ops/LoadStoreOpsSpecs/index.html#zero_extended">zero_extended</a> w32 w16)
+<a href="../../ops/LoadStoreOpsSpecs/index.html#load_row">load_row</a> load.I64Load8S = (codes "i64_load8_s", <a href="../../ops/LoadStoreOpsSpecs/index.html#sign_extended">sign_extended</a> w64 w8)
+<a href="../../ops/LoadStoreOpsSpecs/index.html#load_row">load_row</a> load.I64Load8U = (codes "i64_load8_u", <a href="../../ops/LoadStoreOpsSpecs/index.html#zero_extended">zero_extended</a> w64 w8)
+<a href="../../ops/LoadStoreOpsSpecs/index.html#load_row">load_row</a> load.I64Load16S = (codes "i64_load16_s", <a href="../../ops/LoadStoreOpsSpecs/index.html#sign_extended">sign_extended</a> w64 w16)
+<a href="../../ops/LoadStoreOpsSpecs/index.html#load_row">load_row</a> load.I64Load16U = (codes "i64_load16_u", <a href="../../ops/LoadStoreOpsSpecs/index.html#zero_extended">zero_extended</a> w64 w16)
+<a href="../../ops/LoadStoreOpsSpecs/index.html#load_row">load_row</a> load.I64Load32S = (codes "i64_load32_s", <a href="../../ops/LoadStoreOpsSpecs/index.html#sign_extended">sign_extended</a> w64 w32)
+<a href="../../ops/LoadStoreOpsSpecs/index.html#load_row">load_row</a> load.I64Load32U = (codes "i64_load32_u", <a href="../../ops/LoadStoreOpsSpecs/index.html#zero_extended">zero_extended</a> w64 w32)
+<a href="../../ops/LoadStoreOpsSpecs/index.html#load_row">load_row</a> load.LoadU32 = (codes "load_u32", <a href="../../ops/LoadStoreOpsSpecs/index.html#unextended">unextended</a> w32)
+<a href="../../ops/LoadStoreOpsSpecs/index.html#load_row">load_row</a> load.LoadU64 = (codes "load_u64", <a href="../../ops/LoadStoreOpsSpecs/index.html#unextended">unextended</a> w64)
 
 -- the load of each instruction
-abbrev pub <b id="loaded_raw">loaded_raw</b> : LoadOp → <a href="../../ops/ScalarOpsSpecs/index.html#RawLoad">RawLoad</a>
-<a href="../../ops/ScalarOpsSpecs/index.html#loaded_raw">loaded_raw</a> op = (<a href="../../ops/ScalarOpsSpecs/index.html#load_row">load_row</a> op).1
+abbrev pub <b id="loaded_raw">loaded_raw</b> : LoadOp → <a href="../../ops/LoadStoreOpsSpecs/index.html#RawLoad">RawLoad</a>
+<a href="../../ops/LoadStoreOpsSpecs/index.html#loaded_raw">loaded_raw</a> op = (<a href="../../ops/LoadStoreOpsSpecs/index.html#load_row">load_row</a> op).1
 
 -- the name of a scalar load
 abbrev pub <b id="load_name">load_name</b> : LoadOp → List ℕ
-<a href="../../ops/ScalarOpsSpecs/index.html#load_name">load_name</a> op = (<a href="../../ops/ScalarOpsSpecs/index.html#load_row">load_row</a> op).0
+<a href="../../ops/LoadStoreOpsSpecs/index.html#load_name">load_name</a> op = (<a href="../../ops/LoadStoreOpsSpecs/index.html#load_row">load_row</a> op).0
 
 -- each store: its name, and the bytes that it writes, the low ones of the value
 abbrev pub <b id="store_row">store_row</b> : StoreOp → List ℕ × (RawVal → List ℕ)
-<a href="../../ops/ScalarOpsSpecs/index.html#store_row">store_row</a> store.I32Store8 = (codes "i32_store8", λ value. <a href="../../types/NumbersSpecs/index.html#le_bytes">le_bytes</a> 1 (value.lo % 2 ^ 8))
-<a href="../../ops/ScalarOpsSpecs/index.html#store_row">store_row</a> store.I32Store16 = (codes "i32_store16", λ value. <a href="../../types/NumbersSpecs/index.html#le_bytes">le_bytes</a> 2 (value.lo % 2 ^ 16))
-<a href="../../ops/ScalarOpsSpecs/index.html#store_row">store_row</a> store.I64Store8 = (codes "i64_store8", λ value. <a href="../../types/NumbersSpecs/index.html#le_bytes">le_bytes</a> 1 (value.lo % 2 ^ 8))
-<a href="../../ops/ScalarOpsSpecs/index.html#store_row">store_row</a> store.I64Store16 = (codes "i64_store16", λ value. <a href="../../types/NumbersSpecs/index.html#le_bytes">le_bytes</a> 2 (value.lo % 2 ^ 16))
-<a href="../../ops/ScalarOpsSpecs/index.html#store_row">store_row</a> store.I64Store32 = (codes "i64_store32", λ value. <a href="../../types/NumbersSpecs/index.html#le_bytes">le_bytes</a> 4 (value.lo % 2 ^ 32))
-<a href="../../ops/ScalarOpsSpecs/index.html#store_row">store_row</a> store.Store32 = (codes "store32", λ value. <a href="../../types/NumbersSpecs/index.html#le_bytes">le_bytes</a> 4 (value.lo % 2 ^ 32))
-<a href="../../ops/ScalarOpsSpecs/index.html#store_row">store_row</a> store.Store64 = (codes "store64", λ value. <a href="../../types/NumbersSpecs/index.html#le_bytes">le_bytes</a> 8 value.lo)
+<a href="../../ops/LoadStoreOpsSpecs/index.html#store_row">store_row</a> store.I32Store8 = (codes "i32_store8", λ value. <a href="../../types/NumbersSpecs/index.html#le_bytes">le_bytes</a> 1 (value.lo % 2 ^ 8))
+<a href="../../ops/LoadStoreOpsSpecs/index.html#store_row">store_row</a> store.I32Store16 = (codes "i32_store16", λ value. <a href="../../types/NumbersSpecs/index.html#le_bytes">le_bytes</a> 2 (value.lo % 2 ^ 16))
+<a href="../../ops/LoadStoreOpsSpecs/index.html#store_row">store_row</a> store.I64Store8 = (codes "i64_store8", λ value. <a href="../../types/NumbersSpecs/index.html#le_bytes">le_bytes</a> 1 (value.lo % 2 ^ 8))
+<a href="../../ops/LoadStoreOpsSpecs/index.html#store_row">store_row</a> store.I64Store16 = (codes "i64_store16", λ value. <a href="../../types/NumbersSpecs/index.html#le_bytes">le_bytes</a> 2 (value.lo % 2 ^ 16))
+<a href="../../ops/LoadStoreOpsSpecs/index.html#store_row">store_row</a> store.I64Store32 = (codes "i64_store32", λ value. <a href="../../types/NumbersSpecs/index.html#le_bytes">le_bytes</a> 4 (value.lo % 2 ^ 32))
+<a href="../../ops/LoadStoreOpsSpecs/index.html#store_row">store_row</a> store.Store32 = (codes "store32", λ value. <a href="../../types/NumbersSpecs/index.html#le_bytes">le_bytes</a> 4 (value.lo % 2 ^ 32))
+<a href="../../ops/LoadStoreOpsSpecs/index.html#store_row">store_row</a> store.Store64 = (codes "store64", λ value. <a href="../../types/NumbersSpecs/index.html#le_bytes">le_bytes</a> 8 value.lo)
 
 -- the bytes that a store writes: the low ones of the value
 abbrev pub <b id="stored_bytes">stored_bytes</b> : StoreOp → RawVal → List ℕ
-<a href="../../ops/ScalarOpsSpecs/index.html#stored_bytes">stored_bytes</a> op = (<a href="../../ops/ScalarOpsSpecs/index.html#store_row">store_row</a> op).1
+<a href="../../ops/LoadStoreOpsSpecs/index.html#stored_bytes">stored_bytes</a> op = (<a href="../../ops/LoadStoreOpsSpecs/index.html#store_row">store_row</a> op).1
 
 -- the name of a scalar store
 abbrev pub <b id="store_name">store_name</b> : StoreOp → List ℕ
-<a href="../../ops/ScalarOpsSpecs/index.html#store_name">store_name</a> op = (<a href="../../ops/ScalarOpsSpecs/index.html#store_row">store_row</a> op).0
+<a href="../../ops/LoadStoreOpsSpecs/index.html#store_name">store_name</a> op = (<a href="../../ops/LoadStoreOpsSpecs/index.html#store_row">store_row</a> op).0
 </code></pre>
 "####]
-    pub mod ScalarOpsSpecs {}
+    pub mod LoadStoreOpsSpecs {}
     #[doc = r####"The vector instructions: a row for each, its name and what it gives.
 
 <pre><code>use Rattle.std.specs.Prelude.{ℕ, List, codes, Result}
@@ -2075,6 +1940,155 @@ abbrev pub <b id="stored_lane">stored_lane</b> : StoreLaneOp → ℕ → List �
 </code></pre>
 "####]
     pub mod VectorOpsSpecs {}
+}
+/// Definitions of `wasmi_scalar_ops`.
+pub mod scalar_ops {
+    #[doc = r####"The scalar instructions: a row for each, its name and what it gives, as raw values.
+
+<pre><code><a href="../../scalar_ops/ScalarOpsSpecs/index.html#use">use</a> Rattle.std.specs.Prelude.{Bool, ℤ, Result, Ok, ℕ, List, codes, ◌*◌, ◌*ℤ◌}
+<a href="../../scalar_ops/ScalarOpsSpecs/index.html#use">use</a> Rattle.std.specs.Int.{Width, cast_unsigned, from_bool, w8, w16, w32, w64, int_wrap, w128}
+<a href="../../scalar_ops/ScalarOpsSpecs/index.html#use">use</a> Rattle.wasmi_types.specs.declared.trap.TrapCode.{TrapCode}
+<a href="../../scalar_ops/ScalarOpsSpecs/index.html#use">use</a> Rattle.wasmi_raw.specs.declared.raw.RawVal.{RawVal}
+<a href="../../scalar_ops/ScalarOpsSpecs/index.html#use">use</a> Rattle.wasmi_raw.specs.RawVal.{<a href="../../raw/RawValSpecs/index.html#raw_of">raw_of</a>, <a href="../../raw/RawValSpecs/index.html#signed_in">signed_in</a>, <a href="../../raw/RawValSpecs/index.html#unsigned_in">unsigned_in</a>, <a href="../../raw/RawValSpecs/index.html#raw_of_vector">raw_of_vector</a>, <a href="../../raw/RawValSpecs/index.html#vector_in">vector_in</a>}
+<a href="../../scalar_ops/ScalarOpsSpecs/index.html#use">use</a> Rattle.wasmi_scalar.specs.Numerics.{<a href="../../scalar/NumericsSpecs/index.html#iclz">iclz</a>, <a href="../../scalar/NumericsSpecs/index.html#ictz">ictz</a>, <a href="../../scalar/NumericsSpecs/index.html#ipopcnt">ipopcnt</a>, <a href="../../scalar/NumericsSpecs/index.html#ieqz">ieqz</a>, <a href="../../scalar/NumericsSpecs/index.html#iadd">iadd</a>, <a href="../../scalar/NumericsSpecs/index.html#isub">isub</a>, <a href="../../scalar/NumericsSpecs/index.html#imul">imul</a>, <a href="../../scalar/NumericsSpecs/index.html#idiv_s">idiv_s</a>, <a href="../../scalar/NumericsSpecs/index.html#idiv_u">idiv_u</a>, <a href="../../scalar/NumericsSpecs/index.html#irem_s">irem_s</a>, <a href="../../scalar/NumericsSpecs/index.html#irem_u">irem_u</a>, <a href="../../scalar/NumericsSpecs/index.html#iand">iand</a>, <a href="../../scalar/NumericsSpecs/index.html#ior">ior</a>, <a href="../../scalar/NumericsSpecs/index.html#ixor">ixor</a>, <a href="../../scalar/NumericsSpecs/index.html#ishl">ishl</a>, <a href="../../scalar/NumericsSpecs/index.html#ishr_s">ishr_s</a>, <a href="../../scalar/NumericsSpecs/index.html#ishr_u">ishr_u</a>, <a href="../../scalar/NumericsSpecs/index.html#irotl">irotl</a>, <a href="../../scalar/NumericsSpecs/index.html#irotr">irotr</a>, <a href="../../scalar/NumericsSpecs/index.html#ieq">ieq</a>, <a href="../../scalar/NumericsSpecs/index.html#ine">ine</a>, <a href="../../scalar/NumericsSpecs/index.html#ilt_s">ilt_s</a>, <a href="../../scalar/NumericsSpecs/index.html#ilt_u">ilt_u</a>, <a href="../../scalar/NumericsSpecs/index.html#igt_s">igt_s</a>, <a href="../../scalar/NumericsSpecs/index.html#igt_u">igt_u</a>, <a href="../../scalar/NumericsSpecs/index.html#ile_s">ile_s</a>, <a href="../../scalar/NumericsSpecs/index.html#ile_u">ile_u</a>, <a href="../../scalar/NumericsSpecs/index.html#ige_s">ige_s</a>, <a href="../../scalar/NumericsSpecs/index.html#ige_u">ige_u</a>, <a href="../../scalar/NumericsSpecs/index.html#add128">add128</a>, <a href="../../scalar/NumericsSpecs/index.html#sub128">sub128</a>}
+<a href="../../scalar_ops/ScalarOpsSpecs/index.html#use">use</a> Rattle.wasmi_scalar_ops.specs.declared.scalar.ScalarUnaryOp.{ScalarUnaryOp}
+<a href="../../scalar_ops/ScalarOpsSpecs/index.html#use">use</a> Rattle.wasmi_scalar_ops.specs.declared.scalar.ScalarBinaryOp.{ScalarBinaryOp}
+<a href="../../scalar_ops/ScalarOpsSpecs/index.html#use">use</a> Rattle.wasmi_scalar_ops.specs.declared.scalar.ScalarUnaryOp.TheVariants as unary
+<a href="../../scalar_ops/ScalarOpsSpecs/index.html#use">use</a> Rattle.wasmi_scalar_ops.specs.declared.scalar.ScalarBinaryOp.TheVariants as binary
+pub <b id="use">use</b> Rattle.wasmi_ops.specs.LoadStoreOps.{<a href="../../ops/LoadStoreOpsSpecs/index.html#signed_raw">signed_raw</a>, <a href="../../ops/LoadStoreOpsSpecs/index.html#as_raw">as_raw</a>, <a href="../../ops/LoadStoreOpsSpecs/index.html#RawLoad">RawLoad</a>, <a href="../../ops/LoadStoreOpsSpecs/index.html#sign_extended">sign_extended</a>, <a href="../../ops/LoadStoreOpsSpecs/index.html#zero_extended">zero_extended</a>, <a href="../../ops/LoadStoreOpsSpecs/index.html#unextended">unextended</a>, <a href="../../ops/LoadStoreOpsSpecs/index.html#load_row">load_row</a>, <a href="../../ops/LoadStoreOpsSpecs/index.html#loaded_raw">loaded_raw</a>, <a href="../../ops/LoadStoreOpsSpecs/index.html#load_name">load_name</a>, <a href="../../ops/LoadStoreOpsSpecs/index.html#store_row">store_row</a>, <a href="../../ops/LoadStoreOpsSpecs/index.html#stored_bytes">stored_bytes</a>, <a href="../../ops/LoadStoreOpsSpecs/index.html#store_name">store_name</a>}
+
+-- the raw value of a Boolean, 0 or 1
+abbrev pub <b id="bool_raw">bool_raw</b> : Bool → RawVal
+<a href="../../scalar_ops/ScalarOpsSpecs/index.html#bool_raw">bool_raw</a> flag = <a href="../../raw/RawValSpecs/index.html#raw_of">raw_of</a> (from_bool flag)
+
+-- each instruction of one raw value: its name, and what it gives
+abbrev pub <b id="scalar_unary_row">scalar_unary_row</b> : ScalarUnaryOp → List ℕ × (RawVal → RawVal)
+<a href="../../scalar_ops/ScalarOpsSpecs/index.html#scalar_unary_row">scalar_unary_row</a> unary.I32Clz = (codes "i32_clz", λ raw. <a href="../../ops/LoadStoreOpsSpecs/index.html#signed_raw">signed_raw</a> w32 (<a href="../../scalar/NumericsSpecs/index.html#iclz">iclz</a> w32 (<a href="../../raw/RawValSpecs/index.html#signed_in">signed_in</a> w32 raw)))
+<a href="../../scalar_ops/ScalarOpsSpecs/index.html#scalar_unary_row">scalar_unary_row</a> unary.I32Ctz = (codes "i32_ctz", λ raw. <a href="../../ops/LoadStoreOpsSpecs/index.html#signed_raw">signed_raw</a> w32 (<a href="../../scalar/NumericsSpecs/index.html#ictz">ictz</a> w32 (<a href="../../raw/RawValSpecs/index.html#signed_in">signed_in</a> w32 raw)))
+<a href="../../scalar_ops/ScalarOpsSpecs/index.html#scalar_unary_row">scalar_unary_row</a> unary.I32Popcnt = (codes "i32_popcnt", λ raw. <a href="../../ops/LoadStoreOpsSpecs/index.html#signed_raw">signed_raw</a> w32 (<a href="../../scalar/NumericsSpecs/index.html#ipopcnt">ipopcnt</a> w32 (<a href="../../raw/RawValSpecs/index.html#signed_in">signed_in</a> w32 raw)))
+<a href="../../scalar_ops/ScalarOpsSpecs/index.html#scalar_unary_row">scalar_unary_row</a> unary.I32Eqz = (codes "i32_eqz", λ raw. <a href="../../scalar_ops/ScalarOpsSpecs/index.html#bool_raw">bool_raw</a> (<a href="../../scalar/NumericsSpecs/index.html#ieqz">ieqz</a> (<a href="../../raw/RawValSpecs/index.html#signed_in">signed_in</a> w32 raw)))
+<a href="../../scalar_ops/ScalarOpsSpecs/index.html#scalar_unary_row">scalar_unary_row</a> unary.I64Clz = (codes "i64_clz", λ raw. <a href="../../ops/LoadStoreOpsSpecs/index.html#signed_raw">signed_raw</a> w64 (<a href="../../scalar/NumericsSpecs/index.html#iclz">iclz</a> w64 (<a href="../../raw/RawValSpecs/index.html#signed_in">signed_in</a> w64 raw)))
+<a href="../../scalar_ops/ScalarOpsSpecs/index.html#scalar_unary_row">scalar_unary_row</a> unary.I64Ctz = (codes "i64_ctz", λ raw. <a href="../../ops/LoadStoreOpsSpecs/index.html#signed_raw">signed_raw</a> w64 (<a href="../../scalar/NumericsSpecs/index.html#ictz">ictz</a> w64 (<a href="../../raw/RawValSpecs/index.html#signed_in">signed_in</a> w64 raw)))
+<a href="../../scalar_ops/ScalarOpsSpecs/index.html#scalar_unary_row">scalar_unary_row</a> unary.I64Popcnt = (codes "i64_popcnt", λ raw. <a href="../../ops/LoadStoreOpsSpecs/index.html#signed_raw">signed_raw</a> w64 (<a href="../../scalar/NumericsSpecs/index.html#ipopcnt">ipopcnt</a> w64 (<a href="../../raw/RawValSpecs/index.html#signed_in">signed_in</a> w64 raw)))
+<a href="../../scalar_ops/ScalarOpsSpecs/index.html#scalar_unary_row">scalar_unary_row</a> unary.I64Eqz = (codes "i64_eqz", λ raw. <a href="../../scalar_ops/ScalarOpsSpecs/index.html#bool_raw">bool_raw</a> (<a href="../../scalar/NumericsSpecs/index.html#ieqz">ieqz</a> (<a href="../../raw/RawValSpecs/index.html#signed_in">signed_in</a> w64 raw)))
+<a href="../../scalar_ops/ScalarOpsSpecs/index.html#scalar_unary_row">scalar_unary_row</a> unary.I32WrapI64 = (codes "i32_wrap_i64", λ raw. <a href="../../ops/LoadStoreOpsSpecs/index.html#signed_raw">signed_raw</a> w32 (int_wrap w32 (<a href="../../raw/RawValSpecs/index.html#signed_in">signed_in</a> w64 raw)))
+<a href="../../scalar_ops/ScalarOpsSpecs/index.html#scalar_unary_row">scalar_unary_row</a> unary.I64ExtendI32S = (codes "i64_extend_i32_s", λ raw. <a href="../../ops/LoadStoreOpsSpecs/index.html#signed_raw">signed_raw</a> w64 (<a href="../../raw/RawValSpecs/index.html#signed_in">signed_in</a> w32 raw))
+<a href="../../scalar_ops/ScalarOpsSpecs/index.html#scalar_unary_row">scalar_unary_row</a> unary.I64ExtendI32U = (codes "i64_extend_i32_u", λ raw. <a href="../../raw/RawValSpecs/index.html#raw_of">raw_of</a> (<a href="../../raw/RawValSpecs/index.html#unsigned_in">unsigned_in</a> w32 raw))
+<a href="../../scalar_ops/ScalarOpsSpecs/index.html#scalar_unary_row">scalar_unary_row</a> unary.I32Extend8S = (codes "i32_extend8_s", λ raw. <a href="../../ops/LoadStoreOpsSpecs/index.html#signed_raw">signed_raw</a> w32 (int_wrap w8 (<a href="../../raw/RawValSpecs/index.html#signed_in">signed_in</a> w32 raw)))
+<a href="../../scalar_ops/ScalarOpsSpecs/index.html#scalar_unary_row">scalar_unary_row</a> unary.I32Extend16S = (codes "i32_extend16_s", λ raw. <a href="../../ops/LoadStoreOpsSpecs/index.html#signed_raw">signed_raw</a> w32 (int_wrap w16 (<a href="../../raw/RawValSpecs/index.html#signed_in">signed_in</a> w32 raw)))
+<a href="../../scalar_ops/ScalarOpsSpecs/index.html#scalar_unary_row">scalar_unary_row</a> unary.I64Extend8S = (codes "i64_extend8_s", λ raw. <a href="../../ops/LoadStoreOpsSpecs/index.html#signed_raw">signed_raw</a> w64 (int_wrap w8 (<a href="../../raw/RawValSpecs/index.html#signed_in">signed_in</a> w64 raw)))
+<a href="../../scalar_ops/ScalarOpsSpecs/index.html#scalar_unary_row">scalar_unary_row</a> unary.I64Extend16S = (codes "i64_extend16_s", λ raw. <a href="../../ops/LoadStoreOpsSpecs/index.html#signed_raw">signed_raw</a> w64 (int_wrap w16 (<a href="../../raw/RawValSpecs/index.html#signed_in">signed_in</a> w64 raw)))
+<a href="../../scalar_ops/ScalarOpsSpecs/index.html#scalar_unary_row">scalar_unary_row</a> unary.I64Extend32S = (codes "i64_extend32_s", λ raw. <a href="../../ops/LoadStoreOpsSpecs/index.html#signed_raw">signed_raw</a> w64 (int_wrap w32 (<a href="../../raw/RawValSpecs/index.html#signed_in">signed_in</a> w64 raw)))
+
+-- what an instruction of one raw value gives
+abbrev pub <b id="unary_raw">unary_raw</b> : ScalarUnaryOp → RawVal → RawVal
+<a href="../../scalar_ops/ScalarOpsSpecs/index.html#unary_raw">unary_raw</a> op = (<a href="../../scalar_ops/ScalarOpsSpecs/index.html#scalar_unary_row">scalar_unary_row</a> op).1
+
+-- the name of a scalar instruction of one operand
+abbrev pub <b id="scalar_unary_name">scalar_unary_name</b> : ScalarUnaryOp → List ℕ
+<a href="../../scalar_ops/ScalarOpsSpecs/index.html#scalar_unary_name">scalar_unary_name</a> op = (<a href="../../scalar_ops/ScalarOpsSpecs/index.html#scalar_unary_row">scalar_unary_row</a> op).0
+
+-- what an instruction of two raw values gives, or its trap
+abbrev pub <b id="RawOperation">RawOperation</b> : Type 0
+<a href="../../scalar_ops/ScalarOpsSpecs/index.html#RawOperation">RawOperation</a> = RawVal → RawVal → Result RawVal TrapCode
+
+-- an operation on two numbers that are read signed in a width
+abbrev pub <b id="signed_operation">signed_operation</b> : Width → (Width → ℤ → ℤ → ℤ) → <a href="../../scalar_ops/ScalarOpsSpecs/index.html#RawOperation">RawOperation</a>
+<a href="../../scalar_ops/ScalarOpsSpecs/index.html#signed_operation">signed_operation</a> w operator lhs rhs = Ok (<a href="../../ops/LoadStoreOpsSpecs/index.html#signed_raw">signed_raw</a> w (operator w (<a href="../../raw/RawValSpecs/index.html#signed_in">signed_in</a> w lhs) (<a href="../../raw/RawValSpecs/index.html#signed_in">signed_in</a> w rhs)))
+
+-- the operation on two raw values whose numbers are read unsigned
+abbrev pub <b id="unsigned_operation">unsigned_operation</b> : Width → (Width → ℕ → ℕ → ℕ) → <a href="../../scalar_ops/ScalarOpsSpecs/index.html#RawOperation">RawOperation</a>
+<a href="../../scalar_ops/ScalarOpsSpecs/index.html#unsigned_operation">unsigned_operation</a> w operator lhs rhs = Ok (<a href="../../raw/RawValSpecs/index.html#raw_of">raw_of</a> (operator w (<a href="../../raw/RawValSpecs/index.html#unsigned_in">unsigned_in</a> w lhs) (<a href="../../raw/RawValSpecs/index.html#unsigned_in">unsigned_in</a> w rhs)))
+
+-- an operation on two numbers that are read signed in a width, which may trap
+abbrev pub <b id="signed_partial">signed_partial</b> : Width → (ℤ → ℤ → Result ℤ TrapCode) → <a href="../../scalar_ops/ScalarOpsSpecs/index.html#RawOperation">RawOperation</a>
+<a href="../../scalar_ops/ScalarOpsSpecs/index.html#signed_partial">signed_partial</a> w operator lhs rhs = <a href="../../ops/LoadStoreOpsSpecs/index.html#as_raw">as_raw</a> (<a href="../../ops/LoadStoreOpsSpecs/index.html#signed_raw">signed_raw</a> w) (operator (<a href="../../raw/RawValSpecs/index.html#signed_in">signed_in</a> w lhs) (<a href="../../raw/RawValSpecs/index.html#signed_in">signed_in</a> w rhs))
+
+-- the operation that may trap, on two raw values whose numbers are read unsigned
+abbrev pub <b id="unsigned_partial">unsigned_partial</b> : Width → (ℕ → ℕ → Result ℕ TrapCode) → <a href="../../scalar_ops/ScalarOpsSpecs/index.html#RawOperation">RawOperation</a>
+<a href="../../scalar_ops/ScalarOpsSpecs/index.html#unsigned_partial">unsigned_partial</a> w operator lhs rhs = <a href="../../ops/LoadStoreOpsSpecs/index.html#as_raw">as_raw</a> <a href="../../raw/RawValSpecs/index.html#raw_of">raw_of</a> (operator (<a href="../../raw/RawValSpecs/index.html#unsigned_in">unsigned_in</a> w lhs) (<a href="../../raw/RawValSpecs/index.html#unsigned_in">unsigned_in</a> w rhs))
+
+-- a comparison of two numbers that are read signed in a width
+abbrev pub <b id="signed_comparison">signed_comparison</b> : Width → (ℤ → ℤ → Bool) → <a href="../../scalar_ops/ScalarOpsSpecs/index.html#RawOperation">RawOperation</a>
+<a href="../../scalar_ops/ScalarOpsSpecs/index.html#signed_comparison">signed_comparison</a> w relation lhs rhs = Ok (<a href="../../scalar_ops/ScalarOpsSpecs/index.html#bool_raw">bool_raw</a> (relation (<a href="../../raw/RawValSpecs/index.html#signed_in">signed_in</a> w lhs) (<a href="../../raw/RawValSpecs/index.html#signed_in">signed_in</a> w rhs)))
+
+-- the comparison of two raw values whose numbers are read unsigned
+abbrev pub <b id="unsigned_comparison">unsigned_comparison</b> : Width → (ℕ → ℕ → Bool) → <a href="../../scalar_ops/ScalarOpsSpecs/index.html#RawOperation">RawOperation</a>
+<a href="../../scalar_ops/ScalarOpsSpecs/index.html#unsigned_comparison">unsigned_comparison</a> w relation lhs rhs = Ok (<a href="../../scalar_ops/ScalarOpsSpecs/index.html#bool_raw">bool_raw</a> (relation (<a href="../../raw/RawValSpecs/index.html#unsigned_in">unsigned_in</a> w lhs) (<a href="../../raw/RawValSpecs/index.html#unsigned_in">unsigned_in</a> w rhs)))
+
+-- an operation on two numbers of 128 bits
+abbrev pub <b id="wide_operation">wide_operation</b> : (ℕ → ℕ → ℕ) → <a href="../../scalar_ops/ScalarOpsSpecs/index.html#RawOperation">RawOperation</a>
+<a href="../../scalar_ops/ScalarOpsSpecs/index.html#wide_operation">wide_operation</a> operator lhs rhs = Ok (<a href="../../raw/RawValSpecs/index.html#raw_of_vector">raw_of_vector</a> (operator (<a href="../../raw/RawValSpecs/index.html#vector_in">vector_in</a> lhs) (<a href="../../raw/RawValSpecs/index.html#vector_in">vector_in</a> rhs)))
+
+-- each instruction of two raw values: its name, and its operation
+abbrev pub <b id="scalar_binary_row">scalar_binary_row</b> : ScalarBinaryOp → List ℕ × <a href="../../scalar_ops/ScalarOpsSpecs/index.html#RawOperation">RawOperation</a>
+<a href="../../scalar_ops/ScalarOpsSpecs/index.html#scalar_binary_row">scalar_binary_row</a> binary.I32Add = (codes "i32_add", <a href="../../scalar_ops/ScalarOpsSpecs/index.html#signed_operation">signed_operation</a> w32 <a href="../../scalar/NumericsSpecs/index.html#iadd">iadd</a>)
+<a href="../../scalar_ops/ScalarOpsSpecs/index.html#scalar_binary_row">scalar_binary_row</a> binary.I32Sub = (codes "i32_sub", <a href="../../scalar_ops/ScalarOpsSpecs/index.html#signed_operation">signed_operation</a> w32 <a href="../../scalar/NumericsSpecs/index.html#isub">isub</a>)
+<a href="../../scalar_ops/ScalarOpsSpecs/index.html#scalar_binary_row">scalar_binary_row</a> binary.I32Mul = (codes "i32_mul", <a href="../../scalar_ops/ScalarOpsSpecs/index.html#signed_operation">signed_operation</a> w32 <a href="../../scalar/NumericsSpecs/index.html#imul">imul</a>)
+<a href="../../scalar_ops/ScalarOpsSpecs/index.html#scalar_binary_row">scalar_binary_row</a> binary.I32Bitand = (codes "i32_bitand", <a href="../../scalar_ops/ScalarOpsSpecs/index.html#signed_operation">signed_operation</a> w32 <a href="../../scalar/NumericsSpecs/index.html#iand">iand</a>)
+<a href="../../scalar_ops/ScalarOpsSpecs/index.html#scalar_binary_row">scalar_binary_row</a> binary.I32Bitor = (codes "i32_bitor", <a href="../../scalar_ops/ScalarOpsSpecs/index.html#signed_operation">signed_operation</a> w32 <a href="../../scalar/NumericsSpecs/index.html#ior">ior</a>)
+<a href="../../scalar_ops/ScalarOpsSpecs/index.html#scalar_binary_row">scalar_binary_row</a> binary.I32Bitxor = (codes "i32_bitxor", <a href="../../scalar_ops/ScalarOpsSpecs/index.html#signed_operation">signed_operation</a> w32 <a href="../../scalar/NumericsSpecs/index.html#ixor">ixor</a>)
+<a href="../../scalar_ops/ScalarOpsSpecs/index.html#scalar_binary_row">scalar_binary_row</a> binary.I32Shl = (codes "i32_shl", <a href="../../scalar_ops/ScalarOpsSpecs/index.html#signed_operation">signed_operation</a> w32 <a href="../../scalar/NumericsSpecs/index.html#ishl">ishl</a>)
+<a href="../../scalar_ops/ScalarOpsSpecs/index.html#scalar_binary_row">scalar_binary_row</a> binary.I32ShrS = (codes "i32_shr_s", <a href="../../scalar_ops/ScalarOpsSpecs/index.html#signed_operation">signed_operation</a> w32 <a href="../../scalar/NumericsSpecs/index.html#ishr_s">ishr_s</a>)
+<a href="../../scalar_ops/ScalarOpsSpecs/index.html#scalar_binary_row">scalar_binary_row</a> binary.I32ShrU = (codes "i32_shr_u", <a href="../../scalar_ops/ScalarOpsSpecs/index.html#unsigned_operation">unsigned_operation</a> w32 <a href="../../scalar/NumericsSpecs/index.html#ishr_u">ishr_u</a>)
+<a href="../../scalar_ops/ScalarOpsSpecs/index.html#scalar_binary_row">scalar_binary_row</a> binary.I32Rotl = (codes "i32_rotl", <a href="../../scalar_ops/ScalarOpsSpecs/index.html#signed_operation">signed_operation</a> w32 <a href="../../scalar/NumericsSpecs/index.html#irotl">irotl</a>)
+<a href="../../scalar_ops/ScalarOpsSpecs/index.html#scalar_binary_row">scalar_binary_row</a> binary.I32Rotr = (codes "i32_rotr", <a href="../../scalar_ops/ScalarOpsSpecs/index.html#signed_operation">signed_operation</a> w32 <a href="../../scalar/NumericsSpecs/index.html#irotr">irotr</a>)
+<a href="../../scalar_ops/ScalarOpsSpecs/index.html#scalar_binary_row">scalar_binary_row</a> binary.I32DivS = (codes "i32_div_s", <a href="../../scalar_ops/ScalarOpsSpecs/index.html#signed_partial">signed_partial</a> w32 (<a href="../../scalar/NumericsSpecs/index.html#idiv_s">idiv_s</a> w32))
+<a href="../../scalar_ops/ScalarOpsSpecs/index.html#scalar_binary_row">scalar_binary_row</a> binary.I32DivU = (codes "i32_div_u", <a href="../../scalar_ops/ScalarOpsSpecs/index.html#unsigned_partial">unsigned_partial</a> w32 <a href="../../scalar/NumericsSpecs/index.html#idiv_u">idiv_u</a>)
+<a href="../../scalar_ops/ScalarOpsSpecs/index.html#scalar_binary_row">scalar_binary_row</a> binary.I32RemS = (codes "i32_rem_s", <a href="../../scalar_ops/ScalarOpsSpecs/index.html#signed_partial">signed_partial</a> w32 <a href="../../scalar/NumericsSpecs/index.html#irem_s">irem_s</a>)
+<a href="../../scalar_ops/ScalarOpsSpecs/index.html#scalar_binary_row">scalar_binary_row</a> binary.I32RemU = (codes "i32_rem_u", <a href="../../scalar_ops/ScalarOpsSpecs/index.html#unsigned_partial">unsigned_partial</a> w32 <a href="../../scalar/NumericsSpecs/index.html#irem_u">irem_u</a>)
+<a href="../../scalar_ops/ScalarOpsSpecs/index.html#scalar_binary_row">scalar_binary_row</a> binary.I32Eq = (codes "i32_eq", <a href="../../scalar_ops/ScalarOpsSpecs/index.html#signed_comparison">signed_comparison</a> w32 <a href="../../scalar/NumericsSpecs/index.html#ieq">ieq</a>)
+<a href="../../scalar_ops/ScalarOpsSpecs/index.html#scalar_binary_row">scalar_binary_row</a> binary.I32Ne = (codes "i32_ne", <a href="../../scalar_ops/ScalarOpsSpecs/index.html#signed_comparison">signed_comparison</a> w32 <a href="../../scalar/NumericsSpecs/index.html#ine">ine</a>)
+<a href="../../scalar_ops/ScalarOpsSpecs/index.html#scalar_binary_row">scalar_binary_row</a> binary.I32LtS = (codes "i32_lt_s", <a href="../../scalar_ops/ScalarOpsSpecs/index.html#signed_comparison">signed_comparison</a> w32 <a href="../../scalar/NumericsSpecs/index.html#ilt_s">ilt_s</a>)
+<a href="../../scalar_ops/ScalarOpsSpecs/index.html#scalar_binary_row">scalar_binary_row</a> binary.I32LtU = (codes "i32_lt_u", <a href="../../scalar_ops/ScalarOpsSpecs/index.html#unsigned_comparison">unsigned_comparison</a> w32 <a href="../../scalar/NumericsSpecs/index.html#ilt_u">ilt_u</a>)
+<a href="../../scalar_ops/ScalarOpsSpecs/index.html#scalar_binary_row">scalar_binary_row</a> binary.I32LeS = (codes "i32_le_s", <a href="../../scalar_ops/ScalarOpsSpecs/index.html#signed_comparison">signed_comparison</a> w32 <a href="../../scalar/NumericsSpecs/index.html#ile_s">ile_s</a>)
+<a href="../../scalar_ops/ScalarOpsSpecs/index.html#scalar_binary_row">scalar_binary_row</a> binary.I32LeU = (codes "i32_le_u", <a href="../../scalar_ops/ScalarOpsSpecs/index.html#unsigned_comparison">unsigned_comparison</a> w32 <a href="../../scalar/NumericsSpecs/index.html#ile_u">ile_u</a>)
+<a href="../../scalar_ops/ScalarOpsSpecs/index.html#scalar_binary_row">scalar_binary_row</a> binary.I32GtS = (codes "i32_gt_s", <a href="../../scalar_ops/ScalarOpsSpecs/index.html#signed_comparison">signed_comparison</a> w32 <a href="../../scalar/NumericsSpecs/index.html#igt_s">igt_s</a>)
+<a href="../../scalar_ops/ScalarOpsSpecs/index.html#scalar_binary_row">scalar_binary_row</a> binary.I32GtU = (codes "i32_gt_u", <a href="../../scalar_ops/ScalarOpsSpecs/index.html#unsigned_comparison">unsigned_comparison</a> w32 <a href="../../scalar/NumericsSpecs/index.html#igt_u">igt_u</a>)
+<a href="../../scalar_ops/ScalarOpsSpecs/index.html#scalar_binary_row">scalar_binary_row</a> binary.I32GeS = (codes "i32_ge_s", <a href="../../scalar_ops/ScalarOpsSpecs/index.html#signed_comparison">signed_comparison</a> w32 <a href="../../scalar/NumericsSpecs/index.html#ige_s">ige_s</a>)
+<a href="../../scalar_ops/ScalarOpsSpecs/index.html#scalar_binary_row">scalar_binary_row</a> binary.I32GeU = (codes "i32_ge_u", <a href="../../scalar_ops/ScalarOpsSpecs/index.html#unsigned_comparison">unsigned_comparison</a> w32 <a href="../../scalar/NumericsSpecs/index.html#ige_u">ige_u</a>)
+<a href="../../scalar_ops/ScalarOpsSpecs/index.html#scalar_binary_row">scalar_binary_row</a> binary.I64Add = (codes "i64_add", <a href="../../scalar_ops/ScalarOpsSpecs/index.html#signed_operation">signed_operation</a> w64 <a href="../../scalar/NumericsSpecs/index.html#iadd">iadd</a>)
+<a href="../../scalar_ops/ScalarOpsSpecs/index.html#scalar_binary_row">scalar_binary_row</a> binary.I64Sub = (codes "i64_sub", <a href="../../scalar_ops/ScalarOpsSpecs/index.html#signed_operation">signed_operation</a> w64 <a href="../../scalar/NumericsSpecs/index.html#isub">isub</a>)
+<a href="../../scalar_ops/ScalarOpsSpecs/index.html#scalar_binary_row">scalar_binary_row</a> binary.I64Mul = (codes "i64_mul", <a href="../../scalar_ops/ScalarOpsSpecs/index.html#signed_operation">signed_operation</a> w64 <a href="../../scalar/NumericsSpecs/index.html#imul">imul</a>)
+<a href="../../scalar_ops/ScalarOpsSpecs/index.html#scalar_binary_row">scalar_binary_row</a> binary.I64Bitand = (codes "i64_bitand", <a href="../../scalar_ops/ScalarOpsSpecs/index.html#signed_operation">signed_operation</a> w64 <a href="../../scalar/NumericsSpecs/index.html#iand">iand</a>)
+<a href="../../scalar_ops/ScalarOpsSpecs/index.html#scalar_binary_row">scalar_binary_row</a> binary.I64Bitor = (codes "i64_bitor", <a href="../../scalar_ops/ScalarOpsSpecs/index.html#signed_operation">signed_operation</a> w64 <a href="../../scalar/NumericsSpecs/index.html#ior">ior</a>)
+<a href="../../scalar_ops/ScalarOpsSpecs/index.html#scalar_binary_row">scalar_binary_row</a> binary.I64Bitxor = (codes "i64_bitxor", <a href="../../scalar_ops/ScalarOpsSpecs/index.html#signed_operation">signed_operation</a> w64 <a href="../../scalar/NumericsSpecs/index.html#ixor">ixor</a>)
+<a href="../../scalar_ops/ScalarOpsSpecs/index.html#scalar_binary_row">scalar_binary_row</a> binary.I64Shl = (codes "i64_shl", <a href="../../scalar_ops/ScalarOpsSpecs/index.html#signed_operation">signed_operation</a> w64 <a href="../../scalar/NumericsSpecs/index.html#ishl">ishl</a>)
+<a href="../../scalar_ops/ScalarOpsSpecs/index.html#scalar_binary_row">scalar_binary_row</a> binary.I64ShrS = (codes "i64_shr_s", <a href="../../scalar_ops/ScalarOpsSpecs/index.html#signed_operation">signed_operation</a> w64 <a href="../../scalar/NumericsSpecs/index.html#ishr_s">ishr_s</a>)
+<a href="../../scalar_ops/ScalarOpsSpecs/index.html#scalar_binary_row">scalar_binary_row</a> binary.I64ShrU = (codes "i64_shr_u", <a href="../../scalar_ops/ScalarOpsSpecs/index.html#unsigned_operation">unsigned_operation</a> w64 <a href="../../scalar/NumericsSpecs/index.html#ishr_u">ishr_u</a>)
+<a href="../../scalar_ops/ScalarOpsSpecs/index.html#scalar_binary_row">scalar_binary_row</a> binary.I64Rotl = (codes "i64_rotl", <a href="../../scalar_ops/ScalarOpsSpecs/index.html#signed_operation">signed_operation</a> w64 <a href="../../scalar/NumericsSpecs/index.html#irotl">irotl</a>)
+<a href="../../scalar_ops/ScalarOpsSpecs/index.html#scalar_binary_row">scalar_binary_row</a> binary.I64Rotr = (codes "i64_rotr", <a href="../../scalar_ops/ScalarOpsSpecs/index.html#signed_operation">signed_operation</a> w64 <a href="../../scalar/NumericsSpecs/index.html#irotr">irotr</a>)
+<a href="../../scalar_ops/ScalarOpsSpecs/index.html#scalar_binary_row">scalar_binary_row</a> binary.I64DivS = (codes "i64_div_s", <a href="../../scalar_ops/ScalarOpsSpecs/index.html#signed_partial">signed_partial</a> w64 (<a href="../../scalar/NumericsSpecs/index.html#idiv_s">idiv_s</a> w64))
+<a href="../../scalar_ops/ScalarOpsSpecs/index.html#scalar_binary_row">scalar_binary_row</a> binary.I64DivU = (codes "i64_div_u", <a href="../../scalar_ops/ScalarOpsSpecs/index.html#unsigned_partial">unsigned_partial</a> w64 <a href="../../scalar/NumericsSpecs/index.html#idiv_u">idiv_u</a>)
+<a href="../../scalar_ops/ScalarOpsSpecs/index.html#scalar_binary_row">scalar_binary_row</a> binary.I64RemS = (codes "i64_rem_s", <a href="../../scalar_ops/ScalarOpsSpecs/index.html#signed_partial">signed_partial</a> w64 <a href="../../scalar/NumericsSpecs/index.html#irem_s">irem_s</a>)
+<a href="../../scalar_ops/ScalarOpsSpecs/index.html#scalar_binary_row">scalar_binary_row</a> binary.I64RemU = (codes "i64_rem_u", <a href="../../scalar_ops/ScalarOpsSpecs/index.html#unsigned_partial">unsigned_partial</a> w64 <a href="../../scalar/NumericsSpecs/index.html#irem_u">irem_u</a>)
+<a href="../../scalar_ops/ScalarOpsSpecs/index.html#scalar_binary_row">scalar_binary_row</a> binary.I64Eq = (codes "i64_eq", <a href="../../scalar_ops/ScalarOpsSpecs/index.html#signed_comparison">signed_comparison</a> w64 <a href="../../scalar/NumericsSpecs/index.html#ieq">ieq</a>)
+<a href="../../scalar_ops/ScalarOpsSpecs/index.html#scalar_binary_row">scalar_binary_row</a> binary.I64Ne = (codes "i64_ne", <a href="../../scalar_ops/ScalarOpsSpecs/index.html#signed_comparison">signed_comparison</a> w64 <a href="../../scalar/NumericsSpecs/index.html#ine">ine</a>)
+<a href="../../scalar_ops/ScalarOpsSpecs/index.html#scalar_binary_row">scalar_binary_row</a> binary.I64LtS = (codes "i64_lt_s", <a href="../../scalar_ops/ScalarOpsSpecs/index.html#signed_comparison">signed_comparison</a> w64 <a href="../../scalar/NumericsSpecs/index.html#ilt_s">ilt_s</a>)
+<a href="../../scalar_ops/ScalarOpsSpecs/index.html#scalar_binary_row">scalar_binary_row</a> binary.I64LtU = (codes "i64_lt_u", <a href="../../scalar_ops/ScalarOpsSpecs/index.html#unsigned_comparison">unsigned_comparison</a> w64 <a href="../../scalar/NumericsSpecs/index.html#ilt_u">ilt_u</a>)
+<a href="../../scalar_ops/ScalarOpsSpecs/index.html#scalar_binary_row">scalar_binary_row</a> binary.I64LeS = (codes "i64_le_s", <a href="../../scalar_ops/ScalarOpsSpecs/index.html#signed_comparison">signed_comparison</a> w64 <a href="../../scalar/NumericsSpecs/index.html#ile_s">ile_s</a>)
+<a href="../../scalar_ops/ScalarOpsSpecs/index.html#scalar_binary_row">scalar_binary_row</a> binary.I64LeU = (codes "i64_le_u", <a href="../../scalar_ops/ScalarOpsSpecs/index.html#unsigned_comparison">unsigned_comparison</a> w64 <a href="../../scalar/NumericsSpecs/index.html#ile_u">ile_u</a>)
+<a href="../../scalar_ops/ScalarOpsSpecs/index.html#scalar_binary_row">scalar_binary_row</a> binary.I64GtS = (codes "i64_gt_s", <a href="../../scalar_ops/ScalarOpsSpecs/index.html#signed_comparison">signed_comparison</a> w64 <a href="../../scalar/NumericsSpecs/index.html#igt_s">igt_s</a>)
+<a href="../../scalar_ops/ScalarOpsSpecs/index.html#scalar_binary_row">scalar_binary_row</a> binary.I64GtU = (codes "i64_gt_u", <a href="../../scalar_ops/ScalarOpsSpecs/index.html#unsigned_comparison">unsigned_comparison</a> w64 <a href="../../scalar/NumericsSpecs/index.html#igt_u">igt_u</a>)
+<a href="../../scalar_ops/ScalarOpsSpecs/index.html#scalar_binary_row">scalar_binary_row</a> binary.I64GeS = (codes "i64_ge_s", <a href="../../scalar_ops/ScalarOpsSpecs/index.html#signed_comparison">signed_comparison</a> w64 <a href="../../scalar/NumericsSpecs/index.html#ige_s">ige_s</a>)
+<a href="../../scalar_ops/ScalarOpsSpecs/index.html#scalar_binary_row">scalar_binary_row</a> binary.I64GeU = (codes "i64_ge_u", <a href="../../scalar_ops/ScalarOpsSpecs/index.html#unsigned_comparison">unsigned_comparison</a> w64 <a href="../../scalar/NumericsSpecs/index.html#ige_u">ige_u</a>)
+<a href="../../scalar_ops/ScalarOpsSpecs/index.html#scalar_binary_row">scalar_binary_row</a> binary.I64Add128 = (codes "i64_add128", <a href="../../scalar_ops/ScalarOpsSpecs/index.html#wide_operation">wide_operation</a> <a href="../../scalar/NumericsSpecs/index.html#add128">add128</a>)
+<a href="../../scalar_ops/ScalarOpsSpecs/index.html#scalar_binary_row">scalar_binary_row</a> binary.I64Sub128 = (codes "i64_sub128", <a href="../../scalar_ops/ScalarOpsSpecs/index.html#wide_operation">wide_operation</a> <a href="../../scalar/NumericsSpecs/index.html#sub128">sub128</a>)
+<a href="../../scalar_ops/ScalarOpsSpecs/index.html#scalar_binary_row">scalar_binary_row</a> binary.I64MulWideS =
+    (codes "i64_mul_wide_s", λ lhs rhs. Ok (<a href="../../raw/RawValSpecs/index.html#raw_of_vector">raw_of_vector</a> (cast_unsigned w128 (<a href="../../raw/RawValSpecs/index.html#signed_in">signed_in</a> w64 lhs *ℤ <a href="../../raw/RawValSpecs/index.html#signed_in">signed_in</a> w64 rhs))))
+<a href="../../scalar_ops/ScalarOpsSpecs/index.html#scalar_binary_row">scalar_binary_row</a> binary.I64MulWideU =
+    (codes "i64_mul_wide_u", λ lhs rhs. Ok (<a href="../../raw/RawValSpecs/index.html#raw_of_vector">raw_of_vector</a> (<a href="../../raw/RawValSpecs/index.html#unsigned_in">unsigned_in</a> w64 lhs * <a href="../../raw/RawValSpecs/index.html#unsigned_in">unsigned_in</a> w64 rhs)))
+
+-- the operation of each instruction
+abbrev pub <b id="binary_raw">binary_raw</b> : ScalarBinaryOp → <a href="../../scalar_ops/ScalarOpsSpecs/index.html#RawOperation">RawOperation</a>
+<a href="../../scalar_ops/ScalarOpsSpecs/index.html#binary_raw">binary_raw</a> op = (<a href="../../scalar_ops/ScalarOpsSpecs/index.html#scalar_binary_row">scalar_binary_row</a> op).1
+
+-- the name of a scalar instruction of two operands
+abbrev pub <b id="scalar_binary_name">scalar_binary_name</b> : ScalarBinaryOp → List ℕ
+<a href="../../scalar_ops/ScalarOpsSpecs/index.html#scalar_binary_name">scalar_binary_name</a> op = (<a href="../../scalar_ops/ScalarOpsSpecs/index.html#scalar_binary_row">scalar_binary_row</a> op).0
+</code></pre>
+"####]
+    pub mod ScalarOpsSpecs {}
 }
 /// Definitions of `wasmi_meter`.
 pub mod meter {
@@ -3436,18 +3450,18 @@ abbrev pub <b id="WritesElements">WritesElements</b> : {A : Type 0} → Option (
 "####]
     pub mod TableSpecs {}
 }
-/// Definitions of `wasmi_core`.
+/// Definitions of `wasmi_machine`.
 pub mod machine {
     #[doc = r####"What a meter was given, what was taken of it, and what was written for that.
 
 <pre><code>use Rattle.std.specs.Prelude.{◌≡◌, ◌+◌, ◌≤◌, ℕ, Some, List, fold, sum_by, ◌-◌, ◌*◌, ◌&lt;◌, Bool, true, false, ◌&amp;&amp;◌, if◌then◌else◌, count_by}
 use Rattle.wasmi_meter.specs.Meter.{<a href="../../meter/MeterSpecs/index.html#Meter">Meter</a>, <a href="../../meter/MeterSpecs/index.html#amount_left">amount_left</a>, <a href="../../meter/MeterSpecs/index.html#meter_after">meter_after</a>, <a href="../../meter/MeterSpecs/index.html#meter_set">meter_set</a>}
-use Rattle.wasmi_core.specs.declared.calls.Call.{Call}
-use Rattle.wasmi_core.specs.declared.calls.Call.TheVariants.{SetFuel}
-use Rattle.wasmi_core.specs.State.{<a href="../../machine/StateSpecs/index.html#Turn">Turn</a>}
-use Rattle.wasmi_core.specs.declared.calls.Reply.{Reply}
-use Rattle.wasmi_core.specs.declared.calls.Reply.TheVariants.{Done, Number}
-use Rattle.wasmi_core.specs.Steps.{<a href="../../machine/StepsSpecs/index.html#is_charged">is_charged</a>}
+use Rattle.wasmi_machine.specs.declared.calls.Call.{Call}
+use Rattle.wasmi_machine.specs.declared.calls.Call.TheVariants.{SetFuel}
+use Rattle.wasmi_machine.specs.State.{<a href="../../machine/StateSpecs/index.html#Turn">Turn</a>}
+use Rattle.wasmi_machine.specs.declared.calls.Reply.{Reply}
+use Rattle.wasmi_machine.specs.declared.calls.Reply.TheVariants.{Done, Number}
+use Rattle.wasmi_machine.specs.Steps.{<a href="../../machine/StepsSpecs/index.html#is_charged">is_charged</a>}
 
 -- the fuel that was set last, or that was left at first, and the sum of the charges since then
 pub record <b id="Account">Account</b> : Type 0 where
@@ -3538,16 +3552,16 @@ pub record <b id="IsSpent">IsSpent</b> (rate before after : ℕ) (turns : List <
 
 <pre><code>use Rattle.std.specs.Prelude.{◌≡◌, List, [], ◌∷◌, Ok, Option, Some, None, true}
 use Rattle.wasmi_meter.specs.Limiter.{<a href="../../meter/LimiterSpecs/index.html#Question">Question</a>, <a href="../../meter/LimiterSpecs/index.html#Answer">Answer</a>, <a href="../../meter/LimiterSpecs/index.html#Failure">Failure</a>, <a href="../../meter/LimiterSpecs/index.html#MemoryFailure">MemoryFailure</a>, <a href="../../meter/LimiterSpecs/index.html#TableFailure">TableFailure</a>, <a href="../../meter/LimiterSpecs/index.html#NoticeAnswer">NoticeAnswer</a>, <a href="../../meter/LimiterSpecs/index.html#Rules">Rules</a>, <a href="../../meter/LimiterSpecs/index.html#optional_rules">optional_rules</a>}
-use Rattle.wasmi_core.specs.declared.calls.Reply.{Reply}
-use Rattle.wasmi_core.specs.declared.calls.Reply.TheVariants.{Memory, Table, Segment, NoRoom}
-use Rattle.wasmi_core.specs.State.{<a href="../../machine/StateSpecs/index.html#Turn">Turn</a>, <a href="../../machine/StateSpecs/index.html#State">State</a>, <a href="../../machine/StateSpecs/index.html#World">World</a>, <a href="../../machine/StateSpecs/index.html#world">world</a>}
+use Rattle.wasmi_machine.specs.declared.calls.Reply.{Reply}
+use Rattle.wasmi_machine.specs.declared.calls.Reply.TheVariants.{Memory, Table, Segment, NoRoom}
+use Rattle.wasmi_machine.specs.State.{<a href="../../machine/StateSpecs/index.html#Turn">Turn</a>, <a href="../../machine/StateSpecs/index.html#State">State</a>, <a href="../../machine/StateSpecs/index.html#World">World</a>, <a href="../../machine/StateSpecs/index.html#world">world</a>}
 use Rattle.wasmi_meter.specs.declared.any_limiter.AnyLimiter.{AnyLimiter}
 use Rattle.wasmi_meter.specs.declared.quota.Quota.{Quota}
 use Rattle.wasmi_meter.specs.AnswerList.{<a href="../../meter/AnswerListSpecs/index.html#AnswersAhead">AnswersAhead</a>, <a href="../../meter/AnswerListSpecs/index.html#answer_list_rules">answer_list_rules</a>}
 use Rattle.wasmi_meter.specs.AnyLimiter.{<a href="../../meter/AnyLimiterSpecs/index.html#any_limiter_rules">any_limiter_rules</a>}
 use Rattle.wasmi_meter.specs.Capped.{<a href="../../meter/CappedSpecs/index.html#quota_rules">quota_rules</a>}
-use Rattle.wasmi_core.specs.Steps.{<a href="../../machine/StepsSpecs/index.html#Run">Run</a>, <a href="../../machine/StepsSpecs/index.html#IsRunOf">IsRunOf</a>, <a href="../../machine/StepsSpecs/index.html#RepliesWith">RepliesWith</a>}
-use Rattle.wasmi_core.specs.declared.calls.Call.{Call}
+use Rattle.wasmi_machine.specs.Steps.{<a href="../../machine/StepsSpecs/index.html#Run">Run</a>, <a href="../../machine/StepsSpecs/index.html#IsRunOf">IsRunOf</a>, <a href="../../machine/StepsSpecs/index.html#RepliesWith">RepliesWith</a>}
+use Rattle.wasmi_machine.specs.declared.calls.Call.{Call}
 use Rattle.wasmi_meter.specs.declared.error.MemoryError.TheVariants as memory
 use Rattle.wasmi_meter.specs.declared.error.TableError.TheVariants as table
 use Rattle.wasmi_store.specs.declared.<a href="../../store/TableSpecs/index.html#element">table.element</a>.SegmentError.TheVariants as segment
@@ -3658,11 +3672,11 @@ abbrev pub <b id="RepliesKeepKind">RepliesKeepKind</b> : Type 0
 use Rattle.wasmi_meter.specs.Attempt.{<a href="../../meter/AttemptSpecs/index.html#MeteredValue">MeteredValue</a>, <a href="../../meter/AttemptSpecs/index.html#with_value">with_value</a>}
 use Rattle.wasmi_meter.specs.Meter.{<a href="../../meter/MeterSpecs/index.html#Meter">Meter</a>}
 use Rattle.wasmi_store.specs.Growth.{<a href="../../store/GrowthSpecs/index.html#metered">metered</a>, <a href="../../store/GrowthSpecs/index.html#metered_value">metered_value</a>}
-use Rattle.wasmi_core.specs.declared.calls.Reply.{Reply}
-use Rattle.wasmi_core.specs.declared.calls.Reply.TheVariants.{Done, Made, NoSuch, NoRoom}
-use Rattle.wasmi_core.specs.declared.slots.Slot.{Slot}
-use Rattle.wasmi_core.specs.declared.slots.Slot.TheVariants.{Live, Gone}
-use Rattle.wasmi_core.specs.State.{<a href="../../machine/StateSpecs/index.html#State">State</a>, <a href="../../machine/StateSpecs/index.html#live_at">live_at</a>, <a href="../../machine/StateSpecs/index.html#World">World</a>, <a href="../../machine/StateSpecs/index.html#world">world</a>, <a href="../../machine/StateSpecs/index.html#Turn">Turn</a>, <a href="../../machine/StateSpecs/index.html#IsFree">IsFree</a>}
+use Rattle.wasmi_machine.specs.declared.calls.Reply.{Reply}
+use Rattle.wasmi_machine.specs.declared.calls.Reply.TheVariants.{Done, Made, NoSuch, NoRoom}
+use Rattle.wasmi_machine.specs.declared.slots.Slot.{Slot}
+use Rattle.wasmi_machine.specs.declared.slots.Slot.TheVariants.{Live, Gone}
+use Rattle.wasmi_machine.specs.State.{<a href="../../machine/StateSpecs/index.html#State">State</a>, <a href="../../machine/StateSpecs/index.html#live_at">live_at</a>, <a href="../../machine/StateSpecs/index.html#World">World</a>, <a href="../../machine/StateSpecs/index.html#world">world</a>, <a href="../../machine/StateSpecs/index.html#Turn">Turn</a>, <a href="../../machine/StateSpecs/index.html#IsFree">IsFree</a>}
 
 -- the reply to a call that returns a value or is refused
 abbrev pub <b id="reply_of">reply_of</b> : {T E : Type 0} → (T → Reply) → (E → Reply) → Result T E → Reply
@@ -3789,12 +3803,12 @@ use Rattle.wasmi_typed.specs.declared.typed_ref.TypedRawRef.{TypedRawRef}
 use Rattle.wasmi_store.specs.Memory as memory
 use Rattle.wasmi_store.specs.Table as table
 use Rattle.wasmi_store.specs.Table.{<a href="../../store/TableSpecs/index.html#TableValue">TableValue</a>, <a href="../../store/TableSpecs/index.html#same_type">same_type</a>}
-use Rattle.wasmi_core.specs.declared.calls.Call.{Call}
-use Rattle.wasmi_core.specs.declared.calls.Call.TheVariants.{NewMemory, NewLentMemory, GrowMemory, NewTable, GrowTable, InitTable, CopyTable, FillTable}
-use Rattle.wasmi_core.specs.declared.calls.Reply.{Reply}
-use Rattle.wasmi_core.specs.declared.calls.Reply.TheVariants.{Done, Memory, Table, NoRoom}
-use Rattle.wasmi_core.specs.State.{<a href="../../machine/StateSpecs/index.html#State">State</a>, <a href="../../machine/StateSpecs/index.html#live_at">live_at</a>, <a href="../../machine/StateSpecs/index.html#World">World</a>, <a href="../../machine/StateSpecs/index.html#Turn">Turn</a>, <a href="../../machine/StateSpecs/index.html#IsRefusal">IsRefusal</a>, <a href="../../machine/StateSpecs/index.html#sizes">sizes</a>}
-use Rattle.wasmi_core.specs.Account.{<a href="../../machine/AccountSpecs/index.html#ChangesMeter">ChangesMeter</a>}
+use Rattle.wasmi_machine.specs.declared.calls.Call.{Call}
+use Rattle.wasmi_machine.specs.declared.calls.Call.TheVariants.{NewMemory, NewLentMemory, GrowMemory, NewTable, GrowTable, InitTable, CopyTable, FillTable}
+use Rattle.wasmi_machine.specs.declared.calls.Reply.{Reply}
+use Rattle.wasmi_machine.specs.declared.calls.Reply.TheVariants.{Done, Memory, Table, NoRoom}
+use Rattle.wasmi_machine.specs.State.{<a href="../../machine/StateSpecs/index.html#State">State</a>, <a href="../../machine/StateSpecs/index.html#live_at">live_at</a>, <a href="../../machine/StateSpecs/index.html#World">World</a>, <a href="../../machine/StateSpecs/index.html#Turn">Turn</a>, <a href="../../machine/StateSpecs/index.html#IsRefusal">IsRefusal</a>, <a href="../../machine/StateSpecs/index.html#sizes">sizes</a>}
+use Rattle.wasmi_machine.specs.Account.{<a href="../../machine/AccountSpecs/index.html#ChangesMeter">ChangesMeter</a>}
 
 -- nothing; a question and its denial; a permission alone; or a permission and the notice that what it permitted failed,
 -- with the answer to it
@@ -3961,17 +3975,17 @@ pub record <b id="Exchanges">Exchanges</b> {S : Type 0} (rules : <a href="../../
 <a href="../../machine/LawsSpecs/index.html#use">use</a> Rattle.wasmi_store.specs.Buffer.{<a href="../../store/BufferSpecs/index.html#Lent">Lent</a>, <a href="../../store/BufferSpecs/index.html#fits_room">fits_room</a>}
 <a href="../../machine/LawsSpecs/index.html#use">use</a> Rattle.wasmi_store.specs.Growth.{<a href="../../store/GrowthSpecs/index.html#IsDenied">IsDenied</a>}
 <a href="../../machine/LawsSpecs/index.html#use">use</a> Rattle.wasmi_store.specs.Memory.{<a href="../../store/MemorySpecs/index.html#MemoryTypeValue">MemoryTypeValue</a>, <a href="../../store/MemorySpecs/index.html#page_bytes">page_bytes</a>, <a href="../../store/MemorySpecs/index.html#minimum_bytes">minimum_bytes</a>, <a href="../../store/MemorySpecs/index.html#in_bounds">in_bounds</a>, <a href="../../store/MemorySpecs/index.html#MemoryValue">MemoryValue</a>, <a href="../../store/MemorySpecs/index.html#pages_of">pages_of</a>, <a href="../../store/MemorySpecs/index.html#growth_of">growth_of</a>, <a href="../../store/MemorySpecs/index.html#GrowsMemory">GrowsMemory</a>}
-<a href="../../machine/LawsSpecs/index.html#use">use</a> Rattle.wasmi_core.specs.declared.calls.Call.{Call}
-<a href="../../machine/LawsSpecs/index.html#use">use</a> Rattle.wasmi_core.specs.declared.calls.Call.TheVariants.{NewMemory, NewLentMemory}
-<a href="../../machine/LawsSpecs/index.html#use">use</a> Rattle.wasmi_core.specs.declared.calls.Reply.{Reply}
-<a href="../../machine/LawsSpecs/index.html#use">use</a> Rattle.wasmi_core.specs.State.{<a href="../../machine/StateSpecs/index.html#State">State</a>, <a href="../../machine/StateSpecs/index.html#World">World</a>, <a href="../../machine/StateSpecs/index.html#Turn">Turn</a>, <a href="../../machine/StateSpecs/index.html#world">world</a>, <a href="../../machine/StateSpecs/index.html#IsValid">IsValid</a>, <a href="../../machine/StateSpecs/index.html#IsValidCall">IsValidCall</a>, <a href="../../machine/StateSpecs/index.html#HoldsTotals">HoldsTotals</a>}
-pub <b id="use">use</b> Rattle.wasmi_core.specs.State.{<a href="../../machine/StateSpecs/index.html#IsRefusal">IsRefusal</a>}
-<a href="../../machine/LawsSpecs/index.html#use">use</a> Rattle.wasmi_core.specs.Steps.{<a href="../../machine/StepsSpecs/index.html#Step">Step</a>, <a href="../../machine/StepsSpecs/index.html#Sequence">Sequence</a>, <a href="../../machine/StepsSpecs/index.html#Run">Run</a>, <a href="../../machine/StepsSpecs/index.html#IsRunOf">IsRunOf</a>}
-<a href="../../machine/LawsSpecs/index.html#use">use</a> Rattle.wasmi_core.specs.Account.{<a href="../../machine/AccountSpecs/index.html#opened">opened</a>, <a href="../../machine/AccountSpecs/index.html#account_after">account_after</a>, <a href="../../machine/AccountSpecs/index.html#Balances">Balances</a>, <a href="../../machine/AccountSpecs/index.html#PaysCharge">PaysCharge</a>, <a href="../../machine/AccountSpecs/index.html#SetsNoFuel">SetsNoFuel</a>, <a href="../../machine/AccountSpecs/index.html#IsBounded">IsBounded</a>, <a href="../../machine/AccountSpecs/index.html#IsSpent">IsSpent</a>}
-<a href="../../machine/LawsSpecs/index.html#use">use</a> Rattle.wasmi_core.specs.Exchange.{<a href="../../machine/ExchangeSpecs/index.html#Notice">Notice</a>, <a href="../../machine/ExchangeSpecs/index.html#Passes">Passes</a>, <a href="../../machine/ExchangeSpecs/index.html#At">At</a>, <a href="../../machine/ExchangeSpecs/index.html#place_of">place_of</a>, <a href="../../machine/ExchangeSpecs/index.html#question_of">question_of</a>, <a href="../../machine/ExchangeSpecs/index.html#failed_reply">failed_reply</a>, <a href="../../machine/ExchangeSpecs/index.html#growth_due">growth_due</a>, <a href="../../machine/ExchangeSpecs/index.html#Exchanges">Exchanges</a>}
-<a href="../../machine/LawsSpecs/index.html#use">use</a> Rattle.wasmi_core.specs.MemoryEffects.{<a href="../../machine/MemoryEffectsSpecs/index.html#spare_after">spare_after</a>}
-<a href="../../machine/LawsSpecs/index.html#use">use</a> Rattle.wasmi_core.specs.Determinism.{<a href="../../machine/DeterminismSpecs/index.html#IsDeterministic">IsDeterministic</a>, <a href="../../machine/DeterminismSpecs/index.html#AcceptsNotices">AcceptsNotices</a>, <a href="../../machine/DeterminismSpecs/index.html#IsOtherFailure">IsOtherFailure</a>, <a href="../../machine/DeterminismSpecs/index.html#never_out_of_memory">never_out_of_memory</a>, <a href="../../machine/DeterminismSpecs/index.html#IsNotOutOfMemory">IsNotOutOfMemory</a>, <a href="../../machine/DeterminismSpecs/index.html#AreNotOutOfMemory">AreNotOutOfMemory</a>, <a href="../../machine/DeterminismSpecs/index.html#permitting">permitting</a>, <a href="../../machine/DeterminismSpecs/index.html#TellsNoDenial">TellsNoDenial</a>}
-<a href="../../machine/LawsSpecs/index.html#use">use</a> Rattle.wasmi_core.specs.LentMemory.{<a href="../../machine/LentMemorySpecs/index.html#owned_world">owned_world</a>, <a href="../../machine/LentMemorySpecs/index.html#unlent_world">unlent_world</a>, <a href="../../machine/LentMemorySpecs/index.html#RunInRegions">RunInRegions</a>}
+<a href="../../machine/LawsSpecs/index.html#use">use</a> Rattle.wasmi_machine.specs.declared.calls.Call.{Call}
+<a href="../../machine/LawsSpecs/index.html#use">use</a> Rattle.wasmi_machine.specs.declared.calls.Call.TheVariants.{NewMemory, NewLentMemory}
+<a href="../../machine/LawsSpecs/index.html#use">use</a> Rattle.wasmi_machine.specs.declared.calls.Reply.{Reply}
+<a href="../../machine/LawsSpecs/index.html#use">use</a> Rattle.wasmi_machine.specs.State.{<a href="../../machine/StateSpecs/index.html#State">State</a>, <a href="../../machine/StateSpecs/index.html#World">World</a>, <a href="../../machine/StateSpecs/index.html#Turn">Turn</a>, <a href="../../machine/StateSpecs/index.html#world">world</a>, <a href="../../machine/StateSpecs/index.html#IsValid">IsValid</a>, <a href="../../machine/StateSpecs/index.html#IsValidCall">IsValidCall</a>, <a href="../../machine/StateSpecs/index.html#HoldsTotals">HoldsTotals</a>}
+pub <b id="use">use</b> Rattle.wasmi_machine.specs.State.{<a href="../../machine/StateSpecs/index.html#IsRefusal">IsRefusal</a>}
+<a href="../../machine/LawsSpecs/index.html#use">use</a> Rattle.wasmi_machine.specs.Steps.{<a href="../../machine/StepsSpecs/index.html#Step">Step</a>, <a href="../../machine/StepsSpecs/index.html#Sequence">Sequence</a>, <a href="../../machine/StepsSpecs/index.html#Run">Run</a>, <a href="../../machine/StepsSpecs/index.html#IsRunOf">IsRunOf</a>}
+<a href="../../machine/LawsSpecs/index.html#use">use</a> Rattle.wasmi_machine.specs.Account.{<a href="../../machine/AccountSpecs/index.html#opened">opened</a>, <a href="../../machine/AccountSpecs/index.html#account_after">account_after</a>, <a href="../../machine/AccountSpecs/index.html#Balances">Balances</a>, <a href="../../machine/AccountSpecs/index.html#PaysCharge">PaysCharge</a>, <a href="../../machine/AccountSpecs/index.html#SetsNoFuel">SetsNoFuel</a>, <a href="../../machine/AccountSpecs/index.html#IsBounded">IsBounded</a>, <a href="../../machine/AccountSpecs/index.html#IsSpent">IsSpent</a>}
+<a href="../../machine/LawsSpecs/index.html#use">use</a> Rattle.wasmi_machine.specs.Exchange.{<a href="../../machine/ExchangeSpecs/index.html#Notice">Notice</a>, <a href="../../machine/ExchangeSpecs/index.html#Passes">Passes</a>, <a href="../../machine/ExchangeSpecs/index.html#At">At</a>, <a href="../../machine/ExchangeSpecs/index.html#place_of">place_of</a>, <a href="../../machine/ExchangeSpecs/index.html#question_of">question_of</a>, <a href="../../machine/ExchangeSpecs/index.html#failed_reply">failed_reply</a>, <a href="../../machine/ExchangeSpecs/index.html#growth_due">growth_due</a>, <a href="../../machine/ExchangeSpecs/index.html#Exchanges">Exchanges</a>}
+<a href="../../machine/LawsSpecs/index.html#use">use</a> Rattle.wasmi_machine.specs.MemoryEffects.{<a href="../../machine/MemoryEffectsSpecs/index.html#spare_after">spare_after</a>}
+<a href="../../machine/LawsSpecs/index.html#use">use</a> Rattle.wasmi_machine.specs.Determinism.{<a href="../../machine/DeterminismSpecs/index.html#IsDeterministic">IsDeterministic</a>, <a href="../../machine/DeterminismSpecs/index.html#AcceptsNotices">AcceptsNotices</a>, <a href="../../machine/DeterminismSpecs/index.html#IsOtherFailure">IsOtherFailure</a>, <a href="../../machine/DeterminismSpecs/index.html#never_out_of_memory">never_out_of_memory</a>, <a href="../../machine/DeterminismSpecs/index.html#IsNotOutOfMemory">IsNotOutOfMemory</a>, <a href="../../machine/DeterminismSpecs/index.html#AreNotOutOfMemory">AreNotOutOfMemory</a>, <a href="../../machine/DeterminismSpecs/index.html#permitting">permitting</a>, <a href="../../machine/DeterminismSpecs/index.html#TellsNoDenial">TellsNoDenial</a>}
+<a href="../../machine/LawsSpecs/index.html#use">use</a> Rattle.wasmi_machine.specs.LentMemory.{<a href="../../machine/LentMemorySpecs/index.html#owned_world">owned_world</a>, <a href="../../machine/LentMemorySpecs/index.html#unlent_world">unlent_world</a>, <a href="../../machine/LentMemorySpecs/index.html#RunInRegions">RunInRegions</a>}
 
 -- all but the meter and the spare region is the same
 pub record <b id="SameContents">SameContents</b> (s s&#x27; : <a href="../../machine/StateSpecs/index.html#State">State</a>) : Type 0 where
@@ -4152,13 +4166,13 @@ abbrev pub <b id="QuotasStayWithin">QuotasStayWithin</b> : Type 0
 use Rattle.wasmi_meter.specs.Limiter.{<a href="../../meter/LimiterSpecs/index.html#Rules">Rules</a>}
 use Rattle.wasmi_store.specs.Buffer.{<a href="../../store/BufferSpecs/index.html#Owned">Owned</a>, <a href="../../store/BufferSpecs/index.html#fits_room">fits_room</a>}
 use Rattle.wasmi_store.specs.Memory.{<a href="../../store/MemorySpecs/index.html#page_bytes">page_bytes</a>, <a href="../../store/MemorySpecs/index.html#in_bounds">in_bounds</a>, <a href="../../store/MemorySpecs/index.html#MemoryValue">MemoryValue</a>, <a href="../../store/MemorySpecs/index.html#pages_of">pages_of</a>}
-use Rattle.wasmi_core.specs.declared.calls.Call.{Call}
-use Rattle.wasmi_core.specs.declared.calls.Call.TheVariants.{NewLentMemory, GrowMemory}
-use Rattle.wasmi_core.specs.declared.slots.Slot.{Slot}
-use Rattle.wasmi_core.specs.declared.slots.Slot.TheVariants.{Live, Gone}
-use Rattle.wasmi_core.specs.State.{<a href="../../machine/StateSpecs/index.html#State">State</a>, <a href="../../machine/StateSpecs/index.html#live_at">live_at</a>, <a href="../../machine/StateSpecs/index.html#World">World</a>, <a href="../../machine/StateSpecs/index.html#Turn">Turn</a>}
-use Rattle.wasmi_core.specs.Effects.{<a href="../../machine/EffectsSpecs/index.html#OnLive">OnLive</a>}
-use Rattle.wasmi_core.specs.Steps.{<a href="../../machine/StepsSpecs/index.html#Step">Step</a>}
+use Rattle.wasmi_machine.specs.declared.calls.Call.{Call}
+use Rattle.wasmi_machine.specs.declared.calls.Call.TheVariants.{NewLentMemory, GrowMemory}
+use Rattle.wasmi_machine.specs.declared.slots.Slot.{Slot}
+use Rattle.wasmi_machine.specs.declared.slots.Slot.TheVariants.{Live, Gone}
+use Rattle.wasmi_machine.specs.State.{<a href="../../machine/StateSpecs/index.html#State">State</a>, <a href="../../machine/StateSpecs/index.html#live_at">live_at</a>, <a href="../../machine/StateSpecs/index.html#World">World</a>, <a href="../../machine/StateSpecs/index.html#Turn">Turn</a>}
+use Rattle.wasmi_machine.specs.Effects.{<a href="../../machine/EffectsSpecs/index.html#OnLive">OnLive</a>}
+use Rattle.wasmi_machine.specs.Steps.{<a href="../../machine/StepsSpecs/index.html#Step">Step</a>}
 
 -- a memory that grows into memory of its own, instead of a lent region
 abbrev pub <b id="owned_memory">owned_memory</b> : <a href="../../store/MemorySpecs/index.html#MemoryValue">MemoryValue</a> → <a href="../../store/MemorySpecs/index.html#MemoryValue">MemoryValue</a>
@@ -4213,16 +4227,16 @@ use Rattle.wasmi_meter.specs.declared.error.MemoryError.TheVariants.{OutOfBounds
 use Rattle.wasmi_meter.specs.Limiter.{<a href="../../meter/LimiterSpecs/index.html#Rules">Rules</a>}
 use Rattle.wasmi_store.specs.Buffer.{<a href="../../store/BufferSpecs/index.html#Lent">Lent</a>}
 use Rattle.wasmi_store.specs.Memory.{<a href="../../store/MemorySpecs/index.html#MemoryTypeValue">MemoryTypeValue</a>, <a href="../../store/MemorySpecs/index.html#page_bytes">page_bytes</a>, <a href="../../store/MemorySpecs/index.html#MemoryValue">MemoryValue</a>, <a href="../../store/MemorySpecs/index.html#MakesMemory">MakesMemory</a>, <a href="../../store/MemorySpecs/index.html#WritesMemory">WritesMemory</a>}
-use Rattle.wasmi_core.specs.declared.calls.Reply.{Reply}
-use Rattle.wasmi_core.specs.declared.calls.Reply.TheVariants.{Done, Value, Number, Bytes, Memory, Trap, NoSuch, NoRegion, NoRoom}
-use Rattle.wasmi_core.specs.declared.memories.Stored.{Stored}
-use Rattle.wasmi_core.specs.declared.slots.Slot.{Slot}
-use Rattle.wasmi_ops.specs.declared.scalar.LoadOp.{LoadOp}
-use Rattle.wasmi_ops.specs.ScalarOps.{<a href="../../ops/ScalarOpsSpecs/index.html#loaded_raw">loaded_raw</a>, <a href="../../ops/ScalarOpsSpecs/index.html#stored_bytes">stored_bytes</a>}
+use Rattle.wasmi_machine.specs.declared.calls.Reply.{Reply}
+use Rattle.wasmi_machine.specs.declared.calls.Reply.TheVariants.{Done, Value, Number, Bytes, Memory, Trap, NoSuch, NoRegion, NoRoom}
+use Rattle.wasmi_machine.specs.declared.memories.Stored.{Stored}
+use Rattle.wasmi_machine.specs.declared.slots.Slot.{Slot}
+use Rattle.wasmi_ops.specs.declared.load_store.LoadOp.{LoadOp}
+use Rattle.wasmi_ops.specs.LoadStoreOps.{<a href="../../ops/LoadStoreOpsSpecs/index.html#loaded_raw">loaded_raw</a>, <a href="../../ops/LoadStoreOpsSpecs/index.html#stored_bytes">stored_bytes</a>}
 use Rattle.wasmi_ops.specs.VectorOps.{<a href="../../ops/VectorOpsSpecs/index.html#stored_lane">stored_lane</a>}
-use Rattle.wasmi_core.specs.State.{<a href="../../machine/StateSpecs/index.html#MemoryPart">MemoryPart</a>, <a href="../../machine/StateSpecs/index.html#live_at">live_at</a>}
-use Rattle.wasmi_core.specs.Effects.{<a href="../../machine/EffectsSpecs/index.html#reply_of">reply_of</a>, <a href="../../machine/EffectsSpecs/index.html#OnLive">OnLive</a>, <a href="../../machine/EffectsSpecs/index.html#Creates">Creates</a>, <a href="../../machine/EffectsSpecs/index.html#ChangesAt">ChangesAt</a>}
-use Rattle.wasmi_core.specs.declared.memories.Stored.TheVariants as stored
+use Rattle.wasmi_machine.specs.State.{<a href="../../machine/StateSpecs/index.html#MemoryPart">MemoryPart</a>, <a href="../../machine/StateSpecs/index.html#live_at">live_at</a>}
+use Rattle.wasmi_machine.specs.Effects.{<a href="../../machine/EffectsSpecs/index.html#reply_of">reply_of</a>, <a href="../../machine/EffectsSpecs/index.html#OnLive">OnLive</a>, <a href="../../machine/EffectsSpecs/index.html#Creates">Creates</a>, <a href="../../machine/EffectsSpecs/index.html#ChangesAt">ChangesAt</a>}
+use Rattle.wasmi_machine.specs.declared.memories.Stored.TheVariants as stored
 
 -- the bytes that a growth by so many pages has appended, by its reply
 abbrev pub <b id="bytes_appended">bytes_appended</b> : Option <a href="../../store/MemorySpecs/index.html#MemoryValue">MemoryValue</a> → ℕ → Reply → ℕ
@@ -4259,11 +4273,11 @@ abbrev pub <b id="WritesMemoryAt">WritesMemoryAt</b> : ℕ → ℕ → List ℕ 
 
 -- the reply to a load from a memory, if the memory is there
 abbrev pub <b id="load_reply">load_reply</b> : LoadOp → ℕ → Option <a href="../../store/MemorySpecs/index.html#MemoryValue">MemoryValue</a> → Reply
-<a href="../../machine/MemoryEffectsSpecs/index.html#load_reply">load_reply</a> op a memory = option_map_or (λ x. <a href="../../machine/EffectsSpecs/index.html#reply_of">reply_of</a> Value Trap (<a href="../../ops/ScalarOpsSpecs/index.html#loaded_raw">loaded_raw</a> op x.bytes a)) memory NoSuch
+<a href="../../machine/MemoryEffectsSpecs/index.html#load_reply">load_reply</a> op a memory = option_map_or (λ x. <a href="../../machine/EffectsSpecs/index.html#reply_of">reply_of</a> Value Trap (<a href="../../ops/LoadStoreOpsSpecs/index.html#loaded_raw">loaded_raw</a> op x.bytes a)) memory NoSuch
 
 -- the bytes that a store writes
 abbrev pub <b id="bytes_of_stored">bytes_of_stored</b> : Stored → List ℕ
-<a href="../../machine/MemoryEffectsSpecs/index.html#bytes_of_stored">bytes_of_stored</a> (stored.Number op value) = <a href="../../ops/ScalarOpsSpecs/index.html#stored_bytes">stored_bytes</a> op value
+<a href="../../machine/MemoryEffectsSpecs/index.html#bytes_of_stored">bytes_of_stored</a> (stored.Number op value) = <a href="../../ops/LoadStoreOpsSpecs/index.html#stored_bytes">stored_bytes</a> op value
 <a href="../../machine/MemoryEffectsSpecs/index.html#bytes_of_stored">bytes_of_stored</a> (stored.Vector vector) = <a href="../../types/NumbersSpecs/index.html#le_bytes">le_bytes</a> 16 vector
 <a href="../../machine/MemoryEffectsSpecs/index.html#bytes_of_stored">bytes_of_stored</a> (stored.Lane op vector) = <a href="../../ops/VectorOpsSpecs/index.html#stored_lane">stored_lane</a> op vector
 
@@ -4290,11 +4304,11 @@ use Rattle.wasmi_store.specs.Memory.{<a href="../../store/MemorySpecs/index.html
 use Rattle.wasmi_ops.specs.declared.vector.VectorLoadOp.{VectorLoadOp}
 use Rattle.wasmi_ops.specs.declared.vector.LoadLaneOp.{LoadLaneOp}
 use Rattle.wasmi_ops.specs.VectorOps.{<a href="../../ops/VectorOpsSpecs/index.html#loaded_vector">loaded_vector</a>, <a href="../../ops/VectorOpsSpecs/index.html#loaded_lane">loaded_lane</a>}
-use Rattle.wasmi_core.specs.declared.calls.Reply.{Reply}
-use Rattle.wasmi_core.specs.declared.calls.Reply.TheVariants.{Done, Value, Trap, NoSuch}
-use Rattle.wasmi_core.specs.declared.slots.Slot.{Slot}
-use Rattle.wasmi_ops.specs.ScalarOps.{<a href="../../ops/ScalarOpsSpecs/index.html#as_raw">as_raw</a>}
-use Rattle.wasmi_core.specs.MemoryEffects.{<a href="../../machine/MemoryEffectsSpecs/index.html#StoresMemoryAt">StoresMemoryAt</a>}
+use Rattle.wasmi_machine.specs.declared.calls.Reply.{Reply}
+use Rattle.wasmi_machine.specs.declared.calls.Reply.TheVariants.{Done, Value, Trap, NoSuch}
+use Rattle.wasmi_machine.specs.declared.slots.Slot.{Slot}
+use Rattle.wasmi_ops.specs.LoadStoreOps.{<a href="../../ops/LoadStoreOpsSpecs/index.html#as_raw">as_raw</a>}
+use Rattle.wasmi_machine.specs.MemoryEffects.{<a href="../../machine/MemoryEffectsSpecs/index.html#StoresMemoryAt">StoresMemoryAt</a>}
 
 -- the vector in a register, if there is one
 abbrev pub <b id="vector_at">vector_at</b> : List RawVal → ℕ → Option ℕ
@@ -4332,12 +4346,12 @@ abbrev pub <b id="of_three">of_three</b> : (ℕ → ℕ → ℕ → ℕ) → Opt
 
 -- what a load of a vector from a memory gives a register, if the memory is there
 abbrev pub <b id="vector_loaded">vector_loaded</b> : VectorLoadOp → ℕ → Option <a href="../../store/MemorySpecs/index.html#MemoryValue">MemoryValue</a> → Option (Result RawVal TrapCode)
-<a href="../../machine/RegisterEffectsSpecs/index.html#vector_loaded">vector_loaded</a> op a memory = option_map (λ x. <a href="../../ops/ScalarOpsSpecs/index.html#as_raw">as_raw</a> <a href="../../raw/RawValSpecs/index.html#raw_of_vector">raw_of_vector</a> (<a href="../../ops/VectorOpsSpecs/index.html#loaded_vector">loaded_vector</a> op x.bytes a)) memory
+<a href="../../machine/RegisterEffectsSpecs/index.html#vector_loaded">vector_loaded</a> op a memory = option_map (λ x. <a href="../../ops/LoadStoreOpsSpecs/index.html#as_raw">as_raw</a> <a href="../../raw/RawValSpecs/index.html#raw_of_vector">raw_of_vector</a> (<a href="../../ops/VectorOpsSpecs/index.html#loaded_vector">loaded_vector</a> op x.bytes a)) memory
 
 -- what a load of one lane of a vector from a memory gives a register, if the vector and the memory are there
 abbrev pub <b id="lane_loaded">lane_loaded</b> : LoadLaneOp → ℕ → Option ℕ → Option <a href="../../store/MemorySpecs/index.html#MemoryValue">MemoryValue</a> → Option (Result RawVal TrapCode)
 <a href="../../machine/RegisterEffectsSpecs/index.html#lane_loaded">lane_loaded</a> op a vector memory =
-    option_and_then (λ v. option_map (λ x. <a href="../../ops/ScalarOpsSpecs/index.html#as_raw">as_raw</a> <a href="../../raw/RawValSpecs/index.html#raw_of_vector">raw_of_vector</a> (<a href="../../ops/VectorOpsSpecs/index.html#loaded_lane">loaded_lane</a> op v x.bytes a)) memory) vector
+    option_and_then (λ v. option_map (λ x. <a href="../../ops/LoadStoreOpsSpecs/index.html#as_raw">as_raw</a> <a href="../../raw/RawValSpecs/index.html#raw_of_vector">raw_of_vector</a> (<a href="../../ops/VectorOpsSpecs/index.html#loaded_lane">loaded_lane</a> op v x.bytes a)) memory) vector
 
 -- the raw value that is asked of a register, if it is there
 abbrev pub <b id="raw_reply">raw_reply</b> : Option RawVal → Reply
@@ -4362,16 +4376,16 @@ use Rattle.wasmi_typed.specs.Global.{<a href="../../typed/GlobalSpecs/index.html
 use Rattle.wasmi_store.specs.Memory.{<a href="../../store/MemorySpecs/index.html#MemoryValue">MemoryValue</a>, <a href="../../store/MemorySpecs/index.html#IsValidMemory">IsValidMemory</a>}
 use Rattle.wasmi_store.specs.Segment.{<a href="../../store/SegmentSpecs/index.html#SegmentValue">SegmentValue</a>, <a href="../../store/SegmentSpecs/index.html#most_items">most_items</a>}
 use Rattle.wasmi_store.specs.Table.{<a href="../../store/TableSpecs/index.html#TableValue">TableValue</a>, <a href="../../store/TableSpecs/index.html#size_of">size_of</a>, <a href="../../store/TableSpecs/index.html#IsValidTable">IsValidTable</a>}
-use Rattle.wasmi_core.specs.declared.slots.Slot.{Slot}
-use Rattle.wasmi_core.specs.declared.slots.Slot.TheVariants.{Live, Gone}
-use Rattle.wasmi_core.specs.declared.slots.Slots.{Slots}
-use Rattle.wasmi_core.specs.declared.calls.Call.{Call}
-use Rattle.wasmi_core.specs.declared.calls.Reply.{Reply}
+use Rattle.wasmi_machine.specs.declared.slots.Slot.{Slot}
+use Rattle.wasmi_machine.specs.declared.slots.Slot.TheVariants.{Live, Gone}
+use Rattle.wasmi_machine.specs.declared.slots.Slots.{Slots}
+use Rattle.wasmi_machine.specs.declared.calls.Call.{Call}
+use Rattle.wasmi_machine.specs.declared.calls.Reply.{Reply}
 use Rattle.wasmi_meter.specs.declared.limiter.Kind.{Kind}
 use Rattle.wasmi_meter.specs.declared.limiter.Kind.TheVariants.{Bytes, Elements}
 use Rattle.wasmi_meter.specs.declared.holdings.Holdings.{Holdings}
-use Rattle.wasmi_core.specs.declared.calls.Call.TheVariants.{NewMemory, NewLentMemory, NewTable}
-use Rattle.wasmi_core.specs.declared.calls.Reply.TheVariants as <a href="../../machine/StateSpecs/index.html#reply">reply</a>
+use Rattle.wasmi_machine.specs.declared.calls.Call.TheVariants.{NewMemory, NewLentMemory, NewTable}
+use Rattle.wasmi_machine.specs.declared.calls.Reply.TheVariants as <a href="../../machine/StateSpecs/index.html#reply">reply</a>
 use Rattle.wasmi_store.specs.Memory as memory
 use Rattle.wasmi_store.specs.Table as table
 
@@ -4547,17 +4561,17 @@ use Rattle.wasmi_meter.specs.Limiter.{<a href="../../meter/LimiterSpecs/index.ht
 use Rattle.wasmi_store.specs.Buffer.{<a href="../../store/BufferSpecs/index.html#Owned">Owned</a>}
 use Rattle.wasmi_store.specs.Memory.{<a href="../../store/MemorySpecs/index.html#MemoryTypeValue">MemoryTypeValue</a>, <a href="../../store/MemorySpecs/index.html#MakesMemory">MakesMemory</a>, <a href="../../store/MemorySpecs/index.html#GrowsMemoryCharging">GrowsMemoryCharging</a>}
 use Rattle.wasmi_store.specs.Table.{<a href="../../store/TableSpecs/index.html#TableTypeValue">TableTypeValue</a>, <a href="../../store/TableSpecs/index.html#size_of">size_of</a>, <a href="../../store/TableSpecs/index.html#MakesTable">MakesTable</a>, <a href="../../store/TableSpecs/index.html#GrowsTableCharging">GrowsTableCharging</a>}
-use Rattle.wasmi_core.specs.declared.calls.Call.{Call}
-use Rattle.wasmi_core.specs.declared.calls.Reply.{Reply}
-use Rattle.wasmi_core.specs.State.{<a href="../../machine/StateSpecs/index.html#World">World</a>, <a href="../../machine/StateSpecs/index.html#Turn">Turn</a>, <a href="../../machine/StateSpecs/index.html#world">world</a>, <a href="../../machine/StateSpecs/index.html#State">State</a>, <a href="../../machine/StateSpecs/index.html#live_at">live_at</a>, <a href="../../machine/StateSpecs/index.html#with_memories">with_memories</a>, <a href="../../machine/StateSpecs/index.html#memory_part">memory_part</a>, <a href="../../machine/StateSpecs/index.html#with_memory_part">with_memory_part</a>, <a href="../../machine/StateSpecs/index.html#with_tables">with_tables</a>, <a href="../../machine/StateSpecs/index.html#with_segments">with_segments</a>, <a href="../../machine/StateSpecs/index.html#with_globals">with_globals</a>, <a href="../../machine/StateSpecs/index.html#with_registers">with_registers</a>, <a href="../../machine/StateSpecs/index.html#byte_count">byte_count</a>}
-use Rattle.wasmi_core.specs.Effects.{<a href="../../machine/EffectsSpecs/index.html#reply_of">reply_of</a>, <a href="../../machine/EffectsSpecs/index.html#Creates">Creates</a>, <a href="../../machine/EffectsSpecs/index.html#DropsAt">DropsAt</a>, <a href="../../machine/EffectsSpecs/index.html#ActsAt">ActsAt</a>, <a href="../../machine/EffectsSpecs/index.html#ChangesPart">ChangesPart</a>, <a href="../../machine/EffectsSpecs/index.html#OnlyReplies">OnlyReplies</a>, <a href="../../machine/EffectsSpecs/index.html#Changes">Changes</a>, <a href="../../machine/EffectsSpecs/index.html#Asks">Asks</a>, <a href="../../machine/EffectsSpecs/index.html#ActsMetered">ActsMetered</a>, <a href="../../machine/EffectsSpecs/index.html#ActsMeteredUnasked">ActsMeteredUnasked</a>}
-use Rattle.wasmi_ops.specs.ScalarOps.{<a href="../../ops/ScalarOpsSpecs/index.html#stored_bytes">stored_bytes</a>}
-use Rattle.wasmi_core.specs.ValueEffects.{<a href="../../machine/ValueEffectsSpecs/index.html#SetsFuel">SetsFuel</a>, <a href="../../machine/ValueEffectsSpecs/index.html#get_fuel_reply">get_fuel_reply</a>, <a href="../../machine/ValueEffectsSpecs/index.html#CreatesSegment">CreatesSegment</a>, <a href="../../machine/ValueEffectsSpecs/index.html#DropsItemsAt">DropsItemsAt</a>, <a href="../../machine/ValueEffectsSpecs/index.html#CreatesGlobal">CreatesGlobal</a>, <a href="../../machine/ValueEffectsSpecs/index.html#SetsGlobalAt">SetsGlobalAt</a>, <a href="../../machine/ValueEffectsSpecs/index.html#global_reply">global_reply</a>}
-use Rattle.wasmi_core.specs.MemoryEffects.{<a href="../../machine/MemoryEffectsSpecs/index.html#bytes_appended">bytes_appended</a>, <a href="../../machine/MemoryEffectsSpecs/index.html#CreatesLent">CreatesLent</a>, <a href="../../machine/MemoryEffectsSpecs/index.html#ReadsMemoryAt">ReadsMemoryAt</a>, <a href="../../machine/MemoryEffectsSpecs/index.html#WritesMemoryAt">WritesMemoryAt</a>, <a href="../../machine/MemoryEffectsSpecs/index.html#load_reply">load_reply</a>}
-use Rattle.wasmi_core.specs.TableEffects.{<a href="../../machine/TableEffectsSpecs/index.html#Source">Source</a>, <a href="../../machine/TableEffectsSpecs/index.html#OfReference">OfReference</a>, <a href="../../machine/TableEffectsSpecs/index.html#OfTable">OfTable</a>, <a href="../../machine/TableEffectsSpecs/index.html#OfSegment">OfSegment</a>, <a href="../../machine/TableEffectsSpecs/index.html#element_reply">element_reply</a>, <a href="../../machine/TableEffectsSpecs/index.html#SetsElementAt">SetsElementAt</a>, <a href="../../machine/TableEffectsSpecs/index.html#write_of">write_of</a>, <a href="../../machine/TableEffectsSpecs/index.html#WritesRangeAt">WritesRangeAt</a>, <a href="../../machine/TableEffectsSpecs/index.html#element_bytes">element_bytes</a>}
-use Rattle.wasmi_core.specs.RegisterEffects.{<a href="../../machine/RegisterEffectsSpecs/index.html#SetsRegister">SetsRegister</a>, <a href="../../machine/RegisterEffectsSpecs/index.html#StoresVectorAt">StoresVectorAt</a>, <a href="../../machine/RegisterEffectsSpecs/index.html#given_vector">given_vector</a>, <a href="../../machine/RegisterEffectsSpecs/index.html#of_one">of_one</a>, <a href="../../machine/RegisterEffectsSpecs/index.html#of_two">of_two</a>, <a href="../../machine/RegisterEffectsSpecs/index.html#of_three">of_three</a>, <a href="../../machine/RegisterEffectsSpecs/index.html#vector_loaded">vector_loaded</a>, <a href="../../machine/RegisterEffectsSpecs/index.html#lane_loaded">lane_loaded</a>, <a href="../../machine/RegisterEffectsSpecs/index.html#raw_reply">raw_reply</a>, <a href="../../machine/RegisterEffectsSpecs/index.html#vector_at">vector_at</a>}
-use Rattle.wasmi_core.specs.declared.calls.Call.TheVariants as call
-use Rattle.wasmi_core.specs.declared.calls.Reply.TheVariants as reply
+use Rattle.wasmi_machine.specs.declared.calls.Call.{Call}
+use Rattle.wasmi_machine.specs.declared.calls.Reply.{Reply}
+use Rattle.wasmi_machine.specs.State.{<a href="../../machine/StateSpecs/index.html#World">World</a>, <a href="../../machine/StateSpecs/index.html#Turn">Turn</a>, <a href="../../machine/StateSpecs/index.html#world">world</a>, <a href="../../machine/StateSpecs/index.html#State">State</a>, <a href="../../machine/StateSpecs/index.html#live_at">live_at</a>, <a href="../../machine/StateSpecs/index.html#with_memories">with_memories</a>, <a href="../../machine/StateSpecs/index.html#memory_part">memory_part</a>, <a href="../../machine/StateSpecs/index.html#with_memory_part">with_memory_part</a>, <a href="../../machine/StateSpecs/index.html#with_tables">with_tables</a>, <a href="../../machine/StateSpecs/index.html#with_segments">with_segments</a>, <a href="../../machine/StateSpecs/index.html#with_globals">with_globals</a>, <a href="../../machine/StateSpecs/index.html#with_registers">with_registers</a>, <a href="../../machine/StateSpecs/index.html#byte_count">byte_count</a>}
+use Rattle.wasmi_machine.specs.Effects.{<a href="../../machine/EffectsSpecs/index.html#reply_of">reply_of</a>, <a href="../../machine/EffectsSpecs/index.html#Creates">Creates</a>, <a href="../../machine/EffectsSpecs/index.html#DropsAt">DropsAt</a>, <a href="../../machine/EffectsSpecs/index.html#ActsAt">ActsAt</a>, <a href="../../machine/EffectsSpecs/index.html#ChangesPart">ChangesPart</a>, <a href="../../machine/EffectsSpecs/index.html#OnlyReplies">OnlyReplies</a>, <a href="../../machine/EffectsSpecs/index.html#Changes">Changes</a>, <a href="../../machine/EffectsSpecs/index.html#Asks">Asks</a>, <a href="../../machine/EffectsSpecs/index.html#ActsMetered">ActsMetered</a>, <a href="../../machine/EffectsSpecs/index.html#ActsMeteredUnasked">ActsMeteredUnasked</a>}
+use Rattle.wasmi_ops.specs.LoadStoreOps.{<a href="../../ops/LoadStoreOpsSpecs/index.html#stored_bytes">stored_bytes</a>}
+use Rattle.wasmi_machine.specs.ValueEffects.{<a href="../../machine/ValueEffectsSpecs/index.html#SetsFuel">SetsFuel</a>, <a href="../../machine/ValueEffectsSpecs/index.html#get_fuel_reply">get_fuel_reply</a>, <a href="../../machine/ValueEffectsSpecs/index.html#CreatesSegment">CreatesSegment</a>, <a href="../../machine/ValueEffectsSpecs/index.html#DropsItemsAt">DropsItemsAt</a>, <a href="../../machine/ValueEffectsSpecs/index.html#CreatesGlobal">CreatesGlobal</a>, <a href="../../machine/ValueEffectsSpecs/index.html#SetsGlobalAt">SetsGlobalAt</a>, <a href="../../machine/ValueEffectsSpecs/index.html#global_reply">global_reply</a>}
+use Rattle.wasmi_machine.specs.MemoryEffects.{<a href="../../machine/MemoryEffectsSpecs/index.html#bytes_appended">bytes_appended</a>, <a href="../../machine/MemoryEffectsSpecs/index.html#CreatesLent">CreatesLent</a>, <a href="../../machine/MemoryEffectsSpecs/index.html#ReadsMemoryAt">ReadsMemoryAt</a>, <a href="../../machine/MemoryEffectsSpecs/index.html#WritesMemoryAt">WritesMemoryAt</a>, <a href="../../machine/MemoryEffectsSpecs/index.html#load_reply">load_reply</a>}
+use Rattle.wasmi_machine.specs.TableEffects.{<a href="../../machine/TableEffectsSpecs/index.html#Source">Source</a>, <a href="../../machine/TableEffectsSpecs/index.html#OfReference">OfReference</a>, <a href="../../machine/TableEffectsSpecs/index.html#OfTable">OfTable</a>, <a href="../../machine/TableEffectsSpecs/index.html#OfSegment">OfSegment</a>, <a href="../../machine/TableEffectsSpecs/index.html#element_reply">element_reply</a>, <a href="../../machine/TableEffectsSpecs/index.html#SetsElementAt">SetsElementAt</a>, <a href="../../machine/TableEffectsSpecs/index.html#write_of">write_of</a>, <a href="../../machine/TableEffectsSpecs/index.html#WritesRangeAt">WritesRangeAt</a>, <a href="../../machine/TableEffectsSpecs/index.html#element_bytes">element_bytes</a>}
+use Rattle.wasmi_machine.specs.RegisterEffects.{<a href="../../machine/RegisterEffectsSpecs/index.html#SetsRegister">SetsRegister</a>, <a href="../../machine/RegisterEffectsSpecs/index.html#StoresVectorAt">StoresVectorAt</a>, <a href="../../machine/RegisterEffectsSpecs/index.html#given_vector">given_vector</a>, <a href="../../machine/RegisterEffectsSpecs/index.html#of_one">of_one</a>, <a href="../../machine/RegisterEffectsSpecs/index.html#of_two">of_two</a>, <a href="../../machine/RegisterEffectsSpecs/index.html#of_three">of_three</a>, <a href="../../machine/RegisterEffectsSpecs/index.html#vector_loaded">vector_loaded</a>, <a href="../../machine/RegisterEffectsSpecs/index.html#lane_loaded">lane_loaded</a>, <a href="../../machine/RegisterEffectsSpecs/index.html#raw_reply">raw_reply</a>, <a href="../../machine/RegisterEffectsSpecs/index.html#vector_at">vector_at</a>}
+use Rattle.wasmi_machine.specs.declared.calls.Call.TheVariants as call
+use Rattle.wasmi_machine.specs.declared.calls.Reply.TheVariants as reply
 
 -- what a call is about
 pub data <b id="Subject">Subject</b> : Type 0 where
@@ -4670,7 +4684,7 @@ abbrev pub <b id="effect_of">effect_of</b> : <a href="../../machine/StateSpecs/i
 <a href="../../machine/StepsSpecs/index.html#effect_of">effect_of</a> s (call.Read k offset len) = <a href="../../machine/StepsSpecs/index.html#BytesRead">BytesRead</a> k offset len
 <a href="../../machine/StepsSpecs/index.html#effect_of">effect_of</a> s (call.Write k offset bytes) = <a href="../../machine/StepsSpecs/index.html#Changed">Changed</a> (<a href="../../machine/StepsSpecs/index.html#BytesWritten">BytesWritten</a> k offset bytes.items)
 <a href="../../machine/StepsSpecs/index.html#effect_of">effect_of</a> s (call.Load op k ptr offset) = <a href="../../machine/StepsSpecs/index.html#Told">Told</a> (<a href="../../machine/MemoryEffectsSpecs/index.html#load_reply">load_reply</a> op (ptr + offset) (<a href="../../machine/StateSpecs/index.html#live_at">live_at</a> s.memories k))
-<a href="../../machine/StepsSpecs/index.html#effect_of">effect_of</a> s (call.Store op k ptr offset value) = <a href="../../machine/StepsSpecs/index.html#Changed">Changed</a> (<a href="../../machine/StepsSpecs/index.html#BytesStored">BytesStored</a> k (ptr + offset) (Some (<a href="../../ops/ScalarOpsSpecs/index.html#stored_bytes">stored_bytes</a> op value)))
+<a href="../../machine/StepsSpecs/index.html#effect_of">effect_of</a> s (call.Store op k ptr offset value) = <a href="../../machine/StepsSpecs/index.html#Changed">Changed</a> (<a href="../../machine/StepsSpecs/index.html#BytesStored">BytesStored</a> k (ptr + offset) (Some (<a href="../../ops/LoadStoreOpsSpecs/index.html#stored_bytes">stored_bytes</a> op value)))
 <a href="../../machine/StepsSpecs/index.html#effect_of">effect_of</a> s (call.NewTable ty init) = <a href="../../machine/StepsSpecs/index.html#TableMade">TableMade</a> ty init
 <a href="../../machine/StepsSpecs/index.html#effect_of">effect_of</a> s (call.GrowTable k n init) = <a href="../../machine/StepsSpecs/index.html#TableGrown">TableGrown</a> k n init
 <a href="../../machine/StepsSpecs/index.html#effect_of">effect_of</a> s (call.DropTable k) = <a href="../../machine/StepsSpecs/index.html#Changed">Changed</a> (<a href="../../machine/StepsSpecs/index.html#TableDropped">TableDropped</a> k)
@@ -4787,12 +4801,12 @@ use Rattle.wasmi_meter.specs.Meter.{<a href="../../meter/MeterSpecs/index.html#c
 use Rattle.wasmi_meter.specs.Attempt.{<a href="../../meter/AttemptSpecs/index.html#MeteredValue">MeteredValue</a>, <a href="../../meter/AttemptSpecs/index.html#with_value">with_value</a>}
 use Rattle.wasmi_store.specs.Segment.{<a href="../../store/SegmentSpecs/index.html#SegmentValue">SegmentValue</a>}
 use Rattle.wasmi_store.specs.Table.{<a href="../../store/TableSpecs/index.html#TableValue">TableValue</a>, <a href="../../store/TableSpecs/index.html#TableWrite">TableWrite</a>, <a href="../../store/TableSpecs/index.html#SetsTable">SetsTable</a>, <a href="../../store/TableSpecs/index.html#WritesTableCharging">WritesTableCharging</a>, <a href="../../store/TableSpecs/index.html#element_at">element_at</a>, <a href="../../store/TableSpecs/index.html#filling_of">filling_of</a>, <a href="../../store/TableSpecs/index.html#copy_of">copy_of</a>, <a href="../../store/TableSpecs/index.html#initialization_of">initialization_of</a>}
-use Rattle.wasmi_core.specs.declared.calls.Reply.{Reply}
-use Rattle.wasmi_core.specs.declared.calls.Reply.TheVariants.{Done, Number, Reference, Table, NoSuch}
-use Rattle.wasmi_core.specs.declared.slots.Slot.{Slot}
-use Rattle.wasmi_core.specs.declared.slots.Slot.TheVariants.{Live}
-use Rattle.wasmi_core.specs.State.{<a href="../../machine/StateSpecs/index.html#live_value">live_value</a>}
-use Rattle.wasmi_core.specs.Effects.{<a href="../../machine/EffectsSpecs/index.html#reply_of">reply_of</a>, <a href="../../machine/EffectsSpecs/index.html#OnLive">OnLive</a>, <a href="../../machine/EffectsSpecs/index.html#IsNoSuch">IsNoSuch</a>, <a href="../../machine/EffectsSpecs/index.html#ChangesAt">ChangesAt</a>, <a href="../../machine/EffectsSpecs/index.html#ActsAt">ActsAt</a>}
+use Rattle.wasmi_machine.specs.declared.calls.Reply.{Reply}
+use Rattle.wasmi_machine.specs.declared.calls.Reply.TheVariants.{Done, Number, Reference, Table, NoSuch}
+use Rattle.wasmi_machine.specs.declared.slots.Slot.{Slot}
+use Rattle.wasmi_machine.specs.declared.slots.Slot.TheVariants.{Live}
+use Rattle.wasmi_machine.specs.State.{<a href="../../machine/StateSpecs/index.html#live_value">live_value</a>}
+use Rattle.wasmi_machine.specs.Effects.{<a href="../../machine/EffectsSpecs/index.html#reply_of">reply_of</a>, <a href="../../machine/EffectsSpecs/index.html#OnLive">OnLive</a>, <a href="../../machine/EffectsSpecs/index.html#IsNoSuch">IsNoSuch</a>, <a href="../../machine/EffectsSpecs/index.html#ChangesAt">ChangesAt</a>, <a href="../../machine/EffectsSpecs/index.html#ActsAt">ActsAt</a>}
 
 -- the element that is asked of a table, if the table is there
 abbrev pub <b id="element_reply">element_reply</b> : ℕ → Option <a href="../../store/TableSpecs/index.html#TableValue">TableValue</a> → Reply
@@ -4853,44 +4867,6 @@ abbrev pub <b id="element_bytes">element_bytes</b> : ℕ → Reply → ℕ
 </code></pre>
 "####]
     pub mod TableEffectsSpecs {}
-    #[doc = r####"The types of the parts that clauses and specifications cite, passed on from one place. Declares nothing.
-
-<pre><code>pub <b id="use">use</b> Rattle.wasmi_types.specs.declared.index_ty.IndexType.{IndexType}
-pub <b id="use">use</b> Rattle.wasmi_types.specs.declared.trap.TrapCode.{TrapCode}
-pub <b id="use">use</b> Rattle.wasmi_types.specs.declared.value.RefType.{RefType}
-pub <b id="use">use</b> Rattle.wasmi_types.specs.declared.value.ValType.{ValType}
-pub <b id="use">use</b> Rattle.wasmi_raw.specs.declared.raw.RawVal.{RawVal}
-pub <b id="use">use</b> Rattle.wasmi_typed.specs.declared.typed.TypedRawVal.{TypedRawVal}
-pub <b id="use">use</b> Rattle.wasmi_typed.specs.declared.typed_ref.TypedRawRef.{TypedRawRef}
-pub <b id="use">use</b> Rattle.wasmi_typed.specs.declared.global.Mutability.{Mutability}
-pub <b id="use">use</b> Rattle.wasmi_typed.specs.declared.global.GlobalError.{GlobalError}
-pub <b id="use">use</b> Rattle.wasmi_meter.specs.declared.error.LimiterError.{LimiterError}
-pub <b id="use">use</b> Rattle.wasmi_meter.specs.declared.error.MemoryError.{MemoryError}
-pub <b id="use">use</b> Rattle.wasmi_meter.specs.declared.error.TableError.{TableError}
-pub <b id="use">use</b> Rattle.wasmi_meter.specs.declared.fuel.FuelError.{FuelError}
-pub <b id="use">use</b> Rattle.wasmi_meter.specs.declared.fuel.CustomFuelCosts.{CustomFuelCosts}
-pub <b id="use">use</b> Rattle.wasmi_meter.specs.declared.limiter.Kind.{Kind}
-pub <b id="use">use</b> Rattle.wasmi_meter.specs.declared.quota.Quota.{Quota}
-pub <b id="use">use</b> Rattle.wasmi_store.specs.declared.table.element.SegmentError.{SegmentError}
-pub <b id="use">use</b> Rattle.wasmi_ops.specs.declared.scalar.LoadOp.{LoadOp}
-pub <b id="use">use</b> Rattle.wasmi_ops.specs.declared.scalar.StoreOp.{StoreOp}
-pub <b id="use">use</b> Rattle.wasmi_ops.specs.declared.vector.BinaryOp.{BinaryOp}
-pub <b id="use">use</b> Rattle.wasmi_ops.specs.declared.vector.UnaryOp.{UnaryOp}
-pub <b id="use">use</b> Rattle.wasmi_ops.specs.declared.vector.TernaryOp.{TernaryOp}
-pub <b id="use">use</b> Rattle.wasmi_ops.specs.declared.vector.ShiftOp.{ShiftOp}
-pub <b id="use">use</b> Rattle.wasmi_ops.specs.declared.vector.TestOp.{TestOp}
-pub <b id="use">use</b> Rattle.wasmi_ops.specs.declared.vector.MakeOp.{MakeOp}
-pub <b id="use">use</b> Rattle.wasmi_ops.specs.declared.vector.ExtractOp.{ExtractOp}
-pub <b id="use">use</b> Rattle.wasmi_ops.specs.declared.vector.ReplaceOp.{ReplaceOp}
-pub <b id="use">use</b> Rattle.wasmi_ops.specs.declared.vector.VectorLoadOp.{VectorLoadOp}
-pub <b id="use">use</b> Rattle.wasmi_ops.specs.declared.vector.LoadLaneOp.{LoadLaneOp}
-pub <b id="use">use</b> Rattle.wasmi_ops.specs.declared.vector.StoreLaneOp.{StoreLaneOp}
-pub <b id="use">use</b> Rattle.wasmi_core.specs.declared.calls.Call.{Call}
-pub <b id="use">use</b> Rattle.wasmi_core.specs.declared.calls.Reply.{Reply}
-pub <b id="use">use</b> Rattle.wasmi_core.specs.declared.slots.Slot.{Slot}
-</code></pre>
-"####]
-    pub mod TypesSpecs {}
     #[doc = r####"The calls on element segments, globals and the meter.
 
 <pre><code>use Rattle.std.specs.Prelude.{◌≡◌, ◌⊎◌, ◌≤◌, ◌&lt;◌, ◌++◌, ℕ, Option, Result, Ok, Err, List, [], ◌∷◌, length, slice_get, if◌then◌else◌, is_some}
@@ -4902,12 +4878,12 @@ use Rattle.wasmi_typed.specs.Global.{<a href="../../typed/GlobalSpecs/index.html
 use Rattle.wasmi_store.specs.declared.table.element.SegmentError.{SegmentError}
 use Rattle.wasmi_store.specs.declared.table.element.SegmentError.TheVariants.{TooManyItems, OutOfSystemMemory}
 use Rattle.wasmi_store.specs.Segment.{<a href="../../store/SegmentSpecs/index.html#SegmentValue">SegmentValue</a>, <a href="../../store/SegmentSpecs/index.html#most_items">most_items</a>, <a href="../../store/SegmentSpecs/index.html#dropped">dropped</a>}
-use Rattle.wasmi_core.specs.declared.calls.Reply.{Reply}
-use Rattle.wasmi_core.specs.declared.calls.Reply.TheVariants.{Done, Made, Value, Global, Segment, NoSuch, NoRoom, Number, Fuel}
-use Rattle.wasmi_core.specs.Effects.{<a href="../../machine/EffectsSpecs/index.html#reply_of">reply_of</a>, <a href="../../machine/EffectsSpecs/index.html#ChangesItem">ChangesItem</a>, <a href="../../machine/EffectsSpecs/index.html#AddsEntry">AddsEntry</a>}
+use Rattle.wasmi_machine.specs.declared.calls.Reply.{Reply}
+use Rattle.wasmi_machine.specs.declared.calls.Reply.TheVariants.{Done, Made, Value, Global, Segment, NoSuch, NoRoom, Number, Fuel}
+use Rattle.wasmi_machine.specs.Effects.{<a href="../../machine/EffectsSpecs/index.html#reply_of">reply_of</a>, <a href="../../machine/EffectsSpecs/index.html#ChangesItem">ChangesItem</a>, <a href="../../machine/EffectsSpecs/index.html#AddsEntry">AddsEntry</a>}
 use Rattle.wasmi_meter.specs.declared.fuel.FuelError.TheVariants.{FuelMeteringDisabled}
 use Rattle.wasmi_meter.specs.Meter.{<a href="../../meter/MeterSpecs/index.html#Meter">Meter</a>, <a href="../../meter/MeterSpecs/index.html#meter_set">meter_set</a>}
-use Rattle.wasmi_core.specs.State.{<a href="../../machine/StateSpecs/index.html#State">State</a>}
+use Rattle.wasmi_machine.specs.State.{<a href="../../machine/StateSpecs/index.html#State">State</a>}
 
 -- the segment of these items, unless there are too many, or memory is refused for some
 abbrev pub <b id="IsSegmentOf">IsSegmentOf</b> : RefType → List ℕ → Result <a href="../../store/SegmentSpecs/index.html#SegmentValue">SegmentValue</a> SegmentError → Type 0
@@ -4965,21 +4941,21 @@ pub mod laws {
 use Rattle.wasmi_raw.specs.declared.raw.RawVal.{RawVal}
 use Rattle.wasmi_raw.specs.RawVal.{<a href="../../raw/RawValSpecs/index.html#raw_of">raw_of</a>}
 use Rattle.wasmi_access.specs.LoadStore.{<a href="../../accesses/LoadStoreSpecs/index.html#IsSameOutside">IsSameOutside</a>}
-use Rattle.wasmi_ops.specs.declared.scalar.LoadOp.{LoadOp}
-use Rattle.wasmi_ops.specs.declared.scalar.StoreOp.{StoreOp}
+use Rattle.wasmi_ops.specs.declared.load_store.LoadOp.{LoadOp}
+use Rattle.wasmi_ops.specs.declared.load_store.StoreOp.{StoreOp}
 use Rattle.wasmi_typed.specs.Global.{<a href="../../typed/GlobalSpecs/index.html#GlobalInstance">GlobalInstance</a>}
 use Rattle.wasmi_typed.specs.declared.global.Mutability.TheVariants.{Const}
 use Rattle.wasmi_meter.specs.Limiter.{<a href="../../meter/LimiterSpecs/index.html#Rules">Rules</a>}
 use Rattle.wasmi_store.specs.Memory.{<a href="../../store/MemorySpecs/index.html#MemoryValue">MemoryValue</a>, <a href="../../store/MemorySpecs/index.html#GrowsMemory">GrowsMemory</a>, <a href="../../store/MemorySpecs/index.html#WritesMemory">WritesMemory</a>}
 use Rattle.wasmi_store.specs.Segment.{<a href="../../store/SegmentSpecs/index.html#SegmentValue">SegmentValue</a>}
 use Rattle.wasmi_store.specs.Table.{<a href="../../store/TableSpecs/index.html#TableValue">TableValue</a>, <a href="../../store/TableSpecs/index.html#GrowsTable">GrowsTable</a>}
-use Rattle.wasmi_core.specs.declared.calls.Call.{Call}
-use Rattle.wasmi_core.specs.declared.slots.Slot.{Slot}
-use Rattle.wasmi_core.specs.declared.slots.Slot.TheVariants.{Live, Gone}
-use Rattle.wasmi_core.specs.declared.calls.Reply.{Reply}
-use Rattle.wasmi_core.specs.declared.calls.Reply.TheVariants.{Done, Value, Bytes, Memory, Number, Table}
-use Rattle.wasmi_core.specs.State.{<a href="../../machine/StateSpecs/index.html#State">State</a>, <a href="../../machine/StateSpecs/index.html#live_at">live_at</a>, <a href="../../machine/StateSpecs/index.html#with_memories">with_memories</a>, <a href="../../machine/StateSpecs/index.html#with_tables">with_tables</a>, <a href="../../machine/StateSpecs/index.html#World">World</a>, <a href="../../machine/StateSpecs/index.html#Turn">Turn</a>, <a href="../../machine/StateSpecs/index.html#world">world</a>}
-use Rattle.wasmi_core.specs.Steps.{<a href="../../machine/StepsSpecs/index.html#Step">Step</a>, <a href="../../machine/StepsSpecs/index.html#RepliesWith">RepliesWith</a>, <a href="../../machine/StepsSpecs/index.html#Run">Run</a>}
+use Rattle.wasmi_machine.specs.declared.calls.Call.{Call}
+use Rattle.wasmi_machine.specs.declared.slots.Slot.{Slot}
+use Rattle.wasmi_machine.specs.declared.slots.Slot.TheVariants.{Live, Gone}
+use Rattle.wasmi_machine.specs.declared.calls.Reply.{Reply}
+use Rattle.wasmi_machine.specs.declared.calls.Reply.TheVariants.{Done, Value, Bytes, Memory, Number, Table}
+use Rattle.wasmi_machine.specs.State.{<a href="../../machine/StateSpecs/index.html#State">State</a>, <a href="../../machine/StateSpecs/index.html#live_at">live_at</a>, <a href="../../machine/StateSpecs/index.html#with_memories">with_memories</a>, <a href="../../machine/StateSpecs/index.html#with_tables">with_tables</a>, <a href="../../machine/StateSpecs/index.html#World">World</a>, <a href="../../machine/StateSpecs/index.html#Turn">Turn</a>, <a href="../../machine/StateSpecs/index.html#world">world</a>}
+use Rattle.wasmi_machine.specs.Steps.{<a href="../../machine/StepsSpecs/index.html#Step">Step</a>, <a href="../../machine/StepsSpecs/index.html#RepliesWith">RepliesWith</a>, <a href="../../machine/StepsSpecs/index.html#Run">Run</a>}
 use Rattle.wasmi_types.specs.Access.{<a href="../../types/AccessSpecs/index.html#at">at</a>}
 use Rattle.wasmi_typed.specs.declared.typed_ref.TypedRawRef.{TypedRawRef}
 use Rattle.wasmi_meter.specs.Meter.{<a href="../../meter/MeterSpecs/index.html#Meter">Meter</a>}
@@ -4987,11 +4963,11 @@ use Rattle.wasmi_meter.specs.declared.error.MemoryError.{MemoryError}
 use Rattle.wasmi_meter.specs.declared.error.MemoryError.TheVariants.{OutOfBoundsAccess}
 use Rattle.wasmi_meter.specs.declared.error.TableError.{TableError}
 use Rattle.wasmi_store.specs.Growth.{<a href="../../store/GrowthSpecs/index.html#metered_value">metered_value</a>}
-use Rattle.wasmi_core.specs.declared.calls.Call.TheVariants.{GrowMemory, GrowTable, Read, Write}
-use Rattle.wasmi_core.specs.Effects.{<a href="../../machine/EffectsSpecs/index.html#reply_of">reply_of</a>}
-use Rattle.wasmi_ops.specs.declared.scalar.LoadOp.TheVariants as load
-use Rattle.wasmi_ops.specs.declared.scalar.StoreOp.TheVariants as store
-use Rattle.wasmi_core.specs.declared.calls.Call.TheVariants as call
+use Rattle.wasmi_machine.specs.declared.calls.Call.TheVariants.{GrowMemory, GrowTable, Read, Write}
+use Rattle.wasmi_machine.specs.Effects.{<a href="../../machine/EffectsSpecs/index.html#reply_of">reply_of</a>}
+use Rattle.wasmi_ops.specs.declared.load_store.LoadOp.TheVariants as load
+use Rattle.wasmi_ops.specs.declared.load_store.StoreOp.TheVariants as store
+use Rattle.wasmi_machine.specs.declared.calls.Call.TheVariants as call
 
 -- an index of a machine: of a memory, a table, an element segment or a global, by the order of their making, or of a
 -- register
@@ -5283,20 +5259,20 @@ use Rattle.wasmi_meter.specs.declared.limiter.Kind.{Kind}
 use Rattle.wasmi_meter.specs.Limiter.{<a href="../../meter/LimiterSpecs/index.html#Rules">Rules</a>, <a href="../../meter/LimiterSpecs/index.html#optional_rules">optional_rules</a>}
 use Rattle.wasmi_meter.specs.declared.quota.Quota.{Quota}
 use Rattle.wasmi_meter.specs.Capped.{<a href="../../meter/CappedSpecs/index.html#IsWithinCaps">IsWithinCaps</a>, <a href="../../meter/CappedSpecs/index.html#cap_of">cap_of</a>, <a href="../../meter/CappedSpecs/index.html#holdings">holdings</a>, <a href="../../meter/CappedSpecs/index.html#quota_rules">quota_rules</a>}
-use Rattle.wasmi_core.specs.declared.calls.Call.{Call}
-use Rattle.wasmi_core.specs.declared.calls.Reply.{Reply}
-use Rattle.wasmi_core.specs.State.{<a href="../../machine/StateSpecs/index.html#State">State</a>, <a href="../../machine/StateSpecs/index.html#World">World</a>, <a href="../../machine/StateSpecs/index.html#Turn">Turn</a>, <a href="../../machine/StateSpecs/index.html#world">world</a>, <a href="../../machine/StateSpecs/index.html#IsRefusal">IsRefusal</a>, <a href="../../machine/StateSpecs/index.html#sizes">sizes</a>, <a href="../../machine/StateSpecs/index.html#total">total</a>, <a href="../../machine/StateSpecs/index.html#HoldsTotals">HoldsTotals</a>}
-use Rattle.wasmi_core.specs.Steps.{<a href="../../machine/StepsSpecs/index.html#Step">Step</a>, <a href="../../machine/StepsSpecs/index.html#Sequence">Sequence</a>, <a href="../../machine/StepsSpecs/index.html#Run">Run</a>, <a href="../../machine/StepsSpecs/index.html#IsRunOf">IsRunOf</a>}
-use Rattle.wasmi_core.specs.Exchange.{<a href="../../machine/ExchangeSpecs/index.html#Nowhere">Nowhere</a>, <a href="../../machine/ExchangeSpecs/index.html#place_of">place_of</a>}
+use Rattle.wasmi_machine.specs.declared.calls.Call.{Call}
+use Rattle.wasmi_machine.specs.declared.calls.Reply.{Reply}
+use Rattle.wasmi_machine.specs.State.{<a href="../../machine/StateSpecs/index.html#State">State</a>, <a href="../../machine/StateSpecs/index.html#World">World</a>, <a href="../../machine/StateSpecs/index.html#Turn">Turn</a>, <a href="../../machine/StateSpecs/index.html#world">world</a>, <a href="../../machine/StateSpecs/index.html#IsRefusal">IsRefusal</a>, <a href="../../machine/StateSpecs/index.html#sizes">sizes</a>, <a href="../../machine/StateSpecs/index.html#total">total</a>, <a href="../../machine/StateSpecs/index.html#HoldsTotals">HoldsTotals</a>}
+use Rattle.wasmi_machine.specs.Steps.{<a href="../../machine/StepsSpecs/index.html#Step">Step</a>, <a href="../../machine/StepsSpecs/index.html#Sequence">Sequence</a>, <a href="../../machine/StepsSpecs/index.html#Run">Run</a>, <a href="../../machine/StepsSpecs/index.html#IsRunOf">IsRunOf</a>}
+use Rattle.wasmi_machine.specs.Exchange.{<a href="../../machine/ExchangeSpecs/index.html#Nowhere">Nowhere</a>, <a href="../../machine/ExchangeSpecs/index.html#place_of">place_of</a>}
 use Rattle.std.specs.Option.{option_map}
 use Rattle.wasmi_meter.specs.Meter.{<a href="../../meter/MeterSpecs/index.html#Meter">Meter</a>, <a href="../../meter/MeterSpecs/index.html#amount_left">amount_left</a>}
-use Rattle.wasmi_core.specs.declared.calls.Call.TheVariants.{SetFuel, GetFuel}
-use Rattle.wasmi_core.specs.declared.calls.Reply.TheVariants.{Memory, Table}
-use Rattle.wasmi_core.specs.Account.{<a href="../../machine/AccountSpecs/index.html#SetsNoFuel">SetsNoFuel</a>}
-use Rattle.wasmi_core.specs.Determinism.{<a href="../../machine/DeterminismSpecs/index.html#AcceptsNotices">AcceptsNotices</a>}
+use Rattle.wasmi_machine.specs.declared.calls.Call.TheVariants.{SetFuel, GetFuel}
+use Rattle.wasmi_machine.specs.declared.calls.Reply.TheVariants.{Memory, Table}
+use Rattle.wasmi_machine.specs.Account.{<a href="../../machine/AccountSpecs/index.html#SetsNoFuel">SetsNoFuel</a>}
+use Rattle.wasmi_machine.specs.Determinism.{<a href="../../machine/DeterminismSpecs/index.html#AcceptsNotices">AcceptsNotices</a>}
 use Rattle.wasmi_meter.specs.declared.error.MemoryError.TheVariants as memory
 use Rattle.wasmi_meter.specs.declared.error.TableError.TheVariants as table
-use Rattle.wasmi_core.specs.declared.calls.Reply.TheVariants as reply
+use Rattle.wasmi_machine.specs.declared.calls.Reply.TheVariants as reply
 
 -- the replies are those of two runs in a row: of the first calls, and of the others from where these end
 pub record <b id="IsRunInTwo">IsRunInTwo</b> {S : Type 0} (rules : <a href="../../meter/LimiterSpecs/index.html#Rules">Rules</a> S) (first rest : List Call) (u : <a href="../../machine/StateSpecs/index.html#World">World</a> S) (replies : List Reply)
@@ -5446,13 +5422,13 @@ pub mod budget {
     #[doc = r####"What holds of all calls on a pool, one after another, and of all runs of a tenant's machine.
 
 <pre><code>use Rattle.std.specs.Prelude.{◌≡◌, ℕ, List, [], ◌∷◌, nat_eq, if◌then◌else◌, MatchBool, Some, All, slice_get}
-use Rattle.wasmi_core.specs.declared.calls.Call.{Call}
-use Rattle.wasmi_core.specs.declared.calls.Reply.{Reply}
-use Rattle.wasmi_core.specs.State.{<a href="../../machine/StateSpecs/index.html#State">State</a>, <a href="../../machine/StateSpecs/index.html#Turn">Turn</a>}
+use Rattle.wasmi_machine.specs.declared.calls.Call.{Call}
+use Rattle.wasmi_machine.specs.declared.calls.Reply.{Reply}
+use Rattle.wasmi_machine.specs.State.{<a href="../../machine/StateSpecs/index.html#State">State</a>, <a href="../../machine/StateSpecs/index.html#Turn">Turn</a>}
 use Rattle.wasmi_budget.specs.Pool.{<a href="../../budget/PoolSpecs/index.html#PoolValue">PoolValue</a>, <a href="../../budget/PoolSpecs/index.html#AddsTenant">AddsTenant</a>, <a href="../../budget/PoolSpecs/index.html#RunsTenant">RunsTenant</a>, <a href="../../budget/PoolSpecs/index.html#tenant_rules">tenant_rules</a>, <a href="../../budget/PoolSpecs/index.html#without_others">without_others</a>, <a href="../../budget/PoolSpecs/index.html#RunsTenantBy">RunsTenantBy</a>, <a href="../../budget/PoolSpecs/index.html#IsWithinCaps">IsWithinCaps</a>}
 use Rattle.wasmi_meter.specs.Limiter.{<a href="../../meter/LimiterSpecs/index.html#optional_rules">optional_rules</a>}
-use Rattle.wasmi_core.specs.Determinism.{<a href="../../machine/DeterminismSpecs/index.html#permitting">permitting</a>, <a href="../../machine/DeterminismSpecs/index.html#TellsNoDenial">TellsNoDenial</a>}
-use Rattle.wasmi_core.specs.Steps.{<a href="../../machine/StepsSpecs/index.html#Run">Run</a>}
+use Rattle.wasmi_machine.specs.Determinism.{<a href="../../machine/DeterminismSpecs/index.html#permitting">permitting</a>, <a href="../../machine/DeterminismSpecs/index.html#TellsNoDenial">TellsNoDenial</a>}
+use Rattle.wasmi_machine.specs.Steps.{<a href="../../machine/StepsSpecs/index.html#Run">Run</a>}
 use Rattle.wasmi_budget.specs.declared.tenant.Tenant.{Tenant}
 
 -- one call on a pool: a machine was added, a tenant&#x27;s machine has run, or the call was refused
@@ -5536,10 +5512,10 @@ use Rattle.std.specs.Prelude.{◌≡◌, ◌≤◌, ◌&lt;◌, ◌^◌, ◌++�
 use Rattle.wasmi_meter.specs.declared.limiter.Kind.{Kind}
 use Rattle.wasmi_meter.specs.declared.limiter.Kind.TheVariants.{Bytes, Elements}
 use Rattle.wasmi_meter.specs.declared.amounts.Amounts.{Amounts}
-use Rattle.wasmi_core.specs.declared.calls.Call.{Call}
-use Rattle.wasmi_core.specs.declared.calls.Reply.{Reply}
-use Rattle.wasmi_core.specs.State.{<a href="../../machine/StateSpecs/index.html#State">State</a>, <a href="../../machine/StateSpecs/index.html#total">total</a>}
-use Rattle.wasmi_core.specs.Steps.{<a href="../../machine/StepsSpecs/index.html#IsRunOf">IsRunOf</a>}
+use Rattle.wasmi_machine.specs.declared.calls.Call.{Call}
+use Rattle.wasmi_machine.specs.declared.calls.Reply.{Reply}
+use Rattle.wasmi_machine.specs.State.{<a href="../../machine/StateSpecs/index.html#State">State</a>, <a href="../../machine/StateSpecs/index.html#total">total</a>}
+use Rattle.wasmi_machine.specs.Steps.{<a href="../../machine/StepsSpecs/index.html#IsRunOf">IsRunOf</a>}
 use Rattle.wasmi_budget.specs.declared.error.AddError.{AddError}
 use Rattle.wasmi_budget.specs.declared.error.AddError.TheVariants.{NotEmpty, NoRoom}
 use Rattle.wasmi_budget.specs.declared.error.PoolError.{PoolError}
@@ -5772,6 +5748,47 @@ abbrev pub <b id="GrowsTableIn">GrowsTableIn</b> : {S : Type 0} → <a href="../
 "####]
     pub mod TableSpecs {}
 }
+/// Definitions of `wasmi_core`.
+pub mod facade {
+    #[doc = r####"The types of the parts that clauses and specifications cite, passed on from one place. Declares nothing.
+
+<pre><code>pub <b id="use">use</b> Rattle.wasmi_types.specs.declared.index_ty.IndexType.{IndexType}
+pub <b id="use">use</b> Rattle.wasmi_types.specs.declared.trap.TrapCode.{TrapCode}
+pub <b id="use">use</b> Rattle.wasmi_types.specs.declared.value.RefType.{RefType}
+pub <b id="use">use</b> Rattle.wasmi_types.specs.declared.value.ValType.{ValType}
+pub <b id="use">use</b> Rattle.wasmi_raw.specs.declared.raw.RawVal.{RawVal}
+pub <b id="use">use</b> Rattle.wasmi_typed.specs.declared.typed.TypedRawVal.{TypedRawVal}
+pub <b id="use">use</b> Rattle.wasmi_typed.specs.declared.typed_ref.TypedRawRef.{TypedRawRef}
+pub <b id="use">use</b> Rattle.wasmi_typed.specs.declared.global.Mutability.{Mutability}
+pub <b id="use">use</b> Rattle.wasmi_typed.specs.declared.global.GlobalError.{GlobalError}
+pub <b id="use">use</b> Rattle.wasmi_meter.specs.declared.error.LimiterError.{LimiterError}
+pub <b id="use">use</b> Rattle.wasmi_meter.specs.declared.error.MemoryError.{MemoryError}
+pub <b id="use">use</b> Rattle.wasmi_meter.specs.declared.error.TableError.{TableError}
+pub <b id="use">use</b> Rattle.wasmi_meter.specs.declared.fuel.FuelError.{FuelError}
+pub <b id="use">use</b> Rattle.wasmi_meter.specs.declared.fuel.CustomFuelCosts.{CustomFuelCosts}
+pub <b id="use">use</b> Rattle.wasmi_meter.specs.declared.limiter.Kind.{Kind}
+pub <b id="use">use</b> Rattle.wasmi_meter.specs.declared.quota.Quota.{Quota}
+pub <b id="use">use</b> Rattle.wasmi_store.specs.declared.table.element.SegmentError.{SegmentError}
+pub <b id="use">use</b> Rattle.wasmi_ops.specs.declared.load_store.LoadOp.{LoadOp}
+pub <b id="use">use</b> Rattle.wasmi_ops.specs.declared.load_store.StoreOp.{StoreOp}
+pub <b id="use">use</b> Rattle.wasmi_ops.specs.declared.vector.BinaryOp.{BinaryOp}
+pub <b id="use">use</b> Rattle.wasmi_ops.specs.declared.vector.UnaryOp.{UnaryOp}
+pub <b id="use">use</b> Rattle.wasmi_ops.specs.declared.vector.TernaryOp.{TernaryOp}
+pub <b id="use">use</b> Rattle.wasmi_ops.specs.declared.vector.ShiftOp.{ShiftOp}
+pub <b id="use">use</b> Rattle.wasmi_ops.specs.declared.vector.TestOp.{TestOp}
+pub <b id="use">use</b> Rattle.wasmi_ops.specs.declared.vector.MakeOp.{MakeOp}
+pub <b id="use">use</b> Rattle.wasmi_ops.specs.declared.vector.ExtractOp.{ExtractOp}
+pub <b id="use">use</b> Rattle.wasmi_ops.specs.declared.vector.ReplaceOp.{ReplaceOp}
+pub <b id="use">use</b> Rattle.wasmi_ops.specs.declared.vector.VectorLoadOp.{VectorLoadOp}
+pub <b id="use">use</b> Rattle.wasmi_ops.specs.declared.vector.LoadLaneOp.{LoadLaneOp}
+pub <b id="use">use</b> Rattle.wasmi_ops.specs.declared.vector.StoreLaneOp.{StoreLaneOp}
+pub <b id="use">use</b> Rattle.wasmi_machine.specs.declared.calls.Call.{Call}
+pub <b id="use">use</b> Rattle.wasmi_machine.specs.declared.calls.Reply.{Reply}
+pub <b id="use">use</b> Rattle.wasmi_machine.specs.declared.slots.Slot.{Slot}
+</code></pre>
+"####]
+    pub mod TypesSpecs {}
+}
 /// Definitions of `wasmi_operands`.
 pub mod operands {
     #[doc = r####"The words of a line, the numbers that they write, and what is taken of a line and what is a bad command.
@@ -5928,13 +5945,13 @@ use Rattle.wasmi_store.specs.Memory.{<a href="../../store/MemorySpecs/index.html
 use Rattle.wasmi_types.specs.declared.value.RefType.{RefType}
 use Rattle.wasmi_store.specs.Table.{<a href="../../store/TableSpecs/index.html#TableTypeValue">TableTypeValue</a>}
 use Rattle.wasmi_raw.specs.RawVal.{<a href="../../raw/RawValSpecs/index.html#raw_of">raw_of</a>}
-use Rattle.wasmi_ops.specs.ScalarOps.{<a href="../../ops/ScalarOpsSpecs/index.html#load_name">load_name</a>, <a href="../../ops/ScalarOpsSpecs/index.html#store_name">store_name</a>}
+use Rattle.wasmi_ops.specs.LoadStoreOps.{<a href="../../ops/LoadStoreOpsSpecs/index.html#load_name">load_name</a>, <a href="../../ops/LoadStoreOpsSpecs/index.html#store_name">store_name</a>}
 use Rattle.wasmi_ops.specs.VectorOps.{<a href="../../ops/VectorOpsSpecs/index.html#make_name">make_name</a>, <a href="../../ops/VectorOpsSpecs/index.html#unary_name">unary_name</a>, <a href="../../ops/VectorOpsSpecs/index.html#binary_name">binary_name</a>, <a href="../../ops/VectorOpsSpecs/index.html#ternary_name">ternary_name</a>, <a href="../../ops/VectorOpsSpecs/index.html#shift_name">shift_name</a>, <a href="../../ops/VectorOpsSpecs/index.html#test_name">test_name</a>, <a href="../../ops/VectorOpsSpecs/index.html#vector_load_name">vector_load_name</a>}
 use Rattle.wasmi_ops.specs.LaneOps.{<a href="../../ops/LaneOpsSpecs/index.html#extract_name">extract_name</a>, <a href="../../ops/LaneOpsSpecs/index.html#extract_op">extract_op</a>, <a href="../../ops/LaneOpsSpecs/index.html#replace_name">replace_name</a>, <a href="../../ops/LaneOpsSpecs/index.html#replace_op">replace_op</a>, <a href="../../ops/LaneOpsSpecs/index.html#load_lane_name">load_lane_name</a>, <a href="../../ops/LaneOpsSpecs/index.html#load_lane_op">load_lane_op</a>, <a href="../../ops/LaneOpsSpecs/index.html#store_lane_name">store_lane_name</a>, <a href="../../ops/LaneOpsSpecs/index.html#store_lane_op">store_lane_op</a>}
-use Rattle.wasmi_core.specs.declared.calls.Call.{Call}
+use Rattle.wasmi_machine.specs.declared.calls.Call.{Call}
 use Rattle.wasmi_store.specs.Memory as memory_type
 use Rattle.wasmi_store.specs.Table as table_type
-use Rattle.wasmi_core.specs.declared.calls.Call.TheVariants as call
+use Rattle.wasmi_machine.specs.declared.calls.Call.TheVariants as call
 
 -- the limits of a memory or of a table: the type of its indices, its minimum and its maximum, if it has one
 pub record <b id="Limits">Limits</b> : Type 0 where
@@ -6037,9 +6054,9 @@ abbrev pub <b id="OperandsWrite">OperandsWrite</b> : ℕ → (ℕ → List ℕ) 
     (count ≡ 3) × <a href="../../operands/LineWordsSpecs/index.html#WritesNumber">WritesNumber</a> 64 (word 0) memory × <a href="../../operands/LineWordsSpecs/index.html#WritesNumber">WritesNumber</a> 64 (word 1) offset × <a href="../../operands/LineWordsSpecs/index.html#WritesNumber">WritesNumber</a> 64 (word 2) len
 <a href="../../grammar/CommandsSpecs/index.html#OperandsWrite">OperandsWrite</a> count word (call.Write memory offset bytes) =
     (2 ≤ count) × <a href="../../operands/LineWordsSpecs/index.html#WritesNumber">WritesNumber</a> 64 (word 0) memory × <a href="../../operands/LineWordsSpecs/index.html#WritesNumber">WritesNumber</a> 64 (word 1) offset
-<a href="../../grammar/CommandsSpecs/index.html#OperandsWrite">OperandsWrite</a> count word (call.Load op memory ptr offset) = (count ≡ 4) × <a href="../../operands/NamesSpecs/index.html#IsName">IsName</a> <a href="../../ops/ScalarOpsSpecs/index.html#load_name">load_name</a> (word 0) op
+<a href="../../grammar/CommandsSpecs/index.html#OperandsWrite">OperandsWrite</a> count word (call.Load op memory ptr offset) = (count ≡ 4) × <a href="../../operands/NamesSpecs/index.html#IsName">IsName</a> <a href="../../ops/LoadStoreOpsSpecs/index.html#load_name">load_name</a> (word 0) op
     × <a href="../../operands/LineWordsSpecs/index.html#WritesNumber">WritesNumber</a> 64 (word 1) memory × <a href="../../operands/LineWordsSpecs/index.html#WritesNumber">WritesNumber</a> 64 (word 2) ptr × <a href="../../operands/LineWordsSpecs/index.html#WritesNumber">WritesNumber</a> 64 (word 3) offset
-<a href="../../grammar/CommandsSpecs/index.html#OperandsWrite">OperandsWrite</a> count word (call.Store op memory ptr offset value) = (count ≡ 5) × <a href="../../operands/NamesSpecs/index.html#IsName">IsName</a> <a href="../../ops/ScalarOpsSpecs/index.html#store_name">store_name</a> (word 0) op
+<a href="../../grammar/CommandsSpecs/index.html#OperandsWrite">OperandsWrite</a> count word (call.Store op memory ptr offset value) = (count ≡ 5) × <a href="../../operands/NamesSpecs/index.html#IsName">IsName</a> <a href="../../ops/LoadStoreOpsSpecs/index.html#store_name">store_name</a> (word 0) op
     × <a href="../../operands/LineWordsSpecs/index.html#WritesNumber">WritesNumber</a> 64 (word 1) memory × <a href="../../operands/LineWordsSpecs/index.html#WritesNumber">WritesNumber</a> 64 (word 2) ptr × <a href="../../operands/LineWordsSpecs/index.html#WritesNumber">WritesNumber</a> 64 (word 3) offset × (lo : ℕ)
     × <a href="../../operands/LineWordsSpecs/index.html#WritesNumber">WritesNumber</a> 64 (word 4) lo × (value ≡ <a href="../../raw/RawValSpecs/index.html#raw_of">raw_of</a> lo)
 <a href="../../grammar/CommandsSpecs/index.html#OperandsWrite">OperandsWrite</a> count word (call.NewTable ty init) =
@@ -6146,7 +6163,7 @@ abbrev pub <b id="IsVectorWord">IsVectorWord</b> : List ℕ → Type 0
 <pre><code>use Rattle.std.specs.Prelude.{◌≡◌, ◌≤◌, ℕ, Option, List, Some, None, length, codes, replicate}
 use Rattle.std.specs.Option.{option_map, option_map_or}
 use Rattle.wasmi_meter.specs.Meter.{<a href="../../meter/MeterSpecs/index.html#default_costs">default_costs</a>, <a href="../../meter/MeterSpecs/index.html#Meter">Meter</a>}
-use Rattle.wasmi_core.specs.State.{<a href="../../machine/StateSpecs/index.html#State">State</a>, <a href="../../machine/StateSpecs/index.html#new_state">new_state</a>}
+use Rattle.wasmi_machine.specs.State.{<a href="../../machine/StateSpecs/index.html#State">State</a>, <a href="../../machine/StateSpecs/index.html#new_state">new_state</a>}
 use Rattle.wasmi_grammar.specs.declared.header.Header.{Header}
 use Rattle.wasmi_grammar.specs.declared.header.MeterLine.{MeterLine}
 use Rattle.wasmi_grammar.specs.declared.header.MeterLine.TheVariants.{Off, On}
@@ -6229,7 +6246,7 @@ abbrev pub <b id="start_of">start_of</b> : Header → <a href="../../machine/Sta
 <pre><code>use Rattle.std.specs.Prelude.{◌≡◌, ◌&lt;◌, ℕ, ◌⊎◌, List, [], ◌∷◌, ◌++◌, Some, None, ◌==◌, codes, drop, map, ◌+◌, ⊤, length}
 use Rattle.std.specs.List.{slice_split}
 use Rattle.std.specs.Str.{IsUtf8}
-use Rattle.wasmi_core.specs.declared.calls.Call.{Call}
+use Rattle.wasmi_machine.specs.declared.calls.Call.{Call}
 use Rattle.wasmi_grammar.specs.declared.header.LimiterLine.{LimiterLine}
 use Rattle.wasmi_grammar.specs.declared.header.MeterLine.{MeterLine}
 use Rattle.wasmi_grammar.specs.declared.header.RegionLine.{RegionLine}
@@ -6364,8 +6381,8 @@ abbrev pub <b id="IsParseError">IsParseError</b> : List ℕ → ParseError → T
 <pre><code>use Rattle.std.specs.Prelude.{◌≡◌, ℕ, List, Option, map}
 use Rattle.std.specs.Option.{option_map}
 use Rattle.wasmi_types.specs.declared.value.RefType.{RefType}
-use Rattle.wasmi_core.specs.declared.calls.Call.{Call}
-use Rattle.wasmi_core.specs.declared.calls.Call.TheVariants.{Write, NewSegment}
+use Rattle.wasmi_machine.specs.declared.calls.Call.{Call}
+use Rattle.wasmi_machine.specs.declared.calls.Call.TheVariants.{Write, NewSegment}
 use Rattle.wasmi_grammar.specs.declared.script.Script.{Script}
 use Rattle.wasmi_grammar.specs.declared.header.MeterLine.{MeterLine}
 use Rattle.wasmi_grammar.specs.declared.header.RegionLine.{RegionLine}
@@ -6446,7 +6463,7 @@ abbrev pub <b id="WrittenTextsHaveNoBadLine">WrittenTextsHaveNoBadLine</b> : Typ
     #[doc = r####"The calls of a script by parts.
 
 <pre><code>use Rattle.std.specs.Prelude.{◌≡◌, ◌≤◌, ◌-◌, ℕ, List, [], ◌∷◌, ◌++◌, take, drop, length, flat_map}
-use Rattle.wasmi_core.specs.declared.calls.Call.{Call}
+use Rattle.wasmi_machine.specs.declared.calls.Call.{Call}
 use Rattle.wasmi_grammar.specs.declared.script.Span.{Span}
 
 -- the calls between two `as` lines, and whose they are
@@ -6490,7 +6507,7 @@ pub mod script {
     #[doc = r####"Outcomes that the bytes of a reader decide, and runs under lists in which no answer lets a notice be refused.
 
 <pre><code>use Rattle.std.specs.Prelude.{◌≡◌, ⊤, ℕ, List, All, Option, Some, Ok, Err}
-use Rattle.wasmi_core.specs.Determinism.{<a href="../../machine/DeterminismSpecs/index.html#IsNotOutOfMemory">IsNotOutOfMemory</a>, <a href="../../machine/DeterminismSpecs/index.html#StaysAccepting">StaysAccepting</a>}
+use Rattle.wasmi_machine.specs.Determinism.{<a href="../../machine/DeterminismSpecs/index.html#IsNotOutOfMemory">IsNotOutOfMemory</a>, <a href="../../machine/DeterminismSpecs/index.html#StaysAccepting">StaysAccepting</a>}
 use Rattle.wasmi_script.specs.declared.error.ReplayError.TheVariants.{Parse, ReadFault}
 use Rattle.wasmi_grammar.specs.declared.error.ParseError.TheVariants.{OutOfMemory}
 use Rattle.wasmi_grammar.specs.declared.header.LimiterLine.{LimiterLine}
@@ -6498,10 +6515,10 @@ use Rattle.wasmi_grammar.specs.declared.header.LimiterLine.TheVariants.{Answers}
 use Rattle.wasmi_meter.specs.AnswerList.{<a href="../../meter/AnswerListSpecs/index.html#notice_answer_by">notice_answer_by</a>, <a href="../../meter/AnswerListSpecs/index.html#AnswersAhead">AnswersAhead</a>, <a href="../../meter/AnswerListSpecs/index.html#answer_list_rules">answer_list_rules</a>}
 use Rattle.wasmi_script.specs.Outcomes.{<a href="../../script/OutcomesSpecs/index.html#ReplayOutcome">ReplayOutcome</a>, <a href="../../script/OutcomesSpecs/index.html#IsOutcomeOf">IsOutcomeOf</a>, <a href="../../script/OutcomesSpecs/index.html#outcome_text">outcome_text</a>, <a href="../../script/OutcomesSpecs/index.html#status_after">status_after</a>}
 use Rattle.wasmi_meter.specs.Limiter.{<a href="../../meter/LimiterSpecs/index.html#optional_rules">optional_rules</a>}
-use Rattle.wasmi_core.specs.declared.calls.Call.{Call}
-use Rattle.wasmi_core.specs.declared.calls.Reply.{Reply}
-use Rattle.wasmi_core.specs.State.{<a href="../../machine/StateSpecs/index.html#State">State</a>, <a href="../../machine/StateSpecs/index.html#World">World</a>, <a href="../../machine/StateSpecs/index.html#world">world</a>}
-use Rattle.wasmi_core.specs.Steps.{<a href="../../machine/StepsSpecs/index.html#IsRunOf">IsRunOf</a>}
+use Rattle.wasmi_machine.specs.declared.calls.Call.{Call}
+use Rattle.wasmi_machine.specs.declared.calls.Reply.{Reply}
+use Rattle.wasmi_machine.specs.State.{<a href="../../machine/StateSpecs/index.html#State">State</a>, <a href="../../machine/StateSpecs/index.html#World">World</a>, <a href="../../machine/StateSpecs/index.html#world">world</a>}
+use Rattle.wasmi_machine.specs.Steps.{<a href="../../machine/StepsSpecs/index.html#IsRunOf">IsRunOf</a>}
 
 -- no word of an `answers` line is `complain`: each notice is accepted
 abbrev pub <b id="HasNoComplain">HasNoComplain</b> : Option LimiterLine → Type 0
@@ -6559,9 +6576,9 @@ use Rattle.std.specs.Io.KnownBytes.{Appends}
 use Rattle.std.specs.Fmt.{decimal}
 use Rattle.std.specs.List.{zip, enumerate_from}
 use Rattle.wasmi_meter.specs.declared.limiter.Kind.TheVariants.{Bytes, Elements}
-use Rattle.wasmi_core.specs.declared.calls.Call.{Call}
-use Rattle.wasmi_core.specs.declared.calls.Reply.{Reply}
-use Rattle.wasmi_core.specs.State.{<a href="../../machine/StateSpecs/index.html#State">State</a>, <a href="../../machine/StateSpecs/index.html#total">total</a>}
+use Rattle.wasmi_machine.specs.declared.calls.Call.{Call}
+use Rattle.wasmi_machine.specs.declared.calls.Reply.{Reply}
+use Rattle.wasmi_machine.specs.State.{<a href="../../machine/StateSpecs/index.html#State">State</a>, <a href="../../machine/StateSpecs/index.html#total">total</a>}
 use Rattle.wasmi_script.specs.declared.running.Held.{Held}
 use Rattle.wasmi_script.specs.declared.running.Held.TheVariants.{<a href="../../machine/ExchangeSpecs/index.html#Nothing">Nothing</a>, Quota, Tenants}
 use Rattle.wasmi_script.specs.declared.printing.Replayed.{Replayed}
@@ -6762,10 +6779,10 @@ use Rattle.wasmi_meter.specs.declared.limiter.Kind.TheVariants.{Bytes, Elements}
 use Rattle.wasmi_meter.specs.declared.holdings.Holdings.{Holdings}
 use Rattle.wasmi_meter.specs.declared.amounts.Amounts.{Amounts}
 use Rattle.wasmi_meter.specs.Capped.{<a href="../../script/ScriptRunsSpecs/index.html#nothing">nothing</a>, <a href="../../meter/CappedSpecs/index.html#quota_rules">quota_rules</a>, <a href="../../meter/CappedSpecs/index.html#cap_of">cap_of</a>, <a href="../../meter/CappedSpecs/index.html#holdings">holdings</a>}
-use Rattle.wasmi_core.specs.declared.calls.Call.{Call}
-use Rattle.wasmi_core.specs.State.{<a href="../../machine/StateSpecs/index.html#State">State</a>, <a href="../../machine/StateSpecs/index.html#new_state">new_state</a>, <a href="../../machine/StateSpecs/index.html#World">World</a>, <a href="../../machine/StateSpecs/index.html#HoldsTotals">HoldsTotals</a>}
-use Rattle.wasmi_core.specs.Steps.{<a href="../../machine/StepsSpecs/index.html#IsRunOf">IsRunOf</a>}
-use Rattle.wasmi_core.specs.declared.calls.Reply.{Reply}
+use Rattle.wasmi_machine.specs.declared.calls.Call.{Call}
+use Rattle.wasmi_machine.specs.State.{<a href="../../machine/StateSpecs/index.html#State">State</a>, <a href="../../machine/StateSpecs/index.html#new_state">new_state</a>, <a href="../../machine/StateSpecs/index.html#World">World</a>, <a href="../../machine/StateSpecs/index.html#HoldsTotals">HoldsTotals</a>}
+use Rattle.wasmi_machine.specs.Steps.{<a href="../../machine/StepsSpecs/index.html#IsRunOf">IsRunOf</a>}
+use Rattle.wasmi_machine.specs.declared.calls.Reply.{Reply}
 use Rattle.wasmi_budget.specs.Pool.{<a href="../../budget/PoolSpecs/index.html#PoolValue">PoolValue</a>, <a href="../../budget/PoolSpecs/index.html#RunsTenant">RunsTenant</a>}
 use Rattle.wasmi_grammar.specs.declared.header.Header.{Header}
 use Rattle.wasmi_grammar.specs.declared.script.Script.{Script}
@@ -6856,16 +6873,16 @@ use Rattle.wasmi_meter.specs.Texts.{<a href="../../meter/TextsSpecs/index.html#f
 use Rattle.wasmi_typed.specs.Global.{<a href="../../typed/GlobalSpecs/index.html#global_error_text">global_error_text</a>}
 use Rattle.wasmi_typed.specs.declared.typed_ref.TypedRawRef.{TypedRawRef}
 use Rattle.wasmi_store.specs.Segment.{<a href="../../store/SegmentSpecs/index.html#segment_error_text">segment_error_text</a>}
-use Rattle.wasmi_core.specs.declared.calls.Call.{Call}
-use Rattle.wasmi_core.specs.declared.calls.Call.TheVariants.{NewMemory, NewLentMemory, NewTable, NewSegment, NewGlobal}
-use Rattle.wasmi_core.specs.declared.calls.Reply.{Reply}
+use Rattle.wasmi_machine.specs.declared.calls.Call.{Call}
+use Rattle.wasmi_machine.specs.declared.calls.Call.TheVariants.{NewMemory, NewLentMemory, NewTable, NewSegment, NewGlobal}
+use Rattle.wasmi_machine.specs.declared.calls.Reply.{Reply}
 use Rattle.wasmi_script.specs.declared.error.ReplayError.{ReplayError}
 use Rattle.wasmi_script.specs.declared.error.ReplayError.TheVariants.{Parse, TooLong, ReadFault}
 use Rattle.wasmi_grammar.specs.declared.error.ParseError.TheVariants.{BadCommand, OutOfMemory}
 use Rattle.wasmi_operands.specs.Names.{<a href="../../operands/NamesSpecs/index.html#reference_word">reference_word</a>}
 use Rattle.wasmi_script.specs.Printing.{<a href="../../script/PrintingSpecs/index.html#number_text">number_text</a>}
 use Rattle.wasmi_script.specs.declared.wording.Wording.{Wording}
-use Rattle.wasmi_core.specs.declared.calls.Reply.TheVariants as reply
+use Rattle.wasmi_machine.specs.declared.calls.Reply.TheVariants as reply
 
 -- the word for what a call makes; only creations make anything
 abbrev pub <b id="kind_text">kind_text</b> : Call → List ℕ

@@ -2,8 +2,8 @@
 use Rattle.std.specs.Prelude.{ℕ, Option, Some, nat_eq, if◌then◌else◌, None}
 use Rattle.std.specs.Option.{option_map, option_and_then}
 use Rattle.std.specs.Result.{result_ok}
-use Rattle.wasmi_core.specs.declared.calls.Call.{Call}
-use Rattle.wasmi_core.specs.declared.calls.Call.TheVariants as call
+use Rattle.wasmi_machine.specs.declared.calls.Call.{Call}
+use Rattle.wasmi_machine.specs.declared.calls.Call.TheVariants as call
 use Rattle.wasmi_c.specs.declared.machine.call_struct.CallStruct.{CallStruct}
 use Rattle.wasmi_c.specs.Types.{u32_of, val_type_of, if_flag, memory_type_of, reference_type_of, settings_of, table_type_of}
 use Rattle.wasmi_typed.specs.declared.global.Mutability.{Mutability}

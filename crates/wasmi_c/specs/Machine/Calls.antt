@@ -11,11 +11,11 @@ use Rattle.wasmi_meter.specs.declared.any_limiter.AnyLimiter.{AnyLimiter}
 use Rattle.wasmi_meter.specs.declared.error.MemoryError.TheVariants.{OutOfBoundsAccess}
 use Rattle.wasmi_meter.specs.declared.fuel.FuelError.TheVariants.{FuelMeteringDisabled, OutOfFuel}
 use Rattle.wasmi_meter.specs.declared.limiter.Kind.TheVariants.{Bytes, Elements}
-use Rattle.wasmi_core.specs.State.{State, live_at, total, World, world, Turn}
-use Rattle.wasmi_core.specs.Steps.{RepliesWith, IsRunOf, Run}
-use Rattle.wasmi_core.specs.declared.calls.Call.{Call}
-use Rattle.wasmi_core.specs.declared.calls.Call.TheVariants.{NewSegment}
-use Rattle.wasmi_core.specs.declared.calls.Reply.{Reply}
+use Rattle.wasmi_machine.specs.State.{State, live_at, total, World, world, Turn}
+use Rattle.wasmi_machine.specs.Steps.{RepliesWith, IsRunOf, Run}
+use Rattle.wasmi_machine.specs.declared.calls.Call.{Call}
+use Rattle.wasmi_machine.specs.declared.calls.Call.TheVariants.{NewSegment}
+use Rattle.wasmi_machine.specs.declared.calls.Reply.{Reply}
 use Rattle.wasmi_c.specs.Machine.CallStructs.{call_of}
 use Rattle.wasmi_c.specs.MemoryCalls.{memory_fuel_needed}
 use Rattle.wasmi_c.specs.Machine.Caps.{MachineValue, StaysWithinCaps, Keeps}
@@ -25,8 +25,8 @@ use Rattle.wasmi_c.specs.Types.{reference_type_of}
 use Rattle.wasmi_c.specs.declared.machine.call_struct.CallStruct.{CallStruct}
 use Rattle.wasmi_c.specs.declared.machine.limits.Totals.{Totals}
 use Rattle.wasmi_c.specs.declared.machine.reply_struct.ReplyStruct.{ReplyStruct}
-use Rattle.wasmi_ops.specs.declared.scalar.LoadOp.{LoadOp}
-use Rattle.wasmi_ops.specs.declared.scalar.StoreOp.{StoreOp}
+use Rattle.wasmi_ops.specs.declared.load_store.LoadOp.{LoadOp}
+use Rattle.wasmi_ops.specs.declared.load_store.StoreOp.{StoreOp}
 use Rattle.wasmi_ops.specs.declared.vector.BinaryOp.{BinaryOp}
 use Rattle.wasmi_c.specs.Instruction.{load_numbered, store_numbered, binary_numbered}
 use Rattle.wasmi_c.specs.declared.instruction.binary.Binary.{Binary}
@@ -37,8 +37,8 @@ use Rattle.wasmi_grammar.specs.Lines.{WritesScript, calls_of, IsFirstBadLine}
 use Rattle.wasmi_grammar.specs.declared.script.Script.{Script}
 use Rattle.wasmi_script.specs.Printing.{FillsFront}
 use Rattle.wasmi_script.specs.Outcomes.{replies_text}
-use Rattle.wasmi_core.specs.declared.calls.Call.TheVariants as calls
-use Rattle.wasmi_core.specs.declared.calls.Reply.TheVariants as replies
+use Rattle.wasmi_machine.specs.declared.calls.Call.TheVariants as calls
+use Rattle.wasmi_machine.specs.declared.calls.Reply.TheVariants as replies
 use Rattle.wasmi_c.specs.declared.instruction.binary.Binary.TheVariants as two
 use Rattle.wasmi_c.specs.declared.instruction.load.Load.TheVariants as load
 use Rattle.wasmi_c.specs.declared.instruction.store.Store.TheVariants as store

@@ -5,7 +5,7 @@ use Rattle.wasmi_meter.specs.Capped.{cap_of, holdings, IsWithinCaps}
 use Rattle.wasmi_meter.specs.declared.any_limiter.AnyLimiter.{AnyLimiter}
 use Rattle.wasmi_meter.specs.declared.limiter.Kind.{Kind}
 use Rattle.wasmi_meter.specs.declared.quota.Quota.{Quota}
-use Rattle.wasmi_core.specs.State.{State, total, HoldsTotals}
+use Rattle.wasmi_machine.specs.State.{State, total, HoldsTotals}
 
 -- a machine, and the limiter that it asks
 pub record MachineValue : Type 0 where

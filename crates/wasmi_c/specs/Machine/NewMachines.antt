@@ -8,7 +8,7 @@ use Rattle.wasmi_meter.specs.declared.any_limiter.AnyLimiter.{AnyLimiter}
 use Rattle.wasmi_meter.specs.declared.any_limiter.AnyLimiter.TheVariants as limiter
 use Rattle.wasmi_meter.specs.declared.limiter.Kind.TheVariants.{Bytes, Elements}
 use Rattle.wasmi_meter.specs.declared.quota.Quota.{Quota}
-use Rattle.wasmi_core.specs.State.{new_state}
+use Rattle.wasmi_machine.specs.State.{new_state}
 use Rattle.wasmi_c.specs.Machine.Caps.{MachineValue}
 use Rattle.wasmi_c.specs.declared.status.TheConstants.{DONE, HAS_MACHINE, NO_ANSWER, NO_ROOM}
 use Rattle.wasmi_c.specs.Types.{if_flag, meter_of}

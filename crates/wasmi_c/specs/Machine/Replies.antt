@@ -10,8 +10,8 @@ use Rattle.wasmi_meter.specs.declared.error.MemoryError.{MemoryError}
 use Rattle.wasmi_meter.specs.declared.error.TableError.{TableError}
 use Rattle.wasmi_meter.specs.declared.fuel.FuelError.{FuelError}
 use Rattle.wasmi_meter.specs.declared.fuel.FuelError.TheVariants as fuel
-use Rattle.wasmi_core.specs.declared.calls.Reply.{Reply}
-use Rattle.wasmi_core.specs.declared.calls.Reply.TheVariants as reply
+use Rattle.wasmi_machine.specs.declared.calls.Reply.{Reply}
+use Rattle.wasmi_machine.specs.declared.calls.Reply.TheVariants as reply
 use Rattle.wasmi_c.specs.MemoryCalls.{memory_fuel_needed}
 use Rattle.wasmi_c.specs.TableCalls.{table_fuel_needed}
 use Rattle.wasmi_c.specs.Status.{memory_status, table_status, fuel_status, global_status, segment_status}

@@ -8,8 +8,9 @@ use crate::instruction::numbers::{BINARY_INSTRUCTIONS, binary_numbers};
 use crate::instruction::result::{InstructionResult, Refusal, leave, op_or_return, result_of};
 use crate::instruction::rows::part_once;
 use crate::status::DONE;
-use wasmi_ops::{BinaryOp, ScalarBinaryOp, ShiftOp};
+use wasmi_ops::{BinaryOp, ShiftOp};
 use wasmi_raw::{RawVal, ReadAs};
+use wasmi_scalar_ops::ScalarBinaryOp;
 use wasmi_types::TrapCode;
 
 /// An instruction of two operands.

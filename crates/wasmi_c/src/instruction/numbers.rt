@@ -1,16 +1,14 @@
-//! The number of each instruction of a shape that has several lists in `wasmi_ops`: its place among
-//! the rows. `tools/header` writes this file: first the numbers of `include/numbers.tsv`, then what
-//! the lists have besides.
+//! The number of each instruction of a shape that has several lists in `wasmi_ops` and
+//! `wasmi_scalar_ops`: its place among the rows. `tools/header` writes this file: first the numbers
+//! of `include/numbers.tsv`, then what the lists have besides.
 
 use crate::instruction::binary::Binary;
 use crate::instruction::load::Load;
 use crate::instruction::rows::numbered;
 use crate::instruction::store::Store;
 use crate::instruction::unary::Unary;
-use wasmi_ops::{
-    BinaryOp, LoadOp, MakeOp, ScalarBinaryOp, ScalarUnaryOp, ShiftOp, StoreOp, TestOp, UnaryOp,
-    VectorLoadOp,
-};
+use wasmi_ops::{BinaryOp, LoadOp, MakeOp, ShiftOp, StoreOp, TestOp, UnaryOp, VectorLoadOp};
+use wasmi_scalar_ops::{ScalarBinaryOp, ScalarUnaryOp};
 
 /// The rows of `UNARY_INSTRUCTIONS`.
 macro_rules! unary_numbers {

@@ -2,7 +2,7 @@
 ghost use Rattle.std.specs.Prelude.{◌≡◌, MatchResult};
 ghost use Rattle.wasmi_types.specs.Trap.{code_number};
 ghost use Rattle.wasmi_raw.specs.RawVal.{raw_of_vector};
-ghost use Rattle.wasmi_ops.specs.ScalarOps.{as_raw};
+ghost use Rattle.wasmi_ops.specs.LoadStoreOps.{as_raw};
 ghost use Rattle.wasmi_c.specs.declared.status.TheConstants.{DONE};
 ghost use Rattle.wasmi_c.specs.Instruction.{Gives, refusal_status, result_of};
 

@@ -8,8 +8,9 @@ use crate::instruction::numbers::{UNARY_INSTRUCTIONS, unary_numbers};
 use crate::instruction::result::{Refusal, leave, op_or_return};
 use crate::instruction::rows::part_once;
 use crate::status::DONE;
-use wasmi_ops::{MakeOp, ScalarUnaryOp, TestOp, UnaryOp};
+use wasmi_ops::{MakeOp, TestOp, UnaryOp};
 use wasmi_raw::RawVal;
+use wasmi_scalar_ops::ScalarUnaryOp;
 
 /// An instruction of one operand.
 #[derive(Clone, Copy)]

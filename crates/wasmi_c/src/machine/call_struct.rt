@@ -11,7 +11,7 @@ use crate::instruction::store::{Store, store_numbered};
 use crate::instruction::ternary::ternary_numbered;
 use crate::instruction::unary::{Unary, unary_numbered};
 use crate::types::{if_flag, memory_type, reference_type, table_type, to_u32, val_type};
-use wasmi_core::Call;
+use wasmi_machine::Call;
 use wasmi_ops::{BinaryOp, LoadOp, StoreOp};
 use wasmi_raw::{RawRef, RawVal};
 use wasmi_typed::{GlobalType, Mutability, TypedRawRef, TypedRawVal};

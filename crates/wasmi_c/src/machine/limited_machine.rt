@@ -1,7 +1,7 @@
 //! A machine with the limiter that it asks.
 ghost use Rattle.std.specs.Prelude.{◌≡◌, Some, IfOk, MatchResult, OnErr};
 ghost use Rattle.wasmi_meter.specs.AnyLimiter.{caps_of};
-ghost use Rattle.wasmi_core.specs.declared.calls.Call.TheVariants.{GetFuel, GrowMemory, Load, NewSegment, Store, Write};
+ghost use Rattle.wasmi_machine.specs.declared.calls.Call.TheVariants.{GetFuel, GrowMemory, Load, NewSegment, Store, Write};
 ghost use Rattle.wasmi_c.specs.Machine.Calls.{ReadsOut, MachineRuns, RefusesLines, RunsLines, WritesOut, no_header, item_load, item_store, vector_binary, word_after};
 ghost use Rattle.wasmi_c.specs.Machine.Replies.{status_of};
 ghost use Rattle.wasmi_grammar.specs.Lines.{WritesScript};
@@ -20,8 +20,8 @@ use crate::status::{
 use crate::types::reference_type;
 use std::alloc::{AllocError, Global};
 use std::marker::Model;
-use wasmi_core::{Call, Machine, Reply, run_lending};
 use wasmi_grammar::{ParseError, Script, parse};
+use wasmi_machine::{Call, Machine, Reply, run_lending};
 use wasmi_meter::{AnswerList, AnyLimiter, LimiterAnswer};
 use wasmi_ops::{LoadOp, StoreOp};
 use wasmi_raw::{RawRef, RawVal};

@@ -7,7 +7,7 @@ use crate::status::{
     NO_SUCH, OUT_OF_FUEL, SEGMENT_OUT_OF_MEMORY, SEGMENT_TOO_MANY_ITEMS, memory_refusal,
     table_refusal,
 };
-use wasmi_core::Reply;
+use wasmi_machine::Reply;
 use wasmi_meter::FuelError;
 use wasmi_raw::RawVal;
 use wasmi_store::SegmentError;

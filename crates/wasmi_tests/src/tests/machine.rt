@@ -2,7 +2,7 @@
 //! share: machines, types of memories, and runs.
 ghost use Rattle.std.specs.Prelude.{None};
 ghost use Rattle.wasmi_meter.specs.Capped.{nothing};
-ghost use Rattle.wasmi_core.specs.State.{HoldsTotals};
+ghost use Rattle.wasmi_machine.specs.State.{HoldsTotals};
 
 mod limiters;
 mod regions;
@@ -10,10 +10,12 @@ mod regions;
 use super::same;
 use std::alloc::Global;
 use std::process::Abort;
-use wasmi_core::{
-    Call, CustomFuelCosts, Fuel, FuelCostsProvider, Machine, MemoryType, NoLimits, RawRef, RefType,
-    Reply, ResourceLimiterRef, TypedRawRef, run,
-};
+use wasmi_machine::{Call, Machine, Reply, run};
+use wasmi_meter::{CustomFuelCosts, Fuel, FuelCostsProvider, NoLimits, ResourceLimiterRef};
+use wasmi_raw::RawRef;
+use wasmi_store::MemoryType;
+use wasmi_typed::TypedRawRef;
+use wasmi_types::RefType;
 
 /// Runs calls without a limiter, and compares the replies.
 fn runs_to(rt: &impl Abort, machine: &mut Machine, calls: &[Call], expected: &[Reply]) {

@@ -3,7 +3,7 @@
 pub mod bill {
     //! A bill: what a run was charged.
 
-    use crate::proved::machine::{Call, Machine, Reply, ResourceLimiter, laws, run_lending};
+    use crate::proved::facade::{Call, Machine, Reply, ResourceLimiter, laws, run_lending};
     use crate::rattle::Vec;
     use crate::rattle::alloc::AllocError;
 
@@ -88,7 +88,7 @@ pub mod host {
     //! A host of plug-ins: a run of a new machine under a quota, and two tenants of a pool.
 
     use crate::proved::budget::{Pool, PoolError};
-    use crate::proved::machine::{Call, Fuel, Machine, Quota, Reply, laws, run_reserving};
+    use crate::proved::facade::{Call, Fuel, Machine, Quota, Reply, laws, run_reserving};
     use crate::rattle::Vec;
     use crate::rattle::alloc::AllocError;
 
@@ -154,7 +154,7 @@ pub mod interpreter {
     //! A small interpreter: a list of instructions that runs on a machine under a limiter. Modules,
     //! functions and the validation of types are left out.
 
-    use crate::proved::machine::{
+    use crate::proved::facade::{
         BinaryOp, Call, FuelError, Machine, RawVal, ReadAs, Reply, ResourceLimiter, StoreOp,
         VectorLoadOp, laws, wasm,
     };
@@ -474,7 +474,7 @@ pub mod interpreter {
 pub mod limiter {
     //! A limiter of one's own, and what grows under it.
 
-    use crate::proved::machine::{Fuel, Kind, LimiterByKind, LimiterError, Memory, MemoryError};
+    use crate::proved::facade::{Fuel, Kind, LimiterByKind, LimiterError, Memory, MemoryError};
 
     /// Permits each memory up to a number of bytes, and no table.
     #[derive(Clone, Copy, Debug)]

@@ -343,11 +343,12 @@ mod machine {
 
         use super::{func, memory_type, meter, metered, runs_to, same, unmetered};
         use crate::proved::budget::{AddError, Pool};
-        use crate::proved::machine::{
-            Call, Kind, LimiterByKind, LimiterError, Machine, MemoryError, RefType, Reply,
-            Reserving, TableType, run_lending, run_reserving,
+        use crate::proved::machine::{Call, Machine, Reply, run_lending, run_reserving};
+        use crate::proved::meter::{
+            Amounts, Holdings, Kind, LimiterByKind, LimiterError, MemoryError, Reserving,
         };
-        use crate::proved::meter::{Amounts, Holdings};
+        use crate::proved::store::TableType;
+        use crate::proved::types::RefType;
         use crate::rattle::Vec;
 
         const COMPLAINT: LimiterError = LimiterError::ResourceLimiterDeniedAllocation;
@@ -594,10 +595,11 @@ mod machine {
         //! of a memory after it wrote through a loan.
 
         use super::{memory_type, runs_to, same};
-        use crate::proved::machine::{
-            Call, Fuel, FuelCostsProvider, Machine, Memory, MemoryError, NoLimits, Reply,
-            ResourceLimiterRef,
+        use crate::proved::machine::{Call, Machine, Reply};
+        use crate::proved::meter::{
+            Fuel, FuelCostsProvider, MemoryError, NoLimits, ResourceLimiterRef,
         };
+        use crate::proved::store::Memory;
         use crate::rattle::Vec;
 
         /// Runs calls on a machine with a region of ten bytes of 7, and compares the replies, and what the
@@ -686,10 +688,14 @@ mod machine {
     }
 
     use super::same;
-    use crate::proved::machine::{
-        Call, CustomFuelCosts, Fuel, FuelCostsProvider, Machine, MemoryType, NoLimits, RawRef,
-        RefType, Reply, ResourceLimiterRef, TypedRawRef, run,
+    use crate::proved::machine::{Call, Machine, Reply, run};
+    use crate::proved::meter::{
+        CustomFuelCosts, Fuel, FuelCostsProvider, NoLimits, ResourceLimiterRef,
     };
+    use crate::proved::raw::RawRef;
+    use crate::proved::store::MemoryType;
+    use crate::proved::typed::TypedRawRef;
+    use crate::proved::types::RefType;
 
     /// Runs calls without a limiter, and compares the replies.
     fn runs_to(machine: &mut Machine, calls: &[Call], expected: &[Reply]) {

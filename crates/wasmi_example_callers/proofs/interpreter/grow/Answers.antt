@@ -1,6 +1,6 @@
 use Rattle.std.proofs.Common.{◌≡◌, ◌∙◌, Some, [], ◌∷◌, ap, sym, subst}
 use Rattle.wasmi_meter.specs.Limiter.{optional_rules}
-use Rattle.wasmi_core.specs.declared.calls.Call.TheVariants.{GrowMemory, SetRegister}
+use Rattle.wasmi_core.specs.Calls.{GrowMemory, SetRegister}
 use Rattle.wasmi_core.specs.State.{world}
 use Rattle.wasmi_core.specs.Steps.{AreTurns}
 use Rattle.wasmi_example_callers.specs.Interpreter.{grow_result}

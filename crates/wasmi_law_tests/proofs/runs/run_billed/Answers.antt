@@ -1,6 +1,6 @@
 use Rattle.std.proofs.Common.{sym, subst, ◌≤◌, arith, refl}
 use Rattle.std.specs.Prelude.{All, ◌≡◌, is_some}
-use Rattle.wasmi_core.specs.Account.{SetsNoFuel}
+use Rattle.wasmi_machine.specs.Account.{SetsNoFuel}
 use Rattle.wasmi_law_tests.proofs.RunsLemmas.{if_ok_too, holds_after}
 use Rattle.wasmi_meter.specs.Limiter.{optional_rules}
 use Rattle.wasmi_meter.specs.Meter.{amount_left}

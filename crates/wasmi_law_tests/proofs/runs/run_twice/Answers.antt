@@ -3,8 +3,8 @@ use Rattle.std.proofs.lemmas.Option.{same_Some}
 use Rattle.wasmi_meter.specs.declared.quota.Quota.{Quota}
 use Rattle.wasmi_meter.specs.Limiter.{optional_rules}
 use Rattle.wasmi_meter.specs.Capped.{quota_rules}
-use Rattle.wasmi_core.specs.State.{World, world}
-use Rattle.wasmi_core.specs.Steps.{Run}
+use Rattle.wasmi_machine.specs.State.{World, world}
+use Rattle.wasmi_machine.specs.Steps.{Run}
 use Rattle.wasmi_law_tests.proofs.RunsLemmas.{replies_have}
 use Rattle.wasmi_law_tests.proofs.runs.run_twice.Goals as goal
 

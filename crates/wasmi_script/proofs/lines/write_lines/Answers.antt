@@ -2,8 +2,8 @@ use Rattle.std.proofs.Common.{Bor, ℕ, List, ap, flat_map, subst, sym, ◌∙�
 use Rattle.std.proofs.lemmas.Iterator.{YieldsList-from_slice, YieldsList-from_zip}
 use Rattle.std.proofs.lemmas.Iterator.Consumers.{YieldsList-end}
 use Rattle.std.proofs.lemmas.List.Folds.{flat_map-map}
-use Rattle.wasmi_core.specs.declared.calls.Call.{Call}
-use Rattle.wasmi_core.specs.declared.calls.Reply.{Reply}
+use Rattle.wasmi_machine.specs.declared.calls.Call.{Call}
+use Rattle.wasmi_machine.specs.declared.calls.Reply.{Reply}
 use Rattle.wasmi_script.specs.Printing.{HasFront, line}
 use Rattle.wasmi_script.specs.Texts.{reply_text}
 use Rattle.wasmi_script.proofs.PrintingLemmas.{adds_more, fills}

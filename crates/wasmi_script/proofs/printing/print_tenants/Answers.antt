@@ -1,7 +1,7 @@
 use Rattle.std.proofs.Common.{ℕ, zero, suc, ◌≡◌, ◌∙◌, ◌<◌, List, [], ◌∷◌, Option, None, Some, arith, codes, length, lit≤, refl, rules, sym}
 use Rattle.std.specs.Prelude.{IsSome, slice_get}
 use Rattle.std.specs.Option.{option_map}
-use Rattle.wasmi_core.specs.State.{State, total}
+use Rattle.wasmi_machine.specs.State.{State, total}
 use Rattle.wasmi_meter.specs.declared.limiter.Kind.TheVariants.{Bytes, Elements}
 use Rattle.wasmi_script.proofs.LengthLemmas.{three_numbers}
 use Rattle.wasmi_script.proofs.PrintingLemmas.{in_part, prints_then, prints_front}

@@ -1,6 +1,6 @@
 use Rattle.std.proofs.Common.{◌≡◌, Some, refl, rules, subst}
-use Rattle.wasmi_core.specs.State.{world}
-use Rattle.wasmi_core.specs.Steps.{IsRunOf}
+use Rattle.wasmi_machine.specs.State.{world}
+use Rattle.wasmi_machine.specs.Steps.{IsRunOf}
 use Rattle.wasmi_grammar.specs.Headers.{start_of}
 use Rattle.wasmi_meter.specs.AnswerList.{answer_list_rules, new_answers}
 use Rattle.wasmi_meter.specs.Limiter.{optional_rules}

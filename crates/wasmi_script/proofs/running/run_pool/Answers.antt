@@ -2,9 +2,9 @@ use Rattle.std.proofs.Common.{Bor, List, ℕ, zero, suc, ◌≡◌, ◌∙◌, �
 use Rattle.std.specs.Prelude.{IsSome, slice_get}
 use Rattle.std.specs.Option.{option_map}
 use Rattle.std.proofs.lemmas.List.{take_all}
-use Rattle.wasmi_core.specs.State.{new_state}
+use Rattle.wasmi_machine.specs.State.{new_state}
 use Rattle.wasmi_grammar.specs.Headers.{meter_of}
-use Rattle.wasmi_core.specs.declared.calls.Call.{Call}
+use Rattle.wasmi_machine.specs.declared.calls.Call.{Call}
 use Rattle.wasmi_grammar.specs.Parts.{TenantRun, parts_in}
 use Rattle.wasmi_script.specs.ScriptRuns.{AnswersParts, new_pool}
 use Rattle.wasmi_script.proofs.ScriptRunsLemmas.{next_part}

@@ -1,5 +1,5 @@
 use Rattle.std.proofs.Common.{take}
-use Rattle.wasmi_core.specs.State.{new_state}
+use Rattle.wasmi_machine.specs.State.{new_state}
 use Rattle.wasmi_grammar.specs.Headers.{meter_of}
 use Rattle.wasmi_grammar.specs.Parts.{parts_in}
 use Rattle.wasmi_script.specs.ScriptRuns.{AnswersParts, new_pool}

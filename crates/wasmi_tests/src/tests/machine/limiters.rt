@@ -9,11 +9,10 @@ use super::{func, memory_type, meter, metered, runs_to, same, unmetered};
 use std::alloc::AllocGlobal;
 use std::process::Abort;
 use wasmi_budget::{AddError, Pool};
-use wasmi_core::{
-    Call, Kind, LimiterByKind, LimiterError, Machine, MemoryError, RefType, Reply, Reserving,
-    TableType, run_lending, run_reserving,
-};
-use wasmi_meter::{Amounts, Holdings};
+use wasmi_machine::{Call, Machine, Reply, run_lending, run_reserving};
+use wasmi_meter::{Amounts, Holdings, Kind, LimiterByKind, LimiterError, MemoryError, Reserving};
+use wasmi_store::TableType;
+use wasmi_types::RefType;
 
 const COMPLAINT: LimiterError = LimiterError::ResourceLimiterDeniedAllocation;
 

@@ -4,10 +4,9 @@ ghost use Rattle.std.specs.Prelude.{◌≡◌, ◌<◌, length, slice_set};
 
 use super::{memory_type, runs_to, same};
 use std::process::Abort;
-use wasmi_core::{
-    Call, Fuel, FuelCostsProvider, Machine, Memory, MemoryError, NoLimits, Reply,
-    ResourceLimiterRef,
-};
+use wasmi_machine::{Call, Machine, Reply};
+use wasmi_meter::{Fuel, FuelCostsProvider, MemoryError, NoLimits, ResourceLimiterRef};
+use wasmi_store::Memory;
 
 /// Runs calls on a machine with a region of ten bytes of 7, and compares the replies, and what the
 /// lender finds then.

@@ -1,5 +1,5 @@
 use Rattle.std.proofs.Common.{List, [], ◌∷◌, ◌++◌, ◌∙◌, ap}
-use Rattle.wasmi_core.specs.State.{State}
+use Rattle.wasmi_machine.specs.State.{State}
 use Rattle.wasmi_budget.proofs.PoolLemmas.{has_nothing, kept_added}
 use Rattle.wasmi_budget.proofs.pool.Pool.add.Goals as goal
 

@@ -1,6 +1,6 @@
 use Rattle.std.proofs.Common.{◌∙◌, Some, ap, sym}
 use Rattle.std.specs.Option.{option_map}
-use Rattle.wasmi_core.specs.State.{State, total}
+use Rattle.wasmi_machine.specs.State.{State, total}
 use Rattle.wasmi_meter.specs.Capped.{amounts_of}
 use Rattle.wasmi_budget.specs.Pool.{PoolValue}
 use Rattle.wasmi_budget.proofs.PoolLemmas.{got, not_got}

@@ -2,7 +2,7 @@ use Rattle.std.proofs.Common.{◌≡◌, ◌∙◌, ◌≤◌, [], ◌∷◌, Er
 use Rattle.std.specs.Prelude.{OnErr, slice_get}
 use Rattle.std.specs.Option.{option_map}
 use Rattle.std.proofs.lemmas.List.{set-get_or}
-use Rattle.wasmi_core.specs.State.{State, world}
+use Rattle.wasmi_machine.specs.State.{State, world}
 use Rattle.wasmi_budget.specs.declared.error.PoolError.TheVariants.{OutOfMemory}
 use Rattle.wasmi_budget.specs.Pool.{PoolValue}
 use Rattle.wasmi_budget.proofs.PoolLemmas.{given_inside, read_given, given_holds, given_runs, given_stays, given_fits, given_kept}

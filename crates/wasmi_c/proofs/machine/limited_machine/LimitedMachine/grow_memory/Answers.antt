@@ -1,4 +1,4 @@
-use Rattle.wasmi_core.specs.declared.calls.Call.TheVariants.{GrowMemory}
+use Rattle.wasmi_machine.specs.declared.calls.Call.TheVariants.{GrowMemory}
 use Rattle.wasmi_c.proofs.MachineLemmas.{kept_by_call, machine_replies}
 use Rattle.wasmi_c.proofs.machine.limited_machine.LimitedMachine.grow_memory.Goals as goal
 

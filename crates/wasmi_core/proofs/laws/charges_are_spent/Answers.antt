@@ -1,6 +1,0 @@
-use Rattle.wasmi_meter.specs.Limiter.{optional_rules}
-use Rattle.wasmi_core.proofs.SpendingLemmas as spending
-use Rattle.wasmi_core.proofs.laws.charges_are_spent.Goals as goal
-
-pub returns : goal.returns
-returns g c = spending.charges_are_spent (optional_rules g.L.ResourceLimiter.rules)

@@ -1,6 +1,0 @@
-use Rattle.wasmi_meter.specs.Limiter.{optional_rules}
-use Rattle.wasmi_core.proofs.AccountLemmas as account
-use Rattle.wasmi_core.proofs.laws.fuel_balances.Goals as goal
-
-pub returns : goal.returns
-returns g c = account.fuel_balances (optional_rules g.L.ResourceLimiter.rules)

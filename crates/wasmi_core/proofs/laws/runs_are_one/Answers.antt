@@ -1,7 +1,0 @@
-use Rattle.wasmi_meter.specs.Limiter.{optional_rules}
-use Rattle.wasmi_core.proofs.DeterminismLemmas as determinism
-use Rattle.wasmi_core.proofs.laws.runs_are_one.Goals as goal
-
-pub returns : goal.returns
-returns g c once = determinism.runs_are_one (optional_rules g.L.ResourceLimiter.rules)
-    (determinism.optional_unique g.L.ResourceLimiter.rules once)

@@ -1,0 +1,358 @@
+-- Where the limiter leaves no choice and memory isn't wanting, a turn is decided by its call.
+use Rattle.std.proofs.Common.{Bool, Err, List, None, Ok, Option, Result, Some, [], ap, arith, false, inl, inr, map, refl, subst, sym, true, ℕ, ◌∙◌, ◌∷◌, ◌≡◌}
+use Rattle.std.proofs.lemmas.Option.{none-some, same_Some}
+use Rattle.std.specs.Option.{option_map}
+use Rattle.std.specs.Prelude.{MatchBool}
+use Rattle.wasmi_machine.proofs.MemoryEffectsLemmas.{reads_same}
+use Rattle.wasmi_machine.proofs.EffectLemmas.{Acted, HasOneEnding, HasOneOutcome, acts_same, creates_same, on_both}
+use Rattle.wasmi_machine.proofs.StepsLemmas.{change_facts}
+use Rattle.wasmi_machine.proofs.TableEffectsLemmas.{parts_same}
+use Rattle.wasmi_machine.specs.Determinism.{IsNotOutOfMemory, AreNotOutOfMemory, IsDeterministic, IsOtherFailure, never_out_of_memory}
+use Rattle.wasmi_machine.specs.MemoryEffects.{CreatesLent, spare_after}
+use Rattle.wasmi_machine.specs.Effects.{ActsMetered, ActsMeteredUnasked, Asks, Changes, Creates, OnlyReplies, reply_of}
+use Rattle.wasmi_machine.specs.Steps.{Run, BytesRead, Changed, Effect, FuelSet, LentMemoryMade, MemoryGrown, MemoryMade, RangeWritten, TableGrown, TableMade, HasEffect, Told, effect_of}
+use Rattle.wasmi_machine.specs.State.{MemoryPart, State, memory_part, Turn, World}
+use Rattle.wasmi_machine.specs.TableEffects.{write_of}
+use Rattle.wasmi_machine.specs.declared.calls.Call.{Call}
+use Rattle.wasmi_machine.specs.declared.calls.Reply.{Reply}
+use Rattle.wasmi_machine.specs.declared.slots.Slot.{Slot}
+use Rattle.wasmi_meter.specs.Attempt.{Attempt, Denied, Request, Failed, AttemptOutcome, Follows, IsFirstCause, MayEnd, Met, MeteredValue, Unasked, alone, optional_due, answer_of, covers, outcome_charge, value_after}
+use Rattle.wasmi_meter.specs.Capped.{Capped, capped_rules, capped_quota, quota_rules}
+use Rattle.wasmi_meter.specs.Limiter.{Answer, AskedIf, NoticedIf, IsDenial, MemoryFailure, Rules, TableFailure, optional_rules, unlimited_rules}
+use Rattle.wasmi_meter.specs.Meter.{Meter, meter_after}
+use Rattle.wasmi_meter.proofs.CappedLemmas.{asked_unique, noticed_unique}
+use Rattle.wasmi_meter.specs.declared.error.MemoryError.{MemoryError}
+use Rattle.wasmi_meter.specs.declared.error.TableError.{TableError}
+use Rattle.wasmi_store.proofs.GrowthLemmas.{on_test}
+use Rattle.wasmi_store.specs.Buffer.{LacksMemory, Lent, Owned, Room}
+use Rattle.wasmi_store.specs.Growth.{Grows, Growth, Makes}
+use Rattle.wasmi_store.specs.Memory.{GrowsMemoryCharging, MakesMemory, MemoryValue, new_memory, pages_of, MemoryTypeValue}
+use Rattle.wasmi_store.specs.Table.{GrowsTableCharging, MakesTable, TableValue, new_table, size_of, same_type}
+use Rattle.wasmi_typed.specs.declared.typed_ref.TypedRawRef.{TypedRawRef}
+use Rattle.wasmi_store.specs.Memory as memory
+use Rattle.wasmi_machine.specs.declared.calls.Reply.TheVariants as replied
+use Rattle.wasmi_store.specs.Table as table
+
+-- the last cause of an request is want of memory
+record Wants {V E : Type 0} (e : Request V E) : Type 0 where
+  wants : (cause : E) → e.refuses cause → IsOtherFailure (e.notice cause) → ⊥
+
+module _ {S : Type 0} {rules : Rules S} (once : IsDeterministic rules) where
+  -- the rules by which no limiter is told of want of memory
+  abbrev told : Rules S
+  told = never_out_of_memory rules
+
+  module _ {V E : Type 0} {e : Request V E} (want : Wants e) where
+    module _ (m : Option Meter) where
+      -- two first causes that are no want of memory are one
+      first_cause : (late : Option E) (cause cause' : E) → IsFirstCause e m late cause → IsOtherFailure (e.notice cause)
+          → IsFirstCause e m late cause' → IsOtherFailure (e.notice cause') → cause ≡ cause'
+      first_cause (Some c) cause cause' first other first' other' = first ∙ sym first'
+      first_cause None cause cause' first other first' other' =
+          on_test (covers m (optional_due m e.price)) _ _ first (λ refuses. absurd (want.wants cause refuses other))
+          (λ unpaid. on_test (covers m (optional_due m e.price)) _ _ first'
+          (λ refuses. absurd (want.wants cause' refuses other')) (λ unpaid'. unpaid ∙ sym unpaid'))
+
+      -- where nothing else refuses, memory does
+      refused_at : (late : Option E) (cause : E) → late ≡ None → covers m (optional_due m e.price) ≡ true
+          → IsFirstCause e m late cause → e.refuses cause
+      refused_at (Some c) cause none payable first = absurd (none-some c (sym none))
+      refused_at None cause none payable first = rw payable at first
+
+      module _ (l : S) where
+        -- a question has one answer
+        denied_met : (answer : Answer) (l' p : S) → IsDenial answer → rules.asked l e.question answer l'
+            → rules.asked l e.question (Ok true) p → ⊥
+        denied_met answer l' p denial asks asks' =
+            subst IsDenial (once.asked l e.question answer (Ok true) l' p asks asks').0 denial
+
+        -- an attempt ends in one way
+        same_outcome : (outcome outcome' : AttemptOutcome E) (l' l'' : S) → MayEnd e m outcome
+            → Follows e told l outcome l' → MayEnd e m outcome'
+            → Follows e told l outcome' l'' → (outcome ≡ outcome') × (l' ≡ l'')
+        same_outcome (Unasked c) (Unasked c') l' l'' may f may' f' =
+            (ap Unasked (same_Some c c' (sym may ∙ may')), f ∙ sym f')
+        same_outcome (Unasked c) outcome' l' l'' may f may' f' = absurd (none-some c (sym may'.0 ∙ may))
+        same_outcome outcome (Unasked c) l' l'' may f may' f' = absurd (none-some c (sym may.0 ∙ may'))
+        same_outcome (Denied a) (Denied a') l' l'' may f may' f' =
+            let s = once.asked l e.question a a' l' l'' f f' in (ap Denied s.0, s.1)
+        same_outcome (Denied a) Met l' l'' may f may' f' = absurd (denied_met a l' l'' may.1 f f')
+        same_outcome (Denied a) (Failed d h) l' l'' may f may' f' = absurd (denied_met a l' f'.0 may.1 f f'.1)
+        same_outcome Met (Denied a) l' l'' may f may' f' = absurd (denied_met a l'' l' may'.1 f' f)
+        same_outcome (Failed d h) (Denied a) l' l'' may f may' f' = absurd (denied_met a l'' f.0 may'.1 f' f.1)
+        same_outcome Met Met l' l'' may f may' f' = (refl, (once.asked l e.question (Ok true) (Ok true) l' l'' f f').1)
+        same_outcome Met (Failed d h) l' l'' may f may' f' =
+            absurd (want.wants d (refused_at e.late d may.1 may.2 may'.1) f'.2.1)
+        same_outcome (Failed d h) Met l' l'' may f may' f' =
+            absurd (want.wants d (refused_at e.late d may'.1 may'.2 may.1) f.2.1)
+        same_outcome (Failed d h) (Failed d' h') l' l'' may f may' f' =
+            let permitted = (once.asked l e.question (Ok true) (Ok true) f.0 f'.0 f.1 f'.1).1 in
+            let cause = first_cause e.late d d' may.1 f.2.1 may'.1 f'.2.1 in
+            let notices : rules.noticed f.0 (e.notice d) h' l'' = subst (λ p. rules.noticed p (e.notice d) h' l'')
+            (sym permitted) (subst (λ c. rules.noticed f'.0 (e.notice c) h' l'') (sym cause) f'.2.0) in
+            let s = once.noticed f.0 (e.notice d) h h' l' l'' f.2.0 notices in
+            (rw (cause, s.0) refl, s.1)
+
+    -- two attempts are one, if neither says out of memory
+    attempts_same : (s s' s'' : MeteredValue V S) (outcome outcome' : AttemptOutcome E) (charge charge' : ℕ)
+        → Attempt told e s outcome charge s' → Attempt told e s outcome' charge' s''
+        → (outcome ≡ outcome') × (charge ≡ charge') × (s' ≡ s'')
+    attempts_same s s' s'' outcome outcome' charge charge' a b =
+        let same =
+        same_outcome s.meter s.limiter outcome outcome' s'.limiter s''.limiter a.may_end a.follows b.may_end b.follows
+        in
+        let charged = a.charged ∙ ap (outcome_charge e s.meter) same.0 ∙ sym b.charged in
+        let value = a.value ∙ ap (value_after e s.value) same.0 ∙ sym b.value in
+        let meter = a.meter ∙ ap (λ c. option_map (λ m. meter_after m c) s.meter) charged ∙ sym b.meter in
+        (same.0, charged, λ k. record { value = value k; meter = meter k; limiter = same.1 k })
+
+  -- two creations
+  makes_same : {T E : Type 0} (e : Request (Unit {0}) E) → Wants e
+      → (made : T) (l : S) (result result' : Result T E) (l' l'' : S) → Makes told e made l result l'
+      → Makes told e made l result' l'' → (result ≡ result') × (l' ≡ l'')
+  makes_same e wants made l result result' l' l'' (outcome, a, answered) (outcome', b, answered') =
+      let same = attempts_same wants (alone l) (alone l') (alone l'') outcome outcome' 0 0 a b in (
+        answered ∙ ap (answer_of e made) same.0
+            ∙ sym answered',
+        ap (λ (s : MeteredValue (Unit {0}) S). s.limiter) same.2,
+      )
+
+  -- two growths
+  grows_same : {V E : Type 0} (g : Growth V E) → Wants g.request
+      → (s : MeteredValue V S) (result result' : Result ℕ E) (charge charge' : ℕ) (s' s'' : MeteredValue V S)
+      → Grows told g s result charge s' → Grows told g s result' charge' s''
+      → (result ≡ result') × (charge ≡ charge') × (s' ≡ s'')
+  grows_same g wants s result result' charge charge' s' s'' (inl a) (inl b) =
+      (a.answered ∙ sym b.answered, a.uncharged ∙ sym b.uncharged, a.same ∙ sym b.same)
+  grows_same g wants s result result' charge charge' s' s'' (inl a) (inr b) = absurd (omega (arith, a.none, b.some))
+  grows_same g wants s result result' charge charge' s' s'' (inr a) (inl b) = absurd (omega (arith, b.none, a.some))
+  grows_same g wants s result result' charge charge' s' s'' (inr a) (inr b) =
+      let same = attempts_same wants s s' s'' a.outcome b.outcome charge charge' a.attempt b.attempt in
+      (a.answered ∙ ap (answer_of g.request g.size) same.0 ∙ sym b.answered, same.1, same.2)
+
+-- what memory refuses, a limiter is told as want of memory
+memory_wants : (room : Room) (cause : MemoryError) → LacksMemory room cause → IsOtherFailure (MemoryFailure cause) → ⊥
+memory_wants Owned cause lacks other = rw lacks at other
+memory_wants (Lent rest) cause lacks other = lacks
+
+-- what memory refuses a table, a limiter is told as want of memory
+table_wants : (cause : TableError) → cause ≡ TableError.OutOfSystemMemory → IsOtherFailure (TableFailure cause) → ⊥
+table_wants cause lacks other = rw lacks at other
+
+-- a memory is made
+memory_same : {S : Type 0} {rules : Rules S} → IsDeterministic rules → (room : Room) (ty : MemoryTypeValue)
+    (slots : List (Slot MemoryValue)) (l : S)
+    → HasOneOutcome (Creates replied.Memory (MakesMemory (never_out_of_memory rules) room ty) slots l)
+memory_same {rules = rules} once room ty slots l =
+    creates_same replied.Memory (MakesMemory (never_out_of_memory rules) room ty)
+    (makes_same once (memory.creation_of room ty) (record { wants = memory_wants room }) (new_memory room ty)) slots l
+
+-- a memory is made in the spare region
+lent_same : {S : Type 0} {rules : Rules S} → IsDeterministic rules → (ty : MemoryTypeValue) (part : MemoryPart) (l : S)
+    → HasOneOutcome (CreatesLent (never_out_of_memory rules) ty part l)
+lent_same once ty part l o o' has has' a b =
+    on_both part.spare _ _ _ _ a b (λ h h'. (h.0 ∙ sym h'.0, h.1 ∙ sym h'.1, h.2 ∙ sym h'.2)) (λ region h h'.
+    let same = memory_same once (Lent region) ty part.slots l
+    (record { reply = o.reply; part = o.part.slots; limiter = o.limiter })
+    (record { reply = o'.reply; part = o'.part.slots; limiter = o'.limiter }) has has' h.0 h'.0 in
+    let spare = h.1 ∙ ap (λ r. spare_after r part.spare) same.0 ∙ sym h'.1 in
+    (same.0, λ i. record { slots = same.1 i; spare = spare i }, same.2))
+
+-- what a turn on one part of the state ends in
+abbrev acted : {A S : Type 0} → Turn → A → Meter → S → Acted A S
+acted t part meter limiter = record {
+  reply = t.reply;
+  charge = t.charge;
+  after = record { value = part; meter = Some meter; limiter = limiter };
+}
+
+-- two turns from one world, whose effects are one
+module _ {S : Type 0} (w : World S) (t t' : Turn) (v v' : World S) where
+  abbrev Same : Type 0
+  Same = (t.reply ≡ t'.reply) × (t.charge ≡ t'.charge) × (t.written ≡ t'.written) × (v ≡ v')
+
+  -- turns that only reply
+  told_unique : {Relation : Reply → Type 0} → OnlyReplies w t v Relation → OnlyReplies w t' v' Relation
+      → (Relation t.reply → Relation t'.reply → t.reply ≡ t'.reply) → Same
+  told_unique step step' once = (
+    once step.effect step'.effect,
+    step.free.0 ∙ sym step'.free.0,
+    step.free.1 ∙ sym step'.free.1,
+    step.after ∙ sym step'.after,
+  )
+
+  -- turns that change the state
+  changed_unique : {Relation : Reply → State → Type 0} → Changes w t v Relation → Changes w t' v' Relation
+      → ((s s' : State) → Relation t.reply s → Relation t'.reply s' → (t.reply ≡ t'.reply) × (s ≡ s')) → Same
+  changed_unique step step' once =
+      let same = once step.machine step'.machine step.effect step'.effect in (
+        same.0,
+        step.free.0 ∙ sym step'.free.0,
+        step.free.1 ∙ sym step'.free.1,
+        step.after ∙ ap (λ s. let u : World S = record w { state = s } in u) same.1 ∙ sym step'.after,
+      )
+
+  module _ {A : Type 0} {with_part : A → State} where
+    -- turns that make something under the limiter
+    made_unique : {Relation : S → Reply → A → S → Type 0} → Asks w t v with_part Relation
+        → Asks w t' v' with_part Relation
+        → IsNotOutOfMemory t.reply → IsNotOutOfMemory t'.reply → HasOneOutcome (Relation w.limiter) → Same
+    made_unique step step' has has' once =
+        let same = once (record { reply = t.reply; part = step.part; limiter = step.limiter })
+        (record { reply = t'.reply; part = step'.part; limiter = step'.limiter }) has has' step.effect step'.effect
+        in (
+          same.0,
+          step.free.0 ∙ sym step'.free.0,
+          step.free.1 ∙ sym step'.free.1,
+          step.after ∙ (λ i. record { state = with_part (same.1 i); limiter = same.2 i }) ∙ sym step'.after,
+        )
+
+    module _ {old : A} {bytes : Reply → ℕ} where
+      -- turns with a charge
+      paid_unique : {Relation : MeteredValue A S → Reply → ℕ → MeteredValue A S → Type 0}
+          → ActsMetered w t v old with_part Relation bytes → ActsMetered w t' v' old with_part Relation bytes
+          → HasOneEnding (Relation (record { value = old; meter = Some w.state.meter; limiter = w.limiter })) → Same
+      paid_unique step step' once =
+          let same =
+          once (acted t step.part step.meter step.limiter) (acted t' step'.part step'.meter step'.limiter) step.effect
+          step'.effect in
+          let parts = ap (λ (s : MeteredValue A S). s.value) same.2 in
+          let meters = same_Some step.meter step'.meter (ap (λ (s : MeteredValue A S). s.meter) same.2) in
+          let limiters = ap (λ (s : MeteredValue A S). s.limiter) same.2 in (
+            same.0,
+            same.1,
+            step.wrote ∙ ap bytes same.0 ∙ sym step'.wrote,
+            step.after
+                ∙ (λ i. record { state = record (with_part (parts i)) { meter = meters i }; limiter = limiters i })
+                ∙ sym step'.after,
+          )
+
+      -- turns with a charge that do not reach the limiter are one
+      unasked_unique : {Relation : MeteredValue A (Unit {0}) → Reply → ℕ → MeteredValue A (Unit {0}) → Type 0}
+          → ActsMeteredUnasked w t v old with_part Relation bytes
+          → ActsMeteredUnasked w t' v' old with_part Relation bytes
+          → HasOneEnding (Relation (record { value = old; meter = Some w.state.meter; limiter = tt })) → Same
+      unasked_unique step step' once =
+          let same =
+          once (acted t step.part step.meter tt) (acted t' step'.part step'.meter tt) step.effect step'.effect in
+          let parts = ap (λ (s : MeteredValue A (Unit {0})). s.value) same.2 in
+          let meters = same_Some step.meter step'.meter (ap (λ (s : MeteredValue A (Unit {0})). s.meter) same.2) in (
+            same.0,
+            same.1,
+            step.wrote ∙ ap bytes same.0 ∙ sym step'.wrote,
+            step.after
+                ∙ (λ i. record { state = record (with_part (parts i)) { meter = meters i }; limiter = w.limiter })
+                ∙ sym step'.after,
+          )
+
+-- two growths of a table
+table_growth_same : {S : Type 0} {rules : Rules S} → IsDeterministic rules
+    → (n : ℕ) (init : TypedRawRef) (s : MeteredValue TableValue S) (result result' : Result ℕ TableError)
+    (charge charge' : ℕ) (s' s'' : MeteredValue TableValue S)
+    → GrowsTableCharging (never_out_of_memory rules) n init s result charge s'
+    → GrowsTableCharging (never_out_of_memory rules) n init s result' charge' s''
+    → (result ≡ result') × (charge ≡ charge') × (s' ≡ s'')
+table_growth_same {rules = rules} once n init s result result' charge charge' s' s'' a b =
+    by_type (same_type s.value.ty.element init.ty) a b
+  where
+    by_type : (same : Bool)
+        → MatchBool same (table.GrowsTableRawCharging (never_out_of_memory rules) n init.raw s result charge
+        s') ((result ≡ Err TableError.ElementTypeMismatch) × (charge ≡ 0) × (s' ≡ s))
+        → MatchBool same (table.GrowsTableRawCharging (never_out_of_memory rules) n init.raw s result' charge' s'')
+        ((result' ≡ Err TableError.ElementTypeMismatch) × (charge' ≡ 0) × (s'' ≡ s))
+        → (result ≡ result') × (charge ≡ charge') × (s' ≡ s'')
+    by_type true h h' = grows_same once
+        (record { amount = n; size = size_of s.value; request = table.growth_of s.value n init.raw })
+        (record { wants = table_wants }) s result result' charge charge' s' s'' h h'
+    by_type false h h' = (h.0 ∙ sym h'.0, h.1 ∙ sym h'.1, h.2 ∙ sym h'.2)
+
+module _ {S : Type 0} (rules : Rules S) (once : IsDeterministic rules) (w : World S) (t t' : Turn) (v v' : World S)
+    (room : IsNotOutOfMemory t.reply) (room' : IsNotOutOfMemory t'.reply) where
+  -- each effect
+  effect_same : (effect : Effect) → HasEffect (never_out_of_memory rules) effect w t v
+      → HasEffect (never_out_of_memory rules) effect w t' v' → Same w t t' v v'
+  effect_same (Told reply) step step' = told_unique w t t' v v' step step' (λ is is'. is ∙ sym is')
+  effect_same (BytesRead k offset len) step step' =
+      told_unique w t t' v v' step step' (reads_same k offset len w.state.memories t.reply t'.reply room room')
+  effect_same (FuelSet fuel) step step' =
+      changed_unique w t t' v v' step step' (λ s s' is is'. (is.0 ∙ sym is'.0, is.1 ∙ sym is'.1))
+  effect_same (Changed change) step step' = changed_unique w t t' v v' step step'
+      (λ s s'. (change_facts w.state change).same t.reply t'.reply s s' room room')
+  effect_same (MemoryMade ty) step step' =
+      made_unique w t t' v v' step step' room room' (memory_same once Owned ty w.state.memories w.limiter)
+  effect_same (LentMemoryMade ty) step step' =
+      made_unique w t t' v v' step step' room room' (lent_same once ty (memory_part w.state) w.limiter)
+  effect_same (MemoryGrown k pages) step step' =
+      paid_unique w t t' v v' step step' (acts_same (GrowsMemoryCharging (never_out_of_memory rules) pages)
+      (λ s. grows_same once
+      (record { amount = pages; size = pages_of s.value; request = memory.growth_of s.value pages })
+      (record { wants = memory_wants s.value.room }) s) k (reply_of replied.Number replied.Memory) _)
+  effect_same (TableMade ty init) step step' = made_unique w t t' v v' step step' room room'
+      (creates_same replied.Table (MakesTable (never_out_of_memory rules) ty init)
+      (makes_same once (table.creation_of ty init.ty) (record { wants = table_wants }) (new_table ty init.raw))
+      w.state.tables w.limiter)
+  effect_same (TableGrown k n init) step step' =
+      paid_unique w t t' v v' step step' (acts_same (GrowsTableCharging (never_out_of_memory rules) n init)
+      (table_growth_same once n init) k (reply_of replied.Number replied.Table) _)
+  effect_same (RangeWritten k source dst len) step step' =
+      unasked_unique w t t' v v' step step' (parts_same k (write_of source dst len) _)
+
+module _ {S : Type 0} (rules : Rules S) (once : IsDeterministic rules) where
+  -- two runs
+  pub runs_are_one : (w : World S) (turns turns' : List Turn) (v v' : World S)
+      → map Turn.call turns ≡ map Turn.call turns' → AreNotOutOfMemory turns → AreNotOutOfMemory turns'
+      → Run (never_out_of_memory rules) w turns v → Run (never_out_of_memory rules) w turns' v'
+      → (turns ≡ turns') × (v ≡ v')
+  runs_are_one w [] [] v v' calls rooms rooms' ran ran' = (refl, ran ∙ sym ran')
+  runs_are_one w [] (t' ∷ turns') v v' calls rooms rooms' ran ran' = absurd cc
+  runs_are_one w (t ∷ turns) [] v v' calls rooms rooms' ran ran' = absurd cc
+  runs_are_one w (t ∷ turns) (t' ∷ turns') v v' calls (room, rooms) (room', rooms') (u, step, ran) (u', step', ran') =
+      let call = first_same t.call t'.call (map Turn.call turns) (map Turn.call turns') calls in
+      let one = effect_same rules once w t t' u u' room room' (effect_of w.state t.call) step
+      (subst (λ c. HasEffect (never_out_of_memory rules) (effect_of w.state c) w t' u') (sym call.0) step') in
+      let rest = runs_are_one u turns turns' v v' call.1 rooms rooms' ran
+      (subst (λ x. Run (never_out_of_memory rules) x turns' v') (sym one.3) ran') in
+      let turn : t ≡ t' = λ i. record { call = call.0 i; reply = one.0 i; charge = one.1 i; written = one.2 i } in
+      (λ i. turn i ∷ rest.0 i, rest.1)
+    where
+      first_same : (c c' : Call) (cs cs' : List Call) → (c ∷ cs) ≡ (c' ∷ cs') → (c ≡ c') × (cs ≡ cs')
+      first_same c c' cs cs' same = (cc, cc)
+
+-- what a limiter that may be absent answers to a question or a notice is one, where the limiter's own answer is one,
+-- where none has a known answer, and where it neither comes nor goes
+once_if : {L A : Type 0} (Answers : Option L → A → Option L → Type 0) (known : A)
+    → ((l : L) (a a' : A) (l' l'' : L) → Answers (Some l) a (Some l') → Answers (Some l) a' (Some l'')
+    → (a ≡ a') × (l' ≡ l'')) → ((a : A) → Answers None a None → a ≡ known)
+    → ((l : L) (a : A) → (Answers (Some l) a None → ⊥) × (Answers None a (Some l) → ⊥))
+    → (l : Option L) (a a' : A) (l' l'' : Option L) → Answers l a l' → Answers l a' l'' → (a ≡ a') × (l' ≡ l'')
+once_if Answers known once none stays (Some l) a a' (Some l') (Some l'') h h' =
+    let s = once l a a' l' l'' h h' in (s.0, ap Some s.1)
+once_if Answers known once none stays (Some l) a a' None l'' h h' = absurd ((stays l a).0 h)
+once_if Answers known once none stays (Some l) a a' (Some l') None h h' = absurd ((stays l a').0 h')
+once_if Answers known once none stays None a a' None None h h' = (none a h ∙ sym (none a' h'), refl)
+once_if Answers known once none stays None a a' (Some l') l'' h h' = absurd ((stays l' a).1 h)
+once_if Answers known once none stays None a a' None (Some l'') h h' = absurd ((stays l'' a').1 h')
+
+-- a limiter that may be absent leaves no choice where the limiter leaves none
+pub optional_unique : {L : Type 0} (rules : Rules L) → IsDeterministic rules → IsDeterministic (optional_rules rules)
+optional_unique rules once = record {
+  asked = λ l question. once_if (λ l. AskedIf rules l question) (Ok true)
+      (λ l. once.asked l question) (λ a h. h) (λ l a. (λ h. h, λ h. h)) l;
+  noticed = λ l failure. once_if (λ l. NoticedIf rules l failure) (Ok tt)
+      (λ l. once.noticed l failure) (λ a h. h) (λ l a. (λ h. h, λ h. h)) l;
+}
+
+-- the limiter that permits everything
+pub unlimited_unique : {S : Type 0} → IsDeterministic (unlimited_rules {S = S})
+unlimited_unique = record {
+  asked = λ l question a a' l' l'' h h'. (h.0 ∙ sym h'.0, h.1 ∙ sym h'.1);
+  noticed = λ l failure a a' l' l'' h h'. (h.0 ∙ sym h'.0, h.1 ∙ sym h'.1);
+}
+
+-- limiters with caps
+pub capped_unique : {L : Type 0} (c : Capped L) → IsDeterministic (capped_rules c)
+capped_unique c = record { asked = asked_unique c; noticed = noticed_unique c }
+
+-- a quota leaves no choice
+pub quota_unique : IsDeterministic quota_rules
+quota_unique = capped_unique capped_quota

@@ -1,0 +1,311 @@
+-- What holds of each effect, and of each kind of effect.
+use Rattle.std.proofs.Common.{Bool, Err, List, None, Ok, Option, Result, Some, ap, false, inl, inr, map, refl, set, subst, sym, true, ℕ, ◌∙◌, ◌≡◌}
+use Rattle.std.proofs.lemmas.List.Elements.{All-get_or, All-push, All-set}
+use Rattle.std.proofs.lemmas.Option.{get_or_from_slice_get, none-some, same_Some, slice_get_within}
+use Rattle.std.specs.Option.{option_and_then}
+use Rattle.std.specs.Prelude.{All, MatchBool, slice_get, slice_set}
+use Rattle.wasmi_machine.proofs.TotalLemmas.{set_read, counts_kept}
+use Rattle.wasmi_machine.specs.Determinism.{IsNotOutOfMemory}
+use Rattle.wasmi_machine.specs.Laws.{IsRefusal}
+use Rattle.wasmi_machine.specs.Effects.{ActsAt, AddsEntry, ChangesAt, ChangesFound, ChangesItem, Creates, DropsAt, OnLive, reply_of}
+use Rattle.wasmi_machine.specs.State.{live_at, live_value, slot_count, IsValidSlot}
+use Rattle.wasmi_machine.specs.Steps.{Change}
+use Rattle.wasmi_machine.specs.declared.calls.Reply.{Reply}
+use Rattle.wasmi_machine.specs.declared.slots.Slot.{Slot}
+use Rattle.wasmi_machine.specs.declared.slots.Slot.TheVariants.{Gone, Live}
+use Rattle.wasmi_meter.specs.Attempt.{Denied, Failed, AttemptOutcome, Met, MeteredValue, Unasked, answer_of, value_after, with_value}
+use Rattle.wasmi_meter.specs.Limiter.{Rules}
+use Rattle.wasmi_store.specs.Growth.{Grows, Growth, Makes}
+use Rattle.wasmi_machine.specs.declared.calls.Reply.TheVariants as replied
+
+-- whether an index names something live
+pub on_live : {X C : Type 0} (o : Option X) (Missing : Type 0) (Fact : X → Type 0) → OnLive o Missing Fact
+    → (Missing → C) → ((x : X) → o ≡ Some x → Fact x → C) → C
+on_live None Missing Fact h missing live = missing h
+on_live (Some x) Missing Fact h missing live = live x refl h
+
+-- two facts of one live value, or of none
+pub both_live : {X : Type 0} (o : Option X) (Missing Missing' : Type 0) (Fact Fact' : X → Type 0)
+    → OnLive o Missing Fact → OnLive o Missing' Fact' → OnLive o (Missing × Missing') (λ x. Fact x × Fact' x)
+both_live None Missing Missing' Fact Fact' h h' = (h, h')
+both_live (Some x) Missing Missing' Fact Fact' h h' = (h, h')
+
+-- a live value is put back into its slot
+module _ {X : Type 0} where
+  -- a slot with the live value x is `Live x`
+  live_slot : (slot : Option (Slot X)) (x : X) → option_and_then live_value slot ≡ Some x → slot ≡ Some (Live x)
+  live_slot None x found = absurd (none-some x found)
+  live_slot (Some (Gone last)) x found = absurd (none-some x found)
+  live_slot (Some (Live y)) x found = ap (λ z. Some (Live z)) (same_Some y x found)
+
+  -- the same value is put back
+  pub put_back : (slots : List (Slot X)) (k : ℕ) (x x' : X) → live_at slots k ≡ Some x → x' ≡ x
+      → slice_set slots k (Live x') ≡ slots
+  put_back slots k x x' found same =
+      ap (λ z. set slots k (Live z)) same ∙ set_read slots k (Live x) (live_slot (slice_get slots k) x found)
+
+  -- a change that changes nothing
+  found_back : {A : Type 0} (found : Option X) (put : X → A) (part : A) (reply : Reply) (part' : A)
+      (Change : X → X → Type 0) → ((x : X) → found ≡ Some x → put x ≡ part) → ((x x' : X) → Change x x' → x' ≡ x)
+      → ChangesFound found put part reply part' Change → part' ≡ part
+  found_back found put part reply part' Change read same changes =
+      on_live found _ _ changes (λ missing. missing.1) (λ x is h. h.2 ∙ ap put (same x h.0 h.1) ∙ read x is)
+
+  -- a change of a slot that changes nothing leaves the slots
+  pub changes_back : (k : ℕ) (slots : List (Slot X)) (reply : Reply) (slots' : List (Slot X))
+      (Change : X → X → Type 0) → ((x x' : X) → Change x x' → x' ≡ x) → ChangesAt k slots reply slots' Change
+      → slots' ≡ slots
+  changes_back k slots reply slots' Change same changes =
+      found_back (live_at slots k) (λ x. slice_set slots k (Live x)) slots reply slots' Change
+      (λ x found. put_back slots k x x found refl) same changes
+
+  -- a change of an item that changes nothing leaves the list
+  pub item_back : (k : ℕ) (items : List X) (reply : Reply) (items' : List X) (Change : X → X → Type 0)
+      → ((x x' : X) → Change x x' → x' ≡ x) → ChangesItem k items reply items' Change → items' ≡ items
+  item_back k items reply items' Change same changes =
+      found_back (slice_get items k) (slice_set items k) items reply items' Change (set_read items k) same changes
+
+  -- a refused drop leaves the slots
+  pub drops_back : (count : X → ℕ) (k : ℕ) (slots : List (Slot X)) (reply : Reply) (slots' : List (Slot X))
+      → IsRefusal reply → DropsAt count k slots reply slots' → slots' ≡ slots
+  drops_back count k slots reply slots' refused drops =
+      on_live (live_at slots k) _ _ drops (λ missing. missing.1) (λ x found h. absurd (rw h.0 at refused))
+
+-- each work, refused
+module _ {E : Type 0} (refusal : E → Reply) where
+  -- a refused entry leaves the list
+  pub appends_back : {X A : Type 0} (entry : X → A) (result : Result X E) (list : List A) (reply : Reply)
+      (list' : List A) → IsRefusal reply → AddsEntry entry refusal result list reply list' → list' ≡ list
+  appends_back entry (Ok x) list reply list' refused appends = absurd (rw appends.0 at refused)
+  appends_back entry (Err error) list reply list' refused appends = appends.1
+
+  -- a refused creation under a limiter leaves the slots
+  pub creates_back : {X S : Type 0} (Makes : S → Result X E → S → Type 0) (slots : List (Slot X)) (l : S)
+      (reply : Reply) (slots' : List (Slot X)) (l' : S) → IsRefusal reply
+      → Creates refusal Makes slots l reply slots' l' → slots' ≡ slots
+  creates_back Makes slots l reply slots' l' refused (inl none) = none.1
+  creates_back Makes slots l reply slots' l' refused (inr (result, makes, appends)) =
+      appends_back Live result slots reply slots' refused appends
+
+  module _ {V S : Type 0} (rules : Rules S) (g : Growth V E) (s s' : MeteredValue V S) (charge : ℕ) where
+    -- a refused attempt leaves the value
+    attempt_back : (outcome : AttemptOutcome E)
+        → IsRefusal (reply_of replied.Number refusal (answer_of g.request g.size outcome))
+        → s'.value ≡ value_after g.request s.value outcome → s'.value ≡ s.value
+    attempt_back (Unasked cause) refused is = is
+    attempt_back (Denied answer) refused is = is
+    attempt_back Met refused is = absurd refused
+    attempt_back (Failed cause notice_answer) refused is = is
+
+    -- a refused growth leaves the value
+    pub grows_back : (result : Result ℕ E) → IsRefusal (reply_of replied.Number refusal result)
+        → Grows rules g s result charge s' → s'.value ≡ s.value
+    grows_back result refused (inl none) = ap (λ (t : MeteredValue V S). t.value) none.same
+    grows_back result refused (inr some) = attempt_back some.outcome (rw some.answered at refused) some.attempt.value
+
+-- two facts of one live value, or of none
+pub on_both : {X C : Type 0} (o : Option X) (Missing Missing' : Type 0) (Fact Fact' : X → Type 0)
+    → OnLive o Missing Fact → OnLive o Missing' Fact' → (Missing → Missing' → C) → ((x : X) → Fact x → Fact' x → C) → C
+on_both None Missing Missing' Fact Fact' h h' missing live = missing h h'
+on_both (Some x) Missing Missing' Fact Fact' h h' missing live = live x h h'
+
+-- effects on lists and slots
+pub appends_same : {X A E : Type 0} (entry : X → A) (refusal : E → Reply) (result : Result X E) (list : List A)
+    (reply reply' : Reply) (list' list'' : List A) → AddsEntry entry refusal result list reply list'
+    → AddsEntry entry refusal result list reply' list'' → (reply ≡ reply') × (list' ≡ list'')
+appends_same entry refusal (Ok x) list reply reply' list' list'' a b = (a.0 ∙ sym b.0, a.1 ∙ sym b.1)
+appends_same entry refusal (Err error) list reply reply' list' list'' a b = (a.0 ∙ sym b.0, a.1 ∙ sym b.1)
+
+-- what a creation ends in
+pub record Creation (A S : Type 0) : Type 0 where
+  pub reply : Reply
+  pub part : A
+  pub limiter : S
+
+-- a creation ends in one way, where memory isn't wanting
+abbrev pub HasOneOutcome : {A S : Type 0} → (Reply → A → S → Type 0) → Type 0
+HasOneOutcome {A} {S} Relation =
+    (o o' : Creation A S) → IsNotOutOfMemory o.reply → IsNotOutOfMemory o'.reply → Relation o.reply o.part o.limiter
+    → Relation o'.reply o'.part o'.limiter → (o.reply ≡ o'.reply) × (o.part ≡ o'.part) × (o.limiter ≡ o'.limiter)
+
+-- two creations in a new slot
+pub creates_same : {X E S : Type 0} (refusal : E → Reply) (Makes : S → Result X E → S → Type 0)
+    → ((l : S) (result result' : Result X E) (l' l'' : S) → Makes l result l' → Makes l result' l''
+    → (result ≡ result') × (l' ≡ l'')) → (slots : List (Slot X)) (l : S) → HasOneOutcome (Creates refusal Makes slots l)
+creates_same refusal Makes same slots l o o' room room' (inl none) b = absurd (rw none.0 at room)
+creates_same refusal Makes same slots l o o' room room' (inr a) (inl none) = absurd (rw none.0 at room')
+creates_same refusal Makes same slots l o o' room room' (inr (result, makes, appends))
+    (inr (result', makes', appends')) =
+    let made = same l result result' o.limiter o'.limiter makes makes' in
+    let put = appends_same Live refusal result slots o.reply o'.reply o.part o'.part appends
+    (subst (λ r. AddsEntry Live refusal r slots o'.reply o'.part) (sym made.0) appends') in
+    (put.0, put.1, made.1)
+
+-- an effect on a part is decided: two of it are one
+abbrev pub IsDecided : {A : Type 0} → (Reply → A → Type 0) → Type 0
+IsDecided {A} Relation = (reply reply' : Reply) (part part' : A) → Relation reply part → Relation reply' part'
+    → (reply ≡ reply') × (part ≡ part')
+
+-- a change is decided, where the change of what was found is
+abbrev pub ChangesOnce : {X : Type 0} → (Reply → X → X → Type 0) → Type 0
+ChangesOnce {X} Change = (x : X) → IsDecided (λ reply. Change reply x)
+
+-- two changes
+changes_same : {X A : Type 0} (found : Option X) (put : X → A) (part : A) (Change : Reply → X → X → Type 0)
+    → ChangesOnce Change → IsDecided (λ reply part'. ChangesFound found put part reply part' (Change reply))
+changes_same found put part Change once reply reply' part' part'' a b =
+    on_both found _ _ _ _ a b (λ h h'. (h.0 ∙ sym h'.0, h.1 ∙ sym h'.1))
+    (λ x h h'. let both = once x reply reply' h.0 h'.0 h.1 h'.1 in (both.0, h.2 ∙ ap put both.1 ∙ sym h'.2))
+
+-- two changes of one slot are one
+pub slot_same : {X : Type 0} (k : ℕ) (slots : List (Slot X)) (Change : Reply → X → X → Type 0) → ChangesOnce Change
+    → IsDecided (λ reply slots'. ChangesAt k slots reply slots' (Change reply))
+slot_same k slots Change = changes_same (live_at slots k) (λ x. slice_set slots k (Live x)) slots Change
+
+-- two changes of one item are one
+pub item_same : {X : Type 0} (k : ℕ) (items : List X) (Change : Reply → X → X → Type 0) → ChangesOnce Change
+    → IsDecided (λ reply items'. ChangesItem k items reply items' (Change reply))
+item_same k items Change = changes_same (slice_get items k) (slice_set items k) items Change
+
+-- two drops
+pub drops_same : {X : Type 0} (count : X → ℕ) (k : ℕ) (slots : List (Slot X)) → IsDecided (DropsAt count k slots)
+drops_same count k slots reply reply' slots' slots'' a b =
+    on_both (live_at slots k) _ _ _ _ a b (λ h h'. (h.0 ∙ sym h'.0, h.1 ∙ sym h'.1))
+    (λ x h h'. (h.0 ∙ sym h'.0, h.1 ∙ sym h'.1))
+
+-- what a call on what an index names ends in
+pub record Acted (A S : Type 0) : Type 0 where
+  pub reply : Reply
+  pub charge : ℕ
+  pub after : MeteredValue A S
+
+-- a call on what an index names ends in one way
+abbrev pub HasOneEnding : {A S : Type 0} → (Reply → ℕ → MeteredValue A S → Type 0) → Type 0
+HasOneEnding {A} {S} Relation =
+    (o o' : Acted A S) → Relation o.reply o.charge o.after → Relation o'.reply o'.charge o'.after
+    → (o.reply ≡ o'.reply) × (o.charge ≡ o'.charge) × (o.after ≡ o'.after)
+
+-- two calls on what an index names
+pub acts_same : {X R S : Type 0} (Acts : MeteredValue X S → R → ℕ → MeteredValue X S → Type 0)
+    → ((s : MeteredValue X S) (result result' : R) (charge charge' : ℕ) (s' s'' : MeteredValue X S)
+    → Acts s result charge s' → Acts s result' charge' s'' → (result ≡ result') × (charge ≡ charge') × (s' ≡ s''))
+    → (k : ℕ) (reply_to : R → Reply) (s : MeteredValue (List (Slot X)) S) → HasOneEnding (ActsAt k reply_to Acts s)
+acts_same {X = X} {S = S} Acts same k reply_to s o o' a b =
+    on_both (live_at s.value k) _ _ _ _ a b (λ h h'. (h.0 ∙ sym h'.0, h.1 ∙ sym h'.1, h.2 ∙ sym h'.2))
+    (λ x (result, x', acts, replies, put) (result', x'', acts', replies', put').
+    let both =
+    same (with_value s x) result result' o.charge o'.charge (with_value o.after x') (with_value o'.after x'') acts
+    acts' in
+    let value = put ∙ ap (λ (t : MeteredValue X S). slice_set s.value k (Live t.value)) both.2 ∙ sym put' in
+    let meter = ap (λ (t : MeteredValue X S). t.meter) both.2 in
+    let limiter = ap (λ (t : MeteredValue X S). t.limiter) both.2 in (
+      replies ∙ ap reply_to both.0 ∙ sym replies',
+      both.1,
+      λ i. record { value = value i; meter = meter i; limiter = limiter i },
+    ))
+
+module _ {X : Type 0} (count : X → ℕ) (k : ℕ) (slots : List (Slot X)) (reply : Reply) (slots' : List (Slot X)) where
+  -- a change that keeps the count keeps the sizes
+  pub changes_kept : (Change : X → X → Type 0) → ((x x' : X) → Change x x' → count x' ≡ count x)
+      → ChangesAt k slots reply slots' Change → map (slot_count count) slots' ≡ map (slot_count count) slots
+  changes_kept Change same changes = on_live (live_at slots k) _ _ changes
+      (λ missing. ap (map (slot_count count)) missing.1)
+      (λ x found h. ap (map (slot_count count)) h.2 ∙ counts_kept count slots k x (Live h.0) found (same x h.0 h.1))
+
+  -- a drop keeps the sizes
+  pub drops_kept : DropsAt count k slots reply slots' → map (slot_count count) slots' ≡ map (slot_count count) slots
+  drops_kept drops = on_live (live_at slots k) _ _ drops (λ missing. ap (map (slot_count count)) missing.1)
+      (λ x found h. ap (map (slot_count count)) h.1 ∙ counts_kept count slots k x (Gone (count x)) found refl)
+
+module _ {X : Type 0} (Valid : X → Type 0) where
+  -- an item that is read of a list of valid ones
+  read_valid : (items : List X) (k : ℕ) (x : X) → slice_get items k ≡ Some x → All Valid items → Valid x
+  read_valid items k x found valid = subst Valid (get_or_from_slice_get items k x x found)
+      (All-get_or Valid items k x (slice_get_within items k x found) valid)
+
+  -- a change of one item
+  pub item_valid : (k : ℕ) (items : List X) (reply : Reply) (items' : List X) (Change : X → X → Type 0)
+      → ((x x' : X) → Valid x → Change x x' → Valid x') → ChangesItem k items reply items' Change → All Valid items
+      → All Valid items'
+  item_valid k items reply items' Change keeps changes valid = on_live (slice_get items k) _ _ changes
+      (λ missing. subst (All Valid) (sym missing.1) valid) (λ x found h. subst (All Valid) (sym h.2)
+      (All-set Valid items k h.0 (keeps x h.0 (read_valid items k x found valid) h.1) valid))
+
+  -- a new entry at the end
+  pub appended_valid : {E : Type 0} (refusal : E → Reply) (result : Result X E) (list : List X) (reply : Reply)
+      (list' : List X) → ((x : X) → result ≡ Ok x → Valid x) → AddsEntry (λ x. x) refusal result list reply list'
+      → All Valid list → All Valid list'
+  appended_valid refusal (Ok x) list reply list' made appends valid =
+      subst (All Valid) (sym appends.1) (All-push Valid list x valid (made x refl))
+  appended_valid refusal (Err error) list reply list' made appends valid = subst (All Valid) (sym appends.1) valid
+
+module _ {X : Type 0} (Valid : X → Type 0) where
+  -- what is in the slots is valid
+  abbrev pub AllValid : List (Slot X) → Type 0
+  AllValid slots = All (IsValidSlot Valid) slots
+
+  -- a live value in a slot
+  slot_valid : (slot : Option (Slot X)) (x : X) → option_and_then live_value slot ≡ Some x → slot ≡ Some (Live x)
+  slot_valid None x found = absurd (none-some x found)
+  slot_valid (Some (Gone last)) x found = absurd (none-some x found)
+  slot_valid (Some (Live y)) x found = ap (λ z. Some (Live z)) (same_Some y x found)
+
+  -- the live value that an index names is valid
+  live_valid : (slots : List (Slot X)) (k : ℕ) (x : X) → live_at slots k ≡ Some x → AllValid slots → Valid x
+  live_valid slots k x found valid =
+      read_valid (IsValidSlot Valid) slots k (Live x) (slot_valid (slice_get slots k) x found) valid
+
+  -- a slot is written anew
+  put_valid : (slots slots' : List (Slot X)) (k : ℕ) (slot : Slot X) → slots' ≡ slice_set slots k slot
+      → IsValidSlot Valid slot → AllValid slots → AllValid slots'
+  put_valid slots slots' k slot is one valid =
+      subst AllValid (sym is) (All-set (IsValidSlot Valid) slots k slot one valid)
+
+  -- a change of a live value
+  pub changes_valid : (k : ℕ) (slots : List (Slot X)) (reply : Reply) (slots' : List (Slot X))
+      (Change : X → X → Type 0) → ((x x' : X) → Valid x → Change x x' → Valid x')
+      → ChangesAt k slots reply slots' Change → AllValid slots → AllValid slots'
+  changes_valid k slots reply slots' Change keeps changes valid = on_live (live_at slots k) _ _ changes
+      (λ missing. subst AllValid (sym missing.1) valid)
+      (λ x found h. put_valid slots slots' k (Live h.0) h.2 (keeps x h.0 (live_valid slots k x found valid) h.1) valid)
+
+  -- a call with a charge on a live value
+  pub acts_valid : {R S : Type 0} (k : ℕ) (reply_to : R → Reply)
+      (Acts : MeteredValue X S → R → ℕ → MeteredValue X S → Type 0)
+      → ((s s' : MeteredValue X S) (result : R) (charge : ℕ) → Valid s.value → Acts s result charge s' → Valid s'.value)
+      → (s s' : MeteredValue (List (Slot X)) S) (reply : Reply) (charge : ℕ) → ActsAt k reply_to Acts s reply charge s'
+      → AllValid s.value → AllValid s'.value
+  acts_valid k reply_to Acts keeps s s' reply charge acts valid = on_live (live_at s.value k) _ _ acts
+      (λ missing. subst (λ (t : MeteredValue (List (Slot X)) _). AllValid t.value) (sym missing.2) valid)
+      (λ x found h. put_valid s.value s'.value k (Live h.1) h.4
+      (keeps _ _ h.0 charge (live_valid s.value k x found valid) h.2) valid)
+
+  -- a drop
+  pub drops_valid : (count : X → ℕ) (k : ℕ) (slots : List (Slot X)) (reply : Reply) (slots' : List (Slot X))
+      → DropsAt count k slots reply slots' → AllValid slots → AllValid slots'
+  drops_valid count k slots reply slots' drops valid = on_live (live_at slots k) _ _ drops
+      (λ missing. subst AllValid (sym missing.1) valid)
+      (λ x found h. put_valid slots slots' k (Gone (count x)) h.1 tt valid)
+
+  -- a creation
+  pub creates_valid : {E S : Type 0} (refusal : E → Reply) (Makes : S → Result X E → S → Type 0)
+      → ((l l' : S) (x : X) → Makes l (Ok x) l' → Valid x)
+      → (slots : List (Slot X)) (l : S) (reply : Reply) (slots' : List (Slot X)) (l' : S)
+      → Creates refusal Makes slots l reply slots' l' → AllValid slots → AllValid slots'
+  creates_valid refusal Makes made slots l reply slots' l' (inl none) valid = subst AllValid (sym none.1) valid
+  creates_valid refusal Makes made slots l reply slots' l' (inr (Ok x, makes, appends)) valid =
+      subst AllValid (sym appends.1) (All-push (IsValidSlot Valid) slots (Live x) valid (made l l' x makes))
+  creates_valid refusal Makes made slots l reply slots' l' (inr (Err error, makes, appends)) valid =
+      subst AllValid (sym appends.1) valid
+
+-- a fact of a live value, or of none, from another one of it
+pub on_live_too : {X : Type 0} (o : Option X) (Missing Missing' : Type 0) (Fact Fact' : X → Type 0)
+    → (Missing → Missing') → ((x : X) → Fact x → Fact' x) → OnLive o Missing Fact → OnLive o Missing' Fact'
+on_live_too None Missing Missing' Fact Fact' missing live h = missing h
+on_live_too (Some x) Missing Missing' Fact Fact' missing live h = live x h
+
+-- facts by a test, from others by it
+pub on_test_too : (test : Bool) (Holds Holds' Fails Fails' : Type 0) → (Holds → Holds') → (Fails → Fails')
+    → MatchBool test Holds Fails → MatchBool test Holds' Fails'
+on_test_too true Holds Holds' Fails Fails' holds fails h = holds h
+on_test_too false Holds Holds' Fails Fails' holds fails h = fails h

@@ -1,0 +1,816 @@
+-- What passes between a machine and its limiter in each turn, what has grown by it, and what was charged for it.
+use Rattle.std.proofs.Common.{Bool, Err, List, None, Ok, Option, Result, Some, [], ap, arith, false, inl, inr, length, map, refl, replicate, subst, sym, true, ℕ, ◌*◌, ◌++◌, ◌+◌, ◌-◌, ◌<◌, ◌∙◌, ◌∷◌, ◌≡◌, ◌≢◌, ◌≤◌, ◌⊎◌}
+use Rattle.std.proofs.lemmas.Bool.Decides.{nat_tests}
+use Rattle.std.proofs.lemmas.List.{length-append, length-replicate, map_push}
+use Rattle.std.proofs.lemmas.Option.{none-some, same_Some}
+use Rattle.std.specs.Option.{option_and_then, option_map}
+use Rattle.std.specs.Prelude.{MatchBool, if◌then◌else◌, is_none, nat_eq, slice_get, slice_set, ◌&&◌}
+use Rattle.wasmi_machine.proofs.AccountLemmas.{step_meter}
+use Rattle.wasmi_machine.proofs.EffectLemmas.{both_live, on_live}
+use Rattle.wasmi_machine.proofs.StepsLemmas.{change_facts, source_writes}
+use Rattle.wasmi_machine.proofs.TableEffectsLemmas.{part_kept}
+use Rattle.wasmi_machine.proofs.TotalLemmas.{count_at, counts_kept, counts_set, each_kind}
+use Rattle.wasmi_machine.proofs.StoreLemmas.{each_turn}
+use Rattle.wasmi_machine.specs.Determinism.{IsOtherFailure}
+use Rattle.wasmi_machine.specs.Exchange.{AsksFor, At, Denial, Exchange, Exchanges, GrowsAsAsked, GrowsBy, New, Nothing, NothingGrows, Notice, Nowhere, Passes, Permission, Place, RepliesTo, charge_at, elements_paid, failed_charge, failed_reply, growth_charge, growth_due, growth_question, place_of, question_in, question_of, table_growth_question, writing_charge}
+use Rattle.wasmi_machine.specs.Laws.{RunsGrowAsPermitted}
+use Rattle.wasmi_machine.specs.MemoryEffects.{CreatesLent}
+use Rattle.wasmi_machine.specs.Effects.{ActsAt, AddsEntry, Creates, IsNoSuch, OnLive, reply_of}
+use Rattle.wasmi_machine.specs.State.{MemoryPart, State, live_at, memory_part, with_tables, byte_count, sizes, slot_count, IsRefusal, Turn, World}
+use Rattle.wasmi_machine.specs.Steps.{Changed, Effect, FuelSet, LentMemoryMade, MemoryGrown, MemoryMade, RangeWritten, Step, TableGrown, TableMade, HasEffect, effect_of}
+use Rattle.wasmi_machine.specs.TableEffects.{OfReference, OfSegment, OfTable, Source, WritesRangeAt, WritesTableAt, write_of}
+use Rattle.wasmi_store.specs.Growth.{metered, Grows, Growth, Makes}
+use Rattle.wasmi_machine.specs.declared.calls.Call.{Call}
+use Rattle.wasmi_machine.specs.declared.calls.Call.TheVariants.{GrowMemory, GrowTable, NewLentMemory, NewMemory, NewTable}
+use Rattle.wasmi_machine.specs.declared.calls.Reply.{Reply}
+use Rattle.wasmi_machine.specs.declared.slots.Slot.{Slot}
+use Rattle.wasmi_machine.specs.declared.slots.Slot.TheVariants.{Live}
+use Rattle.wasmi_meter.specs.Attempt.{AttemptOutcome, Denied, Failed, Follows, IsFirstCause, MayEnd, Met, MeteredValue, Request, Unasked, answer_of, covers, error_of_answer, error_of_failure, optional_due, outcome_charge, value_after}
+use Rattle.wasmi_meter.specs.Meter.{copy_cost, Meter, due}
+use Rattle.wasmi_meter.specs.Limiter.{Failure, MemoryFailure, NoticeAnswer, Question, Rules, TableFailure, kind_of}
+use Rattle.wasmi_meter.specs.declared.error.MemoryError.{MemoryError}
+use Rattle.wasmi_meter.specs.declared.error.TableError.{TableError}
+use Rattle.wasmi_meter.specs.declared.limiter.Kind.{Kind}
+use Rattle.wasmi_meter.specs.declared.limiter.Kind.TheVariants.{Bytes, Elements}
+use Rattle.wasmi_store.specs.Buffer.{LacksMemory, Lent, Owned, Room, fits_room}
+use Rattle.wasmi_store.specs.Memory.{GrowsMemoryCharging, MakesMemory, MemoryValue, new_memory, pages_of, MemoryTypeValue, minimum_bytes, page_bytes}
+use Rattle.wasmi_store.specs.Table.{EndsBy, GrowsTableCharging, MakesTable, TableValue, TableWrite, new_table, size_of, TableTypeValue, is_within_maximum, same_type}
+use Rattle.wasmi_typed.specs.declared.typed_ref.TypedRawRef.{TypedRawRef}
+use Rattle.wasmi_store.specs.Memory as memory
+use Rattle.wasmi_store.specs.Table as table
+use Rattle.wasmi_machine.specs.declared.calls.Reply.TheVariants as replied
+use Rattle.wasmi_meter.specs.declared.error.MemoryError.TheVariants as memory_error
+use Rattle.wasmi_meter.specs.declared.error.TableError.TheVariants as table_error
+
+-- what holds of one kind, and of the other, holds of each
+of_each : (P : Kind → Type 0) (one : Kind) → P one → ((kind : Kind) → kind ≢ one → P kind) → (kind : Kind) → P kind
+of_each P Bytes own others Bytes = own
+of_each P Bytes own others Elements = others Elements (λ e. cc)
+of_each P Elements own others Bytes = others Bytes (λ e. cc)
+of_each P Elements own others Elements = own
+
+-- whether an index names something live, and what it names
+on_found : {X C : Type 0} (o : Option X) (Missing : Type 0) (Fact : X → Type 0) → OnLive o Missing Fact
+    → (o ≡ None → Missing → C) → ((x : X) → o ≡ Some x → Fact x → C) → C
+on_found None Missing Fact h missing live = missing refl h
+on_found (Some x) Missing Fact h missing live = live x refl h
+
+-- a test, with what it found
+on_tested : {C : Type 0} (test : Bool) (Holds Fails : Type 0) → MatchBool test Holds Fails
+    → (test ≡ true → Holds → C) → (test ≡ false → Fails → C) → C
+on_tested true Holds Fails h holds fails = holds refl h
+on_tested false Holds Fails h holds fails = fails refl h
+
+-- what is asked where no cause is found before the question
+question_unrefused : {V E : Type 0} (e : Request V E) → e.early ≡ None → question_in e ≡ Some e.question
+question_unrefused {E = E} e early = ap (λ (o : Option E). if is_none o then Some e.question else None) early
+
+-- nothing is asked where a cause is found before the question
+no_question_refused : {V E : Type 0} (e : Request V E) (cause : E) → e.early ≡ Some cause → question_in e ≡ None
+no_question_refused {E = E} e cause early = ap (λ (o : Option E). if is_none o then Some e.question else None) early
+
+-- whether a growth is by some
+question_by_test : {V E : Type 0} (amount : ℕ) (e : Request V E) (none : Bool) → nat_eq amount 0 ≡ none → 0 < amount
+    → (if none then None else question_in e) ≡ question_in e
+question_by_test amount e true is some = absurd (grind (arith, nat_tests, is, some))
+question_by_test amount e false is some = refl
+
+-- a growth by some asks what its request does
+growth_question_by_request : {V E : Type 0} (amount : ℕ) (e : Request V E) → 0 < amount
+    → growth_question amount e ≡ question_in e
+growth_question_by_request amount e some = question_by_test amount e (nat_eq amount 0) refl some
+
+-- what a limiter is told of is want of memory, and then a price is charged, or it isn't, and then nothing is
+abbrev pub IsOutOfMemoryOrFree : Failure → Type 0
+IsOutOfMemoryOrFree failure = ((IsOtherFailure failure → ⊥) × ((price : ℕ) → failed_charge failure price ≡ price))
+    ⊎ ((price : ℕ) → failed_charge failure price ≡ 0)
+
+-- each failure is want of memory, and its price is charged, or nothing is charged for it
+pub out_of_memory_or_free : (failure : Failure) → IsOutOfMemoryOrFree failure
+out_of_memory_or_free (MemoryFailure memory_error.OutOfSystemMemory) = inl (λ no. no, λ price. refl)
+out_of_memory_or_free (TableFailure table_error.OutOfSystemMemory) = inl (λ no. no, λ price. refl)
+out_of_memory_or_free failure = inr (λ price. refl)
+
+-- what an exchange is between: a limiter and the sizes before and after, the meter before, the charge, the reply, and
+-- the question of the call
+record Meeting (S : Type 0) : Type 0 where
+  first : S
+  last : S
+  before : Kind → List ℕ
+  after : Kind → List ℕ
+  meter : Meter
+  charge : ℕ
+  reply : Reply
+  question : Option Question
+
+-- what a creation and a growth are charged
+abbrev IsCharged : Place → Exchange → Meter → ℕ → Type 0
+IsCharged Nowhere exchange m charge = Unit {0}
+IsCharged New exchange m charge = charge ≡ 0
+IsCharged (At k) exchange m charge = charge ≡ growth_charge exchange m
+
+-- the exchange of an attempt with this outcome
+abbrev exchange_of : {V E : Type 0} → Request V E → AttemptOutcome E → Exchange
+exchange_of e (Unasked cause) = Nothing
+exchange_of e (Denied answer) = Denial e.question answer
+exchange_of e Met = Permission e.question
+exchange_of e (Failed cause notice_answer) = Notice e.question (e.notice cause) notice_answer
+
+-- the errors of a request are replied by refusals, and a failure as it is told
+record IsToldBy {V E : Type 0} (e : Request V E) (refusal : E → Reply) : Type 0 where
+  refuses : (error : E) → IsRefusal (refusal error)
+  fails : (cause : E) (notice_answer : NoticeAnswer)
+      → refusal (error_of_failure e.refusal cause notice_answer) ≡ failed_reply (e.notice cause) notice_answer
+
+-- the price of a request is what the meter is due for its question, and its last cause alone is want of memory
+record IsPriced {V E : Type 0} (e : Request V E) (m : Meter) : Type 0 where
+  price : optional_due (Some m) e.price ≡ growth_due m e.question
+  late : (cause : E) → e.late ≡ Some cause → (price : ℕ) → failed_charge (e.notice cause) price ≡ 0
+  unpaid : (due price : ℕ) → failed_charge (e.notice (e.unpaid due)) price ≡ 0
+  refuses : (cause : E) → e.refuses cause → (price : ℕ) → failed_charge (e.notice cause) price ≡ price
+
+module _ {V E : Type 0} (e : Request V E) (m : Meter) (charge : ℕ) (priced : IsPriced e m) where
+  -- the charge of a growth that failed
+  failed_charged : (cause : E) (late : Option E) → e.late ≡ late → (payable : Bool)
+      → covers (Some m) (optional_due (Some m) e.price) ≡ payable → IsFirstCause e (Some m) late cause
+      → charge ≡ (if is_none late && payable then optional_due (Some m) e.price else 0)
+      → charge ≡ failed_charge (e.notice cause) (growth_due m e.question)
+  failed_charged cause (Some c) is payable enough first charged =
+      charged ∙ sym (subst (λ x. failed_charge (e.notice x) (growth_due m e.question) ≡ 0) (sym first)
+      (priced.late c is (growth_due m e.question)))
+  failed_charged cause None is true enough first charged =
+      let due = optional_due (Some m) e.price in
+      let wants : e.refuses cause = subst (λ b. MatchBool b (e.refuses cause) (cause ≡ e.unpaid due)) enough first in
+      charged ∙ priced.price ∙ sym (priced.refuses cause wants (growth_due m e.question))
+  failed_charged cause None is false enough first charged =
+      let due = optional_due (Some m) e.price in
+      let short : cause ≡ e.unpaid due = subst (λ b. MatchBool b (e.refuses cause) (cause ≡ e.unpaid due)) enough first
+      in
+      charged ∙ sym (subst (λ x. failed_charge (e.notice x) (growth_due m e.question) ≡ 0) (sym short)
+      (priced.unpaid due (growth_due m e.question)))
+
+  -- the charge of a growth, by its outcome
+  charged_by_outcome : (outcome : AttemptOutcome E) → MayEnd e (Some m) outcome
+      → charge ≡ outcome_charge e (Some m) outcome → charge ≡ growth_charge (exchange_of e outcome) m
+  charged_by_outcome (Unasked cause) may charged = charged
+  charged_by_outcome (Denied answer) may charged = charged
+  charged_by_outcome Met may charged = charged ∙ priced.price
+  charged_by_outcome (Failed cause notice_answer) may charged =
+      failed_charged cause e.late refl (covers (Some m) (optional_due (Some m) e.price)) refl may.1 charged
+
+-- an attempt that may end so asks what the call does, and what came of it is the reply
+record IsAnswered {S V E : Type 0} (t : Meeting S) (e : Request V E) (meter : Option Meter)
+    (outcome : AttemptOutcome E) : Type 0 where
+  may_end : MayEnd e meter outcome
+  asks : t.question ≡ question_in e
+  replies : RepliesTo (exchange_of e outcome) t.reply
+
+-- the reply to a growth, by its outcome
+growth_replies : {V E : Type 0} (g : Growth V E) (refusal : E → Reply) → IsToldBy g.request refusal → (reply : Reply)
+    (outcome : AttemptOutcome E) → reply ≡ reply_of replied.Number refusal (answer_of g.request g.size outcome)
+    → RepliesTo (exchange_of g.request outcome) reply
+growth_replies g refusal told reply (Unasked cause) is = tt
+growth_replies g refusal told reply (Denied answer) is =
+    subst IsRefusal (sym is) (told.refuses (error_of_answer g.request.denial g.request.refusal answer))
+growth_replies g refusal told reply Met is = λ refused. subst IsRefusal is refused
+growth_replies g refusal told reply (Failed cause notice_answer) is = is ∙ told.fails cause notice_answer
+
+module _ {S : Type 0} (rules : Rules S) (t : Meeting S) (place : Place) where
+  -- an exchange between two limiters, with its question and its reply, what has grown and the charge
+  record Passed : Type 0 where
+    exchange : Exchange
+    asks : AsksFor t.question exchange t.reply
+    passes : Passes rules t.first exchange t.last
+    replies : RepliesTo exchange t.reply
+    grows : GrowsBy place exchange t.before t.after
+    charged : IsCharged place exchange t.meter t.charge
+
+  -- the limiter isn't reached, and nothing grows
+  nothing_passes : AsksFor t.question Nothing t.reply → t.last ≡ t.first → NothingGrows t.before t.after
+      → IsCharged place Nothing t.meter t.charge → Passed
+  nothing_passes unasked same still free =
+      record { exchange = Nothing; asks = unasked; passes = same; replies = tt; grows = still; charged = free }
+
+  -- an attempt passes by its outcome: one kind is watched, and the sizes of the other stay
+  module _ {V E : Type 0} (e : Request V E) (tells : (cause : E) → kind_of (e.notice cause) ≡ e.question.kind)
+      (others : (kind : Kind) → kind ≢ e.question.kind → t.after kind ≡ t.before kind) where
+    -- the sizes of the kind after it
+    abbrev GrowsByOutcome : AttemptOutcome E → Type 0
+    GrowsByOutcome (Unasked cause) = t.after e.question.kind ≡ t.before e.question.kind
+    GrowsByOutcome (Denied answer) = t.after e.question.kind ≡ t.before e.question.kind
+    GrowsByOutcome Met = GrowsAsAsked place e.question (t.before e.question.kind) (t.after e.question.kind)
+    GrowsByOutcome (Failed cause notice_answer) = t.after e.question.kind ≡ t.before e.question.kind
+
+    -- the kind that is watched stays too
+    still : t.after e.question.kind ≡ t.before e.question.kind → NothingGrows t.before t.after
+    still own = of_each (λ kind. t.after kind ≡ t.before kind) e.question.kind own others
+
+    -- the exchange
+    attempt_passes : (meter : Option Meter) (outcome : AttemptOutcome E) → IsAnswered t e meter outcome
+        → Follows e rules t.first outcome t.last → GrowsByOutcome outcome
+        → IsCharged place (exchange_of e outcome) t.meter t.charge → Passed
+    attempt_passes meter (Unasked cause) is follows own charged =
+        nothing_passes (inl (is.asks ∙ no_question_refused e cause is.may_end)) follows (still own) charged
+    attempt_passes meter (Denied answer) is follows own charged = record {
+      exchange = Denial e.question answer;
+      asks = is.asks ∙ question_unrefused e is.may_end.0;
+      passes = (is.may_end.1, follows);
+      replies = is.replies;
+      grows = still own;
+      charged = charged;
+    }
+    attempt_passes meter Met is follows own charged = record {
+      exchange = Permission e.question;
+      asks = is.asks ∙ question_unrefused e is.may_end.0;
+      passes = follows;
+      replies = is.replies;
+      grows = (own, others);
+      charged = charged;
+    }
+    attempt_passes meter (Failed cause notice_answer) is follows own charged = record {
+      exchange = Notice e.question (e.notice cause) notice_answer;
+      asks = is.asks ∙ question_unrefused e is.may_end.0;
+      passes = (tells cause, follows.0, follows.1, follows.2);
+      replies = is.replies;
+      grows = still own;
+      charged = charged;
+    }
+
+-- slots before and after an exchange, and what is counted of each value
+record Watch (S X : Type 0) : Type 0 where
+  meeting : Meeting S
+  count : X → ℕ
+  slots : List (Slot X)
+  later : List (Slot X)
+
+-- the slots are those of a kind, and the sizes of the other kind stay
+record IsWatched {S X : Type 0} (v : Watch S X) (kind : Kind) : Type 0 where
+  own : v.meeting.before kind ≡ map (slot_count v.count) v.slots
+  own' : v.meeting.after kind ≡ map (slot_count v.count) v.later
+  others : (other : Kind) → other ≢ kind → v.meeting.after other ≡ v.meeting.before other
+
+-- an request that makes a value of nothing
+record IsCreationOf {X E : Type 0} (count : X → ℕ) (made : X) (e : Request (Unit {0}) E) : Type 0 where
+  tells : (cause : E) → kind_of (e.notice cause) ≡ e.question.kind
+  fresh : e.question.current ≡ 0
+  full : count made ≡ e.question.desired
+
+-- a growth of a value, which is paid for as what it asks for is
+record IsGrowthOf {X E : Type 0} (count : X → ℕ) (x : X) (m : Meter) (g : Growth X E) : Type 0 where
+  tells : (cause : E) → kind_of (g.request.notice cause) ≡ g.request.question.kind
+  now : g.request.question.current ≡ count x
+  full : count g.request.grown ≡ g.request.question.desired
+  up : g.request.question.current ≤ g.request.question.desired
+  priced : IsPriced g.request m
+  refusal : E → Reply
+  told : IsToldBy g.request refusal
+
+-- a growth asks what the call does, and its result is the reply
+record IsReplied {S X E : Type 0} (v : Watch S X) (g : Growth X E) (refusal : E → Reply) (result : Result ℕ E)
+    : Type 0 where
+  asks : v.meeting.question ≡ growth_question g.amount g.request
+  replies : v.meeting.reply ≡ reply_of replied.Number refusal result
+
+-- the live value of an index has become another one
+record Replaced {S X : Type 0} (v : Watch S X) (k : ℕ) (x x' : X) : Type 0 where
+  found : live_at v.slots k ≡ Some x
+  put : v.later ≡ slice_set v.slots k (Live x')
+
+-- one kind of slots, whose sizes are watched
+module _ {S X : Type 0} (rules : Rules S) (v : Watch S X) where
+  -- the sizes of the slots stay
+  kept_passes : (kind : Kind) → IsWatched v kind → (place : Place)
+      → AsksFor v.meeting.question Nothing v.meeting.reply → v.meeting.last ≡ v.meeting.first
+      → map (slot_count v.count) v.later ≡ map (slot_count v.count) v.slots
+      → IsCharged place Nothing v.meeting.meter v.meeting.charge → Passed rules v.meeting place
+  kept_passes kind watched place unasked same kept free = nothing_passes rules v.meeting place unasked same
+      (of_each (λ k. v.meeting.after k ≡ v.meeting.before k) kind
+      (watched.own' ∙ kept ∙ sym watched.own) watched.others) free
+
+  -- a value that has replaced one of the same size keeps the count
+  same_count : (k : ℕ) (x x' : X) → Replaced v k x x' → v.count x' ≡ v.count x
+      → map (slot_count v.count) v.later ≡ map (slot_count v.count) v.slots
+  same_count k x x' replaced same =
+      ap (map (slot_count v.count)) replaced.put ∙ counts_kept v.count v.slots k x (Live x') replaced.found same
+
+  -- something is made
+  module _ {E : Type 0} (e : Request (Unit {0}) E) (made : X) (new : IsCreationOf v.count made e)
+      (watched : IsWatched v e.question.kind) where
+    -- the sizes after it, by its outcome
+    made_sizes : (refusal : E → Reply) (outcome : AttemptOutcome E) (reply : Reply)
+        → AddsEntry Live refusal (answer_of e made outcome) v.slots reply v.later
+        → GrowsByOutcome rules v.meeting New e new.tells watched.others outcome
+    made_sizes refusal (Unasked cause) reply appends =
+        watched.own' ∙ ap (map (slot_count v.count)) appends.1 ∙ sym watched.own
+    made_sizes refusal (Denied answer) reply appends =
+        watched.own' ∙ ap (map (slot_count v.count)) appends.1 ∙ sym watched.own
+    made_sizes refusal Met reply appends = (
+      new.fresh,
+      watched.own' ∙ ap (map (slot_count v.count)) appends.1 ∙ map_push (slot_count v.count) v.slots (Live made)
+          ∙ ap (λ n. map (slot_count v.count) v.slots ++ n ∷ []) new.full
+          ∙ ap (λ (ns : List ℕ). ns ++ e.question.desired ∷ []) (sym watched.own),
+    )
+    made_sizes refusal (Failed cause notice_answer) reply appends =
+        watched.own' ∙ ap (map (slot_count v.count)) appends.1 ∙ sym watched.own
+
+    -- the reply to it
+    made_replies : (refusal : E → Reply) → IsToldBy e refusal → (outcome : AttemptOutcome E)
+        → AddsEntry Live refusal (answer_of e made outcome) v.slots v.meeting.reply v.later
+        → RepliesTo (exchange_of e outcome) v.meeting.reply
+    made_replies refusal told (Unasked cause) appends = tt
+    made_replies refusal told (Denied answer) appends =
+        subst IsRefusal (sym appends.0) (told.refuses (error_of_answer e.denial e.refusal answer))
+    made_replies refusal told Met appends = λ refused. subst IsRefusal appends.0 refused
+    made_replies refusal told (Failed cause notice_answer) appends = appends.0 ∙ told.fails cause notice_answer
+
+    -- the exchange of a creation
+    creates_passes : (refusal : E → Reply) → IsToldBy e refusal → v.meeting.question ≡ question_in e
+        → v.meeting.charge ≡ 0
+        → Creates refusal (Makes rules e made) v.slots v.meeting.first v.meeting.reply v.later v.meeting.last
+        → Passed rules v.meeting New
+    creates_passes refusal told is free (inl none) =
+        kept_passes e.question.kind watched New (inr none.0) none.2 (ap (map (slot_count v.count)) none.1) free
+    creates_passes refusal told is free (inr (result, (outcome, attempt, answered), appends)) =
+        let adds : AddsEntry Live refusal (answer_of e made outcome) v.slots v.meeting.reply v.later =
+        rw answered at appends in
+        attempt_passes rules v.meeting New e new.tells watched.others None outcome
+        (record { may_end = attempt.may_end; asks = is; replies = made_replies refusal told outcome adds })
+        attempt.follows (made_sizes refusal outcome v.meeting.reply adds) free
+
+  -- something grows
+  module _ {E : Type 0} (g : Growth X E) (watched : IsWatched v g.request.question.kind) (k : ℕ) (x x' : X)
+      (growth : IsGrowthOf v.count x v.meeting.meter g) (replaced : Replaced v k x x') where
+    -- the sizes where it doesn't
+    unchanged : x' ≡ x → v.meeting.after g.request.question.kind ≡ v.meeting.before g.request.question.kind
+    unchanged same = watched.own' ∙ same_count k x x' replaced (ap v.count same) ∙ sym watched.own
+
+    -- the sizes after it, by its outcome
+    grown_sizes : (outcome : AttemptOutcome E) → x' ≡ value_after g.request x outcome
+        → GrowsByOutcome rules v.meeting (At k) g.request growth.tells watched.others outcome
+    grown_sizes (Unasked cause) same = unchanged same
+    grown_sizes (Denied answer) same = unchanged same
+    grown_sizes Met same = (
+      growth.up,
+      ap (λ (ns : List ℕ). slice_get ns k) watched.own ∙ count_at v.count v.slots k x replaced.found
+          ∙ ap Some (sym growth.now),
+      watched.own' ∙ ap (map (slot_count v.count)) replaced.put ∙ counts_set v.count v.slots k (Live x')
+          ∙ ap (slice_set (map (slot_count v.count) v.slots) k) (ap v.count same ∙ growth.full)
+          ∙ ap (λ (ns : List ℕ). slice_set ns k g.request.question.desired) (sym watched.own),
+    )
+    grown_sizes (Failed cause notice_answer) same = unchanged same
+
+    -- the exchange of a growth
+    grows_passes : (m' : Meter) (result : Result ℕ E) → IsReplied v g growth.refusal result
+        → Grows rules g (record { value = x; meter = Some v.meeting.meter; limiter = v.meeting.first }) result
+        v.meeting.charge (record { value = x'; meter = Some m'; limiter = v.meeting.last })
+        → Passed rules v.meeting (At k)
+    grows_passes m' result is (inl none) = kept_passes g.request.question.kind watched (At k)
+        (inl (is.asks ∙ ap (λ n. growth_question n g.request) none.none))
+        (ap (λ (s : MeteredValue X S). s.limiter) none.same)
+        (same_count k x x' replaced (ap (λ (s : MeteredValue X S). v.count s.value) none.same)) none.uncharged
+    grows_passes m' result is (inr some) =
+        attempt_passes rules v.meeting (At k) g.request growth.tells watched.others (Some v.meeting.meter) some.outcome
+        (record {
+          may_end = some.attempt.may_end;
+          asks = is.asks ∙ growth_question_by_request g.amount g.request some.some;
+          replies = growth_replies g growth.refusal growth.told v.meeting.reply some.outcome
+              (is.replies ∙ ap (reply_of replied.Number growth.refusal) some.answered);
+        }) some.attempt.follows (grown_sizes some.outcome some.attempt.value)
+        (charged_by_outcome g.request v.meeting.meter v.meeting.charge growth.priced some.outcome some.attempt.may_end
+        some.attempt.charged)
+
+  -- a call on what an index names: nothing passes where it names nothing
+  acts_pass : {R : Type 0} (kind : Kind) → IsWatched v kind → (k : ℕ) (asked : X → Option Question)
+      → v.meeting.question ≡ option_and_then asked (live_at v.slots k) → (reply_to : R → Reply)
+      (Acts : MeteredValue X S → R → ℕ → MeteredValue X S → Type 0) (m' : Meter)
+      → ((x x' : X) (result : R) → Replaced v k x x' → v.meeting.question ≡ asked x → v.meeting.reply ≡ reply_to result
+      → Acts (record { value = x; meter = Some v.meeting.meter; limiter = v.meeting.first }) result v.meeting.charge
+      (record { value = x'; meter = Some m'; limiter = v.meeting.last }) → Passed rules v.meeting (At k))
+      → ActsAt k reply_to Acts (record { value = v.slots; meter = Some v.meeting.meter; limiter = v.meeting.first })
+      v.meeting.reply v.meeting.charge (record { value = v.later; meter = Some m'; limiter = v.meeting.last })
+      → Passed rules v.meeting (At k)
+  acts_pass kind watched k asked is reply_to Acts m' passes acts = on_found (live_at v.slots k) _ _ acts
+      (λ none missing. kept_passes kind watched (At k) (inl (is ∙ ap (option_and_then asked) none))
+      (ap (λ (s : MeteredValue (List (Slot X)) S). s.limiter) missing.2)
+      (ap (λ (s : MeteredValue (List (Slot X)) S). map (slot_count v.count) s.value) missing.2) missing.1)
+      (λ x found h. passes x h.1 h.0 (record { found = found; put = h.4 }) (is ∙ ap (option_and_then asked) found) h.3
+      h.2)
+
+-- what holds of the other kind
+but_bytes : (P : Kind → Type 0) → P Elements → (kind : Kind) → kind ≢ Bytes → P kind
+but_bytes P elements Bytes other = absurd (other refl)
+but_bytes P elements Elements other = elements
+
+-- and the other way round
+but_elements : (P : Kind → Type 0) → P Bytes → (kind : Kind) → kind ≢ Elements → P kind
+but_elements P bytes Bytes other = bytes
+but_elements P bytes Elements other = absurd (other refl)
+
+-- what is due for a difference, as it is for what was added
+due_again : (m : Meter) (bytes old added : ℕ)
+    → due m (λ costs. copy_cost costs added bytes) ≡ due m (λ costs. copy_cost costs (old + added - old) bytes)
+due_again m bytes old added =
+    ap (λ n. due m (λ costs. copy_cost costs n bytes)) (let same : added ≡ old + added - old = omega arith in same)
+
+-- the replies to errors of memories
+memory_fails : (cause : MemoryError) (notice_answer : NoticeAnswer)
+    → replied.Memory (error_of_failure memory_error.ResourceLimiterDeniedAllocation cause notice_answer)
+    ≡ failed_reply (MemoryFailure cause) notice_answer
+memory_fails cause (Ok done) = refl
+memory_fails cause (Err error) = refl
+
+-- the replies to errors of tables
+table_fails : (cause : TableError) (notice_answer : NoticeAnswer)
+    → replied.Table (error_of_failure table_error.ResourceLimiterDeniedAllocation cause notice_answer)
+    ≡ failed_reply (TableFailure cause) notice_answer
+table_fails cause (Ok done) = refl
+table_fails cause (Err error) = refl
+
+-- what is made, and what grows
+new_memory_is : (room : Room) (ty : MemoryTypeValue)
+    → IsCreationOf byte_count (new_memory room ty) (memory.creation_of room ty)
+new_memory_is room ty = record {
+  tells = λ cause. refl;
+  fresh = refl;
+  full = length-replicate {A = ℕ} (minimum_bytes ty) 0;
+}
+
+-- a new table is what is made
+new_table_is : (ty : TableTypeValue) (init : TypedRawRef)
+    → IsCreationOf size_of (new_table ty init.raw) (table.creation_of ty init.ty)
+new_table_is ty init = record {
+  tells = λ cause. refl;
+  fresh = refl;
+  full = length-replicate {A = ℕ} ty.minimum init.raw;
+}
+
+-- a late cause that a test decides
+late_is : {E : Type 0} (fits : Bool) (late cause : E) → (if fits then None else Some late) ≡ Some cause → late ≡ cause
+late_is true late cause is = absurd (none-some cause is)
+late_is false late cause is = same_Some late cause is
+
+-- what memory refuses is want of it
+memory_wanted : (room : Room) (cause : MemoryError) → LacksMemory room cause → (price : ℕ)
+    → failed_charge (MemoryFailure cause) price ≡ price
+memory_wanted Owned cause wants price = subst (λ c. failed_charge (MemoryFailure c) price ≡ price) (sym wants) refl
+memory_wanted (Lent rest) cause wants price = absurd wants
+
+-- the price of a growth of a memory
+memory_priced : (pages : ℕ) (x : MemoryValue) (m : Meter) → IsPriced (memory.growth_of x pages) m
+memory_priced pages x m = record {
+  price = due_again m 1 (length x.bytes) (pages * page_bytes x.ty.page);
+  late = λ cause is price. subst (λ c. failed_charge (MemoryFailure c) price ≡ 0)
+      (late_is (fits_room x.room (pages * page_bytes x.ty.page)) memory_error.InvalidStaticBufferSize cause is) refl;
+  unpaid = λ due price. refl;
+  refuses = memory_wanted x.room;
+}
+
+-- the growth of a memory by so many pages
+abbrev memory_growth : ℕ → MemoryValue → Growth MemoryValue MemoryError
+memory_growth pages x = record { amount = pages; size = pages_of x; request = memory.growth_of x pages }
+
+-- the growth of a memory is one of its bytes
+memory_growth_is : (pages : ℕ) (x : MemoryValue) (m : Meter) → IsGrowthOf byte_count x m (memory_growth pages x)
+memory_growth_is pages x m =
+    let added = pages * page_bytes x.ty.page in
+    record {
+      tells = λ cause. refl;
+      now = refl;
+      full = length-append x.bytes (replicate added 0)
+          ∙ ap (λ n. length x.bytes + n) (length-replicate {A = ℕ} added 0);
+      up = omega arith;
+      priced = memory_priced pages x m;
+      refusal = replied.Memory;
+      told = record { refuses = λ error. tt; fails = memory_fails };
+    }
+
+-- the price of a growth of a table
+table_priced : (n reference : ℕ) (x : TableValue) (m : Meter) → IsPriced (table.growth_of x n reference) m
+table_priced n reference x m = record {
+  price = due_again m 4 (size_of x) n;
+  late = λ cause is price. subst (λ c. failed_charge (TableFailure c) price ≡ 0)
+      (late_is (is_within_maximum x.ty (size_of x + n)) table_error.GrowOutOfBounds cause is) refl;
+  unpaid = λ due price. refl;
+  refuses = λ cause wants price. subst (λ c. failed_charge (TableFailure c) price ≡ price) (sym wants) refl;
+}
+
+-- the growth of a table by so many elements
+abbrev table_growth : ℕ → ℕ → TableValue → Growth TableValue TableError
+table_growth n reference x = record { amount = n; size = size_of x; request = table.growth_of x n reference }
+
+-- the growth of a table is one of its elements
+table_growth_is : (n reference : ℕ) (x : TableValue) (m : Meter) → IsGrowthOf size_of x m (table_growth n reference x)
+table_growth_is n reference x m = record {
+  tells = λ cause. refl;
+  now = refl;
+  full = length-append x.elements (replicate n reference)
+      ∙ ap (λ k. length x.elements + k) (length-replicate {A = ℕ} n reference);
+  up = omega arith;
+  priced = table_priced n reference x m;
+  refusal = replied.Table;
+  told = record { refuses = λ error. tt; fails = table_fails };
+}
+
+-- a turn, as an exchange is between its limiters
+abbrev meeting_of : {S : Type 0} → World S → Turn → Option Question → World S → Meeting S
+meeting_of w turn question w' = record {
+  first = w.limiter;
+  last = w'.limiter;
+  before = sizes w.state;
+  after = sizes w'.state;
+  meter = w.state.meter;
+  charge = turn.charge;
+  reply = turn.reply;
+  question = question;
+}
+
+module _ {S : Type 0} (rules : Rules S) (w : World S) (turn : Turn) (w' : World S) where
+  -- the turn asks nothing, and ends in a world with the same limiter and the same sizes of memories and tables
+  idle : {v : World S} → w' ≡ v → v.limiter ≡ w.limiter → NothingGrows (sizes w.state) (sizes v.state)
+      → Passed rules (meeting_of w turn None w') Nowhere
+  idle {v} is unasked still =
+      rw is (nothing_passes rules (meeting_of w turn None v) Nowhere (inl refl) unasked still tt)
+
+  module _ (question : Option Question) where
+    -- its memories, and its tables
+    abbrev memories_watch : Watch S MemoryValue
+    memories_watch = record {
+      meeting = meeting_of w turn question w';
+      count = byte_count;
+      slots = w.state.memories;
+      later = w'.state.memories;
+    }
+
+    -- its tables
+    abbrev tables_watch : Watch S TableValue
+    tables_watch = record {
+      meeting = meeting_of w turn question w';
+      count = size_of;
+      slots = w.state.tables;
+      later = w'.state.tables;
+    }
+
+    -- its memories, where the tables stay
+    memories_watched : w'.state.tables ≡ w.state.tables → IsWatched memories_watch Bytes
+    memories_watched same = record {
+      own = refl;
+      own' = refl;
+      others = but_bytes (λ kind. sizes w'.state kind ≡ sizes w.state kind) (ap (map (slot_count size_of)) same);
+    }
+
+    -- its tables, where the memories stay
+    tables_watched : w'.state.memories ≡ w.state.memories → IsWatched tables_watch Elements
+    tables_watched same = record {
+      own = refl;
+      own' = refl;
+      others = but_elements (λ kind. sizes w'.state kind ≡ sizes w.state kind) (ap (map (slot_count byte_count)) same);
+    }
+
+    -- a memory is made
+    memory_made : w'.state.tables ≡ w.state.tables → turn.charge ≡ 0 → (room : Room) (ty : MemoryTypeValue)
+        → question ≡ question_in (memory.creation_of room ty)
+        → Creates replied.Memory (MakesMemory rules room ty) w.state.memories w.limiter turn.reply w'.state.memories
+        w'.limiter → Passed rules (meeting_of w turn question w') New
+    memory_made same free room ty is creates =
+        creates_passes rules memories_watch (memory.creation_of room ty) (new_memory room ty) (new_memory_is room ty)
+        (memories_watched same) replied.Memory (record { refuses = λ error. tt; fails = memory_fails }) is free creates
+
+  -- a memory is made in the spare region, if there is one
+  lent_made : w'.state.tables ≡ w.state.tables → turn.charge ≡ 0 → (ty : MemoryTypeValue)
+      → CreatesLent rules ty (memory_part w.state) w.limiter turn.reply (memory_part w'.state) w'.limiter
+      → Passed rules (meeting_of w turn (question_of w.state (NewLentMemory ty)) w') New
+  lent_made same free ty creates =
+      let asked : List ℕ → Option Question = λ region. question_in (memory.creation_of (Lent region) ty) in
+      let question = question_of w.state (NewLentMemory ty) in
+      on_found w.state.spare _ _ creates
+      (λ none h. kept_passes rules (memories_watch question) Bytes (memories_watched question same) New
+      (inl (ap (option_and_then asked) none)) h.2
+      (ap (λ (p : MemoryPart). map (slot_count byte_count) p.slots) h.1) free)
+      (λ region found h. memory_made question same free (Lent region) ty (ap (option_and_then asked) found) h.0)
+
+  -- a table is made
+  table_made : w'.state.memories ≡ w.state.memories → turn.charge ≡ 0 → (ty : TableTypeValue) (init : TypedRawRef)
+      → Creates replied.Table (MakesTable rules ty init) w.state.tables w.limiter turn.reply w'.state.tables w'.limiter
+      → Passed rules (meeting_of w turn (question_of w.state (NewTable ty init)) w') New
+  table_made same free ty init creates =
+      let question = question_of w.state (NewTable ty init) in
+      creates_passes rules (tables_watch question) (table.creation_of ty init.ty) (new_table ty init.raw)
+      (new_table_is ty init) (tables_watched question same) replied.Table
+      (record { refuses = λ error. tt; fails = table_fails }) refl free creates
+
+  -- a memory grows
+  memory_grows : w'.state.tables ≡ w.state.tables → (k pages : ℕ) (m' : Meter)
+      → ActsAt k (reply_of replied.Number replied.Memory) (GrowsMemoryCharging rules pages)
+      (record { value = w.state.memories; meter = Some w.state.meter; limiter = w.limiter }) turn.reply turn.charge
+      (record { value = w'.state.memories; meter = Some m'; limiter = w'.limiter })
+      → Passed rules (meeting_of w turn (question_of w.state (GrowMemory k pages)) w') (At k)
+  unfolding memory_growth_is
+  memory_grows same k pages m' acts =
+      let question = question_of w.state (GrowMemory k pages) in
+      acts_pass rules (memories_watch question) Bytes (memories_watched question same) k
+      (λ x. growth_question pages (memory.growth_of x pages)) refl (reply_of replied.Number replied.Memory)
+      (GrowsMemoryCharging rules pages) m'
+      (λ x x' result replaced asks replies grows. grows_passes rules (memories_watch question)
+      (memory_growth pages x) (memories_watched question same) k x x' (memory_growth_is pages x w.state.meter) replaced
+      m' result (record { asks = asks; replies = replies }) grows) acts
+
+  -- a table grows, if what it is filled with has its type
+  table_grows : w'.state.memories ≡ w.state.memories → (k n : ℕ) (init : TypedRawRef) (m' : Meter)
+      → ActsAt k (reply_of replied.Number replied.Table) (GrowsTableCharging rules n init)
+      (record { value = w.state.tables; meter = Some w.state.meter; limiter = w.limiter }) turn.reply turn.charge
+      (record { value = w'.state.tables; meter = Some m'; limiter = w'.limiter })
+      → Passed rules (meeting_of w turn (question_of w.state (GrowTable k n init)) w') (At k)
+  unfolding table_growth_is
+  table_grows same k n init m' acts =
+      let question = question_of w.state (GrowTable k n init) in
+      let watch = tables_watch question in
+      let watched = tables_watched question same in
+      acts_pass rules watch Elements watched k (table_growth_question n init) refl
+      (reply_of replied.Number replied.Table) (GrowsTableCharging rules n init) m'
+      (λ x x' result replaced asks replies grows.
+      let by_type : Bool → Option Question = λ b. if b then growth_question n (table.growth_of x n init.raw) else None
+      in
+      on_tested (same_type x.ty.element init.ty) _ _ grows
+      (λ typed h. grows_passes rules watch (table_growth n init.raw x) watched k x x'
+      (table_growth_is n init.raw x w.state.meter) replaced m' result
+      (record { asks = asks ∙ ap by_type typed; replies = replies }) h)
+      (λ untyped h. kept_passes rules watch Elements watched (At k) (inl (asks ∙ ap by_type untyped))
+      (ap (λ (s : MeteredValue TableValue S). s.limiter) h.2) (same_count rules watch k x x' replaced
+      (ap (λ (s : MeteredValue TableValue S). size_of s.value) h.2)) h.1)) acts
+
+-- where an effect makes something grow
+abbrev place_by : Effect → Place
+place_by (MemoryMade ty) = New
+place_by (LentMemoryMade ty) = New
+place_by (MemoryGrown k pages) = At k
+place_by (TableMade ty init) = New
+place_by (TableGrown k n init) = At k
+place_by effect = Nowhere
+
+-- what it asks
+abbrev question_by : State → Effect → Option Question
+question_by s (MemoryMade ty) = question_of s (NewMemory ty)
+question_by s (LentMemoryMade ty) = question_of s (NewLentMemory ty)
+question_by s (MemoryGrown k pages) = question_of s (GrowMemory k pages)
+question_by s (TableMade ty init) = question_of s (NewTable ty init)
+question_by s (TableGrown k n init) = question_of s (GrowTable k n init)
+question_by s effect = None
+
+-- the place of an effect is that of its call
+same_place : (s : State) (call : Call) → place_by (effect_of s call) ≡ place_of call
+same_place s (NewMemory ty) = refl
+same_place s call = refl
+
+-- the question of an effect is that of its call
+same_question : (s : State) (call : Call) → question_by s (effect_of s call) ≡ question_of s call
+same_question s (NewMemory ty) = refl
+same_question s call = refl
+
+-- how many elements each source pays for
+abbrev paid_from : Source → ℕ → Option ℕ
+paid_from (OfSegment segment src) len = if nat_eq len 0 then None else Some len
+paid_from source len = Some len
+
+-- a write pays for so many elements, if there is one
+abbrev IsChargedFor : Option ℕ → (TableValue → TableWrite) → Type 0
+IsChargedFor elements write = (x : TableValue) → (write x).paid ≡ elements
+
+-- each source's does
+source_pays : (source : Source) (dst len : ℕ)
+    → OnLive (write_of source dst len) (Unit {0}) (IsChargedFor (paid_from source len))
+source_pays (OfReference value) dst len = λ x. refl
+source_pays (OfTable None src) dst len = tt
+source_pays (OfTable (Some y) src) dst len = λ x. refl
+source_pays (OfSegment None src) dst len = tt
+source_pays (OfSegment (Some y) src) dst len = λ x. refl
+
+-- nothing is charged where nothing is paid for
+free_writing : (m : Meter) (reply : Reply) → writing_charge m None reply ≡ 0
+free_writing m replied.Done = refl
+free_writing m reply = refl
+
+-- what a write over a part of a table is charged
+module _ (w : TableWrite) (x : TableValue) (m : Meter) (charge : ℕ) (x' : TableValue) (elements : Option ℕ)
+    (pays : w.paid ≡ elements) where
+  -- where it is refused
+  refused_charge : (cause : TableError) (result : Result (Unit {0}) TableError) → result ≡ Err cause → charge ≡ 0
+      → charge ≡ writing_charge m elements (reply_of (λ _. replied.Done) replied.Table result)
+  refused_charge cause result is free =
+      free ∙ sym (ap (λ r. writing_charge m elements (reply_of (λ _. replied.Done) replied.Table r)) is)
+
+  -- by how it ends
+  ends_charge : (typed : Bool) (written : Option (List ℕ)) (payable : Bool) (result : Result (Unit {0}) TableError)
+      → EndsBy w (metered x (Some m)) typed written payable (record { result = result; charge = charge; value = x' })
+      → charge ≡ writing_charge m elements (reply_of (λ _. replied.Done) replied.Table result)
+  ends_charge true (Some items) true result ends =
+      ends.1 ∙ ap (λ (p : Option ℕ). optional_due (Some m) (option_map table.element_price p)) pays
+      ∙ sym (ap (λ r. writing_charge m elements (reply_of (λ _. replied.Done) replied.Table r)) ends.0)
+  ends_charge typed written payable result ends = refused_charge _ result ends.0 ends.1
+
+module _ (k : ℕ) (slots : List (Slot TableValue)) (m : Meter) (reply : Reply) (charge : ℕ)
+    (slots' : List (Slot TableValue)) (m' : Meter) (elements : Option ℕ) where
+  -- an index names nothing
+  missing_charge : IsNoSuch (metered slots (Some m)) reply charge (metered slots' (Some m'))
+      → charge ≡ writing_charge m elements reply
+  missing_charge missing = missing.1 ∙ sym (ap (writing_charge m elements) missing.0)
+
+  -- a write over a part of the table of an index
+  write_charge : (write : TableValue → TableWrite) → IsChargedFor elements write
+      → WritesTableAt k write (metered slots (Some m)) reply charge (metered slots' (Some m'))
+      → charge ≡ writing_charge m elements reply
+  write_charge write pays writes = on_live (live_at slots k) _ _ writes missing_charge
+      (λ x found h. ends_charge (write x) x m charge h.1 elements (pays x) (write x).typed (write x).written _ h.0
+      h.2.ends ∙ sym (ap (writing_charge m elements) h.3))
+
+  -- a write over a range of a table, which may be missing, is charged for its elements
+  range_charge : (part : Option (TableValue → TableWrite)) → OnLive part (Unit {0}) (IsChargedFor elements)
+      → WritesRangeAt k part (metered slots (Some m)) reply charge (metered slots' (Some m'))
+      → charge ≡ writing_charge m elements reply
+  range_charge part pays writes =
+      on_live part _ _ (both_live part _ _ _ _ pays writes) (λ missing. missing_charge missing.1)
+      (λ write found h. write_charge write h.0 h.1)
+
+-- how many elements an effect pays for
+abbrev elements_by : Effect → Option ℕ
+elements_by (RangeWritten k source dst len) = paid_from source len
+elements_by effect = None
+
+-- what it is charged, unless it is a growth
+abbrev IsChargedForWriting : Effect → Meter → Reply → ℕ → Type 0
+IsChargedForWriting (MemoryGrown k pages) m reply charge = Unit {0}
+IsChargedForWriting (TableGrown k n init) m reply charge = Unit {0}
+IsChargedForWriting effect m reply charge = charge ≡ writing_charge m (elements_by effect) reply
+
+-- the charge of an effect is that of the call
+same_charge : (s : State) (call : Call) (exchange : Exchange) (m : Meter) (reply : Reply) (charge : ℕ)
+    → IsCharged (place_by (effect_of s call)) exchange m charge → IsChargedForWriting (effect_of s call) m reply charge
+    → charge ≡ charge_at (place_of call) exchange m (writing_charge m (elements_paid call) reply)
+same_charge s (NewMemory ty) exchange m reply charge charged writing = charged
+same_charge s (NewLentMemory ty) exchange m reply charge charged writing = charged
+same_charge s (GrowMemory k pages) exchange m reply charge charged writing = charged
+same_charge s (NewTable ty init) exchange m reply charge charged writing = charged
+same_charge s (GrowTable k n init) exchange m reply charge charged writing = charged
+same_charge s call exchange m reply charge charged writing = writing
+
+module _ {S : Type 0} (rules : Rules S) (w : World S) (turn : Turn) (w' : World S) where
+  -- each effect
+  effect_passes : (effect : Effect) → HasEffect rules effect w turn w'
+      → Passed rules (meeting_of w turn (question_by w.state effect) w') (place_by effect)
+  effect_passes (FuelSet fuel) step =
+      idle rules w turn w' step.after refl (λ kind. ap (λ t. sizes t kind) step.effect.1)
+  effect_passes (Changed change) step = idle rules w turn w' step.after refl
+      ((change_facts w.state change).still turn.reply step.machine step.effect)
+  effect_passes (MemoryMade ty) step = memory_made rules w turn w' (question_of w.state (NewMemory ty))
+      (ap (λ (v : World S). v.state.tables) step.after) step.free.0 Owned ty refl (rw step.after step.effect)
+  effect_passes (LentMemoryMade ty) step =
+      lent_made rules w turn w' (ap (λ (v : World S). v.state.tables) step.after) step.free.0 ty
+      (rw step.after step.effect)
+  effect_passes (MemoryGrown k pages) step =
+      memory_grows rules w turn w' (ap (λ (v : World S). v.state.tables) step.after) k pages step.meter
+      (rw step.after step.effect)
+  effect_passes (TableMade ty init) step =
+      table_made rules w turn w' (ap (λ (v : World S). v.state.memories) step.after) step.free.0 ty init
+      (rw step.after step.effect)
+  effect_passes (TableGrown k n init) step =
+      table_grows rules w turn w' (ap (λ (v : World S). v.state.memories) step.after) k n init step.meter
+      (rw step.after step.effect)
+  effect_passes (RangeWritten k source dst len) step = idle rules w turn w' step.after refl
+      (each_kind (λ kind. sizes (with_tables w.state step.part) kind ≡ sizes w.state kind) refl
+      (part_kept k (metered w.state.tables (Some w.state.meter))
+      (metered step.part (Some step.meter)) turn.reply turn.charge len
+      (write_of source dst len) (source_writes source dst len) step.effect))
+  effect_passes effect step = idle rules w turn w' step.after refl (λ kind. refl)
+
+  -- what it is charged, unless it is a growth
+  effect_writing : (effect : Effect) → HasEffect rules effect w turn w'
+      → IsChargedForWriting effect w.state.meter turn.reply turn.charge
+  effect_writing (MemoryGrown k pages) step = tt
+  effect_writing (TableGrown k n init) step = tt
+  effect_writing (RangeWritten k source dst len) step =
+      range_charge k w.state.tables w.state.meter turn.reply turn.charge step.part step.meter (paid_from source len)
+      (write_of source dst len) (source_pays source dst len) step.effect
+  effect_writing effect step = step.free.0 ∙ sym (free_writing w.state.meter turn.reply)
+
+-- each step
+pub growths_are_permitted : {S : Type 0} (rules : Rules S) (w : World S) (turn : Turn) (w' : World S)
+    → Step rules w turn w' → Exchanges rules w turn w'
+growths_are_permitted rules w turn w' step =
+    let effect = effect_of w.state turn.call in
+    let passed : Passed rules (meeting_of w turn (question_by w.state effect) w') (place_by effect) =
+    effect_passes rules w turn w' effect step in
+    record {
+      exchange = passed.exchange;
+      asks = subst (λ question. AsksFor question passed.exchange turn.reply) (same_question w.state turn.call)
+          passed.asks;
+      passes = passed.passes;
+      replies = passed.replies;
+      grows = subst (λ place. GrowsBy place passed.exchange (sizes w.state) (sizes w'.state))
+          (same_place w.state turn.call) passed.grows;
+      charged = same_charge w.state turn.call passed.exchange w.state.meter turn.reply turn.charge passed.charged
+          (effect_writing rules w turn w' effect step);
+      meter = step_meter rules w turn w' step;
+    }
+
+-- each turn of a run asks, grows and is charged as a step does
+pub run_growths_are_permitted : {S : Type 0} (rules : Rules S) → RunsGrowAsPermitted rules
+run_growths_are_permitted rules = each_turn rules _ (growths_are_permitted rules)

@@ -1,0 +1,463 @@
+-- What holds of memories in lent regions as of memories of their own.
+use Rattle.std.proofs.Common.{Bool, Err, List, None, Ok, Option, Result, Some, [], ap, arith, false, inl, inr, length, map, refl, subst, sym, true, ℕ, ◌*◌, ◌+◌, ◌∙◌, ◌∷◌, ◌≡◌, ◌≤◌, ◌⊎◌}
+use Rattle.std.proofs.lemmas.Bool.Decides.{nat_tests}
+use Rattle.std.proofs.lemmas.List.{length-map, map-set, map_push}
+use Rattle.std.proofs.lemmas.Option.{none-some, same_Some, slice_get-map}
+use Rattle.std.specs.Option.{option_and_then, option_map}
+use Rattle.std.specs.Prelude.{MatchBool, MatchOption, if◌then◌else◌, is_none, slice_get, slice_set, ◌&&◌}
+use Rattle.std.specs.Result.{result_map_both}
+use Rattle.wasmi_machine.proofs.EffectLemmas.{both_live}
+use Rattle.wasmi_machine.proofs.StoreLemmas.{acts_too, asks_too, changes_too}
+use Rattle.wasmi_machine.specs.LentMemory.{FitsRegions, FitsRoom, RunInRegions, owned, owned_memory, owned_slot, owned_world, unlent_world}
+use Rattle.wasmi_machine.specs.MemoryEffects.{StoresMemoryAt, WritesMemoryAt, bytes_appended, load_reply}
+use Rattle.wasmi_machine.specs.RegisterEffects.{StoresVectorAt, lane_loaded, vector_at, vector_loaded}
+use Rattle.wasmi_machine.specs.Effects.{ActsAt, AddsEntry, ChangesAt, Creates, DropsAt, OnLive, reply_of}
+use Rattle.wasmi_machine.specs.Steps.{Run, BytesRead, BytesStored, BytesWritten, Change, Changed, Effect, FuelSet, LentMemoryMade, MemoryDropped, MemoryGrown, MemoryMade, RangeWritten, RegisterSet, Step, TableGrown, TableMade, HasChange, HasEffect, Told, effect_of}
+use Rattle.wasmi_machine.specs.State.{State, live_at, live_value, byte_count, Turn, World}
+use Rattle.wasmi_machine.specs.declared.calls.Call.{Call}
+use Rattle.wasmi_machine.specs.declared.calls.Call.TheVariants.{Load, LoadLane, NewLentMemory, NewMemory, VectorLoad}
+use Rattle.wasmi_machine.specs.declared.calls.Reply.{Reply}
+use Rattle.wasmi_machine.specs.declared.slots.Slot.{Slot}
+use Rattle.wasmi_machine.specs.declared.slots.Slot.TheVariants.{Gone, Live}
+use Rattle.wasmi_meter.specs.Attempt.{Attempt, Denied, Request, Failed, AttemptOutcome, Follows, IsFirstCause, MayEnd, Met, MeteredValue, Unasked, optional_due, answer_of, covers, outcome_charge, value_after, with_value}
+use Rattle.wasmi_meter.specs.Limiter.{Rules}
+use Rattle.wasmi_meter.specs.Meter.{Meter}
+use Rattle.wasmi_meter.specs.declared.error.MemoryError.{MemoryError}
+use Rattle.wasmi_store.specs.Growth.{IsDenied}
+use Rattle.wasmi_store.specs.Buffer.{LacksMemory, Lent, Owned, Room, fits_room}
+use Rattle.wasmi_store.specs.Memory.{GrowsMemory, GrowsMemoryCharging, MakesMemory, MemoryValue, WritesMemory, new_memory, pages_of, MemoryTypeValue, in_bounds, minimum_bytes, page_bytes}
+use Rattle.wasmi_store.specs.Memory as memory
+use Rattle.wasmi_machine.specs.declared.calls.Reply.TheVariants as replied
+
+-- An attempt where nothing stands between the permission and the charge, and where more may refuse after it.
+module _ {V E : Type 0} (e : Request V E) (refuses : E → Type 0)
+    (lacks : (cause : E) → e.refuses cause → refuses cause) (own : V → V) where
+  -- the same request without a late cause
+  abbrev eased : Request V E
+  eased = record e { late = None; refuses = refuses; grown = own e.grown }
+
+  -- no late cause is met: there is none, or an early one stands before it
+  abbrev IsEasy : Type 0
+  IsEasy = (e.late ≡ None) ⊎ ((cause : E) × (e.early ≡ Some cause))
+
+  module _ (m : Option Meter) where
+    -- a first cause of it
+    first_cause : (late : Option E) (cause : E) → late ≡ None → IsFirstCause e m late cause
+        → IsFirstCause eased m None cause
+    first_cause (Some late) cause none first = absurd (none-some late (sym none))
+    first_cause None cause none first = by_price (covers m (optional_due m e.price)) first
+      where
+        by_price : (payable : Bool) → MatchBool payable (e.refuses cause) (cause ≡ e.unpaid (optional_due m e.price))
+            → MatchBool payable (refuses cause) (cause ≡ e.unpaid (optional_due m e.price))
+        by_price true h = lacks cause h
+        by_price false h = h
+
+    -- no late cause is met
+    none_late : IsEasy → e.early ≡ None → e.late ≡ None
+    none_late (inl none) early = none
+    none_late (inr (cause, is)) early = absurd (none-some cause (sym early ∙ is))
+
+    -- an attempt may end as the eased request does
+    ends : IsEasy → (outcome : AttemptOutcome E) → MayEnd e m outcome → MayEnd eased m outcome
+    ends easy Met may = (may.0, refl, may.2)
+    ends easy (Failed cause notice_answer) may = (may.0, first_cause e.late cause (none_late easy may.0) may.1)
+    ends easy outcome may = may
+
+    -- the eased request is charged as the attempt was
+    charges : IsEasy → (outcome : AttemptOutcome E) → MayEnd e m outcome
+        → outcome_charge e m outcome ≡ outcome_charge eased m outcome
+    charges easy (Failed cause notice_answer) may =
+        ap (λ late. if is_none late && covers m (optional_due m e.price) then optional_due m e.price else 0)
+        (none_late easy may.0)
+    charges easy outcome may = refl
+
+  -- the limiter sees the same of the eased request
+  follows : {S : Type 0} (rules : Rules S) (l l' : S) (outcome : AttemptOutcome E) → Follows e rules l outcome l'
+      → Follows eased rules l outcome l'
+  follows rules l l' Met h = h
+  follows rules l l' outcome h = h
+
+  -- what it leaves
+  values : (x : V) (outcome : AttemptOutcome E) → own (value_after e x outcome) ≡ value_after eased (own x) outcome
+  values x Met = refl
+  values x outcome = refl
+
+  -- what it answers
+  answers : {T U : Type 0} (f : T → U) (made : T) (outcome : AttemptOutcome E)
+      → result_map_both f (λ error. error) (answer_of e made outcome) ≡ answer_of eased (f made) outcome
+  answers f made Met = refl
+  answers f made outcome = refl
+
+  -- an attempt is one of the eased request
+  attempts : {S : Type 0} (rules : Rules S) (s s' : MeteredValue V S) (outcome : AttemptOutcome E) (charge : ℕ) → IsEasy
+      → Attempt rules e s outcome charge s'
+      → Attempt rules eased (with_value s (own s.value)) outcome charge (with_value s' (own s'.value))
+  attempts rules s s' outcome charge easy a = record {
+    may_end = ends s.meter easy outcome a.may_end;
+    follows = follows rules s.limiter s'.limiter outcome a.follows;
+    charged = a.charged ∙ charges s.meter easy outcome a.may_end;
+    meter = a.meter;
+    value = ap own a.value ∙ values s.value outcome;
+  }
+
+-- what a room of one's own may refuse after the charge
+lacks_owned : (room : Room) (cause : MemoryError) → LacksMemory room cause → LacksMemory Owned cause
+lacks_owned Owned cause lacks = lacks
+lacks_owned (Lent rest) cause lacks = absurd lacks
+
+-- no late cause where there is place
+late_of : (place : Bool) (error : MemoryError) → place ≡ true → (if place then None else Some error) ≡ None
+late_of true error fits = refl
+late_of false error fits = absurd cc
+
+-- an early cause out of bounds
+early_of : (inside : Bool) (error : MemoryError) → inside ≡ false → (if inside then None else Some error) ≡ Some error
+early_of true error outside = absurd cc
+early_of false error outside = refl
+
+-- a memory is made where its room has place for it
+makes_owned : {S : Type 0} (rules : Rules S) (room : Room) (ty : MemoryTypeValue) (l : S)
+    (result : Result MemoryValue MemoryError) (l' : S) → fits_room room (minimum_bytes ty) ≡ true
+    → MakesMemory rules room ty l result l'
+    → MakesMemory rules Owned ty l (result_map_both owned_memory (λ error. error) result) l'
+makes_owned rules room ty l result l' fits (outcome, attempt, answered) =
+    let e = memory.creation_of room ty in (
+      outcome,
+      attempts e (LacksMemory Owned) (lacks_owned room) (λ none. none) rules _ _ outcome 0
+          (inl (late_of (fits_room room (minimum_bytes ty)) MemoryError.InvalidStaticBufferSize fits)) attempt,
+      ap (result_map_both owned_memory (λ error. error)) answered
+          ∙ answers e (LacksMemory Owned) (lacks_owned room) (λ none. none) owned_memory (new_memory room ty) outcome,
+    )
+
+-- a memory grows within its room
+fits_easy : (pages : ℕ) (x : MemoryValue) → FitsRoom pages x
+    → IsEasy (memory.growth_of x pages) (LacksMemory Owned) (lacks_owned x.room) owned_memory
+fits_easy pages x (inl fits) =
+    inl (late_of (fits_room x.room (pages * page_bytes x.ty.page)) MemoryError.InvalidStaticBufferSize fits)
+fits_easy pages x (inr outside) = inr (
+  MemoryError.OutOfBoundsGrowth,
+  early_of (in_bounds x.ty (pages_of x + pages)) MemoryError.OutOfBoundsGrowth outside,
+)
+
+-- a memory that grows within its room grows as one of its own
+grows_owned : {S : Type 0} (rules : Rules S) (pages : ℕ) (s : MeteredValue MemoryValue S)
+    (result : Result ℕ MemoryError) (charge : ℕ) (s' : MeteredValue MemoryValue S) → FitsRoom pages s.value
+    → GrowsMemoryCharging rules pages s result charge s'
+    → GrowsMemoryCharging rules pages (with_value s (owned_memory s.value)) result charge
+    (with_value s' (owned_memory s'.value))
+grows_owned {S} rules pages s result charge s' fits (inl none) = inl (record {
+  none = none.none;
+  answered = none.answered;
+  uncharged = none.uncharged;
+  same = ap (λ (t : MeteredValue MemoryValue S). with_value t (owned_memory t.value)) none.same;
+})
+grows_owned rules pages s result charge s' fits (inr some) =
+    let e = memory.growth_of s.value pages in inr (record {
+      some = some.some;
+      outcome = some.outcome;
+      attempt = attempts e (LacksMemory Owned) (lacks_owned s.value.room) owned_memory rules s s' some.outcome charge
+          (fits_easy pages s.value fits) some.attempt;
+      answered = some.answered ∙ answered_eased some.outcome;
+    })
+  where
+    answered_eased : (outcome : AttemptOutcome MemoryError)
+        → answer_of (memory.growth_of s.value pages) (pages_of s.value) outcome ≡ answer_of
+        (memory.growth_of (owned_memory s.value) pages) (pages_of s.value) outcome
+    answered_eased Met = refl
+    answered_eased outcome = refl
+
+-- the live memory of an index
+owned_value : (slot : Option (Slot MemoryValue))
+    → option_and_then live_value (option_map owned_slot slot) ≡ option_map owned_memory
+    (option_and_then live_value slot)
+owned_value (Some (Live x)) = refl
+owned_value slot = refl
+
+-- the live memory of an index, as one of its own
+owned_at : (slots : List (Slot MemoryValue)) (k : ℕ)
+    → live_at (map owned_slot slots) k ≡ option_map owned_memory (live_at slots k)
+owned_at slots k = ap (option_and_then live_value) (slice_get-map owned_slot slots k) ∙ owned_value (slice_get slots k)
+
+-- a fact of a live memory, or of none
+owned_fact : (o : Option MemoryValue) (Missing Missing' : Type 0) (Fact Fact' : MemoryValue → Type 0)
+    → OnLive o Missing Fact → (Missing → Missing') → ((x : MemoryValue) → Fact x → Fact' (owned_memory x))
+    → OnLive (option_map owned_memory o) Missing' Fact'
+owned_fact None Missing Missing' Fact Fact' h missing live = missing h
+owned_fact (Some x) Missing Missing' Fact Fact' h missing live = live x h
+
+-- Effects on memories.
+module _ (slots : List (Slot MemoryValue)) (k : ℕ) where
+  -- a fact of the live memory of an index
+  on_owned : (Missing Missing' : Type 0) (Fact Fact' : MemoryValue → Type 0) → OnLive (live_at slots k) Missing Fact
+      → (Missing → Missing') → ((x : MemoryValue) → Fact x → Fact' (owned_memory x))
+      → OnLive (live_at (map owned_slot slots) k) Missing' Fact'
+  on_owned Missing Missing' Fact Fact' h missing live = subst (λ o. OnLive o Missing' Fact') (sym (owned_at slots k))
+      (owned_fact (live_at slots k) Missing Missing' Fact Fact' h missing live)
+
+  -- a slot is written
+  put_owned : (slots' : List (Slot MemoryValue)) (slot : Slot MemoryValue) → slots' ≡ slice_set slots k slot
+      → map owned_slot slots' ≡ slice_set (map owned_slot slots) k (owned_slot slot)
+  put_owned slots' slot put = ap (map owned_slot) put ∙ map-set owned_slot slots k slot
+
+  module _ (reply : Reply) (slots' : List (Slot MemoryValue)) where
+    -- a change of a memory
+    changes_owned : (Change : MemoryValue → MemoryValue → Type 0)
+        → ((x x' : MemoryValue) → Change x x' → Change (owned_memory x) (owned_memory x'))
+        → ChangesAt k slots reply slots' Change
+        → ChangesAt k (map owned_slot slots) reply (map owned_slot slots') Change
+    changes_owned Change change changes = on_owned _ _ _ _ changes
+        (λ missing. (missing.0, ap (map owned_slot) missing.1))
+        (λ x h. (owned_memory h.0, change x h.0 h.1, put_owned slots' (Live h.0) h.2))
+
+    -- a drop
+    drops_owned : DropsAt byte_count k slots reply slots'
+        → DropsAt byte_count k (map owned_slot slots) reply (map owned_slot slots')
+    drops_owned drops = on_owned _ _ _ _ drops (λ missing. (missing.0, ap (map owned_slot) missing.1))
+        (λ x h. (h.0, put_owned slots' (Gone (byte_count x)) h.1))
+
+    -- a write
+    writes_owned : (offset : ℕ) (source : List ℕ) → WritesMemoryAt k offset source slots reply slots'
+        → WritesMemoryAt k offset source (map owned_slot slots) reply (map owned_slot slots')
+    writes_owned offset source writes = changes_owned _ (λ x x' c. (c.0, written x x' c.0 c.1, c.2)) writes
+      where
+        written : (x x' : MemoryValue) (result : Result (Unit {0}) MemoryError) → WritesMemory x offset source result x'
+            → WritesMemory (owned_memory x) offset source result (owned_memory x')
+        written x x' (Ok _) h = (h.0, h.1, refl)
+        written x x' (Err error) h = (h.0, h.1, ap owned_memory h.2)
+
+    -- a store
+    stores_owned : (a : ℕ) (stored : List ℕ) → StoresMemoryAt k a stored slots reply slots'
+        → StoresMemoryAt k a stored (map owned_slot slots) reply (map owned_slot slots')
+    stores_owned a stored stores = changes_owned _ (λ x x' c. (c.0, (c.1.0, c.1.1, refl), c.2)) stores
+
+    -- a store of what may be missing
+    vector_stores_owned : (a : ℕ) (stored : Option (List ℕ)) → StoresVectorAt k a stored slots reply slots'
+        → StoresVectorAt k a stored (map owned_slot slots) reply (map owned_slot slots')
+    vector_stores_owned a None stores = (stores.0, ap (map owned_slot) stores.1)
+    vector_stores_owned a (Some stored) stores = stores_owned a stored stores
+
+  -- what is made of the live memory of an index, or of none, whatever its room is
+  made_owned : {A : Type 0} (made : Option MemoryValue → A)
+      → ((x : MemoryValue) → made (Some x) ≡ made (Some (owned_memory x)))
+      → made (live_at slots k) ≡ made (live_at (map owned_slot slots) k)
+  made_owned made same = by_value (live_at slots k) ∙ ap made (sym (owned_at slots k))
+    where
+      by_value : (o : Option MemoryValue) → made o ≡ made (option_map owned_memory o)
+      by_value None = refl
+      by_value (Some x) = same x
+
+-- a growth
+growth_owned : {S : Type 0} (rules : Rules S) (k pages : ℕ) (s s' : MeteredValue (List (Slot MemoryValue)) S)
+    (reply : Reply) (charge : ℕ) → OnLive (live_at s.value k) (Unit {0}) (FitsRoom pages)
+    → ActsAt k (reply_of replied.Number replied.Memory) (GrowsMemoryCharging rules pages) s reply charge s'
+    → ActsAt k (reply_of replied.Number replied.Memory) (GrowsMemoryCharging rules pages)
+    (with_value s (map owned_slot s.value)) reply charge (with_value s' (map owned_slot s'.value))
+growth_owned {S} rules k pages s s' reply charge fits acts =
+    on_owned s.value k _ _ _ _ (both_live (live_at s.value k) _ _ _ _ fits acts)
+    (λ missing. (
+      missing.1.0,
+      missing.1.1,
+      ap (λ (t : MeteredValue (List (Slot MemoryValue)) S). with_value t (map owned_slot t.value)) missing.1.2,
+    ))
+    (λ x h. (
+      h.1.0,
+      owned_memory h.1.1,
+      grows_owned rules pages (with_value s x) h.1.0 charge (with_value s' h.1.1) h.0 h.1.2,
+      h.1.3,
+      put_owned s.value k s'.value (Live h.1.1) h.1.4,
+    ))
+
+-- a memory is made in a slot
+appends_owned : (result : Result MemoryValue MemoryError) (slots : List (Slot MemoryValue)) (reply : Reply)
+    (slots' : List (Slot MemoryValue)) → AddsEntry Live replied.Memory result slots reply slots'
+    → AddsEntry Live replied.Memory (result_map_both owned_memory (λ error. error) result) (map owned_slot slots) reply
+    (map owned_slot slots')
+appends_owned (Ok x) slots reply slots' appends = (
+  appends.0 ∙ ap replied.Made (sym (length-map slots owned_slot)),
+  ap (map owned_slot) appends.1
+      ∙ map_push owned_slot slots (Live x),
+)
+appends_owned (Err error) slots reply slots' appends = (appends.0, ap (map owned_slot) appends.1)
+
+-- a memory is made in a new slot as one of its own
+creates_owned : {S : Type 0} (rules : Rules S) (room : Room) (ty : MemoryTypeValue) (slots : List (Slot MemoryValue))
+    (l : S) (reply : Reply) (slots' : List (Slot MemoryValue)) (l' : S) → fits_room room (minimum_bytes ty) ≡ true
+    → Creates replied.Memory (MakesMemory rules room ty) slots l reply slots' l'
+    → Creates replied.Memory (MakesMemory rules Owned ty) (map owned_slot slots) l reply (map owned_slot slots') l'
+creates_owned rules room ty slots l reply slots' l' fits (inl none) = inl (none.0, ap (map owned_slot) none.1, none.2)
+creates_owned rules room ty slots l reply slots' l' fits (inr (result, makes, appends)) = inr (
+  result_map_both owned_memory (λ error. error) result,
+  makes_owned rules room ty l result l' fits makes,
+  appends_owned result slots reply slots' appends,
+)
+
+-- an effect that fits the regions, as its call does
+abbrev EffectFits : State → Effect → Type 0
+EffectFits s (LentMemoryMade ty) = ⊥
+EffectFits s (MemoryGrown k pages) = OnLive (live_at s.memories k) (Unit {0}) (FitsRoom pages)
+EffectFits s effect = Unit {0}
+
+-- an effect fits the regions where its call does
+effect_fits : (s : State) (call : Call) → FitsRegions s call → EffectFits s (effect_of s call)
+effect_fits s (NewLentMemory ty) fits = fits
+effect_fits s call fits = fits
+
+-- a call has the same effect on both machines
+effect_kept : (s : State) (call : Call) → effect_of s call ≡ effect_of (owned s) call
+effect_kept s (Load op k ptr offset) = ap Told (made_owned s.memories k (load_reply op (ptr + offset)) (λ x. refl))
+effect_kept s (VectorLoad op dst k ptr offset) = ap (λ given. Changed (RegisterSet dst given))
+    (made_owned s.memories k (vector_loaded op (ptr + offset)) (λ x. refl))
+effect_kept s (LoadLane op dst a k ptr offset) = ap (λ given. Changed (RegisterSet dst given))
+    (made_owned s.memories k (lane_loaded op (ptr + offset) (vector_at s.registers a)) (λ x. refl))
+effect_kept s call = refl
+
+-- a change of one part is the same change with such memories
+change_owned : (s : State) (reply : Reply) (s' : State) (change : Change) → HasChange change s reply s'
+    → HasChange change (owned s) reply (owned s')
+change_owned s reply s' (BytesWritten k offset bytes) c = record {
+  part = map owned_slot c.part;
+  effect = writes_owned s.memories k reply c.part offset bytes c.effect;
+  after = ap owned c.after;
+}
+change_owned s reply s' (BytesStored k a stored) c = record {
+  part = map owned_slot c.part;
+  effect = vector_stores_owned s.memories k reply c.part a stored c.effect;
+  after = ap owned c.after;
+}
+change_owned s reply s' (MemoryDropped k) c = record {
+  part = map owned_slot c.part;
+  effect = drops_owned s.memories k reply c.part c.effect;
+  after = ap owned c.after;
+}
+change_owned s reply s' change c = record { part = c.part; effect = c.effect; after = ap owned c.after }
+
+module _ {S : Type 0} (rules : Rules S) (w : World S) (turn : Turn) (w' : World S) where
+  -- each effect that fits
+  effect_owned : (effect : Effect) → EffectFits w.state effect → HasEffect rules effect w turn w'
+      → HasEffect rules effect (owned_world w) turn (owned_world w')
+  effect_owned (Told told) fits step =
+      record { free = step.free; effect = step.effect; after = ap owned_world step.after }
+  effect_owned (BytesRead k offset len) fits step = record {
+    free = step.free;
+    effect = on_owned w.state.memories k _ _ _ _ step.effect (λ missing. missing) (λ x h. h);
+    after = ap owned_world step.after;
+  }
+  effect_owned (FuelSet fuel) fits step =
+      changes_too step (owned step.machine) (step.effect.0, ap owned step.effect.1) (ap owned_world step.after)
+  effect_owned (Changed change) fits step =
+      changes_too step (owned step.machine) (change_owned w.state turn.reply step.machine change step.effect)
+      (ap owned_world step.after)
+  effect_owned (MemoryMade ty) fits step = asks_too step (map owned_slot step.part)
+      (creates_owned rules Owned ty w.state.memories w.limiter turn.reply step.part step.limiter refl step.effect)
+      (ap owned_world step.after)
+  effect_owned (LentMemoryMade ty) fits step = absurd fits
+  effect_owned (MemoryGrown k pages) fits step = acts_too step (map owned_slot step.part) step.meter
+      (growth_owned rules k pages (record { value = w.state.memories; meter = Some w.state.meter; limiter = w.limiter })
+      (record { value = step.part; meter = Some step.meter; limiter = step.limiter }) turn.reply turn.charge fits
+      step.effect) (made_owned w.state.memories k (λ o. bytes_appended o pages turn.reply) (λ x. refl))
+      (ap owned_world step.after)
+  effect_owned (TableMade ty init) fits step = asks_too step step.part step.effect (ap owned_world step.after)
+  effect_owned (TableGrown k n init) fits step =
+      acts_too step step.part step.meter step.effect refl (ap owned_world step.after)
+  effect_owned (RangeWritten k source dst len) fits step = record {
+    part = step.part;
+    meter = step.meter;
+    effect = step.effect;
+    wrote = step.wrote;
+    after = ap owned_world step.after;
+  }
+
+-- a run
+pub run_is_owned : {S : Type 0} (rules : Rules S) (w : World S) (turns : List Turn) (w' : World S)
+    → RunInRegions rules w turns w' → Run rules (owned_world w) turns (owned_world w')
+run_is_owned rules w [] w' ran = ap owned_world ran
+run_is_owned rules w (turn ∷ turns) w' (v, fits, step, ran) =
+    let taken = effect_owned rules w turn v (effect_of w.state turn.call) (effect_fits w.state turn.call fits) step in
+    (owned_world v, rw (effect_kept w.state turn.call) at taken, run_is_owned rules v turns w' ran)
+
+-- a creation in the spare region
+on_spare : (Fact : List ℕ → Type 0) (Missing : Type 0) (spare : Option (List ℕ)) (region : List ℕ)
+    → spare ≡ Some region → MatchOption spare Missing Fact → Fact region
+on_spare Fact Missing None region is h = absurd (none-some region is)
+on_spare Fact Missing (Some r) region is h = subst Fact (same_Some r region is) h
+
+-- a creation in the spare region is one of a memory of its own
+pub creation_is_owned : {S : Type 0} (rules : Rules S) (w : World S) (turn : Turn) (w' : World S)
+    (ty : MemoryTypeValue) (region : List ℕ) → turn.call ≡ NewLentMemory ty → w.state.spare ≡ Some region
+    → minimum_bytes ty ≤ length region
+    → Step rules w turn w' → Step rules (unlent_world w) (record turn { call = NewMemory ty }) (unlent_world w')
+creation_is_owned rules w turn w' ty region called spare fits step =
+    let lent : HasEffect rules (LentMemoryMade ty) w turn w' = subst
+    (λ c. HasEffect rules (effect_of w.state c) w turn w') called step in
+    let creates = on_spare _ _ w.state.spare region spare lent.effect in
+    record {
+      free = lent.free;
+      part = map owned_slot lent.part.slots;
+      limiter = lent.limiter;
+      effect = creates_owned rules (Lent region) ty w.state.memories w.limiter turn.reply lent.part.slots lent.limiter
+          (grind (arith, nat_tests, fits)) creates.0;
+      after = ap unlent_world lent.after;
+    }
+
+-- a growth of a lent memory that nothing but the limiter can refuse
+record IsFree (pages : ℕ) {S : Type 0} (s : MeteredValue MemoryValue S) (rest : List ℕ) : Type 0 where
+  lent : s.value.room ≡ Lent rest
+  inside : in_bounds s.value.ty (pages_of s.value + pages) ≡ true
+  fits : fits_room s.value.room (pages * page_bytes s.value.ty.page) ≡ true
+  payable : covers s.meter (optional_due s.meter (memory.growth_of s.value pages).price) ≡ true
+
+module _ {S : Type 0} (rules : Rules S) (pages : ℕ) (s : MeteredValue MemoryValue S) (rest : List ℕ)
+    (free : IsFree pages s rest) (result : Result ℕ MemoryError) (charge : ℕ) (s' : MeteredValue MemoryValue S) where
+  -- a growth has succeeded, or the limiter has denied it
+  abbrev Succeeds : Type 0
+  Succeeds =
+      (result ≡ Ok (pages_of s.value)) ⊎ IsDenied rules (memory.growth_of s.value pages).question s.limiter s'.limiter
+
+  -- nothing refuses it before the limiter is asked
+  no_early : (inner : Bool) → inner ≡ true → (if inner then None else Some MemoryError.OutOfBoundsGrowth) ≡ None
+  no_early true is = refl
+  no_early false is = absurd cc
+
+  -- nothing refuses it after
+  no_cause : (cause : MemoryError) → IsFirstCause (memory.growth_of s.value pages) s.meter (memory.growth_of s.value
+      pages).late cause → ⊥
+  no_cause cause first =
+      refused s.value.room free.lent (rw free.payable at first_of (memory.growth_of s.value pages).late
+      (late_of (fits_room s.value.room (pages * page_bytes s.value.ty.page)) MemoryError.InvalidStaticBufferSize
+      free.fits) first)
+    where
+      refused : (room : Room) → room ≡ Lent rest → LacksMemory room cause → ⊥
+      refused Owned is lacks = cc
+      refused (Lent other) is lacks = lacks
+
+      first_of : (late : Option MemoryError) → late ≡ None
+          → IsFirstCause (memory.growth_of s.value pages) s.meter late cause
+          → IsFirstCause (memory.growth_of s.value pages) s.meter None cause
+      first_of None none first = first
+      first_of (Some late) none first = absurd (none-some late (sym none))
+
+  -- a growth has succeeded or was denied, by its outcome
+  by_outcome : (outcome : AttemptOutcome MemoryError) → MayEnd (memory.growth_of s.value pages) s.meter outcome
+      → Follows (memory.growth_of s.value pages) rules s.limiter outcome s'.limiter
+      → result ≡ answer_of (memory.growth_of s.value pages) (pages_of s.value) outcome → Succeeds
+  by_outcome (Unasked cause) may follows answered =
+      absurd (none-some cause (sym (no_early (in_bounds s.value.ty (pages_of s.value + pages)) free.inside) ∙ may))
+  by_outcome (Denied answer) may follows answered = inr (answer, may.1, follows)
+  by_outcome Met may follows answered = inl answered
+  by_outcome (Failed cause notice_answer) may follows answered = absurd (no_cause cause may.1)
+
+  -- a growth with its charge has succeeded, or was denied
+  growth_succeeds : GrowsMemoryCharging rules pages s result charge s' → Succeeds
+  growth_succeeds (inl none) = inl none.answered
+  growth_succeeds (inr some) = by_outcome some.outcome some.attempt.may_end some.attempt.follows some.answered
+
+-- a growth has succeeded or was denied, by what it needs
+pub lent_growth_succeeds : {S : Type 0} (rules : Rules S) (pages : ℕ) (s : MeteredValue MemoryValue S) (rest : List ℕ)
+    → s.value.room ≡ Lent rest → in_bounds s.value.ty (pages_of s.value + pages) ≡ true
+    → fits_room s.value.room (pages * page_bytes s.value.ty.page) ≡ true
+    → covers s.meter (optional_due s.meter (memory.growth_of s.value pages).price) ≡ true
+    → (result : Result ℕ MemoryError) (s' : MeteredValue MemoryValue S) → GrowsMemory rules pages s result s'
+    → (result ≡ Ok (pages_of s.value)) ⊎ IsDenied rules (memory.growth_of s.value pages).question s.limiter s'.limiter
+lent_growth_succeeds rules pages s rest lent inside fits payable result s' (charge, grows) =
+    growth_succeeds rules pages s rest (record { lent = lent; inside = inside; fits = fits; payable = payable })
+    result charge s' grows

@@ -1,0 +1,212 @@
+-- What a refused turn leaves.
+use Rattle.std.proofs.Common.{List, None, Option, Some, [], ap, inl, inr, map, refl, subst, sym, ℕ, ◌∙◌, ◌∷◌, ◌≡◌}
+use Rattle.std.proofs.lemmas.List.Elements.{All-head, All-tail}
+use Rattle.std.proofs.lemmas.Option.{same_Some}
+use Rattle.std.specs.Prelude.{All, if◌then◌else◌, is_some}
+use Rattle.wasmi_machine.proofs.MemoryEffectsLemmas.{lent_back, lent_spare, memory_growth_back}
+use Rattle.wasmi_machine.proofs.EffectLemmas.{creates_back}
+use Rattle.wasmi_machine.proofs.ExchangeLemmas.{growths_are_permitted, out_of_memory_or_free}
+use Rattle.wasmi_machine.proofs.StepsLemmas.{change_facts}
+use Rattle.wasmi_machine.proofs.TableEffectsLemmas.{part_back, table_growth_back}
+use Rattle.wasmi_machine.proofs.StoreLemmas.{each_turn}
+use Rattle.wasmi_machine.specs.Account.{ChangesMeter, PaysCharge}
+use Rattle.wasmi_machine.specs.Exchange.{AsksFor, At, Denial, Exchange, Exchanges, New, Nothing, Notice, Nowhere, Passes, Permission, Place, RepliesTo, charge_at, elements_paid, growth_charge, growth_due, place_of, question_of, writing_charge}
+use Rattle.wasmi_machine.specs.Laws.{Keeps, KeepsMeter, KeepsSpare, RefusalsInRunsKeepContents, SameContents}
+use Rattle.wasmi_machine.specs.MemoryEffects.{spare_after}
+use Rattle.wasmi_machine.specs.Steps.{Run, Changed, Effect, FuelSet, LentMemoryMade, MemoryGrown, MemoryMade, RangeWritten, Step, TableGrown, TableMade, HasEffect, effect_of}
+use Rattle.wasmi_machine.specs.State.{State, memory_part, with_memories, with_tables, IsRefusal, Turn, World}
+use Rattle.wasmi_machine.specs.TableEffects.{write_of}
+use Rattle.wasmi_store.specs.Growth.{metered}
+use Rattle.wasmi_machine.specs.declared.calls.Call.{Call}
+use Rattle.wasmi_machine.specs.declared.calls.Call.TheVariants.{NewLentMemory, SetFuel}
+use Rattle.wasmi_machine.specs.declared.calls.Reply.{Reply}
+use Rattle.wasmi_meter.proofs.AttemptLemmas.{meter_after_nothing}
+use Rattle.wasmi_meter.specs.Limiter.{Rules}
+use Rattle.wasmi_meter.specs.Meter.{Meter, meter_after, meter_set}
+use Rattle.wasmi_meter.specs.declared.fuel.CustomFuelCosts.{CustomFuelCosts}
+use Rattle.wasmi_meter.specs.declared.fuel.FuelError.TheVariants.{FuelMeteringDisabled}
+use Rattle.wasmi_store.specs.Buffer.{Owned}
+use Rattle.wasmi_store.specs.Memory.{MakesMemory}
+use Rattle.wasmi_store.specs.Table.{MakesTable}
+use Rattle.wasmi_machine.specs.declared.calls.Reply.TheVariants as replied
+
+-- the spare region stays, unless the effect makes a memory in it
+abbrev LeavesSpare : Effect → Reply → State → State → Type 0
+LeavesSpare (LentMemoryMade ty) reply s s' = s'.spare ≡ spare_after reply s.spare
+LeavesSpare effect reply s s' = s'.spare ≡ s.spare
+
+-- the spare region stays, unless the call makes a memory in it
+spare_kept : (s s' : State) (call : Call) (reply : Reply) → LeavesSpare (effect_of s call) reply s s'
+    → KeepsSpare call reply s s'
+spare_kept s s' (NewLentMemory ty) reply leaves = leaves
+spare_kept s s' call reply leaves = leaves
+
+-- the turn ends in a world with the same state, or with the same state but for its meter
+module _ {S : Type 0} (w w' : World S) where
+  -- with another meter, the contents and the spare region are the same
+  paid : (m : Meter) → {v : World S} → w' ≡ v → v.state ≡ record w.state { meter = m }
+      → SameContents w.state w'.state × (w'.state.spare ≡ w.state.spare)
+  paid m is same =
+      rw (is, same) (record { memories = refl; tables = refl; segments = refl; globals = refl; registers = refl }, refl)
+
+  -- with the same state, the contents and the spare region are the same
+  kept : {v : World S} → w' ≡ v → v.state ≡ w.state → SameContents w.state w'.state × (w'.state.spare ≡ w.state.spare)
+  kept = paid w.state.meter
+
+module _ {S : Type 0} (rules : Rules S) (w : World S) (turn : Turn) (w' : World S)
+    (refused : IsRefusal turn.reply) where
+  -- each effect
+  effect_back : (effect : Effect) → HasEffect rules effect w turn w'
+      → SameContents w.state w'.state × LeavesSpare effect turn.reply w.state w'.state
+  effect_back (FuelSet fuel) step = paid w w' _ step.after step.effect.1
+  effect_back (Changed change) step =
+      kept w w' step.after ((change_facts w.state change).back turn.reply step.machine refused step.effect)
+  effect_back (MemoryMade ty) step = kept w w' step.after
+      (ap (with_memories w.state) (creates_back replied.Memory (MakesMemory rules Owned ty) w.state.memories w.limiter
+      turn.reply step.part step.limiter refused step.effect))
+  effect_back (LentMemoryMade ty) step = (
+    rw step.after
+        (record {
+          memories = lent_back rules ty (memory_part w.state) w.limiter turn.reply step.part step.limiter refused
+              step.effect;
+          tables = refl;
+          segments = refl;
+          globals = refl;
+          registers = refl;
+        }),
+    ap (λ (x : World S). x.state.spare) step.after
+        ∙ lent_spare rules ty (memory_part w.state) w.limiter turn.reply step.part step.limiter step.effect,
+  )
+  effect_back (MemoryGrown k pages) step = paid w w' step.meter step.after
+      (ap (λ part. let s : State = record (with_memories w.state part) { meter = step.meter } in s)
+      (memory_growth_back rules k pages
+      (record { value = w.state.memories; meter = Some w.state.meter; limiter = w.limiter })
+      (record { value = step.part; meter = Some step.meter; limiter = step.limiter }) turn.reply turn.charge refused
+      step.effect))
+  effect_back (TableMade ty init) step = kept w w' step.after
+      (ap (with_tables w.state) (creates_back replied.Table (MakesTable rules ty init) w.state.tables w.limiter
+      turn.reply step.part step.limiter refused step.effect))
+  effect_back (TableGrown k n init) step = paid w w' step.meter step.after
+      (ap (λ part. let s : State = record (with_tables w.state part) { meter = step.meter } in s)
+      (table_growth_back rules k n init
+      (record { value = w.state.tables; meter = Some w.state.meter; limiter = w.limiter })
+      (record { value = step.part; meter = Some step.meter; limiter = step.limiter }) turn.reply turn.charge refused
+      step.effect))
+  effect_back (RangeWritten k source dst len) step = paid w w' step.meter step.after
+      (ap (λ part. let s : State = record (with_tables w.state part) { meter = step.meter } in s)
+      (part_back k (metered w.state.tables (Some w.state.meter))
+      (metered step.part (Some step.meter)) turn.reply turn.charge refused (write_of source dst len) step.effect))
+  effect_back effect step = kept w w' step.after refl
+
+-- a meter of which nothing was taken
+free_meter : (m m' : Meter) (charge : ℕ) → charge ≡ 0 → PaysCharge m charge m' → m' ≡ m
+free_meter m m' charge free takes =
+    takes.1 ∙ ap (meter_after m) free ∙ sym (same_Some m (meter_after m 0) (meter_after_nothing (Some m)))
+
+-- a meter that is off isn't set
+unset : (left : Option ℕ) (costs : CustomFuelCosts) (fuel : ℕ) (reply : Reply) → IsRefusal reply
+    → reply ≡ (if is_some left then replied.Done else replied.Fuel FuelMeteringDisabled)
+    → meter_set (record { left = left; costs = costs })
+    fuel ≡ (let m : Meter = record { left = left; costs = costs } in m)
+unset None costs fuel reply refused is = refl
+unset (Some n) costs fuel reply refused is = absurd (rw is at refused)
+
+-- what a refused write over a table is charged
+refused_writing : (m : Meter) (elements : Option ℕ) (reply : Reply) → IsRefusal reply
+    → writing_charge m elements reply ≡ 0
+refused_writing m elements replied.Done refused = absurd refused
+refused_writing m elements reply refused = refl
+
+module _ {S : Type 0} (rules : Rules S) (w : World S) (turn : Turn) (w' : World S)
+    (refused : IsRefusal turn.reply) where
+  -- the meter stays, where nothing was charged
+  stays : PaysCharge w.state.meter turn.charge w'.state.meter → turn.charge ≡ 0 → KeepsMeter rules w turn w'
+  stays takes free = inl (free_meter w.state.meter w'.state.meter turn.charge free takes)
+
+  -- a refused growth keeps the meter, but for the price where memory was wanting
+  growth_meter : (k : ℕ) × (place_of turn.call ≡ At k) → (exchange : Exchange)
+      → AsksFor (question_of w.state turn.call) exchange turn.reply → Passes rules w.limiter exchange w'.limiter
+      → RepliesTo exchange turn.reply → turn.charge ≡ growth_charge exchange w.state.meter
+      → PaysCharge w.state.meter turn.charge w'.state.meter → KeepsMeter rules w turn w'
+  growth_meter at Nothing asks passes replies charged takes = stays takes charged
+  growth_meter at (Denial question answer) asks passes replies charged takes = stays takes charged
+  growth_meter at (Permission question) asks passes replies charged takes = absurd (replies refused)
+  growth_meter at (Notice question failure notice_answer) asks passes replies charged takes =
+      elim (out_of_memory_or_free failure) [
+        | inl wanting ↦ inr (record {
+          index = at.0;
+          grows = at.1;
+          question = question;
+          asks = asks;
+          failure = failure;
+          notice_answer = notice_answer;
+          wants = wanting.0;
+          tells = passes;
+          replies = replies;
+          meter = subst (λ c. PaysCharge w.state.meter c w'.state.meter)
+              (charged ∙ wanting.1 (growth_due w.state.meter question)) takes;
+        })
+        | inr free ↦ stays takes (charged ∙ free (growth_due w.state.meter question))
+      ]
+
+  module _ (x : Exchanges rules w turn w') (takes : PaysCharge w.state.meter turn.charge w'.state.meter) where
+    -- by its place
+    place_meter : (place : Place) → place_of turn.call ≡ place
+        → turn.charge ≡ charge_at place x.exchange w.state.meter (writing_charge w.state.meter
+        (elements_paid turn.call) turn.reply) → KeepsMeter rules w turn w'
+    place_meter Nowhere at charged =
+        stays takes (charged ∙ refused_writing w.state.meter (elements_paid turn.call) turn.reply refused)
+    place_meter New at charged = stays takes charged
+    place_meter (At k) at charged = growth_meter (k, at) x.exchange x.asks x.passes x.replies charged takes
+
+  -- where the fuel was to be set, metering is off
+  set_meter : (fuel : ℕ) → turn.call ≡ SetFuel fuel → Step rules w turn w' → w'.state.meter ≡ w.state.meter
+  set_meter fuel is step =
+      let sets : HasEffect rules (FuelSet fuel) w turn w' =
+      subst (λ call. HasEffect rules (effect_of w.state call) w turn w') is step in
+      ap (λ (v : World S). v.state.meter) sets.after ∙ (ap (λ (s : State). s.meter) sets.effect.1
+      ∙ unset w.state.meter.left w.state.meter.costs fuel turn.reply refused sets.effect.0)
+
+  -- each call
+  call_meter : Exchanges rules w turn w' → Step rules w turn w' → (call : Call) → turn.call ≡ call
+      → ChangesMeter call w.state.meter turn.charge w'.state.meter → KeepsMeter rules w turn w'
+  call_meter x step (SetFuel fuel) is changes = inl (set_meter fuel is step)
+  call_meter x step call is changes = place_meter x changes (place_of turn.call) refl x.charged
+
+-- each step
+pub refusals_keep_contents : {S : Type 0} (rules : Rules S) (w : World S) (turn : Turn) (w' : World S)
+    → Step rules w turn w' → IsRefusal turn.reply → Keeps rules w turn w'
+refusals_keep_contents rules w turn w' step refused =
+    let effect = effect_of w.state turn.call in
+    let back = effect_back rules w turn w' refused effect step in
+    let exchanged = growths_are_permitted rules w turn w' step in
+    record {
+      contents = back.0;
+      spare = spare_kept w.state w'.state turn.call turn.reply back.1;
+      meter = call_meter rules w turn w' refused exchanged step turn.call refl exchanged.meter;
+    }
+
+-- each refused turn of a run keeps what a refused turn keeps
+pub run_refusals_keep_contents : {S : Type 0} (rules : Rules S) → RefusalsInRunsKeepContents rules
+run_refusals_keep_contents rules = each_turn rules _ (refusals_keep_contents rules)
+
+-- contents that are the same twice
+same_twice : (s t u : State) → SameContents s t → SameContents t u → SameContents s u
+same_twice s t u first second = record {
+  memories = second.memories ∙ first.memories;
+  tables = second.tables ∙ first.tables;
+  segments = second.segments ∙ first.segments;
+  globals = second.globals ∙ first.globals;
+  registers = second.registers ∙ first.registers;
+}
+
+-- a run in which each turn is refused
+pub refused_run_keeps_contents : {S : Type 0} (rules : Rules S) (w : World S) (turns : List Turn) (w' : World S)
+    → Run rules w turns w' → All IsRefusal (map Turn.reply turns) → SameContents w.state w'.state
+refused_run_keeps_contents rules w [] w' ran refused =
+    rw ran (record { memories = refl; tables = refl; segments = refl; globals = refl; registers = refl })
+refused_run_keeps_contents rules w (turn ∷ turns) w' (v, step, ran) refused =
+    let first = (refusals_keep_contents rules w turn v step
+    (All-head IsRefusal turn.reply (map Turn.reply turns) refused)).contents in
+    same_twice w.state v.state w'.state first
+    (refused_run_keeps_contents rules v turns w' ran (All-tail IsRefusal turn.reply (map Turn.reply turns) refused))

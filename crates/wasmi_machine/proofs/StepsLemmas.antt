@@ -1,0 +1,230 @@
+-- What holds of each change of one part of the state, and of each write over a part of a table.
+use Rattle.std.proofs.Common.{Bool, List, None, Some, ap, arith, false, inl, inr, length, map, refl, replicate, subst, sym, true, ℕ, ◌∙◌, ◌≡◌, ◌⊎◌}
+use Rattle.std.proofs.lemmas.Bool.Decides.{nat_tests}
+use Rattle.std.specs.Prelude.{All, if◌then◌else◌, nat_eq, slice_get}
+use Rattle.wasmi_machine.proofs.MemoryEffectsLemmas.{overwrite_length, vector_store_back, vector_store_kept, vector_store_valid, vector_stores_same, write_refused, write_valid, writes_same, written_kept}
+use Rattle.wasmi_machine.proofs.ValueEffectsLemmas.{takes_back, takes_count, takes_same, creates_segment_valid, global_made_back, global_refused, global_sets_same, globals_same, items_refused, items_same, segment_back, segments_same}
+use Rattle.wasmi_machine.proofs.EffectLemmas.{AllValid, changes_valid, drops_back, drops_kept, drops_same, drops_valid, item_valid}
+use Rattle.wasmi_machine.proofs.TableEffectsLemmas.{IsWrite, copied_length, set_kept, set_refused, set_valid, sets_same}
+use Rattle.wasmi_machine.proofs.TotalLemmas.{each_kind}
+use Rattle.wasmi_machine.specs.Determinism.{IsNotOutOfMemory}
+use Rattle.wasmi_machine.specs.Exchange.{NothingGrows}
+use Rattle.wasmi_machine.specs.Laws.{IsRefusal}
+use Rattle.wasmi_machine.specs.Effects.{ChangesPart, DropsAt, OnLive}
+use Rattle.wasmi_machine.specs.State.{State, with_globals, with_memories, with_registers, with_segments, with_tables, byte_count, sizes, slot_count, IsValid, IsValidSegment}
+use Rattle.wasmi_machine.specs.Steps.{BytesStored, BytesWritten, Change, ElementSet, GlobalMade, GlobalSet, ItemsDropped, MemoryDropped, RegisterSet, SegmentMade, TableDropped, HasChange}
+use Rattle.wasmi_machine.specs.TableEffects.{OfReference, OfSegment, OfTable, Source, write_of}
+use Rattle.wasmi_machine.specs.declared.calls.Reply.{Reply}
+use Rattle.wasmi_machine.specs.declared.slots.Slot.{Slot}
+use Rattle.wasmi_raw.specs.declared.raw.RawVal.{RawVal}
+use Rattle.wasmi_store.specs.Memory.{IsValidMemory, MemoryValue}
+use Rattle.wasmi_store.specs.Segment.{SegmentValue}
+use Rattle.wasmi_store.specs.Table.{IsValidTable, TableValue, size_of}
+use Rattle.wasmi_types.specs.Access.{at}
+
+-- what holds of an effect on a part: a refusal leaves it, it is decided where memory isn't wanting, and it keeps a fact
+pub record EffectFacts {A : Type 0} (Effect : Reply → A → Type 0) (old : A) (Keeps : A → Type 0) : Type 0 where
+  pub back : (reply : Reply) (part : A) → IsRefusal reply → Effect reply part → part ≡ old
+  pub same : (reply reply' : Reply) (part part' : A) → IsNotOutOfMemory reply → IsNotOutOfMemory reply'
+      → Effect reply part → Effect reply' part' → (reply ≡ reply') × (part ≡ part')
+  pub keeps : (reply : Reply) (part : A) → Effect reply part → Keeps part
+
+-- what holds of a change of one part: so for the state, whose meter, sizes and validity stay
+pub record ChangeFacts (s : State) (Becomes : Reply → State → Type 0) : Type 0 where
+  pub back : (reply : Reply) (s' : State) → IsRefusal reply → Becomes reply s' → s' ≡ s
+  pub same : (reply reply' : Reply) (s' s'' : State) → IsNotOutOfMemory reply → IsNotOutOfMemory reply'
+      → Becomes reply s' → Becomes reply' s'' → (reply ≡ reply') × (s' ≡ s'')
+  pub meter : (reply : Reply) (s' : State) → Becomes reply s' → s'.meter ≡ s.meter
+  pub still : (reply : Reply) (s' : State) → Becomes reply s' → NothingGrows (sizes s) (sizes s')
+  pub valid : (reply : Reply) (s' : State) → IsValid s → Becomes reply s' → IsValid s'
+
+-- a part of a state, and what a change of it has to keep
+record PartOf (s : State) {A : Type 0} (with_part : A → State) (old : A) (Keeps : A → Type 0) : Type 0 where
+  whole : with_part old ≡ s
+  pub meter : (part : A) → (with_part part).meter ≡ s.meter
+  pub still : (part : A) → Keeps part → NothingGrows (sizes s) (sizes (with_part part))
+  pub valid : (part : A) → Keeps part → IsValid s → IsValid (with_part part)
+
+module _ {s : State} {A : Type 0} {with_part : A → State} {old : A} {Keeps : A → Type 0}
+    {Effect : Reply → A → Type 0} where
+  -- what holds of an effect holds of the change of the part
+  change_of : PartOf s with_part old Keeps → EffectFacts Effect old Keeps → ChangeFacts s (ChangesPart with_part Effect)
+  change_of part facts = record {
+    back = λ reply s' refused c. c.after ∙ ap with_part (facts.back reply c.part refused c.effect) ∙ part.whole;
+    same = λ reply reply' s' s'' has has' c c'.
+        let both = facts.same reply reply' c.part c'.part has has' c.effect c'.effect in
+        (both.0, c.after ∙ ap with_part both.1 ∙ sym c'.after);
+    meter = λ reply s' c. ap (λ (t : State). t.meter) c.after ∙ part.meter c.part;
+    still = λ reply s' c kind. ap (λ t. sizes t kind) c.after
+        ∙ part.still c.part (facts.keeps reply c.part c.effect) kind;
+    valid = λ reply s' v c. subst IsValid (sym c.after) (part.valid c.part (facts.keeps reply c.part c.effect) v);
+  }
+
+-- what a change of memories, tables, element segments or registers has to keep
+abbrev KeepsMemories : State → List (Slot MemoryValue) → Type 0
+KeepsMemories s slots =
+    (map (slot_count byte_count) slots ≡ map (slot_count byte_count) s.memories) × (AllValid IsValidMemory s.memories
+    → AllValid IsValidMemory slots)
+
+-- tables
+abbrev KeepsTables : State → List (Slot TableValue) → Type 0
+KeepsTables s slots =
+    (map (slot_count size_of) slots ≡ map (slot_count size_of) s.tables) × (AllValid IsValidTable s.tables
+    → AllValid IsValidTable slots)
+
+-- element segments
+abbrev KeepsSegments : State → List SegmentValue → Type 0
+KeepsSegments s segments = All IsValidSegment s.segments → All IsValidSegment segments
+
+-- registers
+abbrev KeepsRegisters : State → List RawVal → Type 0
+KeepsRegisters s registers = length registers ≡ length s.registers
+
+-- a state is valid, if each of its parts is where those of another one are
+valid_by : (s s' : State) → (AllValid IsValidMemory s.memories → AllValid IsValidMemory s'.memories)
+    → (AllValid IsValidTable s.tables → AllValid IsValidTable s'.tables)
+    → (All IsValidSegment s.segments → All IsValidSegment s'.segments)
+    → (length s.registers ≡ 16 → length s'.registers ≡ 16) → IsValid s → IsValid s'
+valid_by s s' memories tables segments registers v = record {
+  memories = memories v.memories;
+  tables = tables v.tables;
+  segments = segments v.segments;
+  registers = registers v.registers;
+}
+
+-- the parts of a state
+module _ (s : State) where
+  -- the memories
+  the_memories : PartOf s (with_memories s) s.memories (KeepsMemories s)
+  the_memories = record {
+    whole = refl;
+    meter = λ part. refl;
+    still = λ part keeps. each_kind (λ kind. sizes (with_memories s part) kind ≡ sizes s kind) keeps.0 refl;
+    valid = λ part keeps. valid_by s (with_memories s part) keeps.1 (λ v. v) (λ v. v) (λ v. v);
+  }
+
+  -- the tables
+  the_tables : PartOf s (with_tables s) s.tables (KeepsTables s)
+  the_tables = record {
+    whole = refl;
+    meter = λ part. refl;
+    still = λ part keeps. each_kind (λ kind. sizes (with_tables s part) kind ≡ sizes s kind) refl keeps.0;
+    valid = λ part keeps. valid_by s (with_tables s part) (λ v. v) keeps.1 (λ v. v) (λ v. v);
+  }
+
+  -- a part that is neither the memories, the tables nor the meter
+  unsized : {A : Type 0} (with_part : A → State) (old : A) (Keeps : A → Type 0) → with_part old ≡ s
+      → ((part : A) → ((with_part part).memories ≡ s.memories) × ((with_part part).tables ≡ s.tables)
+      × ((with_part part).meter ≡ s.meter))
+      → ((part : A) → Keeps part → IsValid s → IsValid (with_part part)) → PartOf s with_part old Keeps
+  unsized with_part old Keeps whole same valid = record {
+    whole = whole;
+    meter = λ part. (same part).2;
+    still = λ part keeps. each_kind (λ kind. sizes (with_part part) kind ≡ sizes s kind)
+        (ap (map (slot_count byte_count)) (same part).0) (ap (map (slot_count size_of)) (same part).1);
+    valid = valid;
+  }
+
+  -- the element segments
+  the_segments : PartOf s (with_segments s) s.segments (KeepsSegments s)
+  the_segments = unsized (with_segments s) s.segments (KeepsSegments s) refl (λ part. (refl, refl, refl))
+      (λ part keeps. valid_by s (with_segments s part) (λ v. v) (λ v. v) keeps (λ v. v))
+
+  -- the globals
+  the_globals : PartOf s (with_globals s) s.globals (λ globals. Unit {0})
+  the_globals = unsized (with_globals s) s.globals (λ globals. Unit {0}) refl (λ part. (refl, refl, refl))
+      (λ part keeps. valid_by s (with_globals s part) (λ v. v) (λ v. v) (λ v. v) (λ v. v))
+
+  -- the registers
+  the_registers : PartOf s (with_registers s) s.registers (KeepsRegisters s)
+  the_registers = unsized (with_registers s) s.registers (KeepsRegisters s) refl (λ part. (refl, refl, refl))
+      (λ part keeps. valid_by s (with_registers s part) (λ v. v) (λ v. v) (λ v. v) (λ v. keeps ∙ v))
+
+-- a drop of the live value of a slot
+drop_facts : {X : Type 0} (count : X → ℕ) (Valid : X → Type 0) (k : ℕ) (slots : List (Slot X))
+    → EffectFacts (DropsAt count k slots) slots (λ after. (map (slot_count count) after ≡ map (slot_count count) slots)
+    × (AllValid Valid slots → AllValid Valid after))
+drop_facts count Valid k slots = record {
+  back = drops_back count k slots;
+  same = λ reply reply' part part' has has'. drops_same count k slots reply reply' part part';
+  keeps = λ reply part drops. (
+    drops_kept count k slots reply part drops,
+    drops_valid Valid count k slots reply part drops,
+  );
+}
+
+-- each change of one part
+pub change_facts : (s : State) (change : Change) → ChangeFacts s (HasChange change s)
+change_facts s (BytesWritten k offset bytes) = change_of (the_memories s) (record {
+  back = write_refused k offset bytes s.memories;
+  same = λ reply reply' part part' has has'. writes_same k offset bytes s.memories reply reply' part part';
+  keeps = λ reply part effect. (
+    written_kept k s.memories reply part offset bytes effect,
+    changes_valid IsValidMemory k s.memories reply part
+        _ (λ x x' valid change. write_valid x x' offset bytes change.0 valid change.1) effect,
+  );
+})
+change_facts s (BytesStored k a stored) = change_of (the_memories s) (record {
+  back = λ reply part refused effect. vector_store_back k s.memories reply part a refused stored effect;
+  same = λ reply reply' part part' has has' effect effect'.
+      vector_stores_same k a stored s.memories reply reply' part part' effect effect';
+  keeps = λ reply part effect. (
+    vector_store_kept k s.memories reply part a stored effect,
+    vector_store_valid k a stored s.memories reply part effect,
+  );
+})
+change_facts s (RegisterSet dst given) = change_of (the_registers s) (record {
+  back = λ reply part refused effect.
+      takes_back given (slice_get s.registers dst) dst s.registers reply part refused effect;
+  same = λ reply reply' part part' has has'.
+      takes_same given (slice_get s.registers dst) dst s.registers reply reply' part part';
+  keeps = takes_count given (slice_get s.registers dst) dst s.registers;
+})
+change_facts s (MemoryDropped k) = change_of (the_memories s) (drop_facts byte_count IsValidMemory k s.memories)
+change_facts s (TableDropped k) = change_of (the_tables s) (drop_facts size_of IsValidTable k s.tables)
+change_facts s (ElementSet k index value) = change_of (the_tables s) (record {
+  back = set_refused k index value s.tables;
+  same = λ reply reply' part part' has has' effect effect'.
+      sets_same k index value s.tables reply reply' part part' effect effect';
+  keeps = λ reply part effect. (
+    set_kept k s.tables reply part index value effect,
+    set_valid k index value s.tables reply part effect,
+  );
+})
+change_facts s (SegmentMade ty items) = change_of (the_segments s) (record {
+  back = segment_back ty items s.segments;
+  same = segments_same ty items s.segments;
+  keeps = creates_segment_valid ty items s.segments;
+})
+change_facts s (ItemsDropped k) = change_of (the_segments s) (record {
+  back = items_refused k s.segments;
+  same = λ reply reply' part part' has has'. items_same k s.segments reply reply' part part';
+  keeps = λ reply part effect. item_valid IsValidSegment k s.segments reply part
+      _ (λ x x' valid change. subst IsValidSegment (sym change.1) (omega arith)) effect;
+})
+change_facts s (GlobalMade global) = change_of (the_globals s) (record {
+  back = global_made_back global s.globals;
+  same = globals_same global s.globals;
+  keeps = λ reply part effect. tt;
+})
+change_facts s (GlobalSet k value) = change_of (the_globals s) (record {
+  back = global_refused k value s.globals;
+  same = λ reply reply' part part' has has'. global_sets_same k value s.globals reply reply' part part';
+  keeps = λ reply part effect. tt;
+})
+
+-- an initialization by no item is free
+init_pays : (len : ℕ) (none : Bool) → nat_eq len 0 ≡ none → ((if none then None else Some len) ≡ Some len) ⊎ (len ≡ 0)
+init_pays len true is = inr (grind (arith, nat_tests, is))
+init_pays len false is = inl refl
+
+-- what each source writes is a write of so many elements
+pub source_writes : (source : Source) (dst len : ℕ) → OnLive (write_of source dst len) (Unit {0}) (IsWrite len)
+source_writes (OfReference value) dst len =
+    λ x. (λ elements is. overwrite_length x.elements (replicate len value.raw) elements dst is, inl refl)
+source_writes (OfTable None src) dst len = tt
+source_writes (OfTable (Some y) src) dst len =
+    λ x. (λ elements is. copied_length x.elements elements dst (at y.elements src len) is, inl refl)
+source_writes (OfSegment None src) dst len = tt
+source_writes (OfSegment (Some y) src) dst len =
+    λ x. (λ elements is. copied_length x.elements elements dst (at y.items src len) is, init_pays len _ refl)

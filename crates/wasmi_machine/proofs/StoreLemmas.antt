@@ -1,0 +1,156 @@
+-- A turn by what its call leaves, and turns one after another.
+use Rattle.std.proofs.Common.{Some, refl, ℕ, ◌∙◌, ◌≡◌, ◌+◌, ◌<◌, List, [], ◌∷◌, ◌++◌, length, take, get_or, map, sym, ap, subst}
+use Rattle.wasmi_machine.specs.Effects.{ActsMetered, ActsMeteredUnasked, Asks, Changes, ChangesPart, OnlyReplies}
+use Rattle.wasmi_machine.specs.State.{State, Turn, World, world}
+use Rattle.wasmi_store.specs.Growth.{metered, metered_value, WithCharge}
+use Rattle.wasmi_machine.specs.declared.calls.Call.{Call}
+use Rattle.wasmi_machine.specs.declared.calls.Reply.{Reply}
+use Rattle.wasmi_meter.specs.Attempt.{MeteredValue}
+use Rattle.wasmi_meter.specs.Meter.{Meter}
+use Rattle.std.proofs.lemmas.List.{take_more, map_push, map-append}
+use Rattle.wasmi_meter.specs.Limiter.{Rules}
+use Rattle.wasmi_machine.specs.Steps.{Step, RepliesWith, Sequence, Run, IsRunOf}
+
+-- a free turn by this call with this reply
+abbrev pub free_turn : Call → Reply → Turn
+free_turn call reply = record { call = call; reply = reply; charge = 0; written = 0 }
+
+-- a call is answered by a reply: it takes a turn with some charge and some bytes written
+abbrev pub IsAnswered : Call → Reply → (Turn → Type 0) → Type 0
+IsAnswered call reply Takes = (charge : ℕ) × (written : ℕ)
+    × Takes (record { call = call; reply = reply; charge = charge; written = written })
+
+module _ {S : Type 0} {w : World S} {call : Call} {reply : Reply} where
+  -- a turn of a call that only replies
+  pub only_replies : {Relation : Reply → Type 0} → Relation reply → OnlyReplies w (free_turn call reply) w Relation
+  only_replies effect = record { free = (refl, refl); effect = effect; after = refl }
+
+  -- a call that only replies is answered
+  pub replies : {Relation : Reply → Type 0} → Relation reply
+      → IsAnswered call reply (λ turn. OnlyReplies w turn w Relation)
+  replies effect = (0, 0, only_replies effect)
+
+  -- a call that changes the state is answered
+  pub changes : {Relation : Reply → State → Type 0} {s : State} → Relation reply s
+      → IsAnswered call reply (λ turn. Changes w turn (record w { state = s }) Relation)
+  changes effect = (0, 0, record { free = (refl, refl); machine = _; effect = effect; after = refl })
+
+  module _ {A : Type 0} {with_part : A → State} (part : A) where
+    -- a turn of a call that changes one part of the state
+    pub changes_part : {Relation : Reply → A → Type 0} → Relation reply part
+        → Changes w (free_turn call reply) (record w { state = with_part part }) (ChangesPart with_part Relation)
+    changes_part effect = record {
+      free = (refl, refl);
+      machine = _;
+      effect = record { part = part; effect = effect; after = refl };
+      after = refl;
+    }
+
+    -- a call that changes one part of the state is answered
+    pub alters : {Relation : Reply → A → Type 0} → Relation reply part → IsAnswered call reply
+        (λ turn. Changes w turn (record w { state = with_part part }) (ChangesPart with_part Relation))
+    alters effect = (0, 0, changes_part effect)
+
+    -- a call that makes something under the limiter is answered
+    pub asks : {Relation : S → Reply → A → S → Type 0} {l : S} → Relation w.limiter reply part l → IsAnswered call reply
+        (λ turn. Asks w turn (world (with_part part) l) with_part Relation)
+    asks effect = (0, 0, record { free = (refl, refl); part = part; limiter = _; effect = effect; after = refl })
+
+  -- it acts on one part of the state, with some charge
+  module _ {A : Type 0} {old : A} {with_part : A → State} {bytes : Reply → ℕ} (part : A) {meter : Meter} where
+    -- a call that acts on one part of the state, with some charge, is answered
+    pub acts : {Relation : MeteredValue A S → Reply → ℕ → MeteredValue A S → Type 0} {l : S}
+        → WithCharge Relation (metered_value old (Some w.state.meter) w.limiter) reply
+        (metered_value part (Some meter) l) → IsAnswered call reply (λ turn. ActsMetered w turn
+        (world (record (with_part part) { meter = meter }) l) old with_part Relation bytes)
+    acts (charge, effect) = (
+      charge,
+      bytes reply,
+      record { part = part; meter = meter; limiter = _; effect = effect; wrote = refl; after = refl },
+    )
+
+    -- a call that acts on one part, with some charge and without the limiter, is answered
+    pub acts_unasked : {Relation : MeteredValue A (Unit {0}) → Reply → ℕ → MeteredValue A (Unit {0}) → Type 0}
+        → WithCharge Relation (metered old (Some w.state.meter)) reply (metered part (Some meter))
+        → IsAnswered call reply (λ turn. ActsMeteredUnasked w turn
+        (record w { state = record (with_part part) { meter = meter } }) old with_part Relation bytes)
+    acts_unasked (charge, effect) =
+        (charge, bytes reply, record { part = part; meter = meter; effect = effect; wrote = refl; after = refl })
+
+-- a turn is one from another world too, by what it does to that world
+module _ {S : Type 0} {v v' w w' : World S} {turn : Turn} where
+  -- a turn that changes the state
+  pub changes_too : {Relation Relation' : Reply → State → Type 0} (step : Changes v turn v' Relation) (machine : State)
+      → Relation' turn.reply machine → w' ≡ record w { state = machine } → Changes w turn w' Relation'
+  changes_too step machine effect after = record { free = step.free; machine = machine; effect = effect; after = after }
+
+  module _ {A : Type 0} {with_part with_part' : A → State} where
+    -- a turn that makes something under the limiter
+    pub asks_too : {Relation Relation' : S → Reply → A → S → Type 0} (step : Asks v turn v' with_part Relation)
+        (part : A) → Relation' w.limiter turn.reply part step.limiter
+        → w' ≡ world (with_part' part) step.limiter → Asks w turn w' with_part' Relation'
+    asks_too step part effect after =
+        record { free = step.free; part = part; limiter = step.limiter; effect = effect; after = after }
+
+    -- a turn that acts on one part of the state, with a charge
+    pub acts_too : {old old' : A} {Relation Relation' : MeteredValue A S → Reply → ℕ → MeteredValue A S → Type 0}
+        {bytes bytes' : Reply → ℕ} (step : ActsMetered v turn v' old with_part Relation bytes) (part : A)
+        (meter : Meter) → Relation' (metered_value old' (Some w.state.meter) w.limiter) turn.reply turn.charge
+        (metered_value part (Some meter) step.limiter) → bytes turn.reply ≡ bytes' turn.reply
+        → w' ≡ world (record (with_part' part) { meter = meter }) step.limiter
+        → ActsMetered w turn w' old' with_part' Relation' bytes'
+    acts_too step part meter effect same after = record {
+      part = part;
+      meter = meter;
+      limiter = step.limiter;
+      effect = effect;
+      wrote = step.wrote ∙ same;
+      after = after;
+    }
+
+-- one call more: the turns so far are by the calls up to a place, and the next turn is by the one there
+pub calls_more : (turns : List Turn) (calls : List Call) (i : ℕ) (turn : Turn) → map Turn.call turns ≡ take i calls
+    → i < length calls → turn.call ≡ get_or calls i turn.call → map Turn.call (turns ++ turn ∷ []) ≡ take (i + 1) calls
+calls_more turns calls i turn so_far within here =
+    map_push Turn.call turns turn ∙ ap (λ cs. cs ++ turn.call ∷ []) so_far
+    ∙ ap (λ c. take i calls ++ c ∷ []) here ∙ sym (take_more calls i turn.call within)
+
+module _ {S : Type 0} (rules : Rules S) where
+  -- a run and one more turn
+  pub Run-push : (u : World S) (turns : List Turn) (v : World S) → Run rules u turns v → (turn : Turn) (w : World S)
+      → Step rules v turn w → Run rules u (turns ++ turn ∷ []) w
+  Run-push u [] v ran turn w step = (w, rw (← ran) step, refl)
+  Run-push u (t ∷ turns) v ran turn w step = (ran.0, ran.1, Run-push ran.0 turns v ran.2 turn w step)
+
+  -- two runs in a row are one
+  pub runs_joined : (u : World S) (turns : List Turn) (v : World S) (turns' : List Turn) (w : World S)
+      → Run rules u turns v → Run rules v turns' w → Run rules u (turns ++ turns') w
+  runs_joined u [] v turns' w ran ran' = rw (← ran) ran'
+  runs_joined u (turn ∷ turns) v turns' w (t, step, ran) ran' = (t, step, runs_joined t turns v turns' w ran ran')
+
+  -- two runs of calls in a row are one
+  pub runs_of_calls_joined : (calls calls' : List Call) (u v w : World S) (replies replies' : List Reply)
+      → IsRunOf rules calls u replies v → IsRunOf rules calls' v replies' w
+      → IsRunOf rules (calls ++ calls') u (replies ++ replies') w
+  runs_of_calls_joined calls calls' u v w replies replies' (turns, made, told, ran) (turns', made', told', ran') = (
+    turns ++ turns',
+    map-append Turn.call turns turns' ∙ ap (λ cs. cs ++ map Turn.call turns') made ∙ ap (λ cs. calls ++ cs) made',
+    map-append Turn.reply turns turns' ∙ ap (λ rs. rs ++ map Turn.reply turns') told ∙ ap (λ rs. replies ++ rs) told',
+    runs_joined u turns v turns' w ran ran',
+  )
+
+  -- what holds of each step holds of each turn of a run
+  pub each_turn : (Holds : World S → Turn → World S → Type 0)
+      → ((w : World S) (turn : Turn) (w' : World S) → Step rules w turn w' → Holds w turn w')
+      → (w : World S) (turns : List Turn) (w' : World S) → Run rules w turns w'
+      → Sequence (λ v turn v'. Step rules v turn v' × Holds v turn v') w turns w'
+  each_turn Holds law w [] w' ran = ran
+  each_turn Holds law w (turn ∷ turns) w' (v, step, ran) =
+      (v, (step, law w turn v step), each_turn Holds law v turns w' ran)
+
+  -- an answered call, with the limiter before and after it by other names
+  pub answers_by : (call : Call) (m m' : State) (reply : Reply) (l k l' k' : S) → l ≡ k → l' ≡ k'
+      → RepliesWith rules call (world m l) reply (world m' l') → RepliesWith rules call (world m k) reply (world m' k')
+  answers_by call m m' reply l k l' k' before after answers =
+      subst (λ x. RepliesWith rules call (world m x) reply (world m' k')) before
+      (subst (λ x. RepliesWith rules call (world m l) reply (world m' x)) after answers)

@@ -1,0 +1,16 @@
+use Rattle.std.proofs.Common.{◌+◌, Some}
+use Rattle.wasmi_machine.proofs.MemoryEffectsLemmas.{vector_store_valid}
+use Rattle.wasmi_ops.specs.LoadStoreOps.{stored_bytes}
+use Rattle.wasmi_machine.proofs.machine.Machine.store_item.Goals as goal
+
+pub invariant_of-self : goal.invariant_of-self
+invariant_of-self c =
+    let valid = rw (← c.self-inside.view_is) at c.self.invariant in
+    let bytes = stored_bytes c.args.op c.args.value in
+    record {
+      memories = vector_store_valid c.args.memory (c.args.ptr + c.args.offset) (Some bytes) _ _ _ c.store-reply.ensures
+          valid.memories;
+      tables = valid.tables;
+      segments = valid.segments;
+      registers = valid.registers;
+    }

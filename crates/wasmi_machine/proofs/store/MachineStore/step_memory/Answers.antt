@@ -1,0 +1,41 @@
+use Rattle.std.proofs.Common.{refl, rules}
+use Rattle.wasmi_machine.proofs.StoreLemmas.{asks, alters, replies}
+use Rattle.wasmi_machine.proofs.store.MachineStore.step_memory.Goals as goal
+
+pub returns-in-NewMemory-clause-step : goal.returns-in-NewMemory-clause-step
+returns-in-NewMemory-clause-step g c = rw (c.in-NewMemory.is, ← c.self.view_is) (asks _ c.create.ensures.made)
+
+pub returns-in-NewLentMemory-clause-step : goal.returns-in-NewLentMemory-clause-step
+returns-in-NewLentMemory-clause-step g c =
+    rw (c.in-NewLentMemory.is, ← c.self-in-NewLentMemory.view_is) (asks _ c.create_lent.ensures.made)
+
+pub returns-in-GrowMemory-clause-step : goal.returns-in-GrowMemory-clause-step
+returns-in-GrowMemory-clause-step g c = rw c.in-GrowMemory.is c.grow_memory.ensures.step
+
+pub returns-in-DropMemory-clause-step : goal.returns-in-DropMemory-clause-step
+returns-in-DropMemory-clause-step g c =
+    rw (c.in-DropMemory.is, ← c.self-in-DropMemory.view_is) (alters _ c.drop_live.ensures)
+
+pub returns-in_err-memory-in-Read-clause-step : goal.returns-in_err-memory-in-Read-clause-step
+returns-in_err-memory-in-Read-clause-step g c = rw (c.in-Read.is, ← c.self-in-Read.view_is)
+    (replies (rw (c.from_residual.ensures, ← c.live.ensures, c.in_err-memory-in-Read.was) refl))
+
+pub returns-in_ok-memory-in-Read-clause-step : goal.returns-in_ok-memory-in-Read-clause-step
+returns-in_ok-memory-in-Read-clause-step g c = rw (c.in-Read.is, ← c.self-in-Read.view_is)
+    (replies (rw (← c.live.ensures, c.in_ok-memory-in-Read.was) (rw c.data.ensures at c.bytes_reply.ensures)))
+
+pub returns-in-Write-clause-step : goal.returns-in-Write-clause-step
+returns-in-Write-clause-step g c =
+    rw (c.in-Write.is, ← c.self-in-Write.view_is) (alters _ (rw c.deref.ensures.value at c.write.ensures))
+
+pub returns-in_err-memory-in-Load-clause-step : goal.returns-in_err-memory-in-Load-clause-step
+returns-in_err-memory-in-Load-clause-step g c = rw (c.in-Load.is, ← c.self-in-Load.view_is)
+    (replies (rw (c.from_residual-in_err-memory-in-Load.ensures, ← c.live-in-Load.ensures, c.in_err-memory-in-Load.was)
+    refl))
+
+pub returns-in_ok-memory-in-Load-clause-step : goal.returns-in_ok-memory-in-Load-clause-step
+returns-in_ok-memory-in-Load-clause-step g c = rw (c.in-Load.is, ← c.self-in-Load.view_is)
+    (replies (rw (← c.live-in-Load.ensures, c.in_ok-memory-in-Load.was) (search rules)))
+
+pub returns-in-Store-clause-step : goal.returns-in-Store-clause-step
+returns-in-Store-clause-step g c = rw (c.in-Store.is, ← c.self-in-Store.view_is) (alters _ c.store.ensures)

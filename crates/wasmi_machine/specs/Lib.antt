@@ -1,0 +1,12 @@
+pub mod State
+pub mod Effects
+pub mod MemoryEffects
+pub mod TableEffects
+pub mod ValueEffects
+pub mod RegisterEffects
+pub mod Steps
+pub mod Exchange
+pub mod Account
+pub mod Determinism
+pub mod LentMemory
+pub mod Laws

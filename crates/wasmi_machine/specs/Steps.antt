@@ -1,0 +1,244 @@
+-- One step of the machine: what each call does, and what that changes in a world; and whole runs.
+use Rattle.std.specs.Prelude.{◌≡◌, ◌+◌, ℕ, Bool, true, false, List, Option, Some, None, Result, Ok, slice_get, [], ◌∷◌, map}
+use Rattle.std.specs.Option.{option_map, option_and_then}
+use Rattle.wasmi_types.specs.Numbers.{le_bytes}
+use Rattle.wasmi_types.specs.declared.trap.TrapCode.{TrapCode}
+use Rattle.wasmi_types.specs.declared.value.RefType.{RefType}
+use Rattle.wasmi_raw.specs.declared.raw.RawVal.{RawVal}
+use Rattle.wasmi_typed.specs.declared.typed.TypedRawVal.{TypedRawVal}
+use Rattle.wasmi_typed.specs.declared.typed_ref.TypedRawRef.{TypedRawRef}
+use Rattle.wasmi_typed.specs.Global.{GlobalInstance}
+use Rattle.wasmi_lanewise.specs.VectorTable.{shuffle}
+use Rattle.wasmi_ops.specs.VectorOps.{stored_lane, binary_vector, made_vector, shifted_vector, ternary_vector, tested_raw, unary_vector}
+use Rattle.wasmi_ops.specs.LaneOps.{extracted_raw, replaced_vector}
+use Rattle.wasmi_meter.specs.Limiter.{Rules}
+use Rattle.wasmi_store.specs.Buffer.{Owned}
+use Rattle.wasmi_store.specs.Memory.{MemoryTypeValue, MakesMemory, GrowsMemoryCharging}
+use Rattle.wasmi_store.specs.Table.{TableTypeValue, size_of, MakesTable, GrowsTableCharging}
+use Rattle.wasmi_machine.specs.declared.calls.Call.{Call}
+use Rattle.wasmi_machine.specs.declared.calls.Reply.{Reply}
+use Rattle.wasmi_machine.specs.State.{World, Turn, world, State, live_at, with_memories, memory_part, with_memory_part, with_tables, with_segments, with_globals, with_registers, byte_count}
+use Rattle.wasmi_machine.specs.Effects.{reply_of, Creates, DropsAt, ActsAt, ChangesPart, OnlyReplies, Changes, Asks, ActsMetered, ActsMeteredUnasked}
+use Rattle.wasmi_ops.specs.LoadStoreOps.{stored_bytes}
+use Rattle.wasmi_machine.specs.ValueEffects.{SetsFuel, get_fuel_reply, CreatesSegment, DropsItemsAt, CreatesGlobal, SetsGlobalAt, global_reply}
+use Rattle.wasmi_machine.specs.MemoryEffects.{bytes_appended, CreatesLent, ReadsMemoryAt, WritesMemoryAt, load_reply}
+use Rattle.wasmi_machine.specs.TableEffects.{Source, OfReference, OfTable, OfSegment, element_reply, SetsElementAt, write_of, WritesRangeAt, element_bytes}
+use Rattle.wasmi_machine.specs.RegisterEffects.{SetsRegister, StoresVectorAt, given_vector, of_one, of_two, of_three, vector_loaded, lane_loaded, raw_reply, vector_at}
+use Rattle.wasmi_machine.specs.declared.calls.Call.TheVariants as call
+use Rattle.wasmi_machine.specs.declared.calls.Reply.TheVariants as reply
+
+-- what a call is about
+pub data Subject : Type 0 where
+  TheMeter : Subject
+  Memories : Subject
+  Tables : Subject
+  Values : Subject
+  RegisterFile : Subject
+  VectorAccesses : Subject
+
+-- what each call is about: a line for each, but for those on registers
+abbrev pub subject_of : Call → Subject
+subject_of (call.SetFuel fuel) = TheMeter
+subject_of call.GetFuel = TheMeter
+subject_of (call.NewMemory ty) = Memories
+subject_of (call.NewLentMemory ty) = Memories
+subject_of (call.GrowMemory k pages) = Memories
+subject_of (call.DropMemory k) = Memories
+subject_of (call.Read k offset len) = Memories
+subject_of (call.Write k offset bytes) = Memories
+subject_of (call.Load op k ptr offset) = Memories
+subject_of (call.Store op k ptr offset value) = Memories
+subject_of (call.NewTable ty init) = Tables
+subject_of (call.GrowTable k n init) = Tables
+subject_of (call.DropTable k) = Tables
+subject_of (call.GetElement k index) = Tables
+subject_of (call.SetElement k index value) = Tables
+subject_of (call.InitTable k j dst src len) = Tables
+subject_of (call.CopyTable k dst j src len) = Tables
+subject_of (call.FillTable k dst value len) = Tables
+subject_of (call.NewSegment ty items) = Values
+subject_of (call.DropItems k) = Values
+subject_of (call.NewGlobal value ty) = Values
+subject_of (call.SetGlobal k value) = Values
+subject_of (call.GetGlobal k) = Values
+subject_of (call.VectorLoad op dst k ptr offset) = VectorAccesses
+subject_of (call.LoadLane op dst a k ptr offset) = VectorAccesses
+subject_of (call.VectorStore a k ptr offset) = VectorAccesses
+subject_of (call.StoreLane op a k ptr offset) = VectorAccesses
+subject_of call = RegisterFile
+
+-- the calls that are charged for what they write: growths, and those that write over a part of a table
+abbrev pub is_charged : Call → Bool
+is_charged (call.GrowMemory k pages) = true
+is_charged (call.GrowTable k n init) = true
+is_charged (call.InitTable k j dst src len) = true
+is_charged (call.CopyTable k dst j src len) = true
+is_charged (call.FillTable k dst value len) = true
+is_charged call = false
+
+-- what changes one part of the state, but for the meter: nothing is charged, and the limiter isn't reached
+pub data Change : Type 0 where
+  BytesWritten : ℕ → ℕ → List ℕ → Change
+  BytesStored : ℕ → ℕ → Option (List ℕ) → Change
+  RegisterSet : ℕ → Option (Result RawVal TrapCode) → Change
+  MemoryDropped : ℕ → Change
+  TableDropped : ℕ → Change
+  ElementSet : ℕ → ℕ → TypedRawRef → Change
+  SegmentMade : RefType → List ℕ → Change
+  ItemsDropped : ℕ → Change
+  GlobalMade : GlobalInstance → Change
+  GlobalSet : ℕ → TypedRawVal → Change
+
+-- what a call does, once its operands are read: all calls that only reply what is known have one kind of effect, all
+-- that change one part alone another, and all that write over a range of a table a third
+pub data Effect : Type 0 where
+  Told : Reply → Effect
+  BytesRead : ℕ → ℕ → ℕ → Effect
+  FuelSet : ℕ → Effect
+  Changed : Change → Effect
+  MemoryMade : MemoryTypeValue → Effect
+  LentMemoryMade : MemoryTypeValue → Effect
+  MemoryGrown : ℕ → ℕ → Effect
+  TableMade : TableTypeValue → TypedRawRef → Effect
+  TableGrown : ℕ → ℕ → TypedRawRef → Effect
+  RangeWritten : ℕ → Source → ℕ → ℕ → Effect
+
+-- what a call that makes a vector of what is in registers gives the register of its result
+abbrev pub vector_given : List RawVal → Call → Option (Result RawVal TrapCode)
+vector_given rs (call.Make op dst a) = option_map (λ raw. given_vector (made_vector op raw)) (slice_get rs a)
+vector_given rs (call.Unary op dst a) = of_one (unary_vector op) (vector_at rs a)
+vector_given rs (call.Binary op dst a b) = of_two (binary_vector op) (vector_at rs a) (vector_at rs b)
+vector_given rs (call.Ternary op dst a b c) =
+    of_three (ternary_vector op) (vector_at rs a) (vector_at rs b) (vector_at rs c)
+vector_given rs (call.Shift op dst a amount) = of_one (λ v. shifted_vector op v amount) (vector_at rs a)
+vector_given rs (call.Replace op dst a item) =
+    option_and_then (λ raw. of_one (λ v. replaced_vector op v raw) (vector_at rs a)) (slice_get rs item)
+vector_given rs (call.Shuffle dst a b lanes) = of_two (λ x y. shuffle x y lanes) (vector_at rs a) (vector_at rs b)
+vector_given rs call = None
+
+-- a call makes a vector of what is in registers
+abbrev pub MakesVector : Call → Type 0
+MakesVector (call.Make op dst a) = Unit {0}
+MakesVector (call.Unary op dst a) = Unit {0}
+MakesVector (call.Binary op dst a b) = Unit {0}
+MakesVector (call.Ternary op dst a b c) = Unit {0}
+MakesVector (call.Shift op dst a amount) = Unit {0}
+MakesVector (call.Replace op dst a item) = Unit {0}
+MakesVector (call.Shuffle dst a b lanes) = Unit {0}
+MakesVector call = ⊥
+
+-- the effect of a call on a machine in this state: a line for each call
+abbrev pub effect_of : State → Call → Effect
+effect_of s (call.SetFuel fuel) = FuelSet fuel
+effect_of s call.GetFuel = Told (get_fuel_reply s.meter)
+effect_of s (call.NewMemory ty) = MemoryMade ty
+effect_of s (call.NewLentMemory ty) = LentMemoryMade ty
+effect_of s (call.GrowMemory k pages) = MemoryGrown k pages
+effect_of s (call.DropMemory k) = Changed (MemoryDropped k)
+effect_of s (call.Read k offset len) = BytesRead k offset len
+effect_of s (call.Write k offset bytes) = Changed (BytesWritten k offset bytes.items)
+effect_of s (call.Load op k ptr offset) = Told (load_reply op (ptr + offset) (live_at s.memories k))
+effect_of s (call.Store op k ptr offset value) = Changed (BytesStored k (ptr + offset) (Some (stored_bytes op value)))
+effect_of s (call.NewTable ty init) = TableMade ty init
+effect_of s (call.GrowTable k n init) = TableGrown k n init
+effect_of s (call.DropTable k) = Changed (TableDropped k)
+effect_of s (call.GetElement k index) = Told (element_reply index (live_at s.tables k))
+effect_of s (call.SetElement k index value) = Changed (ElementSet k index value)
+effect_of s (call.InitTable k j dst src len) = RangeWritten k (OfSegment (slice_get s.segments j) src) dst len
+effect_of s (call.CopyTable k dst j src len) = RangeWritten k (OfTable (live_at s.tables j) src) dst len
+effect_of s (call.FillTable k dst value len) = RangeWritten k (OfReference value) dst len
+effect_of s (call.NewSegment ty items) = Changed (SegmentMade ty items.items)
+effect_of s (call.DropItems k) = Changed (ItemsDropped k)
+effect_of s (call.NewGlobal value ty) = Changed (GlobalMade (record { value = value; ty = ty }))
+effect_of s (call.SetGlobal k value) = Changed (GlobalSet k value)
+effect_of s (call.GetGlobal k) = Told (global_reply (slice_get s.globals k))
+effect_of s (call.SetRegister dst value) = Changed (RegisterSet dst (Some (Ok value)))
+effect_of s (call.GetRegister a) = Told (raw_reply (slice_get s.registers a))
+effect_of s (call.Make op dst a) = Changed (RegisterSet dst (vector_given s.registers (call.Make op dst a)))
+effect_of s (call.Unary op dst a) = Changed (RegisterSet dst (vector_given s.registers (call.Unary op dst a)))
+effect_of s (call.Binary op dst a b) = Changed (RegisterSet dst (vector_given s.registers (call.Binary op dst a b)))
+effect_of s (call.Ternary op dst a b c) =
+    Changed (RegisterSet dst (vector_given s.registers (call.Ternary op dst a b c)))
+effect_of s (call.Shift op dst a amount) =
+    Changed (RegisterSet dst (vector_given s.registers (call.Shift op dst a amount)))
+effect_of s (call.Test op a) = Told (raw_reply (option_map (tested_raw op) (vector_at s.registers a)))
+effect_of s (call.Extract op a) = Told (raw_reply (option_map (extracted_raw op) (vector_at s.registers a)))
+effect_of s (call.Replace op dst a item) =
+    Changed (RegisterSet dst (vector_given s.registers (call.Replace op dst a item)))
+effect_of s (call.Shuffle dst a b lanes) =
+    Changed (RegisterSet dst (vector_given s.registers (call.Shuffle dst a b lanes)))
+effect_of s (call.VectorLoad op dst k ptr offset) =
+    Changed (RegisterSet dst (vector_loaded op (ptr + offset) (live_at s.memories k)))
+effect_of s (call.LoadLane op dst a k ptr offset) =
+    Changed (RegisterSet dst (lane_loaded op (ptr + offset) (vector_at s.registers a) (live_at s.memories k)))
+effect_of s (call.VectorStore a k ptr offset) =
+    Changed (BytesStored k (ptr + offset) (option_map (le_bytes 16) (vector_at s.registers a)))
+effect_of s (call.StoreLane op a k ptr offset) =
+    Changed (BytesStored k (ptr + offset) (option_map (stored_lane op) (vector_at s.registers a)))
+
+-- one part of the state changes: a line for each kind
+abbrev pub HasChange : Change → State → Reply → State → Type 0
+HasChange (BytesWritten k offset bytes) s = ChangesPart (with_memories s) (WritesMemoryAt k offset bytes s.memories)
+HasChange (BytesStored k a stored) s = ChangesPart (with_memories s) (StoresVectorAt k a stored s.memories)
+HasChange (RegisterSet dst given) s = ChangesPart (with_registers s) (SetsRegister dst given s.registers)
+HasChange (MemoryDropped k) s = ChangesPart (with_memories s) (DropsAt byte_count k s.memories)
+HasChange (TableDropped k) s = ChangesPart (with_tables s) (DropsAt size_of k s.tables)
+HasChange (ElementSet k index value) s = ChangesPart (with_tables s) (SetsElementAt k index value s.tables)
+HasChange (SegmentMade ty items) s = ChangesPart (with_segments s) (CreatesSegment ty items s.segments)
+HasChange (ItemsDropped k) s = ChangesPart (with_segments s) (DropsItemsAt k s.segments)
+HasChange (GlobalMade global) s = ChangesPart (with_globals s) (CreatesGlobal global s.globals)
+HasChange (GlobalSet k value) s = ChangesPart (with_globals s) (SetsGlobalAt k value s.globals)
+
+-- an effect takes place from one world to the next: a line for each kind
+abbrev pub HasEffect : {S : Type 0} → Rules S → Effect → World S → Turn → World S → Type 0
+HasEffect rules (Told told) w turn w' = OnlyReplies w turn w' (λ answer. answer ≡ told)
+HasEffect rules (BytesRead k offset len) w turn w' = OnlyReplies w turn w' (ReadsMemoryAt k offset len w.state.memories)
+HasEffect rules (FuelSet fuel) w turn w' = Changes w turn w' (SetsFuel fuel w.state)
+HasEffect rules (Changed change) w turn w' = Changes w turn w' (HasChange change w.state)
+HasEffect rules (MemoryMade ty) w turn w' =
+    Asks w turn w' (with_memories w.state) (Creates reply.Memory (MakesMemory rules Owned ty) w.state.memories)
+HasEffect rules (LentMemoryMade ty) w turn w' =
+    Asks w turn w' (with_memory_part w.state) (CreatesLent rules ty (memory_part w.state))
+HasEffect rules (MemoryGrown k pages) w turn w' = ActsMetered w turn w' w.state.memories (with_memories w.state)
+    (ActsAt k (reply_of reply.Number reply.Memory) (GrowsMemoryCharging rules pages))
+    (bytes_appended (live_at w.state.memories k) pages)
+HasEffect rules (TableMade ty init) w turn w' =
+    Asks w turn w' (with_tables w.state) (Creates reply.Table (MakesTable rules ty init) w.state.tables)
+HasEffect rules (TableGrown k n init) w turn w' = ActsMetered w turn w' w.state.tables (with_tables w.state)
+    (ActsAt k (reply_of reply.Number reply.Table) (GrowsTableCharging rules n init)) (element_bytes n)
+HasEffect rules (RangeWritten k source dst len) w turn w' =
+    ActsMeteredUnasked w turn w' w.state.tables (with_tables w.state) (WritesRangeAt k (write_of source dst len))
+    (element_bytes len)
+
+-- a step from one world to the next: the effect of the turn's call takes place
+abbrev pub Step : {S : Type 0} → Rules S → World S → Turn → World S → Type 0
+Step rules w turn w' = HasEffect rules (effect_of w.state turn.call) w turn w'
+
+-- a call is answered by a reply: there is a step by it, with some charge and some bytes written
+abbrev pub RepliesWith : {S : Type 0} → Rules S → Call → World S → Reply → World S → Type 0
+RepliesWith rules call w reply w' = (charge : ℕ) × (written : ℕ)
+    × Step rules w (record { call = call; reply = reply; charge = charge; written = written }) w'
+
+-- a call is answered by a reply without the limiter, whatever the limiter is, in a step that charges and writes nothing
+abbrev pub RepliesWithoutLimiter : {S : Type 0} → Rules S → Call → State → Reply → State → Type 0
+RepliesWithoutLimiter {S} rules call s reply s' = (limiter : S)
+    → Step rules (world s limiter) (record { call = call; reply = reply; charge = 0; written = 0 }) (world s' limiter)
+
+-- turns one after another from one world to another, each of which relates the worlds before and after it
+abbrev pub Sequence : {S : Type 0} → (World S → Turn → World S → Type 0) → World S → List Turn → World S → Type 0
+Sequence Relates w [] w' = w' ≡ w
+Sequence Relates w (turn ∷ turns) w' = (v : World _) × Relates w turn v × Sequence Relates v turns w'
+
+-- a run: each turn is a step
+abbrev pub Run : {S : Type 0} → Rules S → World S → List Turn → World S → Type 0
+Run rules = Sequence (Step rules)
+
+-- turns of these calls with these replies
+pub record AreTurns (calls : List Call) (replies : List Reply) (turns : List Turn) : Type 0 where
+  pub calls_of : map Turn.call turns ≡ calls
+  pub replies_of : map Turn.reply turns ≡ replies
+
+-- the replies are those of a run of the calls, from one world to another
+abbrev pub IsRunOf : {S : Type 0} → Rules S → List Call → World S → List Reply → World S → Type 0
+IsRunOf rules calls w replies w' =
+    (turns : List Turn) × (map Turn.call turns ≡ calls) × (map Turn.reply turns ≡ replies) × Run rules w turns w'

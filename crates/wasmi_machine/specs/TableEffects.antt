@@ -1,0 +1,72 @@
+-- The calls on tables: what each does to the list of slots.
+use Rattle.std.specs.Prelude.{◌≡◌, ℕ, Option, Some, Result, List}
+use Rattle.std.specs.Option.{option_map, option_map_or}
+use Rattle.wasmi_typed.specs.declared.typed_ref.TypedRawRef.{TypedRawRef}
+use Rattle.wasmi_meter.specs.declared.error.TableError.{TableError}
+use Rattle.wasmi_meter.specs.Meter.{cut_product}
+use Rattle.wasmi_meter.specs.Attempt.{MeteredValue, with_value}
+use Rattle.wasmi_store.specs.Segment.{SegmentValue}
+use Rattle.wasmi_store.specs.Table.{TableValue, TableWrite, SetsTable, WritesTableCharging, element_at, filling_of, copy_of, initialization_of}
+use Rattle.wasmi_machine.specs.declared.calls.Reply.{Reply}
+use Rattle.wasmi_machine.specs.declared.calls.Reply.TheVariants.{Done, Number, Reference, Table, NoSuch}
+use Rattle.wasmi_machine.specs.declared.slots.Slot.{Slot}
+use Rattle.wasmi_machine.specs.declared.slots.Slot.TheVariants.{Live}
+use Rattle.wasmi_machine.specs.State.{live_value}
+use Rattle.wasmi_machine.specs.Effects.{reply_of, OnLive, IsNoSuch, ChangesAt, ActsAt}
+
+-- the element that is asked of a table, if the table is there
+abbrev pub element_reply : ℕ → Option TableValue → Reply
+element_reply index table = option_map_or (λ x. Reference (element_at x index)) table NoSuch
+
+-- an element of the table of an index is set, or the call is refused
+abbrev pub SetsElementAt : ℕ → ℕ → TypedRawRef → List (Slot TableValue) → Reply → List (Slot TableValue) → Type 0
+SetsElementAt k index value slots reply slots' = ChangesAt k slots reply slots'
+    (λ x x'. (result : Result (Unit {0}) TableError) × SetsTable index value x result x'
+    × (reply ≡ reply_of (λ _. Done) Table result))
+
+-- tables, and the meter that is charged
+abbrev pub MeteredTables : Type 0
+MeteredTables = MeteredValue (List (Slot TableValue)) (Unit {0})
+
+-- a part of the table of an index is written over, with its charge
+abbrev pub WritesTableAt : ℕ → (TableValue → TableWrite) → MeteredTables → Reply → ℕ → MeteredTables → Type 0
+WritesTableAt k write = ActsAt k (reply_of (λ _. Done) Table) (WritesTableCharging write)
+
+-- a part of the table of an index is written over with what a source has, with its charge; without a source the reply
+-- is `NoSuch`, and nothing has changed
+abbrev pub WritesTableFrom : {X : Type 0} → Option X → ℕ → (X → TableValue → TableWrite) → MeteredTables → Reply → ℕ
+    → MeteredTables → Type 0
+WritesTableFrom source k write s reply charge s' =
+    OnLive source (IsNoSuch s reply charge s') (λ x. WritesTableAt k (write x) s reply charge s')
+
+-- a slot's table is written over with what another slot's table has
+abbrev pub CopiesSlot : (TableValue → TableValue → TableWrite) → Slot TableValue
+    → MeteredValue (Slot TableValue) (Unit {0}) → Reply → ℕ → MeteredValue (Slot TableValue) (Unit {0}) → Type 0
+CopiesSlot write source s reply charge s' = OnLive (live_value source) (IsNoSuch s reply charge s')
+    (λ y. OnLive (live_value s.value) (IsNoSuch s reply charge s')
+    (λ x. (result : Result (Unit {0}) TableError) × (x' : TableValue)
+    × WritesTableCharging (write y) (with_value s x) result charge (with_value s' x')
+    × (reply ≡ reply_of (λ _. Done) Table result) × (s'.value ≡ Live x')))
+
+-- what a part of a table is written over with: a reference, elements of a table, or items of an element segment, from a
+-- place on, if it is there
+pub data Source : Type 0 where
+  OfReference : TypedRawRef → Source
+  OfTable : Option TableValue → ℕ → Source
+  OfSegment : Option SegmentValue → ℕ → Source
+
+-- the write over so many elements from a place on, with what a source has, if the source is there
+abbrev pub write_of : Source → ℕ → ℕ → Option (TableValue → TableWrite)
+write_of (OfReference value) dst len = Some (filling_of dst value len)
+write_of (OfTable source src) dst len = option_map (copy_of dst src len) source
+write_of (OfSegment segment src) dst len = option_map (initialization_of dst src len) segment
+
+-- a range of a table is written over by such a write, if there is one
+abbrev pub WritesRangeAt : ℕ → Option (TableValue → TableWrite) → MeteredTables → Reply → ℕ → MeteredTables → Type 0
+WritesRangeAt k write = WritesTableFrom write k (λ w. w)
+
+-- the bytes that an accepted call on so many elements has written
+abbrev pub element_bytes : ℕ → Reply → ℕ
+element_bytes n Done = cut_product n 4
+element_bytes n (Number size) = cut_product n 4
+element_bytes n reply = 0

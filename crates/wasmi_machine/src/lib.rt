@@ -1,0 +1,18 @@
+//! A machine that runs lists of calls on metered WebAssembly memories and tables under a resource
+//! limiter.
+#![tactic(auto)]
+
+mod calls;
+pub mod laws;
+mod machine;
+mod memories;
+mod registers;
+mod running;
+mod slots;
+mod store;
+mod tables;
+mod values;
+
+pub use calls::{ByteList, Call, Reply};
+pub use machine::Machine;
+pub use running::{run, run_lending, run_reserving};

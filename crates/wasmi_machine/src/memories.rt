@@ -1,0 +1,135 @@
+//! The memories of a machine, by their indices.
+ghost use Rattle.std.specs.Prelude.{◌+◌};
+ghost use Rattle.wasmi_meter.specs.Limiter.{optional_rules, lent_limiter, KeepsLoan};
+ghost use Rattle.wasmi_store.specs.Buffer.{Owned};
+ghost use Rattle.wasmi_store.specs.Memory.{MakesMemory};
+ghost use Rattle.wasmi_machine.specs.Effects.{reply_or_no_such, Creates};
+ghost use Rattle.std.specs.Option.{option_copied_mut};
+ghost use Rattle.wasmi_machine.specs.MemoryEffects.{bytes_of_stored, CreatesLent, ReadsBytes, WritesMemoryAt, StoresMemoryAt, StoresMemory};
+ghost use Rattle.wasmi_types.specs.Access.{at};
+
+use crate::calls::{ByteList, Reply};
+use crate::slots::Slots;
+use std::alloc::Global;
+use wasmi_meter::{MemoryError, ResourceLimiter, ResourceLimiterRef};
+use wasmi_ops::{StoreLaneOp, StoreOp};
+use wasmi_raw::{RawVal, V128};
+use wasmi_store::range::lies_within;
+use wasmi_store::{Memory, MemoryType};
+use wasmi_types::TrapCode;
+use wasmi_vector_access::simd::v128_store;
+
+impl<'r> Slots<Memory<'r>> {
+    /// Makes a memory in a new slot, which is reserved before the limiter is asked.
+    pub(crate) fn create<L: ResourceLimiter>(
+        &mut self,
+        alloc: Global,
+        ty: MemoryType,
+        limiter: &mut ResourceLimiterRef<L>,
+    ) -> Reply
+        ensures loan { KeepsLoan limiter.old limiter.new }
+        ensures made { Creates Reply.Memory
+            (MakesMemory (optional_rules L.rules) Owned ty) self.old.slots.items
+            (lent_limiter limiter.old) result self.new.slots.items (lent_limiter limiter.new) }
+    {
+        if self.slots.try_reserve(1).is_err() {
+            return Reply::NoRoom;
+        }
+        match Memory::new(alloc, ty, limiter) {
+            Ok(memory) => Reply::Made(self.push(memory)),
+            Err(error) => Reply::Memory(error),
+        }
+    }
+
+    /// Makes a memory in the spare region, in a new slot, which is reserved before the limiter is
+    /// asked.
+    pub(crate) fn create_lent<L: ResourceLimiter>(
+        &mut self,
+        ty: MemoryType,
+        spare: &mut Option<&'r mut [u8]>,
+        limiter: &mut ResourceLimiterRef<L>,
+    ) -> Reply
+        ensures loan { KeepsLoan limiter.old limiter.new }
+        ensures made { CreatesLent (optional_rules L.rules) ty
+            (record { slots = self.old.slots.items; spare = option_copied_mut spare.old })
+            (lent_limiter limiter.old) result
+            (record { slots = self.new.slots.items; spare = option_copied_mut spare.new })
+            (lent_limiter limiter.new) }
+    {
+        let Some(region) = spare.take() else {
+            return Reply::NoRegion;
+        };
+        if self.slots.try_reserve(1).is_ok() {
+            match Memory::new_static(ty, limiter, region) {
+                Ok(memory) => Reply::Made(self.push(memory)),
+                Err(error) => Reply::Memory(error),
+            }
+        } else {
+            *spare = Some(region);
+            Reply::NoRoom
+        }
+    }
+
+    /// Writes into a memory.
+    pub(crate) fn write(&mut self, index: usize, offset: usize, bytes: &[u8]) -> Option<Reply>
+        ensures { WritesMemoryAt index offset bytes.now self.old.slots.items
+            (reply_or_no_such result) self.new.slots.items }
+    {
+        let memory = self.live_mut(index)?;
+        match memory.write(offset, bytes) {
+            Ok(()) => Some(Reply::Done),
+            Err(error) => Some(Reply::Memory(error)),
+        }
+    }
+
+    /// Stores to a memory.
+    #[inline(always)]
+    pub(crate) fn store(
+        &mut self,
+        index: usize,
+        ptr: u64,
+        offset: u64,
+        stored: Stored,
+    ) -> Option<Reply>
+        ensures { StoresMemoryAt index (ptr + offset) (bytes_of_stored stored) self.old.slots.items
+            (reply_or_no_such result) self.new.slots.items }
+    {
+        let memory = self.live_mut(index)?;
+        let answer = store(memory, ptr, offset, stored);
+        Some(answer.map_or_else(Reply::Trap, |()| Reply::Done))
+    }
+}
+
+/// What is stored: a number, a vector, or a lane of a vector.
+#[derive(Clone, Copy)]
+pub(crate) enum Stored {
+    Number(StoreOp, RawVal),
+    Vector(V128),
+    Lane(StoreLaneOp, V128),
+}
+
+/// A part of a list of bytes: its bounds are tested before the reply's buffer is allocated.
+pub(crate) fn bytes_reply(alloc: Global, memory: &[u8], offset: usize, len: usize) -> Reply
+    ensures { ReadsBytes (at memory.now offset len) result }
+{
+    if !lies_within(memory, offset as u64, len as u64) {
+        return Reply::Memory(MemoryError::OutOfBoundsAccess);
+    }
+    match memory[offset..offset + len].to_vec(alloc) {
+        Ok(bytes) => Reply::Bytes(ByteList::from(bytes)),
+        Err(_) => Reply::NoRoom,
+    }
+}
+
+/// Stores to a memory. A function of the memory alone: its clause says what the memory becomes,
+/// apart from the slot that lends it.
+#[inline(always)]
+fn store(memory: &mut Memory, ptr: u64, offset: u64, stored: Stored) -> Result<(), TrapCode>
+    ensures { StoresMemory memory.old (ptr + offset) (bytes_of_stored stored) result memory.new }
+{
+    match stored {
+        Stored::Number(op, value) => op.store(memory.data_mut(), ptr, offset, value),
+        Stored::Vector(vector) => v128_store(memory.data_mut(), ptr, offset, vector),
+        Stored::Lane(op, vector) => op.store(memory.data_mut(), ptr, offset, vector),
+    }
+}

@@ -1,0 +1,136 @@
+//! One call, and runs of calls. They are our own: upstream leaves running to the interpreter.
+ghost use Rattle.std.specs.Prelude.{◌≡◌, Some, IfOk, OnErr};
+ghost use Rattle.wasmi_meter.specs.Limiter.{optional_rules, lent_limiter, KeepsLoan};
+ghost use Rattle.wasmi_machine.specs.State.{IsValid, world, HoldsTotals};
+ghost use Rattle.wasmi_machine.specs.Steps.{IsRunOf, RepliesWith};
+ghost use Rattle.wasmi_machine.specs.declared.calls.Call.TheVariants.{GrowMemory};
+
+use crate::calls::{Call, Reply};
+use crate::machine::Machine;
+use std::alloc::AllocError;
+use wasmi_meter::{Reserving, ResourceLimiter, ResourceLimiterRef};
+
+impl<'r> Machine<'r> {
+    /// Executes one call, as `run` executes each of a list.
+    #[inline(always)]
+    pub fn step<L: ResourceLimiter>(
+        &mut self,
+        call: &Call,
+        limiter: &mut ResourceLimiterRef<L>,
+    ) -> Reply
+        ensures loan { KeepsLoan limiter.old limiter.new }
+        ensures step { RepliesWith (optional_rules L.rules) call.now
+            (world self.old (lent_limiter limiter.old)) result
+            (world self.new (lent_limiter limiter.new)) }
+        ensures valid { IsValid self.new }
+    {
+        call.tell_valid();
+        self.store.step(call, limiter)
+    }
+
+    /// Grows a memory by so many pages, as `step_lending` does for `Call::GrowMemory`. The reply is
+    /// `Number` with the old size in pages, `NoSuch` if there is no such memory, or `Memory` with
+    /// an error of [`wasmi_store::LinearMemory::grow`].
+    #[inline(always)]
+    pub fn grow_memory_lending<L: ResourceLimiter>(
+        &mut self,
+        memory: usize,
+        pages: u64,
+        limiter: &mut L,
+    ) -> Reply
+        ensures step { RepliesWith (optional_rules L.rules) (GrowMemory memory pages)
+            (world self.old (Some limiter.old)) result (world self.new (Some limiter.new)) }
+        ensures valid { IsValid self.new }
+    {
+        let mut lent = ResourceLimiterRef::from(limiter);
+        let reply = self.store.grow_memory(memory, pages, &mut lent);
+        let _limiter = lent.into_limiter();
+        reply.unwrap_or(Reply::NoSuch)
+    }
+
+    /// Executes one call, as `step`, but borrows the limiter for this call alone, so that its state
+    /// afterwards is known.
+    #[inline(always)]
+    pub fn step_lending<L: ResourceLimiter>(&mut self, call: &Call, limiter: &mut L) -> Reply
+        ensures step { RepliesWith (optional_rules L.rules) call.now
+            (world self.old (Some limiter.old)) result (world self.new (Some limiter.new)) }
+        ensures valid { IsValid self.new }
+    {
+        let mut lent = ResourceLimiterRef::from(limiter);
+        let reply = self.step(call, &mut lent);
+        let _limiter = lent.into_limiter();
+        reply
+    }
+}
+
+/// Executes calls one after another.
+///
+/// # Errors
+///
+/// `AllocError` if memory for the replies, which is allocated first, is refused; then nothing has
+/// happened.
+pub fn run<L: ResourceLimiter>(
+    machine: &mut Machine,
+    calls: &[Call],
+    limiter: &mut ResourceLimiterRef<L>,
+) -> Result<Vec<Reply>, AllocError>
+    ensures loan { KeepsLoan limiter.old limiter.new }
+    ensures run { IfOk result (λ replies. IsRunOf (optional_rules L.rules) calls.now
+        (world machine.old (lent_limiter limiter.old)) replies.items
+        (world machine.new (lent_limiter limiter.new))) }
+    ensures err { OnErr result ((machine.new ≡ machine.old) × (limiter.new ≡ limiter.old)) }
+    ensures valid { IsValid machine.new }
+{
+    machine.tell_valid();
+    let mut replies = Vec::with_capacity(machine.store.alloc, calls.len())?;
+    for call in calls {
+        let reply = machine.step(call, limiter);
+        replies.push_reserved(reply);
+    }
+    Ok(replies)
+}
+
+/// Executes calls, as `run`, but borrows the limiter for this run alone, so that its state
+/// afterwards is known.
+///
+/// # Errors
+///
+/// That of `run`.
+pub fn run_lending<L: ResourceLimiter>(
+    machine: &mut Machine,
+    calls: &[Call],
+    limiter: &mut L,
+) -> Result<Vec<Reply>, AllocError>
+    ensures run { IfOk result (λ replies. IsRunOf (optional_rules L.rules) calls.now
+        (world machine.old (Some limiter.old)) replies.items
+        (world machine.new (Some limiter.new))) }
+    ensures err { OnErr result ((machine.new ≡ machine.old) × (limiter.new ≡ limiter.old)) }
+    ensures valid { IsValid machine.new }
+{
+    let mut lent = ResourceLimiterRef::from(limiter);
+    let replies = run(machine, calls, &mut lent);
+    let _limiter = lent.into_limiter();
+    replies
+}
+
+/// Executes calls, as `run`, under a limiter that holds exactly what the machine has, and does so
+/// again afterwards.
+///
+/// # Errors
+///
+/// That of `run`.
+pub fn run_reserving<L: Reserving>(
+    machine: &mut Machine,
+    calls: &[Call],
+    limiter: &mut L,
+) -> Result<Vec<Reply>, AllocError>
+    requires totals { HoldsTotals (L.Reserving.holdings limiter.old) machine.old }
+    ensures run { IfOk result (λ replies. IsRunOf (optional_rules L.rules) calls.now
+        (world machine.old (Some limiter.old)) replies.items
+        (world machine.new (Some limiter.new))) }
+    ensures err { OnErr result ((machine.new ≡ machine.old) × (limiter.new ≡ limiter.old)) }
+    ensures held { HoldsTotals (L.Reserving.holdings limiter.new) machine.new }
+    ensures valid { IsValid machine.new }
+{
+    run_lending(machine, calls, limiter)
+}

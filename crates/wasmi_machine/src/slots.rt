@@ -1,0 +1,163 @@
+//! Slots: what was made, each at the index of its making.
+ghost use Rattle.std.specs.Prelude.{◌≡◌, ◌<◌, ◌++◌, ℕ, [], ◌∷◌, length, map, sum, IsSome, Some};
+ghost use Rattle.std.specs.Borrow.{sem, Lends, LendsIf};
+ghost use Rattle.std.specs.Option.{option_copied, option_copied_mut};
+ghost use Rattle.std.specs.Vec.{vec_capacity};
+ghost use Rattle.wasmi_store.specs.Table.{size_of};
+ghost use Rattle.wasmi_machine.specs.Effects.{DropsAt, reply_or_no_such};
+ghost use Rattle.wasmi_machine.specs.State.{live_value, live_at, with_live, slot_count};
+ghost use Rattle.wasmi_machine.specs.declared.slots.Slot.TheVariants.{Live};
+
+use crate::calls::Reply;
+use std::alloc::Global;
+use wasmi_store::{Memory, Table};
+
+/// What counts in a machine's totals: a memory by its bytes, a table by its elements.
+pub(crate) trait Counted {
+    /// How many it has.
+    ghost count: { Self → ℕ };
+
+    fn count(&self) -> u64
+        ensures { result ≡ count self.now };
+}
+
+impl<'r> Counted for Memory<'r> {
+    ghost use Rattle.wasmi_store.specs.Memory.{MemoryValue};
+
+    ghost count = { λ x. length x.bytes };
+
+    fn count(&self) -> u64 {
+        self.data_size() as u64
+    }
+}
+
+impl Counted for Table {
+    ghost count = { size_of };
+
+    fn count(&self) -> u64 {
+        self.size()
+    }
+}
+
+/// A live value, or the size of one when it was dropped.
+#[derive(Drop)]
+pub(crate) enum Slot<T> {
+    Live(T),
+    Gone(u64),
+}
+
+impl<T> Slot<T> {
+    ghost use Rattle.wasmi_machine.specs.contracts.slots.Slot.{the_row};
+
+    fn value_mut(&mut self) -> &mut T
+        requires live { IsSome (live_value self.old) }
+        ensures* writes_back { sem 𝓛 (Lends (the_row T.row) T.row self.entry result Live) }
+        ensures value { live_value self.old ≡ Some result.now }
+    {
+        match self {
+            Slot::Live(value) => value,
+            Slot::Gone(_) => unreachable!(),
+        }
+    }
+
+    /// How many bytes or elements it has, or had when it was dropped.
+    fn count(&self) -> u64
+    where
+        T: Counted,
+        ensures { result ≡ slot_count T.Counted.count self.now }
+    {
+        match self {
+            Slot::Live(value) => value.count(),
+            Slot::Gone(last) => *last,
+        }
+    }
+}
+
+/// Slots by their indices, which count from 0.
+#[derive(Drop)]
+pub(crate) struct Slots<T> {
+    pub(crate) slots: Vec<Slot<T>>,
+}
+
+impl<T> Slots<T> {
+    ghost use Rattle.wasmi_machine.specs.contracts.slots.Slots.{the_row};
+
+    /// No slot yet. It takes no memory.
+    pub(crate) fn new(alloc: Global) -> Self
+        ensures { result.slots.items ≡ [] }
+    {
+        Slots {
+            slots: Vec::new(alloc),
+        }
+    }
+
+    /// The live value of an index, if there is one.
+    pub(crate) fn live(&self, index: usize) -> Option<&T>
+        ensures { option_copied result ≡ live_at self.now.slots.items index }
+    {
+        match self.slots.get(index) {
+            Some(Slot::Live(value)) => Some(value),
+            _ => None,
+        }
+    }
+
+    /// The live value of an index, if there is one, to be changed.
+    pub(crate) fn live_mut(&mut self, index: usize) -> Option<&mut T>
+        ensures* writes_back { sem 𝓛 (LendsIf (the_row T.row) T.row self.entry result
+            (with_live self.old index) self.old) }
+        ensures value { option_copied_mut result ≡ live_at self.old.slots.items index }
+    {
+        if self.live(index).is_some() {
+            Some(self.value_mut(index))
+        } else {
+            None
+        }
+    }
+
+    fn value_mut(&mut self, index: usize) -> &mut T
+        requires live { IsSome (live_at self.old.slots.items index) }
+        ensures* writes_back { sem 𝓛
+            (Lends (the_row T.row) T.row self.entry result (with_live self.old index)) }
+        ensures value { live_at self.old.slots.items index ≡ Some result.now }
+    {
+        self.slots[index].value_mut()
+    }
+
+    /// Puts a value into a new slot, and returns its index.
+    pub(crate) fn push(&mut self, value: T) -> usize
+    where
+        T: Drop,
+        requires room { length self.old.slots.items < vec_capacity self.old.slots }
+        ensures index { result ≡ length self.old.slots.items }
+        ensures slots { self.new.slots.items ≡ self.old.slots.items ++ Live value ∷ [] }
+    {
+        let index = self.slots.len();
+        self.slots.push_reserved(Slot::Live(value));
+        index
+    }
+}
+
+impl<T: Counted> Slots<T> {
+    /// Drops the live value of an index, and keeps how many it had.
+    pub(crate) fn drop_live(&mut self, index: usize) -> Option<Reply>
+    where
+        T: Drop,
+        ensures { DropsAt T.Counted.count index self.old.slots.items (reply_or_no_such result)
+            self.new.slots.items }
+    {
+        let last = self.live(index)?.count();
+        self.slots[index] = Slot::Gone(last);
+        Some(Reply::Done)
+    }
+
+    /// How many bytes or elements all of them have; dropped ones count with their last size.
+    pub(crate) fn total(&self) -> u128
+        ensures { result ≡ sum (map (slot_count T.Counted.count) self.now.slots.items) }
+    {
+        let mut total = 0;
+        for slot in &self.slots {
+            total += slot.count() as u128;
+        }
+        total
+    }
+}

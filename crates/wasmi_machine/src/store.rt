@@ -1,0 +1,319 @@
+//! The store of a machine: what was made, the registers and the meter, and what each call does to
+//! them.
+ghost use Rattle.std.specs.Prelude.{◌≡◌};
+ghost use Rattle.wasmi_meter.specs.Limiter.{optional_rules, lent_limiter, KeepsLoan};
+ghost use Rattle.wasmi_machine.specs.Effects.{reply_or_no_such};
+
+use crate::calls::{Call, Reply};
+use crate::memories::{Stored, bytes_reply};
+use crate::registers::Registers;
+use crate::slots::Slots;
+use crate::values::{create_global, create_segment, drop_items, get_global, set_global};
+use std::alloc::Global as Allocator;
+use std::marker::Model;
+use wasmi_meter::{Fuel, ResourceLimiter, ResourceLimiterRef};
+use wasmi_store::{ElementSegment, ElementSegmentRef, Memory, Table};
+use wasmi_typed::Global;
+
+/// Memories, tables, element segments and globals by their indices, registers, the meter, and the
+/// spare region, if there is one.
+///
+/// Core specification, the store.
+#[derive(Drop)]
+pub(crate) struct MachineStore<'r> {
+    pub(crate) alloc: Allocator,
+    pub(crate) memories: Slots<Memory<'r>>,
+    pub(crate) tables: Slots<Table>,
+    pub(crate) segments: Vec<ElementSegment>,
+    pub(crate) globals: Vec<Global>,
+    pub(crate) registers: Registers,
+    pub(crate) fuel: Fuel,
+    pub(crate) spare: Option<&'r mut [u8]>,
+}
+
+impl<'r> Model for MachineStore<'r> {
+    ghost use Rattle.std.specs.Option.{option_copied_mut};
+    ghost use Rattle.wasmi_machine.specs.State.{State};
+
+    ghost Value = { State };
+
+    ghost view = { λ m. record {
+      memories = m.memories.slots.items;
+      tables = m.tables.slots.items;
+      segments = m.segments.items;
+      globals = m.globals.items;
+      registers = m.registers.values;
+      meter = m.fuel;
+      spare = option_copied_mut m.spare;
+    } };
+}
+
+impl<'r> MachineStore<'r> {
+    ghost use Rattle.wasmi_machine.specs.Steps.{RepliesWith, RepliesWithoutLimiter, subject_of, Memories, Tables, RegisterFile, VectorAccesses};
+    ghost use Rattle.wasmi_machine.specs.State.{world};
+    ghost use Rattle.wasmi_machine.specs.declared.calls.Call.TheVariants.{GrowMemory};
+
+    /// Grows a memory by so many pages.
+    #[inline(always)]
+    pub(crate) fn grow_memory<L: ResourceLimiter>(
+        &mut self,
+        memory: usize,
+        pages: u64,
+        limiter: &mut ResourceLimiterRef<L>,
+    ) -> Option<Reply>
+        ensures loan { KeepsLoan limiter.old limiter.new }
+        ensures step { RepliesWith (optional_rules L.rules) (GrowMemory memory pages)
+            (world self.old (lent_limiter limiter.old)) (reply_or_no_such result)
+            (world self.new (lent_limiter limiter.new)) }
+    {
+        let memory = self.memories.live_mut(memory)?;
+        let grown = memory.grow_metered(pages, &mut self.fuel, limiter);
+        Some(grown.map_or_else(Reply::Memory, Reply::Number))
+    }
+
+    /// Executes one call.
+    #[inline(always)]
+    pub(crate) fn step<L: ResourceLimiter>(
+        &mut self,
+        call: &Call,
+        limiter: &mut ResourceLimiterRef<L>,
+    ) -> Reply
+        ensures loan { KeepsLoan limiter.old limiter.new }
+        ensures step { RepliesWith (optional_rules L.rules) call.now
+            (world self.old (lent_limiter limiter.old)) result
+            (world self.new (lent_limiter limiter.new)) }
+    {
+        match call {
+            Call::SetFuel(fuel) => self
+                .fuel
+                .set_fuel(*fuel)
+                .map_or_else(Reply::Fuel, |()| Reply::Done),
+            Call::GetFuel => self.fuel.get_fuel().map_or_else(Reply::Fuel, Reply::Number),
+            Call::NewMemory(_)
+            | Call::NewLentMemory(_)
+            | Call::GrowMemory { .. }
+            | Call::DropMemory(_)
+            | Call::Read { .. }
+            | Call::Write { .. }
+            | Call::Load { .. }
+            | Call::Store { .. } => self.step_memory(call, limiter).unwrap_or(Reply::NoSuch),
+            Call::NewSegment { ty, items } => {
+                create_segment(&mut self.segments, self.alloc, *ty, items)
+            }
+            Call::DropItems(segment) => drop_items(&mut self.segments, *segment),
+            Call::NewGlobal { value, ty } => create_global(&mut self.globals, *value, *ty),
+            Call::SetGlobal { global, value } => set_global(&mut self.globals, *global, *value),
+            Call::GetGlobal(global) => get_global(&self.globals, *global),
+            Call::NewTable { .. }
+            | Call::GrowTable { .. }
+            | Call::DropTable(_)
+            | Call::GetElement { .. }
+            | Call::SetElement { .. }
+            | Call::InitTable { .. }
+            | Call::CopyTable { .. }
+            | Call::FillTable { .. } => self.step_table(call, limiter).unwrap_or(Reply::NoSuch),
+            Call::VectorLoad { .. }
+            | Call::LoadLane { .. }
+            | Call::VectorStore { .. }
+            | Call::StoreLane { .. } => self.step_vector_access::<L>(call).unwrap_or(Reply::NoSuch),
+            _ => self.step_register::<L>(call).unwrap_or(Reply::NoSuch),
+        }
+    }
+
+    /// Executes one call on memories.
+    fn step_memory<L: ResourceLimiter>(
+        &mut self,
+        call: &Call,
+        limiter: &mut ResourceLimiterRef<L>,
+    ) -> Option<Reply>
+        requires subject { subject_of call.now ≡ Memories }
+        ensures loan { KeepsLoan limiter.old limiter.new }
+        ensures step { RepliesWith (optional_rules L.rules) call.now
+            (world self.old (lent_limiter limiter.old)) (reply_or_no_such result)
+            (world self.new (lent_limiter limiter.new)) }
+    {
+        match call {
+            Call::NewMemory(ty) => Some(self.memories.create(self.alloc, *ty, limiter)),
+            Call::NewLentMemory(ty) => Some(
+                self.memories.create_lent(*ty, &mut self.spare, limiter),
+            ),
+            Call::GrowMemory { memory, pages } => self.grow_memory(*memory, *pages, limiter),
+            Call::DropMemory(memory) => self.memories.drop_live(*memory),
+            Call::Read {
+                memory,
+                offset,
+                len,
+            } => {
+                let memory = self.memories.live(*memory)?;
+                Some(bytes_reply(self.alloc, memory.data(), *offset, *len))
+            }
+            Call::Write {
+                memory,
+                offset,
+                bytes,
+            } => self.memories.write(*memory, *offset, bytes),
+            Call::Load {
+                op,
+                memory,
+                ptr,
+                offset,
+            } => {
+                let memory = self.memories.live(*memory)?;
+                let value = op.load(memory.data(), *ptr, *offset);
+                Some(value.map_or_else(Reply::Trap, Reply::Value))
+            }
+            Call::Store {
+                op,
+                memory,
+                ptr,
+                offset,
+                value,
+            } => self
+                .memories
+                .store(*memory, *ptr, *offset, Stored::Number(*op, *value)),
+            _ => unreachable!(),
+        }
+    }
+
+    /// Executes one call on tables.
+    fn step_table<L: ResourceLimiter>(
+        &mut self,
+        call: &Call,
+        limiter: &mut ResourceLimiterRef<L>,
+    ) -> Option<Reply>
+        requires subject { subject_of call.now ≡ Tables }
+        ensures loan { KeepsLoan limiter.old limiter.new }
+        ensures step { RepliesWith (optional_rules L.rules) call.now
+            (world self.old (lent_limiter limiter.old)) (reply_or_no_such result)
+            (world self.new (lent_limiter limiter.new)) }
+    {
+        match call {
+            Call::NewTable { ty, init } => Some(
+                self.tables.create(self.alloc, *ty, *init, limiter),
+            ),
+            Call::GrowTable { table, delta, init } => {
+                self.tables
+                    .grow(*table, *delta, *init, &mut self.fuel, limiter)
+            }
+            Call::DropTable(table) => self.tables.drop_live(*table),
+            Call::GetElement { table, index } => Some(Reply::Reference(
+                self.tables.live(*table)?.get(*index),
+            )),
+            Call::SetElement {
+                table,
+                index,
+                value,
+            } => self.tables.set(*table, *index, *value),
+            Call::InitTable {
+                table,
+                segment,
+                dst,
+                src,
+                len,
+            } => {
+                let segment = self.segments.get(*segment)?;
+                self.tables.init(
+                    *table,
+                    ElementSegmentRef::from(segment),
+                    *dst,
+                    *src,
+                    *len,
+                    &mut self.fuel,
+                )
+            }
+            Call::CopyTable {
+                dst_table,
+                dst,
+                src_table,
+                src,
+                len,
+            } => self
+                .tables
+                .copy(*dst_table, *dst, *src_table, *src, *len, &mut self.fuel),
+            Call::FillTable {
+                table,
+                dst,
+                value,
+                len,
+            } => self.tables.fill(*table, *dst, *value, *len, &mut self.fuel),
+            _ => unreachable!(),
+        }
+    }
+
+    /// Executes one call on registers, which doesn't reach the limiter: only the contract has `L`.
+    /// Calls that make a vector have an arm each, by which LLVM makes one table of both matches.
+    fn step_register<L: ResourceLimiter>(&mut self, call: &Call) -> Option<Reply>
+        requires subject { subject_of call.now ≡ RegisterFile }
+        ensures step { RepliesWithoutLimiter
+            (optional_rules L.rules) call.now self.old (reply_or_no_such result) self.new }
+    {
+        match call {
+            Call::SetRegister { dst, value } => self.registers.set(*dst, *value),
+            Call::GetRegister(register) => Some(Reply::Value(self.registers.get(*register)?)),
+            Call::Test { op, a } => Some(Reply::Value(op.apply(self.registers.vector(*a)?))),
+            Call::Extract { op, a } => Some(Reply::Value(op.apply(self.registers.vector(*a)?))),
+            Call::Make { dst, .. } => self.registers.set_made(*dst, call),
+            Call::Unary { dst, .. } => self.registers.set_made(*dst, call),
+            Call::Binary { dst, .. } => self.registers.set_made(*dst, call),
+            Call::Ternary { dst, .. } => self.registers.set_made(*dst, call),
+            Call::Shift { dst, .. } => self.registers.set_made(*dst, call),
+            Call::Replace { dst, .. } => self.registers.set_made(*dst, call),
+            Call::Shuffle { dst, .. } => self.registers.set_made(*dst, call),
+            _ => unreachable!(),
+        }
+    }
+
+    /// Executes one load or store of a vector, which doesn't reach the limiter: only the contract
+    /// names `L`.
+    fn step_vector_access<L: ResourceLimiter>(&mut self, call: &Call) -> Option<Reply>
+        requires subject { subject_of call.now ≡ VectorAccesses }
+        ensures step { RepliesWithoutLimiter
+            (optional_rules L.rules) call.now self.old (reply_or_no_such result) self.new }
+    {
+        match call {
+            Call::VectorLoad {
+                op,
+                dst,
+                memory,
+                ptr,
+                offset,
+            } => {
+                let memory = self.memories.live(*memory)?;
+                let vector = op.load(memory.data(), *ptr, *offset);
+                self.registers.set_loaded(*dst, vector)
+            }
+            Call::LoadLane {
+                op,
+                dst,
+                a,
+                memory,
+                ptr,
+                offset,
+            } => {
+                let (a, memory) = (self.registers.vector(*a)?, self.memories.live(*memory)?);
+                let vector = op.load(memory.data(), *ptr, *offset, a);
+                self.registers.set_loaded(*dst, vector)
+            }
+            Call::VectorStore {
+                a,
+                memory,
+                ptr,
+                offset,
+            } => {
+                let vector = Stored::Vector(self.registers.vector(*a)?);
+                self.memories.store(*memory, *ptr, *offset, vector)
+            }
+            Call::StoreLane {
+                op,
+                a,
+                memory,
+                ptr,
+                offset,
+            } => {
+                let lane = Stored::Lane(*op, self.registers.vector(*a)?);
+                self.memories.store(*memory, *ptr, *offset, lane)
+            }
+            _ => unreachable!(),
+        }
+    }
+}

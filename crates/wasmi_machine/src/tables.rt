@@ -1,0 +1,207 @@
+//! The tables of a machine, by their indices.
+ghost use Rattle.std.specs.Prelude.{◌≡◌, ◌≢◌, ◌<◌, length, Some};
+ghost use Rattle.wasmi_meter.specs.Limiter.{optional_rules, lent_limiter, KeepsLoan};
+ghost use Rattle.wasmi_store.specs.Growth.{metered_value, metered, WithCharge};
+ghost use Rattle.wasmi_store.specs.Segment.{segment_of};
+ghost use Rattle.wasmi_store.specs.Table.{MakesTable, GrowsTableCharging, filling_of, copy_of, initialization_of};
+ghost use Rattle.wasmi_machine.specs.Effects.{reply_of, reply_or_no_such, ActsAt, Creates};
+ghost use Rattle.wasmi_machine.specs.TableEffects.{SetsElementAt, WritesTableAt, WritesTableFrom, CopiesSlot};
+ghost use Rattle.wasmi_machine.specs.State.{live_at};
+
+use crate::calls::Reply;
+use crate::slots::{Slot, Slots};
+use std::alloc::Global;
+use wasmi_meter::{Fuel, ResourceLimiter, ResourceLimiterRef, TableError};
+use wasmi_store::{ElementSegmentRef, Table, TableType};
+use wasmi_typed::TypedRawRef;
+
+impl Slots<Table> {
+    /// Makes a table in a new slot, which is reserved before the limiter is asked.
+    pub(crate) fn create<L: ResourceLimiter>(
+        &mut self,
+        alloc: Global,
+        ty: TableType,
+        init: TypedRawRef,
+        limiter: &mut ResourceLimiterRef<L>,
+    ) -> Reply
+        ensures loan { KeepsLoan limiter.old limiter.new }
+        ensures made { Creates Reply.Table
+            (MakesTable (optional_rules L.rules) ty init) self.old.slots.items
+            (lent_limiter limiter.old) result self.new.slots.items (lent_limiter limiter.new) }
+    {
+        if self.slots.try_reserve(1).is_err() {
+            return Reply::NoRoom;
+        }
+        match Table::new(alloc, ty, init, limiter) {
+            Ok(table) => Reply::Made(self.push(table)),
+            Err(error) => Reply::Table(error),
+        }
+    }
+
+    /// Grows a table by so many elements.
+    pub(crate) fn grow<L: ResourceLimiter>(
+        &mut self,
+        index: usize,
+        delta: u64,
+        init: TypedRawRef,
+        fuel: &mut Fuel,
+        limiter: &mut ResourceLimiterRef<L>,
+    ) -> Option<Reply>
+        ensures loan { KeepsLoan limiter.old limiter.new }
+        ensures grown { WithCharge
+            (ActsAt index (reply_of Reply.Number Reply.Table)
+            (GrowsTableCharging (optional_rules L.rules) delta init))
+            (metered_value self.old.slots.items (Some fuel.old) (lent_limiter limiter.old))
+            (reply_or_no_such result)
+            (metered_value self.new.slots.items (Some fuel.new) (lent_limiter limiter.new)) }
+    {
+        let table = self.live_mut(index)?;
+        match table.grow_metered(delta, init, fuel, limiter) {
+            Ok(size) => Some(Reply::Number(size)),
+            Err(error) => Some(Reply::Table(error)),
+        }
+    }
+
+    /// Sets an element of a table.
+    pub(crate) fn set(&mut self, index: usize, element: u64, value: TypedRawRef) -> Option<Reply>
+        ensures { SetsElementAt index element value self.old.slots.items
+            (reply_or_no_such result) self.new.slots.items }
+    {
+        let table = self.live_mut(index)?;
+        Some(table_reply(table.set(element, value)))
+    }
+
+    /// Fills a part of a table.
+    pub(crate) fn fill(
+        &mut self,
+        index: usize,
+        dst: u64,
+        value: TypedRawRef,
+        len: u64,
+        fuel: &mut Fuel,
+    ) -> Option<Reply>
+        ensures { WithCharge (WritesTableAt index (filling_of dst value len))
+            (metered self.old.slots.items (Some fuel.old)) (reply_or_no_such result)
+            (metered self.new.slots.items (Some fuel.new)) }
+    {
+        let table = self.live_mut(index)?;
+        Some(table_reply(table.fill_metered(dst, value, len, fuel)))
+    }
+
+    /// Initializes a part of a table from an element segment, if there is one.
+    pub(crate) fn init(
+        &mut self,
+        index: usize,
+        segment: ElementSegmentRef,
+        dst: u64,
+        src: u32,
+        len: u32,
+        fuel: &mut Fuel,
+    ) -> Option<Reply>
+        ensures { WithCharge
+            (WritesTableAt index (initialization_of dst src len (segment_of segment.entry)))
+            (metered self.old.slots.items (Some fuel.old)) (reply_or_no_such result)
+            (metered self.new.slots.items (Some fuel.new)) }
+    {
+        let table = self.live_mut(index)?;
+        Some(table_reply(table.init_metered(segment, dst, src, len, fuel)))
+    }
+
+    /// Copies a range of a table to another one, or within it.
+    pub(crate) fn copy(
+        &mut self,
+        dst_index: usize,
+        dst: u64,
+        src_index: usize,
+        src: u64,
+        len: u64,
+        fuel: &mut Fuel,
+    ) -> Option<Reply>
+        ensures { WithCharge
+            (WritesTableFrom (live_at self.old.slots.items src_index) dst_index
+            (copy_of dst src len))
+            (metered self.old.slots.items (Some fuel.old)) (reply_or_no_such result)
+            (metered self.new.slots.items (Some fuel.new)) }
+    {
+        if dst_index == src_index {
+            return self.copy_in_one(dst_index, dst, src, len, fuel);
+        }
+        if dst_index >= self.slots.len() || src_index >= self.slots.len() {
+            return None;
+        }
+        let slots = self.slots.as_mut_slice();
+        copy_to_other(slots, dst_index, src_index, dst, src, len, fuel)
+    }
+
+    /// Copies a range of a table within it.
+    fn copy_in_one(
+        &mut self,
+        index: usize,
+        dst: u64,
+        src: u64,
+        len: u64,
+        fuel: &mut Fuel,
+    ) -> Option<Reply>
+        ensures { WithCharge
+            (WritesTableFrom (live_at self.old.slots.items index) index (copy_of dst src len))
+            (metered self.old.slots.items (Some fuel.old)) (reply_or_no_such result)
+            (metered self.new.slots.items (Some fuel.new)) }
+    {
+        let table = self.live_mut(index)?;
+        Some(table_reply(table.copy_within_metered(dst, src, len, fuel)))
+    }
+}
+
+/// Copies a range of a table to another one.
+fn copy_to_other(
+    slots: &mut [Slot<Table>],
+    dst_index: usize,
+    src_index: usize,
+    dst: u64,
+    src: u64,
+    len: u64,
+    fuel: &mut Fuel,
+) -> Option<Reply>
+    requires dst { dst_index < length slots.old }
+    requires src { src_index < length slots.old }
+    requires other { dst_index ≢ src_index }
+    ensures copied { WithCharge
+        (WritesTableFrom (live_at slots.old src_index) dst_index
+        (copy_of dst src len))
+        (metered slots.old (Some fuel.old)) (reply_or_no_such result) (metered slots.new (Some fuel.new)) }
+{
+    if dst_index < src_index {
+        let (front, back) = slots.split_at_mut(src_index);
+        copy_from_slot(&mut front[dst_index], &back[0], dst, src, len, fuel)
+    } else {
+        let (front, back) = slots.split_at_mut(dst_index);
+        copy_from_slot(&mut back[0], &front[src_index], dst, src, len, fuel)
+    }
+}
+
+/// Copies a range of the table in a slot to that in another one, if both are live.
+fn copy_from_slot(
+    slot: &mut Slot<Table>,
+    source: &Slot<Table>,
+    dst: u64,
+    src: u64,
+    len: u64,
+    fuel: &mut Fuel,
+) -> Option<Reply>
+    ensures { WithCharge (CopiesSlot (copy_of dst src len) source.now)
+        (metered slot.old (Some fuel.old)) (reply_or_no_such result) (metered slot.new (Some fuel.new)) }
+{
+    match (slot, source) {
+        (Slot::Live(table), Slot::Live(source)) => {
+            Some(table_reply(table.copy_metered(dst, source, src, len, fuel)))
+        }
+        _ => None,
+    }
+}
+
+/// The reply to a call on a table that returns nothing.
+fn table_reply(answer: Result<(), TableError>) -> Reply
+    ensures { result ≡ reply_of (λ _. Reply.Done) Reply.Table answer }
+{
+    answer.map_or_else(Reply::Table, |()| Reply::Done)
+}

@@ -1,0 +1,12 @@
+//! The scalar instructions as values: a variant for each function of a shape, what it gives, and its
+//! name.
+//!
+//! The variants of a type stand in the order of its list, which has their names. Own: upstream has
+//! no instructions as values.
+#![tactic(auto)]
+
+mod rows;
+mod scalar;
+mod wide;
+
+pub use scalar::{SCALAR_BINARIES, SCALAR_UNARIES, ScalarBinaryOp, ScalarUnaryOp};
