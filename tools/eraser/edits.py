@@ -65,6 +65,14 @@ pub enum Call {""", 1),
      "        if cfg!(not(feature = \"memory64\")) && self.index.is_64() {\n            return Err(MemoryError::InvalidMemoryType);\n        }\n        let Some(page) = PageSize::from_log2(", 1),
 ]
 
+# What may get a variant in a minor version: instructions, calls, replies, lines of scripts, and errors that upstream hasn't got.
+OPEN = {
+    "ops": "LoadOp StoreOp MakeOp UnaryOp BinaryOp TernaryOp ShiftOp TestOp ExtractKind ReplaceKind VectorLoadOp LoadLaneKind StoreLaneKind",
+    "scalar_ops": "ScalarUnaryOp ScalarBinaryOp", "machine": "Call Reply", "budget": "AddError PoolError", "store": "SegmentError",
+    "grammar": "ParseError MeterLine LimiterLine", "script": "ReplayError Status",
+}
+EDITS += [(module, f"pub enum {name} {{", f"#[non_exhaustive]\npub enum {name} {{", 1) for module, names in OPEN.items() for name in names.split()]
+
 # Calls of a machine that `MachineStore::step` passes on by groups, to a function with a jump table of its own. Where each call has an
 # arm of its own, LLVM makes one table of the two. Where all are named, rustc knows that there are no others, and tests nothing.
 GROUPS = {

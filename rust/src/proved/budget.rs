@@ -8,6 +8,7 @@ mod error {
 
     /// Why a machine isn't added to a pool, in the order of the tests.
     #[derive(Debug, PartialEq, Eq)]
+    #[non_exhaustive]
     pub enum AddError {
         /// The machine has bytes or elements, or had some that it dropped.
         NotEmpty,
@@ -36,6 +37,7 @@ mod error {
 
     /// Why a pool doesn't run a tenant's calls, in the order of the tests.
     #[derive(Debug, PartialEq, Eq)]
+    #[non_exhaustive]
     pub enum PoolError {
         /// No tenant has the index.
         NoTenant,

@@ -497,6 +497,7 @@ mod error {
 
     /// Why a text isn't parsed.
     #[derive(Clone, Copy, Debug, PartialEq, Eq)]
+    #[non_exhaustive]
     pub enum ParseError {
         /// The first line that is no command, counted from 1.
         BadCommand {
@@ -532,6 +533,7 @@ mod header {
 
     /// What a `meter` line says.
     #[derive(Clone, Copy)]
+    #[non_exhaustive]
     pub enum MeterLine {
         /// `meter off`: no fuel is counted.
         Off,
@@ -540,6 +542,7 @@ mod header {
     }
 
     /// What a limiter line says. A script has at most one, of whatever kind.
+    #[non_exhaustive]
     pub enum LimiterLine {
         /// `quota B E`: the most bytes of all memories, and the most elements of all tables.
         Quota(Amounts),

@@ -31,6 +31,7 @@ mod calls {
     /// Of the fields, `memory`, `table`, `segment` and `global` are indices, `a`, `b`, `c` and `item` registers of operands; `offset`
     /// is added to `ptr`, or counts bytes itself; `len`, `pages` and `delta` are how many; `lanes` has the index of the byte for each lane.
     #[allow(missing_docs)]
+    #[non_exhaustive]
     pub enum Call {
         /// Sets the fuel that is left: `Done`, or `Fuel` if metering is off.
         SetFuel(u64),
@@ -281,6 +282,7 @@ mod calls {
 
     /// The reply to one call.
     #[derive(Debug, PartialEq, Eq)]
+    #[non_exhaustive]
     pub enum Reply {
         /// The call is done, and has no other result.
         Done,

@@ -14,6 +14,7 @@ mod load_store {
 
     /// A scalar load.
     #[derive(Clone, Copy, Debug, PartialEq, Eq)]
+    #[non_exhaustive]
     pub enum LoadOp {
         /// [`i32_load8_s`](crate::wasm::i32_load8_s)
         I32Load8S,
@@ -96,6 +97,7 @@ mod load_store {
 
     /// A scalar store.
     #[derive(Clone, Copy, Debug, PartialEq, Eq)]
+    #[non_exhaustive]
     pub enum StoreOp {
         /// [`i32_store8`](crate::wasm::i32_store8)
         I32Store8,
@@ -228,6 +230,7 @@ mod vector {
 
     /// A vector instruction whose operand is an item.
     #[derive(Clone, Copy, Debug, PartialEq, Eq)]
+    #[non_exhaustive]
     pub enum MakeOp {
         /// [`i8x16_splat`](crate::simd::i8x16_splat)
         I8x16Splat,
@@ -292,6 +295,7 @@ mod vector {
 
     /// A vector instruction of one operand.
     #[derive(Clone, Copy, Debug, PartialEq, Eq)]
+    #[non_exhaustive]
     pub enum UnaryOp {
         /// [`v128_not`](crate::simd::v128_not)
         V128Not,
@@ -398,6 +402,7 @@ mod vector {
 
     /// A vector instruction of two operands.
     #[derive(Clone, Copy, Debug, PartialEq, Eq)]
+    #[non_exhaustive]
     pub enum BinaryOp {
         /// [`i8x16_add`](crate::simd::i8x16_add)
         I8x16Add,
@@ -666,6 +671,7 @@ mod vector {
 
     /// A vector instruction of three operands.
     #[derive(Clone, Copy, Debug, PartialEq, Eq)]
+    #[non_exhaustive]
     pub enum TernaryOp {
         /// [`v128_bitselect`](crate::simd::v128_bitselect)
         V128Bitselect,
@@ -718,6 +724,7 @@ mod vector {
 
     /// A shift of the lanes of a vector, by an amount modulo their width.
     #[derive(Clone, Copy, Debug, PartialEq, Eq)]
+    #[non_exhaustive]
     pub enum ShiftOp {
         /// [`i8x16_shl`](crate::simd::i8x16_shl)
         I8x16Shl,
@@ -776,6 +783,7 @@ mod vector {
 
     /// A test of a vector, or its mask.
     #[derive(Clone, Copy, Debug, PartialEq, Eq)]
+    #[non_exhaustive]
     pub enum TestOp {
         /// [`i8x16_all_true`](crate::simd::i8x16_all_true)
         I8x16AllTrue,
@@ -872,6 +880,7 @@ mod vector {
 
     /// A lane that is taken from a vector, whatever the lane.
     #[derive(Clone, Copy, Debug, PartialEq, Eq)]
+    #[non_exhaustive]
     pub enum ExtractKind {
         /// [`i8x16_extract_lane_s`](crate::simd::i8x16_extract_lane_s)
         I8x16ExtractLaneS,
@@ -946,6 +955,7 @@ mod vector {
 
     /// A lane of a vector that takes an item, whatever the lane.
     #[derive(Clone, Copy, Debug, PartialEq, Eq)]
+    #[non_exhaustive]
     pub enum ReplaceKind {
         /// [`i8x16_replace_lane`](crate::simd::i8x16_replace_lane)
         I8x16ReplaceLane,
@@ -979,6 +989,7 @@ mod vector {
 
     /// A load of a vector.
     #[derive(Clone, Copy, Debug, PartialEq, Eq)]
+    #[non_exhaustive]
     pub enum VectorLoadOp {
         /// [`v128_load`](crate::simd::v128_load)
         V128Load,
@@ -1090,6 +1101,7 @@ mod vector {
 
     /// A load of one lane of a vector, whatever the lane.
     #[derive(Clone, Copy, Debug, PartialEq, Eq)]
+    #[non_exhaustive]
     pub enum LoadLaneKind {
         /// [`v128_load8_lane`](crate::simd::v128_load8_lane)
         V128Load8Lane,
@@ -1173,6 +1185,7 @@ mod vector {
 
     /// A store of one lane of a vector, whatever the lane.
     #[derive(Clone, Copy, Debug, PartialEq, Eq)]
+    #[non_exhaustive]
     pub enum StoreLaneKind {
         /// [`v128_store8_lane`](crate::simd::v128_store8_lane)
         V128Store8Lane,

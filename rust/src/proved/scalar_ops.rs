@@ -48,6 +48,7 @@ mod scalar {
 
     /// A scalar instruction of one operand.
     #[derive(Clone, Copy, Debug, PartialEq, Eq)]
+    #[non_exhaustive]
     pub enum ScalarUnaryOp {
         /// [`i32_clz`](crate::wasm::i32_clz)
         I32Clz,
@@ -115,6 +116,7 @@ mod scalar {
 
     /// A scalar instruction of two operands.
     #[derive(Clone, Copy, Debug, PartialEq, Eq)]
+    #[non_exhaustive]
     pub enum ScalarBinaryOp {
         /// [`i32_add`](crate::wasm::i32_add)
         I32Add,

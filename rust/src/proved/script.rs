@@ -8,6 +8,7 @@ mod error {
 
     /// Why a script isn't run. The text is what the program prints.
     #[derive(Clone, Copy, Debug, PartialEq, Eq)]
+    #[non_exhaustive]
     pub enum ReplayError {
         /// A line is no command, or there wasn't enough memory: to read, to parse or for the replies.
         Parse(ParseError),
@@ -654,6 +655,7 @@ mod replaying {
 
     /// How a replay ended.
     #[derive(Clone, Copy, Debug, PartialEq, Eq)]
+    #[non_exhaustive]
     pub enum Status {
         /// Each call has a reply, which may be a refusal.
         Answered,

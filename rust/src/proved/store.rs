@@ -2033,6 +2033,7 @@ mod table {
         ///
         /// Own: upstream panics above 2^32 - 1 items, and ends the process if it is out of memory.
         #[derive(Debug, PartialEq, Eq)]
+        #[non_exhaustive]
         pub enum SegmentError {
             /// There are 2^32 items or more.
             TooManyItems,

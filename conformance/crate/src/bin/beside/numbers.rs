@@ -171,6 +171,7 @@ pub fn of(reply: &Reply) -> PlainReply {
         Reply::NoSuch => only(18),
         Reply::NoRegion => only(19),
         Reply::NoRoom => only(20),
+        other => panic!("no such reply: {other:?}"),
     }
 }
 
