@@ -6,7 +6,7 @@ use crate::context::{AsContext, AsContextMut};
 use crate::error::Error;
 use crate::handle::Owner;
 use crate::instance;
-use crate::library::{FuncType, RawVal, ValType};
+use crate::library::{FuncType, RawRef, RawVal, ValType};
 use crate::module::Module;
 use crate::store::Store;
 use crate::values::{HostResults, Val, WasmTy, WasmValues, canonical, tuples};
@@ -50,6 +50,24 @@ impl Func {
         function: impl Fn(Caller<'_, T>, &[Val], &mut [Val]) -> Result<(), Error> + Send + Sync + 'static,
     ) -> Func {
         of_host(context.as_context_mut().store, ty.clone(), untyped(ty, function))
+    }
+
+    /// The function as a value: a reference. Its instance is kept as long as the store then.
+    pub fn to_val(&self, mut context: impl AsContextMut) -> Val {
+        let inner = &mut context.as_context_mut().store.inner;
+        let (_, entity) = inner.instance(&self.owner);
+        let reference = RawRef::from(entity.first + self.function);
+        inner.pin(&self.owner);
+        Val::new(ValType::FuncRef, reference.into())
+    }
+
+    /// The function of a reference, unless it is null.
+    pub fn from_val(mut context: impl AsContextMut, value: Val) -> Option<Func> {
+        let inner = &mut context.as_context_mut().store.inner;
+        let (instance, function) = inner.references.find(RawRef::from(value.raw()).into())?;
+        let entity = &inner.instances[instance];
+        let is_function = value.ty() == ValType::FuncRef && (function as usize) < entity.module.functions.len();
+        Some(Func { owner: entity.owner.upgrade().filter(|_| is_function)?, function })
     }
 
     /// Its type.
