@@ -1,5 +1,6 @@
-//! Measures many instances of a module: made, run and dropped one after another and all at once, under one limiter, and
-//! a store with an instance on each of four threads.
+//! Measures many instances of a module: made, run and dropped one after another, then all at once in one store; as many
+//! tenants, which have a store with fuel and caps of their own each; and a tenant on each of four threads. The bytes of a
+//! guest's memories are also made alone, since the system may take longer for them than all else takes.
 //!
 //! usage: `cargo run --release --example many -- FILE FUNCTION ARGUMENT COUNT`. Times are those of the processor, as
 //! Linux counts them; the bytes are those of the machine's memory that the process has more while all instances are there.
@@ -20,14 +21,17 @@ struct Guest {
     argument: i32,
 }
 
+/// The caps of a store.
+const CAPS: Caps = Caps { bytes: 1 << 34, elements: 1 << 30 };
+
 /// An instance, and the function of it that is called.
-type Made = (Instance, TypedFunc<i32, i32>);
+type Made = (Instance, TypedFunc<i32, i64>);
 
 impl Guest {
     fn store(&self) -> Outcome<Store<()>> {
         let mut store = Store::new(&self.engine, ());
         store.set_fuel(u64::MAX)?;
-        store.set_caps(Caps { bytes: 1 << 34, elements: 1 << 30 });
+        store.set_caps(CAPS);
         Ok(store)
     }
 
@@ -51,18 +55,38 @@ fn one_after_another(guest: &Guest, count: u32) -> Outcome<Duration> {
     Ok((processor_time()? - begun) / count)
 }
 
-/// The times of making, running and dropping an instance, and its bytes.
-fn all_at_once(guest: &Guest, count: u32) -> Outcome<([Duration; 3], u64)> {
-    let mut store = guest.store()?;
+/// Instances or tenants that are there at once: the times of making and of running each, and the bytes of each.
+struct Measured<X> {
+    all: Vec<X>,
+    made: Duration,
+    run: Duration,
+    bytes: u64,
+}
+
+fn measured<X>(
+    count: u32,
+    make: impl FnMut(u32) -> Outcome<X>,
+    run: impl FnMut(&mut X) -> Outcome<()>,
+) -> Outcome<Measured<X>> {
     let (before, begun) = (resident()?, processor_time()?);
-    let instances = (0..count).map(|_| guest.instance(&mut store)).collect::<Outcome<Vec<_>>>()?;
+    let mut all = (0..count).map(make).collect::<Outcome<Vec<_>>>()?;
     let made = processor_time()?;
-    instances.iter().try_for_each(|it| guest.run(it, &mut store))?;
-    let (run, bytes) = (processor_time()?, resident()?.saturating_sub(before));
-    drop(instances);
-    store.caps();
-    let times = [made - begun, run - made, processor_time()? - run];
-    Ok((times.map(|it| it / count), bytes / u64::from(count)))
+    all.iter_mut().try_for_each(run)?;
+    let (ended, bytes) = (processor_time()?, resident()?.saturating_sub(before) / u64::from(count));
+    Ok(Measured { all, made: (made - begun) / count, run: (ended - made) / count, bytes })
+}
+
+/// A tenant: a store with fuel and caps of its own, and an instance.
+fn tenant(guest: &Guest) -> Outcome<(Store<()>, Made)> {
+    let mut store = guest.store()?;
+    let made = guest.instance(&mut store)?;
+    Ok((store, made))
+}
+
+/// Drops the instance of a tenant, which gets back its caps.
+fn evict((mut store, made): (Store<()>, Made)) -> Outcome<()> {
+    drop(made);
+    if store.caps() == CAPS { Ok(()) } else { Err("a tenant hasn't got back its caps".into()) }
 }
 
 /// Calls an instance so often on each of so many threads. The time is the longest one of a thread.
@@ -104,8 +128,23 @@ fn main() -> Outcome<()> {
     let guest = Guest { engine, module, function: function.clone(), argument: argument.parse()? };
     let count: u32 = count.parse()?;
     println!("one after another: {:?} each", one_after_another(&guest, count)?);
-    let ([made, run, dropped], bytes) = all_at_once(&guest, count)?;
-    println!("all at once: {made:?} made, {run:?} run, {dropped:?} dropped, {bytes} bytes each");
+    let mut store = guest.store()?;
+    let here = measured(count, |_| guest.instance(&mut store), |_| Ok(()))?;
+    println!("instances: {:?} made, {} bytes each", here.made, here.bytes);
+    let tenants = measured(count, |_| tenant(&guest), |(store, made)| guest.run(made, store))?;
+    println!("tenants: {:?} made, {:?} run, {} bytes each", tenants.made, tenants.run, tenants.bytes);
+    let size = guest.instance(&mut store)?.0.contents(&store).memories.iter().map(|it| it.data_size()).sum();
+    let alone = measured(count, |it| Ok(vec![it as u8 | 1; size]), |_| Ok(()))?;
+    println!("{size} bytes alone: {:?} made, {} bytes each", alone.made, alone.bytes);
+    let begun = processor_time()?;
+    drop(here.all);
+    if store.caps() != CAPS {
+        return Err("a store hasn't got back its caps".into());
+    }
+    let dropped = processor_time()?;
+    tenants.all.into_iter().try_for_each(evict)?;
+    let evicted = processor_time()?;
+    println!("dropped: {:?} an instance, {:?} a tenant", (dropped - begun) / count, (evicted - dropped) / count);
     println!("a thread: {:?} a call", on_threads(&guest, 1, count)?);
     println!("four threads: {:?} a call", on_threads(&guest, 4, count)?);
     Ok(())
