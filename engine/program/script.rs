@@ -2,11 +2,14 @@
 //!
 //! | Line | Reply, if all is well |
 //! |---|---|
-//! | `module FILE` | `ok:`; the module is instantiated, and the one before is dropped |
+//! | `module FILE` | `ok:`; the module is instantiated and is the present one, and the one before is dropped |
+//! | `name NAME` | `ok:`; the present module has this name from now on, and is kept |
+//! | `use NAME` | `ok:`; the module of this name is the present one |
+//! | `register NAME` | `ok:`; later modules can import what the present one exports, from a module of this name |
 //! | `invoke FUNCTION ARGS..` | `ok: V..`, the results |
 //! | `get GLOBAL` | `ok: V` |
 //! | `digest` | `ok:` and a line that tells contents apart |
-//! | `fuel N` | `ok:`; from now on fuel is charged, and so much is there; the first such line drops the module |
+//! | `fuel N` | `ok:`; from now on fuel is charged, and so much is there; the first such line drops all modules |
 //! | `left` | `ok: N`, the fuel that is left |
 //! | `lenient` | `ok:`; from now on a module may have functions with floats, which stop when they are called |
 //!
@@ -20,6 +23,7 @@ use engine::library::{RawRef, TypedRawRef, V128, ValType};
 use engine::{
     Caps, Config, Contents, Engine, Error, Instance, Linker, Module, Refusal, RefusalKind, Store, Unsupported, Val,
 };
+use std::collections::HashMap;
 use std::fmt::Display;
 use std::fs;
 use std::io::{BufRead, Write};
@@ -28,9 +32,14 @@ use std::io::{BufRead, Write};
 pub struct Script {
     caps: Caps,
     store: Store<Host>,
-    made: Option<(Module, Instance)>,
+    /// What registered modules export.
+    linker: Linker<Host>,
+    made: Option<Made>,
+    named: HashMap<String, Made>,
     is_lenient: bool,
 }
+
+type Made = (Module, Instance);
 
 fn store(is_metered: bool, caps: Caps) -> Store<Host> {
     let engine = Engine::new(Config::default().consume_fuel(is_metered));
@@ -42,7 +51,13 @@ fn store(is_metered: bool, caps: Caps) -> Store<Host> {
 impl Script {
     /// A script whose modules share these caps. No fuel is charged.
     pub fn new(caps: Caps) -> Script {
-        Script { caps, store: store(false, caps), made: None, is_lenient: false }
+        Self::with(caps, false, false)
+    }
+
+    fn with(caps: Caps, is_metered: bool, is_lenient: bool) -> Script {
+        let store = store(is_metered, caps);
+        let linker = Linker::new(store.engine());
+        Script { caps, store, linker, made: None, named: HashMap::new(), is_lenient }
     }
 
     /// Replies to each line of the input.
@@ -61,6 +76,20 @@ impl Script {
         let (word, rest) = line.trim().split_once(' ').unwrap_or((line.trim(), ""));
         match word {
             "module" => self.module(rest),
+            "name" => {
+                self.named.insert(rest.into(), self.made()?.clone());
+                Ok("ok:".into())
+            }
+            "use" => {
+                let made = self.named.get(rest).ok_or(format!("error: no module has the name {rest}"))?;
+                self.made = Some(made.clone());
+                Ok("ok:".into())
+            }
+            "register" => {
+                let (_, instance) = self.made()?.clone();
+                self.linker.allow_shadowing(true).instance(&mut self.store, &name(rest)?, &instance).map_err(failed)?;
+                Ok("ok:".into())
+            }
             "invoke" => self.invoke(rest),
             "get" => {
                 let (_, instance) = self.made()?;
@@ -72,7 +101,7 @@ impl Script {
             "fuel" => {
                 let fuel = rest.parse().or(Err("error: fuel is a number"))?;
                 if !self.store.engine().is_metered() {
-                    (self.store, self.made) = (store(true, self.caps), None);
+                    *self = Self::with(self.caps, true, self.is_lenient);
                 }
                 self.store.set_fuel(fuel).map_err(error)?;
                 Ok("ok:".into())
@@ -86,7 +115,7 @@ impl Script {
         }
     }
 
-    fn made(&self) -> Result<&(Module, Instance), String> {
+    fn made(&self) -> Result<&Made, String> {
         self.made.as_ref().ok_or("error: there is no module".into())
     }
 
@@ -95,7 +124,7 @@ impl Script {
         let engine = self.store.engine().clone();
         let read = if self.is_lenient { Module::new_lenient } else { Module::new };
         let module = read(&engine, &bytes).map_err(refused)?;
-        let mut linker = Linker::new(&engine);
+        let mut linker = self.linker.clone();
         spectest::define(&mut linker, &mut self.store, &module).map_err(failed)?;
         let instance = linker.instantiate(&mut self.store, &module).map_err(failed)?;
         self.made = Some((module, instance));

@@ -1,7 +1,7 @@
 //! The engine's decoder and validator: whatever the bytes are, a module is made or refused with a text, and what is taken without floats
 //! is taken with them.
 #![no_main]
-use engine::Module;
+use engine::{Engine, Module};
 use std::sync::LazyLock;
 use wasmi_fuzz::{agree, fuzz_target, is_planted};
 
@@ -21,8 +21,9 @@ mod random;
 fuzz_target!(is_kept, changed);
 
 fn is_kept(input: &[u8]) -> bool {
-    let [strict, lenient] =
-        [Module::new(input), Module::new_lenient(input)].map(|made| made.map_err(|it| it.to_string()));
+    static ENGINE: LazyLock<Engine> = LazyLock::new(Engine::default);
+    let [strict, lenient] = [Module::new(&ENGINE, input), Module::new_lenient(&ENGINE, input)]
+        .map(|made| made.map_err(|it| it.to_string()));
     let is_refused = [&strict, &lenient].map(|made| made.as_ref().is_err());
     let has_text = [&strict, &lenient].map(|made| made.as_ref().is_err_and(|text| !text.is_empty()));
     agree("decoder", &is_refused, &has_text);
