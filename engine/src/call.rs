@@ -36,6 +36,15 @@ impl<T> Clone for Callee<T> {
     }
 }
 
+/// The open calls of a call from the host: in the instance that runs, and in those that wait for a function of another one.
+#[derive(Debug)]
+pub(crate) struct Calls {
+    pub at: Activation,
+    pub away: Vec<Activation>,
+    /// Whether they ended where fuel was missing, so that they can go on there.
+    pub is_out_of_fuel: bool,
+}
+
 impl<T> Store<T> {
     /// Calls a function of an instance. Its arguments are written, and its results read, at the beginning of the values
     /// that are lent.
@@ -48,28 +57,31 @@ impl<T> Store<T> {
     ) -> Result<R, Error> {
         let (instance, _) = self.inner.instance(owner);
         self.collect();
-        let base = self.inner.begin()?;
-        let floor = self.inner.stack().frames.len();
-        write(&mut self.inner.stack_mut().values[base..]);
-        let ended = self.run(instance, function, base);
-        let results = ended.map(|()| read(&self.inner.stack().values[base..]));
+        let (base, floor) = self.inner.begin()?;
+        write(self.inner.values(base));
+        let entered = self.inner.enter(instance, function, base);
+        let ended = entered.map_err(Error::from).and_then(|at| self.run(&mut Calls::new(at)));
+        let results = ended.map(|()| read(self.inner.values(base)));
         self.inner.end(base, floor);
         results
     }
 
-    /// Runs a function whose frame begins at this value, with its parameters.
-    fn run(&mut self, instance: u32, function: u32, base: usize) -> Result<(), Error> {
-        let mut callees = self.callees[instance as usize].clone();
-        let mut at = self.inner.enter(instance, function, base)?;
-        let mut away = vec![];
+    /// Runs until the first call has returned.
+    pub(crate) fn run(&mut self, calls: &mut Calls) -> Result<(), Error> {
+        let Calls { at, away, is_out_of_fuel } = calls;
+        let mut callees = self.callees[at.instance as usize].clone();
         loop {
             let found;
-            let (callee, base) = match execute::execute(&mut self.inner, &mut at)? {
+            let (callee, base) = match execute::execute(&mut self.inner, at)? {
                 Exit::Done => {
                     let Some(before) = away.pop() else { return Ok(()) };
-                    at = before;
+                    *at = before;
                     callees = self.callees[at.instance as usize].clone();
                     continue;
+                }
+                Exit::OutOfFuel => {
+                    *is_out_of_fuel = true;
+                    return Err(TrapCode::OutOfFuel.into());
                 }
                 Exit::Host(limits::NO_HOST) => return Err(Unsupported.into()),
                 Exit::Host(number) => (&callees[number as usize], at.frame.base),
@@ -85,8 +97,8 @@ impl<T> Store<T> {
                 }
                 Callee::Guest { instance, function } => {
                     let (instance, function) = (*instance, *function);
-                    away.push(at);
-                    at = self.inner.enter(instance, function, base)?;
+                    let before = std::mem::replace(at, self.inner.enter(instance, function, base)?);
+                    away.push(before);
                     callees = self.callees[instance as usize].clone();
                 }
             }
@@ -116,20 +128,26 @@ impl<T> Store<T> {
     }
 }
 
+impl Calls {
+    pub fn new(at: Activation) -> Self {
+        Self { at, away: vec![], is_out_of_fuel: false }
+    }
+}
+
 impl Inner {
-    /// The first value for a call from the host.
-    fn begin(&mut self) -> Result<usize, TrapCode> {
+    /// Begins a call from the host: its first value, and how many frames there are.
+    pub fn begin(&mut self) -> Result<(usize, usize), TrapCode> {
         if self.nested == limits::NESTED {
             return Err(TrapCode::StackOverflow);
         }
         self.nested += 1;
         let engine = &self.engine;
-        self.stack.get_or_insert_with(|| engine.stack());
-        Ok(self.top)
+        let stack = self.stack.get_or_insert_with(|| engine.stack());
+        Ok((self.top, stack.frames.len()))
     }
 
     /// Ends a call from the host.
-    fn end(&mut self, base: usize, floor: usize) {
+    pub fn end(&mut self, base: usize, floor: usize) {
         self.stack_mut().frames.truncate(floor);
         (self.nested, self.top) = (self.nested - 1, base);
         if self.nested == 0 {
@@ -138,7 +156,7 @@ impl Inner {
     }
 
     /// Makes the frame of a function.
-    fn enter(&mut self, instance: u32, function: u32, base: usize) -> Result<Activation, TrapCode> {
+    pub fn enter(&mut self, instance: u32, function: u32, base: usize) -> Result<Activation, TrapCode> {
         let Self { instances, stack, .. } = self;
         let Stack { values, frames } = &mut **stack.as_mut().expect(RUNS);
         if frames.len() >= limits::CALLS {
@@ -154,11 +172,7 @@ impl Inner {
         &mut self.stack_mut().values[base..]
     }
 
-    fn stack(&self) -> &Stack {
-        self.stack.as_ref().expect(RUNS)
-    }
-
-    fn stack_mut(&mut self) -> &mut Stack {
+    pub fn stack_mut(&mut self) -> &mut Stack {
         self.stack.as_mut().expect(RUNS)
     }
 }

@@ -21,6 +21,8 @@ mod library {
 pub(crate) enum Exit {
     /// All calls have returned.
     Done,
+    /// The fuel of the next instruction isn't there.
+    OutOfFuel,
     /// An imported function was called, whose arguments begin the frame.
     Host(u32),
     /// A function of another instance was called through a table, with arguments that begin at this value. Its type has to
@@ -138,7 +140,12 @@ pub(crate) fn execute(inner: &mut Inner, at: &mut Activation) -> Result<Exit, Tr
                                 let lanes = body.shuffles[op.imm as usize];
                                 slots.set(op.d, library::i8x16_shuffle(slots.get(op.a), slots.get(op.b), lanes));
                             }
-                            Code::fuel => fuel.consume_fuel_if(|_| op.imm.into()).map_err(|_| TrapCode::OutOfFuel)?,
+                            Code::fuel => {
+                                if fuel.consume_fuel_if(|_| op.imm.into()).is_err() {
+                                    at.frame = Frame { function, next: next - 1, base };
+                                    return Ok(Exit::OutOfFuel);
+                                }
+                            }
                             Code::branch => next = op.imm as usize,
                             Code::branch_if => {
                                 if slots.get::<u32>(op.a) != 0 {
@@ -232,7 +239,13 @@ pub(crate) fn execute(inner: &mut Inner, at: &mut Activation) -> Result<Exit, Tr
                             Code::memory_size | Code::memory_grow | Code::memory_fill | Code::memory_copy | Code::memory_init
                             | Code::data_drop | Code::table_get | Code::table_set | Code::table_size | Code::table_grow
                             | Code::table_fill | Code::table_copy | Code::table_init | Code::elem_drop => {
-                                bulk(*op, instance, items, fuel, caps, slots)?;
+                                match bulk(*op, instance, items, fuel, caps, slots) {
+                                    Err(TrapCode::OutOfFuel) => {
+                                        at.frame = Frame { function, next: next - 1, base };
+                                        return Ok(Exit::OutOfFuel);
+                                    }
+                                    ended => ended?,
+                                }
                                 continue 'memory;
                             }
                         }

@@ -82,20 +82,30 @@ impl Func {
     ///
     /// If the arguments aren't of its type, and if the guest stops.
     pub fn call(&self, mut context: impl AsContextMut, args: &[Val]) -> Result<Vec<Val>, Error> {
-        let ty = self.ty(&context);
+        let ty = self.checked(&mut context, args)?;
+        let (write, read) =
+            (|values: &mut [RawVal]| Self::write(args, values), |values: &[RawVal]| Self::read(&ty, values));
+        context.as_context_mut().store.call(&self.owner, self.function, write, read)
+    }
+
+    /// The type, if these can be its arguments.
+    pub(crate) fn checked(&self, context: &mut impl AsContextMut, args: &[Val]) -> Result<FuncType, Error> {
+        let ty = self.ty(&*context);
         if !args.iter().map(Val::ty).eq(ty.params().iter().copied()) {
             return Err(Error::misused("the arguments aren't those of the function's type"));
         }
-        let store = context.as_context_mut().store;
         if ty.results().contains(&ValType::FuncRef) {
-            store.inner.pin(&self.owner);
+            context.as_context_mut().store.inner.pin(&self.owner);
         }
-        let write = |values: &mut [RawVal]| {
-            values.iter_mut().zip(args).for_each(|(value, arg)| *value = canonical(*arg));
-        };
-        let read =
-            |values: &[RawVal]| ty.results().iter().zip(values).map(|(ty, value)| Val::new(*ty, *value)).collect();
-        store.call(&self.owner, self.function, write, read)
+        Ok(ty)
+    }
+
+    pub(crate) fn write(args: &[Val], values: &mut [RawVal]) {
+        values.iter_mut().zip(args).for_each(|(value, arg)| *value = canonical(*arg));
+    }
+
+    pub(crate) fn read(ty: &FuncType, values: &[RawVal]) -> Vec<Val> {
+        ty.results().iter().zip(values).map(|(ty, value)| Val::new(*ty, *value)).collect()
     }
 
     /// The same function, with types that are known.

@@ -101,13 +101,11 @@ impl Instance {
     /// ```
     /// # use engine::{Engine, Linker, Module, Store};
     /// # let engine = Engine::default();
-    /// # let wasm = b"\0asm\x01\0\0\0\x01\x07\x01\x60\x02\x7f\x7f\x01\x7f\x03\x02\x01\0\x07\x07\x01\x03sum\0\0\
-    /// #     \x0a\x09\x01\x07\0\x20\0\x20\x01\x6a\x0b";
-    /// # let module = Module::new(&engine, wasm)?;
+    /// # let module = Module::new(&engine, engine::guests::PLAIN)?;
     /// # let mut store = Store::new(&engine, ());
     /// # let instance = Linker::new(&engine).instantiate(&mut store, &module)?;
-    /// let sum = instance.get_typed_func::<(i32, i32), i32>(&store, "sum")?;
-    /// assert_eq!(sum.call(&mut store, (20, 22))?, 42);
+    /// let sum = instance.get_typed_func::<i32, i32>(&store, "sum")?;
+    /// assert_eq!(sum.call(&mut store, 4)?, 10);
     /// # Ok::<(), engine::Error>(())
     /// ```
     pub fn get_typed_func<P, R>(&self, context: impl AsContext, name: &str) -> Result<TypedFunc<P, R>, Error>

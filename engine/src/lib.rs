@@ -14,7 +14,7 @@
 //! | `handle`, `arena`, `references` | who needs an item of a store, items by number, and references of functions |
 //! | `instance`, `compiled`, `items` | instances, modules, memories, tables and globals, as an embedder has them |
 //! | `values`, `func`, `caller`, `linker` | functions of the host and of guests, and what modules may import |
-//! | `call` | calls between the host and instances |
+//! | `call`, `resume` | calls between the host and instances, and calls that wait for fuel |
 //! | `execute` | the loop |
 //!
 //! The program stands in `program/`.
@@ -47,6 +47,7 @@ mod linker;
 mod module;
 mod reader;
 mod references;
+mod resume;
 mod stack;
 mod store;
 mod translate;
@@ -62,8 +63,15 @@ pub use instance::{Contents, Instance};
 pub use items::{Extern, Global, Memory, Table};
 pub use linker::Linker;
 pub use reader::{Refusal, RefusalKind};
+pub use resume::{OutOfFuel, ResumableCall};
 pub use store::{Caps, Store};
 pub use values::{HostResults, Val, WasmTy, WasmValues};
+
+/// The modules of the examples in the documentation.
+#[doc(hidden)]
+pub mod guests {
+    pub const PLAIN: &[u8] = include_bytes!("../tests/hosts/plain.wasm");
+}
 
 /// Bounds on what a module may have, so that a hostile one costs no more than its size. WebAssembly core specification,
 /// A.2 (implementation limitations).

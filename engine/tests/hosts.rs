@@ -1,7 +1,9 @@
 //! Functions of the host, instances that import from each other, and what is given back when they are dropped.
 
 use engine::library::{FuncType, HostError, MemoryType, TrapCode, ValType};
-use engine::{Caller, Caps, Config, Engine, Error, ExternType, Func, Instance, Linker, Memory, Module, Store, Val};
+use engine::{
+    Caller, Caps, Config, Engine, Error, ExternType, Func, Instance, Linker, Memory, Module, ResumableCall, Store, Val,
+};
 use std::fmt;
 
 fn module(engine: &Engine, name: &str) -> Module {
@@ -274,6 +276,91 @@ fn what_an_import_has_to_be() {
     assert!(matches!(Instance::new(&mut store, &module(&other, "plain"), &[]), Err(Error::Misused(_))));
     assert!(matches!(Instance::new(&mut store, &user, &[]), Err(Error::Link(_))));
     assert!(matches!(user.get_export("direct"), Some(ExternType::Func(_))));
+}
+
+// ---- calls that wait for fuel
+
+/// What a call gives when so much fuel is given at a time, how often it is, and what is used of it.
+fn refilled(store: &mut Store<()>, instance: &Instance, name: &str, arg: i32, fuel: u64) -> (Option<i32>, u32, u64) {
+    let function = instance.get_func(&*store, name).unwrap();
+    store.set_fuel(fuel).unwrap();
+    let mut call = function.call_resumable(&mut *store, &[arg.into()]).unwrap();
+    let mut refills = 0;
+    loop {
+        match call {
+            ResumableCall::Finished(results) => {
+                let used = fuel * u64::from(refills + 1) - store.get_fuel().unwrap();
+                return (results.first().map(|it| i32::from(*it)), refills, used);
+            }
+            ResumableCall::OutOfFuel(waiting) => {
+                refills += 1;
+                let left = store.get_fuel().unwrap();
+                store.set_fuel(left + fuel).unwrap();
+                call = waiting.resume(&mut *store).unwrap();
+            }
+        }
+    }
+}
+
+#[test]
+fn a_call_goes_on_after_a_refill() {
+    let engine = metered();
+    let (mut store, provider, user) = linked(&engine);
+    let plain = Linker::new(&engine).instantiate(&mut store, &module(&engine, "plain")).unwrap();
+    for (instance, name, arg, result) in [
+        (&plain, "sum", 1000, Some(500_500)),
+        (&plain, "deep", 100, Some(100)),
+        (&plain, "fill", 60_000, None),
+        (&user, "depth", 100, Some(100)),
+        (&user, "direct", 5, None),
+        (&provider, "add_own", 5, None),
+    ] {
+        let (whole, refills, used) = refilled(&mut store, instance, name, arg, 1_000_000);
+        assert!(refills == 0 && (result.is_none() || whole == result), "{name}: {whole:?}");
+        for fuel in [7, 11, 100] {
+            let (results, refills, same) = refilled(&mut store, instance, name, arg, fuel);
+            assert!(result.is_none() || results == result, "{name}: {results:?}");
+            assert_eq!((same, u64::from(refills)), (used, used.div_ceil(fuel) - 1), "{name}");
+        }
+    }
+}
+
+#[test]
+fn calls_that_wait_at_once() {
+    let engine = metered();
+    let (mut store, linker, module) = (Store::new(&engine, ()), Linker::new(&engine), module(&engine, "plain"));
+    let mut waiting = vec![];
+    for count in 0..20 {
+        let instance = linker.instantiate(&mut store, &module).unwrap();
+        let deep = instance.get_typed_func::<i32, i32>(&store, "deep").unwrap();
+        store.set_fuel(50).unwrap();
+        match deep.call_resumable(&mut store, 500 + count).unwrap() {
+            ResumableCall::OutOfFuel(call) => waiting.push(call),
+            ResumableCall::Finished(_) => panic!("there was fuel enough"),
+        }
+    }
+    // Each keeps its instance.
+    assert_eq!(store.caps().bytes, Caps::default().bytes - (20 << 16));
+    store.set_fuel(1_000_000).unwrap();
+    for (count, call) in (0..10).zip(waiting.drain(10..).rev()) {
+        assert!(matches!(call.resume(&mut store).unwrap(), ResumableCall::Finished(deep) if deep == 519 - count));
+    }
+    drop(waiting);
+    assert_eq!(store.caps(), Caps::default());
+}
+
+#[test]
+fn a_call_without_fuel_or_a_meter() {
+    let engine = metered();
+    let (mut store, _, user) = linked(&engine);
+    store.set_fuel(3).unwrap();
+    assert_eq!(code(call(&mut store, &user, "direct", &[5])), Some(TrapCode::OutOfFuel));
+    // A trap isn't waited for.
+    store.set_fuel(1000).unwrap();
+    let traps = user.get_typed_func::<i32, i32>(&store, "traps").unwrap();
+    assert_eq!(code(traps.call_resumable(&mut store, 1)), Some(TrapCode::UnreachableCodeReached));
+    let mut store = Store::new(&Engine::default(), ());
+    assert!(store.set_fuel(1).is_err() && store.get_fuel().is_err());
 }
 
 // ---- what is given back

@@ -1,0 +1,181 @@
+//! Calls that can go on after they have ended out of fuel.
+
+use crate::call::Calls;
+use crate::context::AsContextMut;
+use crate::error::Error;
+use crate::func::{Func, TypedFunc};
+use crate::handle::Owner;
+use crate::library::{RawVal, TrapCode};
+use crate::limits;
+use crate::stack::{Activation, Frame};
+use crate::store::{Inner, Store};
+use crate::values::{Val, WasmValues};
+use std::fmt;
+use std::sync::Arc;
+
+/// What a call that can be resumed has come to: results, or a lack of fuel.
+pub enum ResumableCall<R> {
+    /// It has ended with these results.
+    Finished(R),
+    /// It waits for fuel.
+    OutOfFuel(OutOfFuel<R>),
+}
+
+/// A call that waits for fuel.
+///
+/// It keeps the values of its frames and what it needs of its store, but no stack, so that many can wait. If it is dropped,
+/// it doesn't go on.
+pub struct OutOfFuel<R> {
+    owner: Arc<Owner>,
+    calls: Calls,
+    frames: Vec<Frame>,
+    values: Vec<RawVal>,
+    /// Where the values and the frames began on the stack.
+    base: usize,
+    floor: usize,
+    read: Read<R>,
+}
+
+/// Reads results.
+type Read<R> = Box<dyn FnOnce(&[RawVal]) -> R + Send>;
+
+impl Func {
+    /// Calls it as [`Func::call`] does, but a lack of fuel is no error.
+    ///
+    /// # Errors
+    ///
+    /// If the arguments aren't of its type, and if the guest stops for another reason.
+    pub fn call_resumable(
+        &self,
+        mut context: impl AsContextMut,
+        args: &[Val],
+    ) -> Result<ResumableCall<Vec<Val>>, Error> {
+        let ty = self.checked(&mut context, args)?;
+        let write = |values: &mut [RawVal]| Self::write(args, values);
+        let read = Box::new(move |values: &[RawVal]| Self::read(&ty, values));
+        begin(context.as_context_mut().store, self, write, read)
+    }
+}
+
+impl<P: WasmValues, R: WasmValues + 'static> TypedFunc<P, R> {
+    /// Calls it as [`TypedFunc::call`] does, but a lack of fuel is no error.
+    ///
+    /// # Errors
+    ///
+    /// If the guest stops for another reason.
+    ///
+    /// # Examples
+    ///
+    /// ```
+    /// use engine::{Config, Engine, Linker, Module, ResumableCall, Store};
+    ///
+    /// let engine = Engine::new(Config::default().consume_fuel(true));
+    /// # let wasm = engine::guests::PLAIN;
+    /// let module = Module::new(&engine, wasm)?;
+    /// let mut store = Store::new(&engine, ());
+    /// store.set_fuel(100)?;
+    /// let instance = Linker::new(&engine).instantiate(&mut store, &module)?;
+    /// let sum = instance.get_typed_func::<i32, i32>(&store, "sum")?;
+    /// let mut call = sum.call_resumable(&mut store, 1000)?;
+    /// let mut refills = 0;
+    /// while let ResumableCall::OutOfFuel(waiting) = call {
+    ///     refills += 1;
+    ///     store.set_fuel(100)?;
+    ///     call = waiting.resume(&mut store)?;
+    /// }
+    /// let ResumableCall::Finished(sum) = call else { unreachable!() };
+    /// assert_eq!(sum, 500_500);
+    /// assert!(refills > 10);
+    /// # Ok::<(), engine::Error>(())
+    /// ```
+    pub fn call_resumable(&self, mut context: impl AsContextMut, params: P) -> Result<ResumableCall<R>, Error> {
+        let store = context.as_context_mut().store;
+        begin(store, self.func(), |values| params.write(values), Box::new(R::read))
+    }
+}
+
+fn begin<T, R>(
+    store: &mut Store<T>,
+    func: &Func,
+    write: impl FnOnce(&mut [RawVal]),
+    read: Read<R>,
+) -> Result<ResumableCall<R>, Error> {
+    let (instance, _) = store.inner.instance(&func.owner);
+    store.collect();
+    let place = store.inner.begin()?;
+    write(store.inner.values(place.0));
+    let calls = store.inner.enter(instance, func.function, place.0).map(Calls::new);
+    finish(store, func.owner.clone(), place, calls, read)
+}
+
+/// Runs calls to their end, or until fuel is missing.
+fn finish<T, R>(
+    store: &mut Store<T>,
+    owner: Arc<Owner>,
+    (base, floor): (usize, usize),
+    calls: Result<Calls, TrapCode>,
+    read: Read<R>,
+) -> Result<ResumableCall<R>, Error> {
+    let run = |mut calls: Calls| match store.run(&mut calls) {
+        Ok(()) => Ok(ResumableCall::Finished(read(store.inner.values(base)))),
+        Err(_) if calls.is_out_of_fuel => {
+            let (frames, values) = saved(&mut store.inner, &calls, base, floor);
+            Ok(ResumableCall::OutOfFuel(OutOfFuel { owner, calls, frames, values, base, floor, read }))
+        }
+        Err(error) => Err(error),
+    };
+    let ended = calls.map_err(Error::from).and_then(run);
+    store.inner.end(base, floor);
+    ended
+}
+
+/// The frames and values of calls.
+fn saved(inner: &mut Inner, calls: &Calls, base: usize, floor: usize) -> (Vec<Frame>, Vec<RawVal>) {
+    let Frame { function, base: last, .. } = calls.at.frame;
+    let top = last + inner.instances[calls.at.instance].module.code[function].slots;
+    let stack = inner.stack_mut();
+    (stack.frames[floor..].to_vec(), stack.values[base..top].to_vec())
+}
+
+impl<R> OutOfFuel<R> {
+    /// Goes on where fuel was missing. The store should have been given fuel; a lack of it is no error here either.
+    ///
+    /// # Errors
+    ///
+    /// If the guest stops for another reason.
+    pub fn resume(self, mut context: impl AsContextMut) -> Result<ResumableCall<R>, Error> {
+        let store = context.as_context_mut().store;
+        store.inner.check(&self.owner);
+        store.collect();
+        let (base, floor) = store.inner.begin()?;
+        let fits = base + self.values.len() <= limits::VALUES && floor + self.frames.len() <= limits::CALLS;
+        if !fits {
+            store.inner.end(base, floor);
+            return Err(TrapCode::StackOverflow.into());
+        }
+        let frame = |frame: &Frame| Frame { base: frame.base - self.base + base, ..*frame };
+        let calls =
+            |it: &Activation| Activation { floor: it.floor - self.floor + floor, frame: frame(&it.frame), ..*it };
+        let stack = store.inner.stack_mut();
+        stack.frames.extend(self.frames.iter().map(frame));
+        stack.values[base..base + self.values.len()].copy_from_slice(&self.values);
+        let away = self.calls.away.iter().map(calls).collect();
+        let calls = Calls { at: calls(&self.calls.at), away, is_out_of_fuel: false };
+        finish(store, self.owner, (base, floor), Ok(calls), self.read)
+    }
+}
+
+impl<R> fmt::Debug for OutOfFuel<R> {
+    fn fmt(&self, f: &mut fmt::Formatter<'_>) -> fmt::Result {
+        write!(f, "OutOfFuel({} frames, {} values)", self.frames.len() + 1, self.values.len())
+    }
+}
+
+impl<R: fmt::Debug> fmt::Debug for ResumableCall<R> {
+    fn fmt(&self, f: &mut fmt::Formatter<'_>) -> fmt::Result {
+        match self {
+            Self::Finished(results) => write!(f, "Finished({results:?})"),
+            Self::OutOfFuel(waiting) => waiting.fmt(f),
+        }
+    }
+}
