@@ -6,7 +6,7 @@ use crate::execute::{self, Exit};
 use crate::handle::Owner;
 use crate::library::{RawVal, TrapCode};
 use crate::limits;
-use crate::stack::{self, Activation, Frame, Stack};
+use crate::stack::{self, Activation, Frame, Lent};
 use crate::store::{Inner, Store};
 use std::sync::Arc;
 
@@ -142,13 +142,18 @@ impl Inner {
         }
         self.nested += 1;
         let engine = &self.engine;
-        let stack = self.stack.get_or_insert_with(|| engine.stack());
-        Ok((self.top, stack.frames.len()))
+        let limits = self.stack_limits;
+        let stack = self.stack.get_or_insert_with(|| {
+            let mut stack = engine.stack();
+            stack.limit(limits);
+            stack
+        });
+        Ok((self.top, stack.lend().frames.len()))
     }
 
     /// Ends a call from the host.
     pub fn end(&mut self, base: usize, floor: usize) {
-        self.stack_mut().frames.truncate(floor);
+        self.stack().frames.truncate(floor);
         (self.nested, self.top) = (self.nested - 1, base);
         if self.nested == 0 {
             self.stack.take().into_iter().for_each(|stack| self.engine.keep(stack));
@@ -158,8 +163,8 @@ impl Inner {
     /// Makes the frame of a function.
     pub fn enter(&mut self, instance: u32, function: u32, base: usize) -> Result<Activation, TrapCode> {
         let Self { instances, stack, .. } = self;
-        let Stack { values, frames } = &mut **stack.as_mut().expect(RUNS);
-        if frames.len() >= limits::CALLS {
+        let Lent { values, frames, calls } = stack.as_mut().expect(RUNS).lend();
+        if frames.len() >= calls {
             return Err(TrapCode::StackOverflow);
         }
         let function = function as usize;
@@ -169,11 +174,11 @@ impl Inner {
 
     /// The values from a place on, of a call that runs.
     pub fn values(&mut self, base: usize) -> &mut [RawVal] {
-        &mut self.stack_mut().values[base..]
+        &mut self.stack().values[base..]
     }
 
-    pub fn stack_mut(&mut self) -> &mut Stack {
-        self.stack.as_mut().expect(RUNS)
+    pub fn stack(&mut self) -> Lent<'_> {
+        self.stack.as_mut().expect(RUNS).lend()
     }
 }
 

@@ -8,8 +8,7 @@ use crate::instructions::{Code, Op, instructions};
 use crate::library::{
     Fuel, Memory, MemoryError, RawRef, RawVal, ReadAs, Table, TableError, TrapCode, TypedRawVal, WriteAs,
 };
-use crate::limits;
-use crate::stack::{self, Activation, Frame, SLOTS, Stack};
+use crate::stack::{self, Activation, Frame, Lent, SLOTS};
 use crate::store::{Caps, Entity, Inner, Items};
 
 /// The functions of instructions.
@@ -85,7 +84,7 @@ fn lane<T: TryFrom<u8>>(op: &Op) -> Result<T, TrapCode> {
 /// place is then that at which it goes on.
 pub(crate) fn execute(inner: &mut Inner, at: &mut Activation) -> Result<Exit, TrapCode> {
     let Inner { fuel, caps, instances, items, stack, .. } = inner;
-    let Stack { values, frames } = stack.as_mut().map(|it| &mut **it).ok_or(TrapCode::StackOverflow)?;
+    let Lent { values, frames, calls } = stack.as_mut().ok_or(TrapCode::StackOverflow)?.lend();
     let Activation { instance, floor, frame: Frame { mut function, mut next, mut base } } = *at;
     let instance = &mut instances[instance];
     let mut current = 0;
@@ -191,7 +190,7 @@ pub(crate) fn execute(inner: &mut Inner, at: &mut Activation) -> Result<Exit, Tr
                                         return Err(TrapCode::BadSignature);
                                     }
                                 }
-                                if frames.len() == limits::CALLS {
+                                if frames.len() >= calls {
                                     return Err(TrapCode::StackOverflow);
                                 }
                                 frames.push(Frame { function, next, base });

@@ -64,6 +64,7 @@ pub use items::{Extern, Global, Memory, Table};
 pub use linker::Linker;
 pub use reader::{Refusal, RefusalKind};
 pub use resume::{OutOfFuel, ResumableCall};
+pub use stack::StackLimits;
 pub use store::{Caps, Store};
 pub use values::{HostResults, Val, WasmTy, WasmValues};
 

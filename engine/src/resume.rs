@@ -6,8 +6,7 @@ use crate::error::Error;
 use crate::func::{Func, TypedFunc};
 use crate::handle::Owner;
 use crate::library::{RawVal, TrapCode};
-use crate::limits;
-use crate::stack::{Activation, Frame};
+use crate::stack::{Activation, Frame, Lent, SLOTS};
 use crate::store::{Inner, Store};
 use crate::values::{Val, WasmValues};
 use std::fmt;
@@ -133,7 +132,7 @@ fn finish<T, R>(
 fn saved(inner: &mut Inner, calls: &Calls, base: usize, floor: usize) -> (Vec<Frame>, Vec<RawVal>) {
     let Frame { function, base: last, .. } = calls.at.frame;
     let top = last + inner.instances[calls.at.instance].module.code[function].slots;
-    let stack = inner.stack_mut();
+    let stack = inner.stack();
     (stack.frames[floor..].to_vec(), stack.values[base..top].to_vec())
 }
 
@@ -148,17 +147,17 @@ impl<R> OutOfFuel<R> {
         store.inner.check(&self.owner);
         store.collect();
         let (base, floor) = store.inner.begin()?;
-        let fits = base + self.values.len() <= limits::VALUES && floor + self.frames.len() <= limits::CALLS;
-        if !fits {
+        let Lent { values, frames, calls } = store.inner.stack();
+        let (top, count) = (base + self.values.len(), floor + self.frames.len());
+        if top + SLOTS > values.len() || count > calls {
             store.inner.end(base, floor);
             return Err(TrapCode::StackOverflow.into());
         }
         let frame = |frame: &Frame| Frame { base: frame.base - self.base + base, ..*frame };
         let calls =
             |it: &Activation| Activation { floor: it.floor - self.floor + floor, frame: frame(&it.frame), ..*it };
-        let stack = store.inner.stack_mut();
-        stack.frames.extend(self.frames.iter().map(frame));
-        stack.values[base..base + self.values.len()].copy_from_slice(&self.values);
+        frames.extend(self.frames.iter().map(frame));
+        values[base..top].copy_from_slice(&self.values);
         let away = self.calls.away.iter().map(calls).collect();
         let calls = Calls { at: calls(&self.calls.at), away, is_out_of_fuel: false };
         finish(store, self.owner, (base, floor), Ok(calls), self.read)

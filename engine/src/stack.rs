@@ -23,23 +23,62 @@ pub(crate) struct Activation {
 /// How many slots an instruction can name.
 pub(crate) const SLOTS: usize = 1 << 16;
 
+/// How far the calls of a store may go.
+#[derive(Clone, Copy, Debug, PartialEq, Eq)]
+pub struct StackLimits {
+    /// The values in the frames of all open calls: parameters, locals, constants and operands, of 16 bytes each.
+    pub values: usize,
+    /// The calls that are open at once.
+    pub calls: usize,
+}
+
+impl Default for StackLimits {
+    /// The most that there is: 131,072 values, and 32,768 calls.
+    fn default() -> Self {
+        Self { values: limits::VALUES, calls: limits::CALLS }
+    }
+}
+
 /// The values of all open calls, and where each of them but the last one goes on.
 #[derive(Debug)]
 pub(crate) struct Stack {
-    pub values: Vec<RawVal>,
-    pub frames: Vec<Frame>,
+    /// More than there may be, so that a frame always has as many as an instruction can name.
+    values: Vec<RawVal>,
+    frames: Vec<Frame>,
+    limits: StackLimits,
+}
+
+/// What of a stack a call may use.
+pub(crate) struct Lent<'a> {
+    pub values: &'a mut [RawVal],
+    pub frames: &'a mut Vec<Frame>,
+    pub calls: usize,
 }
 
 impl Default for Stack {
     fn default() -> Self {
-        Self { values: vec![RawVal::default(); limits::VALUES + SLOTS], frames: vec![] }
+        let values = vec![RawVal::default(); limits::VALUES + SLOTS];
+        Self { values, frames: vec![], limits: StackLimits::default() }
+    }
+}
+
+impl Stack {
+    /// Limits it, at most to what it has.
+    pub fn limit(&mut self, StackLimits { values, calls }: StackLimits) {
+        self.limits = StackLimits { values: values.min(limits::VALUES), calls: calls.min(limits::CALLS) };
+    }
+
+    #[inline(always)]
+    pub fn lend(&mut self) -> Lent<'_> {
+        let Self { values, frames, limits } = self;
+        Lent { values: &mut values[..limits.values + SLOTS], frames, calls: limits.calls }
     }
 }
 
 /// Makes the frame of a function whose parameters lie there already.
 #[inline(always)]
 pub(crate) fn enter(values: &mut [RawVal], function: &Function, base: usize) -> Result<(), TrapCode> {
-    if base + function.slots > limits::VALUES {
+    if base + function.slots + SLOTS > values.len() {
         return Err(TrapCode::StackOverflow);
     }
     let begun = base + function.params;

@@ -14,7 +14,7 @@ use crate::library::{
 use crate::limits;
 use crate::module::Module;
 use crate::references::References;
-use crate::stack::Stack;
+use crate::stack::{Stack, StackLimits};
 use std::sync::{Arc, Weak};
 
 /// Two caps, on the bytes of all memories and on the elements of all tables of a store: what is left of each.
@@ -77,6 +77,7 @@ pub(crate) struct Inner {
     pub instances: Arena<Entity>,
     pub items: Items,
     pub references: References,
+    pub stack_limits: StackLimits,
     /// The stack, while a call runs.
     pub stack: Option<Box<Stack>>,
     /// The first value above those of the open calls.
@@ -121,6 +122,7 @@ impl<T> Store<T> {
             instances: Arena::default(),
             items: Items::default(),
             references: References::default(),
+            stack_limits: StackLimits::default(),
             stack: None,
             top: 0,
             nested: 0,
@@ -170,6 +172,11 @@ impl<T> Store<T> {
     pub fn set_caps(&mut self, caps: Caps) {
         self.collect();
         self.inner.caps = caps;
+    }
+
+    /// Limits the stack of the calls that begin from now on. It has no more than [`StackLimits::default`].
+    pub fn set_stack_limits(&mut self, limits: StackLimits) {
+        self.inner.stack_limits = limits;
     }
 
     /// Frees what nobody needs any more, and gives back what it took of the caps.

@@ -2,7 +2,8 @@
 
 use engine::library::{FuncType, HostError, MemoryType, TrapCode, ValType};
 use engine::{
-    Caller, Caps, Config, Engine, Error, ExternType, Func, Instance, Linker, Memory, Module, ResumableCall, Store, Val,
+    Caller, Caps, Config, Engine, Error, ExternType, Func, Instance, Linker, Memory, Module, ResumableCall,
+    StackLimits, Store, Val,
 };
 use std::fmt;
 
@@ -276,6 +277,26 @@ fn what_an_import_has_to_be() {
     assert!(matches!(Instance::new(&mut store, &module(&other, "plain"), &[]), Err(Error::Misused(_))));
     assert!(matches!(Instance::new(&mut store, &user, &[]), Err(Error::Link(_))));
     assert!(matches!(user.get_export("direct"), Some(ExternType::Func(_))));
+}
+
+#[test]
+fn a_store_limits_its_stack() {
+    let engine = Engine::default();
+    let (mut store, linker, module) = (Store::new(&engine, ()), Linker::new(&engine), module(&engine, "plain"));
+    let instance = linker.instantiate(&mut store, &module).unwrap();
+    assert_eq!(call(&mut store, &instance, "deep", &[10_000]).unwrap(), 10_000);
+    // The first call and 100 more of them.
+    store.set_stack_limits(StackLimits { calls: 100, ..StackLimits::default() });
+    assert_eq!(call(&mut store, &instance, "deep", &[100]).unwrap(), 100);
+    assert_eq!(code(call(&mut store, &instance, "deep", &[101])), Some(TrapCode::StackOverflow));
+    store.set_stack_limits(StackLimits { values: 1000, ..StackLimits::default() });
+    assert_eq!(call(&mut store, &instance, "deep", &[100]).unwrap(), 100);
+    assert_eq!(code(call(&mut store, &instance, "deep", &[1000])), Some(TrapCode::StackOverflow));
+    store.set_stack_limits(StackLimits { values: 0, calls: 0 });
+    assert_eq!(code(call(&mut store, &instance, "deep", &[0])), Some(TrapCode::StackOverflow));
+    store.set_stack_limits(StackLimits { values: usize::MAX, calls: usize::MAX });
+    assert_eq!(call(&mut store, &instance, "deep", &[10_000]).unwrap(), 10_000);
+    assert_eq!(code(call(&mut store, &instance, "deep", &[100_000])), Some(TrapCode::StackOverflow));
 }
 
 // ---- calls that wait for fuel
