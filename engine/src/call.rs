@@ -68,6 +68,14 @@ impl<T> Store<T> {
 
     /// Runs until the first call has returned.
     pub(crate) fn run(&mut self, calls: &mut Calls) -> Result<(), Error> {
+        let ended = self.proceed(calls);
+        if ended.is_err() {
+            self.inner.record(calls);
+        }
+        ended
+    }
+
+    fn proceed(&mut self, calls: &mut Calls) -> Result<(), Error> {
         let Calls { at, away, is_out_of_fuel } = calls;
         let mut callees = self.callees[at.instance as usize].clone();
         loop {
@@ -94,6 +102,7 @@ impl<T> Store<T> {
                 Callee::Host { call, slots } => {
                     self.inner.top = base + slots;
                     call(self, at.instance, base)?;
+                    self.inner.trace.clear();
                 }
                 Callee::Guest { instance, function } => {
                     let (instance, function) = (*instance, *function);
@@ -141,6 +150,7 @@ impl Inner {
             return Err(TrapCode::StackOverflow);
         }
         self.nested += 1;
+        self.trace.clear();
         let engine = &self.engine;
         let limits = self.stack_limits;
         let stack = self.stack.get_or_insert_with(|| {

@@ -81,7 +81,7 @@ fn lane<T: TryFrom<u8>>(op: &Op) -> Result<T, TrapCode> {
 }
 
 /// Runs the code of an instance from a place on, until its first call returns or a function outside of it is called. The
-/// place is then that at which it goes on.
+/// place is then that at which it goes on; after a trap it is somewhere in the function that has trapped.
 pub(crate) fn execute(inner: &mut Inner, at: &mut Activation) -> Result<Exit, TrapCode> {
     let Inner { fuel, caps, instances, items, stack, .. } = inner;
     let Lent { values, frames, calls } = stack.as_mut().ok_or(TrapCode::StackOverflow)?.lend();
@@ -93,6 +93,7 @@ pub(crate) fn execute(inner: &mut Inner, at: &mut Activation) -> Result<Exit, Tr
         // The library lends the bytes of a memory until it is used in another way.
         let bytes = memories.get(current).map_or(&mut [][..], |it| items.memories[*it].data_mut());
         'frame: loop {
+            at.frame = Frame { function, next, base };
             let body = &module.code[function];
             let code = &body.code[..];
             let slots = <&mut [RawVal; SLOTS]>::try_from(&mut values[base..base + SLOTS]);

@@ -14,7 +14,7 @@
 //! | `handle`, `arena`, `references` | who needs an item of a store, items by number, and references of functions |
 //! | `instance`, `compiled`, `items` | instances, modules, memories, tables and globals, as an embedder has them |
 //! | `values`, `func`, `caller`, `linker` | functions of the host and of guests, and what modules may import |
-//! | `call`, `resume` | calls between the host and instances, and calls that wait for fuel |
+//! | `call`, `resume`, `trace` | calls between the host and instances, those that wait for fuel, and those that end early |
 //! | `execute` | the loop |
 //!
 //! The program stands in `program/`.
@@ -50,6 +50,7 @@ mod references;
 mod resume;
 mod stack;
 mod store;
+mod trace;
 mod translate;
 mod values;
 
@@ -66,6 +67,7 @@ pub use reader::{Refusal, RefusalKind};
 pub use resume::{OutOfFuel, ResumableCall};
 pub use stack::StackLimits;
 pub use store::{Caps, Store};
+pub use trace::TraceFrame;
 pub use values::{HostResults, Val, WasmTy, WasmValues};
 
 /// The modules of the examples in the documentation.
@@ -99,6 +101,9 @@ mod limits {
     pub(crate) const CALLS: usize = 1 << 15;
     /// The calls of the host that are open at once, each in a function of the host that a guest has called.
     pub(crate) const NESTED: usize = 100;
+
+    /// The functions of a backtrace.
+    pub(crate) const TRACE: usize = 100;
 
     /// Of an engine: the stacks that are kept for later calls.
     pub(crate) const STACKS: usize = 16;

@@ -15,6 +15,7 @@ use crate::limits;
 use crate::module::Module;
 use crate::references::References;
 use crate::stack::{Stack, StackLimits};
+use crate::trace::Trace;
 use std::sync::{Arc, Weak};
 
 /// Two caps, on the bytes of all memories and on the elements of all tables of a store: what is left of each.
@@ -84,6 +85,7 @@ pub(crate) struct Inner {
     pub top: usize,
     /// How many calls of the host are open, each in a function of the host that the one before has called.
     pub nested: usize,
+    pub trace: Trace,
     pub dropped: Arc<Dropped>,
     /// The instances that are needed as long as the store is.
     pub pinned: Vec<Arc<Owner>>,
@@ -126,6 +128,7 @@ impl<T> Store<T> {
             stack: None,
             top: 0,
             nested: 0,
+            trace: Trace::default(),
             dropped: Arc::default(),
             pinned: vec![],
         };

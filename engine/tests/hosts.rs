@@ -384,6 +384,35 @@ fn a_call_without_fuel_or_a_meter() {
     assert!(store.set_fuel(1).is_err() && store.get_fuel().is_err());
 }
 
+// ---- backtraces
+
+/// The numbers of the functions that were open.
+fn traced<T>(store: &Store<T>) -> Vec<u32> {
+    store.backtrace().iter().map(|it| it.function).collect()
+}
+
+#[test]
+fn which_functions_were_open() {
+    let (mut store, _, user) = linked(&Engine::default());
+    // In the provider the function that traps, and in the user the import, the function that was called.
+    assert!(call(&mut store, &user, "traps", &[0]).is_err());
+    assert_eq!(traced(&store), [3, 2, 10]);
+    assert!(call(&mut store, &user, "direct", &[0]).is_ok());
+    assert!(traced(&store).is_empty());
+    // A function of the user and one of the provider, again and again.
+    assert!(call(&mut store, &user, "depth", &[1_000_000]).is_err());
+    let imports: Vec<_> = store.backtrace().iter().map(|it| it.module.imports().count()).collect();
+    assert!(imports.len() == 100 && imports.contains(&0) && imports.contains(&6));
+
+    // Through the host: the guest that has called the host, which has called the guest.
+    let (mut store, instance) = caller();
+    let count = instance.get_typed_func::<i32, i32>(&store, "count").unwrap();
+    assert!(count.call(&mut store, 100).is_err());
+    assert_eq!(traced(&store)[..4], [1, 4, 1, 4]);
+    assert!(count.call(&mut store, 10).is_ok());
+    assert!(traced(&store).is_empty());
+}
+
 // ---- what is given back
 
 #[test]
