@@ -1,6 +1,57 @@
 //! A WebAssembly engine of integers, vectors, memories and tables over the proved library, or over the Rust crate.
 //!
-//! It has what a library of values, instructions, memories, tables and fuel leaves to an engine: the binary format,
+//! An [`Engine`] translates [`Module`]s. A [`Store`] is what a tenant has: fuel, caps on memory, data of the host, and its
+//! [`Instance`]s. A [`Linker`] has what modules may import: closures of the host, and what other instances export. A
+//! closure is given a [`Caller`], by which it reaches the host's data and the memory of the guest that calls it.
+//!
+//! # Examples
+//!
+//! A guest is given a string, and gives one back. It has so much fuel, and stops without it; the host goes on.
+//! `examples/greet.rs` is the whole program, and `examples/greet.c` the guest.
+//!
+//! ```
+//! use engine::{Caller, Config, Engine, Error, Linker, Module, Store};
+//!
+//! # let wasm = engine::guests::GREET;
+//! let engine = Engine::new(Config::default().consume_fuel(true));
+//! let module = Module::new(&engine, wasm)?;
+//! let mut linker = Linker::new(&engine);
+//! linker.func_wrap("host", "log", |mut caller: Caller<'_, Vec<String>>, place: u32, len: u32| -> Result<(), Error> {
+//!     caller.charge_bytes(len.into())?;
+//!     let memory = caller.get_memory("memory").ok_or(Error::new("the guest has no memory"))?;
+//!     let mut bytes = vec![0; len as usize];
+//!     memory.read(&caller, place as usize, &mut bytes)?;
+//!     caller.data_mut().push(String::from_utf8_lossy(&bytes).into_owned());
+//!     Ok(())
+//! })?;
+//!
+//! let mut store = Store::new(&engine, vec![]);
+//! store.set_fuel(10_000)?;
+//! let instance = linker.instantiate(&mut store, &module)?;
+//! let allocate = instance.get_typed_func::<u32, u32>(&store, "allocate")?;
+//! let greet = instance.get_typed_func::<(u32, u32), u64>(&store, "greet")?;
+//! let memory = instance.get_memory(&store, "memory").ok_or(Error::new("the guest has no memory"))?;
+//!
+//! let place = allocate.call(&mut store, 3)?;
+//! memory.write(&mut store, place as usize, b"Ada")?;
+//! // The guest gives the place and, above it, the length of its answer.
+//! let answer = greet.call(&mut store, (place, 3))?;
+//! let mut bytes = vec![0; (answer >> 32) as usize];
+//! memory.read(&store, answer as u32 as usize, &mut bytes)?;
+//! assert_eq!(bytes, b"Hello, Ada!");
+//! assert_eq!(store.data(), &["Ada"]);
+//!
+//! // The guest traps for a name without letters, and runs without end until its fuel is used.
+//! assert!(greet.call(&mut store, (place, 0)).is_err());
+//! let spin = instance.get_typed_func::<(), ()>(&store, "spin")?;
+//! assert!(spin.call(&mut store, ()).is_err());
+//! assert_eq!(store.get_fuel()?, 0);
+//! # Ok::<(), engine::Error>(())
+//! ```
+//!
+//! # The source
+//!
+//! The engine has what a library of values, instructions, memories, tables and fuel leaves to it: the binary format,
 //! validation, translation, control and instances. The rest is the library's. To be read in this order:
 //!
 //! | Module | What it does |
@@ -73,6 +124,7 @@ pub use values::{HostResults, Val, WasmTy, WasmValues};
 /// The modules of the examples in the documentation.
 #[doc(hidden)]
 pub mod guests {
+    pub const GREET: &[u8] = include_bytes!("../examples/greet.wasm");
     pub const PLAIN: &[u8] = include_bytes!("../tests/hosts/plain.wasm");
 }
 

@@ -7,6 +7,9 @@ use engine::{
 };
 use std::fmt;
 
+#[path = "../examples/greet.rs"]
+mod greet;
+
 fn module(engine: &Engine, name: &str) -> Module {
     let file = format!("{}/tests/hosts/{name}.wasm", env!("CARGO_MANIFEST_DIR").trim_end_matches("/crate"));
     Module::new(engine, &std::fs::read(file).unwrap()).unwrap()
@@ -163,6 +166,11 @@ fn imports_that_nobody_gives() {
     assert_eq!(stub.to_string(), "host.shout was called, which nobody has defined");
     let count = instance.get_typed_func::<i32, i32>(&store, "count").unwrap();
     assert_eq!(count.call(&mut store, 5).unwrap(), 15);
+}
+
+#[test]
+fn the_example() {
+    greet::main().unwrap();
 }
 
 #[test]
