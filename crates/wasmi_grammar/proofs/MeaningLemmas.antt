@@ -7,8 +7,8 @@ use Rattle.wasmi_raw.specs.RawVal.{raw_of}
 use Rattle.wasmi_types.specs.contracts.value.RefType as reference_type
 use Rattle.wasmi_types.specs.contracts.value.ValType as value_type
 use Rattle.wasmi_typed.specs.contracts.global.Mutability as mutability
-use Rattle.wasmi_ops.specs.contracts.scalar.LoadOp as load
-use Rattle.wasmi_ops.specs.contracts.scalar.StoreOp as store
+use Rattle.wasmi_ops.specs.contracts.load_store.LoadOp as load
+use Rattle.wasmi_ops.specs.contracts.load_store.StoreOp as store
 use Rattle.wasmi_ops.specs.contracts.vector.MakeOp as make
 use Rattle.wasmi_ops.specs.contracts.vector.UnaryOp as unary
 use Rattle.wasmi_ops.specs.contracts.vector.BinaryOp as binary

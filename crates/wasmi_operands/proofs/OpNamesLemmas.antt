@@ -7,8 +7,8 @@ use Rattle.wasmi_ops.specs.declared.vector.TheConstants.{MAKES, UNARIES, BINARIE
 use Rattle.wasmi_ops.specs.LoadStoreOps.{load_name, store_name}
 use Rattle.wasmi_ops.specs.VectorOps.{make_name, unary_name, binary_name, ternary_name, shift_name, test_name, vector_load_name}
 use Rattle.wasmi_ops.specs.LaneOps.{extract_name, extract_op, replace_name, replace_op, load_lane_name, load_lane_op, store_lane_name, store_lane_op}
-use Rattle.wasmi_ops.specs.contracts.scalar.LoadOp as load
-use Rattle.wasmi_ops.specs.contracts.scalar.StoreOp as store
+use Rattle.wasmi_ops.specs.contracts.load_store.LoadOp as load
+use Rattle.wasmi_ops.specs.contracts.load_store.StoreOp as store
 use Rattle.wasmi_ops.specs.contracts.vector.MakeOp as make
 use Rattle.wasmi_ops.specs.contracts.vector.UnaryOp as unary
 use Rattle.wasmi_ops.specs.contracts.vector.BinaryOp as binary

@@ -1,4 +1,4 @@
-//! Tests of the crates: values, instructions, memories and tables, machines, and scripts.
+//! Tests of the crates: values, memories and tables, machines, and scripts.
 #![tactic(auto)]
 
 #[cfg(test)]

@@ -1,7 +1,6 @@
 //! What the tests share: comparisons, of values and of their texts.
 
 mod function_types;
-mod instructions;
 mod machine;
 mod script;
 mod store;

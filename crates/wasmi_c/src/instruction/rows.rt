@@ -10,23 +10,44 @@ macro_rules! numbered {
 /// What `op_once` makes of the rows of a part. One match over all parts would be proved at more
 /// than twice the cost.
 macro_rules! part_once {
-    ([Scalar $call:tt] Scalar $kind:ident $rows:tt $($rest:tt)*) => {
-        $crate::instruction::rows::op_once! { $call Scalar $kind $rows }
+    ([$part:ident $call:tt] $($groups:tt)*) => {
+        $crate::instruction::rows::gathered! { [$part $call []] $($groups)* }
     };
-    ([Make $call:tt] Make $kind:ident $rows:tt $($rest:tt)*) => {
-        $crate::instruction::rows::op_once! { $call Make $kind $rows }
+}
+
+/// `part_once` on the rows of all groups of a part: what later versions add to a part has a group of
+/// its own. The type of the part and the rows that are found stand behind the call.
+macro_rules! gathered {
+    ([Scalar $call:tt $old:tt $($found:tt)*] Scalar $kind:ident { $($row:tt)* } $($rest:tt)*) => {
+        $crate::instruction::rows::gathered! {
+            [Scalar $call [$kind] $($found)* $($row)*] $($rest)*
+        }
     };
-    ([Vector $call:tt] Vector $kind:ident $rows:tt $($rest:tt)*) => {
-        $crate::instruction::rows::op_once! { $call Vector $kind $rows }
+    ([Make $call:tt $old:tt $($found:tt)*] Make $kind:ident { $($row:tt)* } $($rest:tt)*) => {
+        $crate::instruction::rows::gathered! {
+            [Make $call [$kind] $($found)* $($row)*] $($rest)*
+        }
     };
-    ([Test $call:tt] Test $kind:ident $rows:tt $($rest:tt)*) => {
-        $crate::instruction::rows::op_once! { $call Test $kind $rows }
+    ([Vector $call:tt $old:tt $($found:tt)*] Vector $kind:ident { $($row:tt)* } $($rest:tt)*) => {
+        $crate::instruction::rows::gathered! {
+            [Vector $call [$kind] $($found)* $($row)*] $($rest)*
+        }
     };
-    ([Shift $call:tt] Shift $kind:ident $rows:tt $($rest:tt)*) => {
-        $crate::instruction::rows::op_once! { $call Shift $kind $rows }
+    ([Test $call:tt $old:tt $($found:tt)*] Test $kind:ident { $($row:tt)* } $($rest:tt)*) => {
+        $crate::instruction::rows::gathered! {
+            [Test $call [$kind] $($found)* $($row)*] $($rest)*
+        }
     };
-    ([$part:ident $call:tt] $other:ident $kind:ident $rows:tt $($rest:tt)*) => {
-        $crate::instruction::rows::part_once! { [$part $call] $($rest)* }
+    ([Shift $call:tt $old:tt $($found:tt)*] Shift $kind:ident { $($row:tt)* } $($rest:tt)*) => {
+        $crate::instruction::rows::gathered! {
+            [Shift $call [$kind] $($found)* $($row)*] $($rest)*
+        }
+    };
+    ([$part:ident $call:tt $old:tt $($found:tt)*] $other:ident $kind:ident $rows:tt $($rest:tt)*) => {
+        $crate::instruction::rows::gathered! { [$part $call $old $($found)*] $($rest)* }
+    };
+    ([$part:ident $call:tt [$kind:ident] $($found:tt)*]) => {
+        $crate::instruction::rows::op_once! { $call $part $kind { $($found)* } }
     };
 }
 
@@ -42,6 +63,7 @@ macro_rules! op_once {
     };
 }
 
+pub(crate) use gathered;
 pub(crate) use numbered;
 pub(crate) use op_once;
 pub(crate) use part_once;
