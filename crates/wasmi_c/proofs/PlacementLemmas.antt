@@ -5,14 +5,16 @@ use Rattle.std.specs.Prelude.{OnErr, nat_eq, if◌then◌else◌}
 use Rattle.std.specs.Option.{option_map, unwrap_or}
 use Rattle.wasmi_meter.specs.Limiter.{Rules, Question, Answer, Failure, NoticeAnswer, optional_rules, AskedIf, NoticedIf}
 use Rattle.wasmi_meter.specs.Meter.{Meter, meter_after}
-use Rattle.wasmi_store.specs.Growth.{Growth, Grows, Makes, MeteredBytes, metered_value, metered, BulkWrites, bytes_due}
-use Rattle.wasmi_store.proofs.GrowthLemmas.{on_test}
+use Rattle.wasmi_store.specs.Growth.{Growth, Grows, Makes, metered_value, metered}
+use Rattle.wasmi_store.specs.Write.{BulkWrites, item_price}
+use Rattle.wasmi_meter.specs.declared.error.MemoryError.TheVariants.{OutOfBoundsAccess, OutOfFuel}
+use Rattle.wasmi_store.proofs.WriteLemmas.{items_taken, write_takes}
 use Rattle.wasmi_c.specs.Numbers.{meter_of, with_left, KeepsMeter, MeteredRegion, SameRest, limiter_of, quota_numbers_rules, Embedded, embedded}
 use Rattle.wasmi_c.specs.declared.numbers.MeterNumbers.{MeterNumbers}
 use Rattle.wasmi_c.specs.declared.numbers.Range.{Range}
 use Rattle.wasmi_meter.specs.declared.error.MemoryError.{MemoryError}
 use Rattle.wasmi_meter.proofs.AttemptLemmas.{meter_after_nothing}
-use Rattle.wasmi_meter.specs.Attempt.{MeteredValue, Attempt, covers, Request, AttemptOutcome, Unasked, Denied, Met, Failed, Follows, answer_of}
+use Rattle.wasmi_meter.specs.Attempt.{MeteredValue, Attempt, Request, AttemptOutcome, Unasked, Denied, Met, Failed, Follows, answer_of}
 use Rattle.wasmi_c.specs.MemoryCalls.{WritesBytesAs, of_memory}
 use Rattle.wasmi_c.specs.TableCalls.{WritesTableAs, of_table}
 use Rattle.wasmi_store.specs.Table.{TableTypeValue, TableValue, TableWrite, WritesTable, table_of}
@@ -29,15 +31,6 @@ growth_charged : {V E S : Type 0} (rules : Rules S) (g : Growth V E) (s s' : Met
     (charge : ℕ) → Grows rules g s result charge s' → s'.meter ≡ option_map (λ m. meter_after m charge) s.meter
 growth_charged rules g s s' result charge (inl none) = rw (none.same, none.uncharged) (meter_after_nothing s.meter)
 growth_charged rules g s s' result charge (inr some) = some.attempt.meter
-
--- a write takes some amount from the meter
-write_charged : (written : Option (List ℕ)) (count : ℕ) (s s' : MeteredBytes) (result : Result (Unit {0}) MemoryError)
-    → BulkWrites written count s result s' → (charge : ℕ) × (s'.meter ≡ option_map (λ m. meter_after m charge) s.meter)
-write_charged None count s s' result writes = (0, rw writes.1 (meter_after_nothing s.meter))
-write_charged (Some bytes) count s s' result writes =
-    on_test (covers s.meter (bytes_due s.meter count)) _ _ writes
-    (λ w. (bytes_due s.meter count, ap (λ (s : MeteredBytes). s.meter) w.1))
-    (λ w. (0, rw w.1 (meter_after_nothing s.meter)))
 
 -- what is kept of a number that is there or not
 kept_number : (off : Bool) (n charge : ℕ)
@@ -92,7 +85,8 @@ pub written_with : (written : Range → List ℕ → Option (List ℕ)) (range :
     → (status ≡ status_of of_memory result) × (s'.number ≡ written_number of_memory result s.number)
     → WritesBytesAs written range size s status s'
 written_with written range size s s' after m' result status left writes =
-    let charged = write_charged (written range (take size s.region)) range.count _ _ result writes in
+    let charged = items_taken OutOfFuel (written range (take size s.region)) OutOfBoundsAccess
+    (Some (item_price 1 range.count)) _ _ result writes in
     written_by of_memory _ size s s' after m' result status charged left writes
 
 -- a write of elements over the front of a region is one of what lies with C
@@ -105,7 +99,8 @@ pub table_written_with : (write : TableValue → TableWrite) (ty : TableTypeValu
     → (status ≡ status_of of_table result) × (s'.number ≡ written_number of_table result s.number)
     → WritesTableAs write ty size s status s'
 table_written_with write ty size s s' after m' result status left writes =
-    written_by of_table _ size s s' after m' result status (writes.0, writes.1.meter) left writes
+    written_by of_table _ size s s' after m' result status
+    (writes.0, write_takes write _ result writes.0 _ writes.1) left writes
 
 -- the rules of these numbers, where they are lent
 abbrev lent_rules : Rules (Option QuotaNumbers)

@@ -7,7 +7,8 @@ use Rattle.wasmi_meter.specs.declared.quota.Quota.{Quota}
 use Rattle.wasmi_meter.specs.Limiter.{optional_rules}
 use Rattle.wasmi_meter.specs.Capped.{quota_rules}
 use Rattle.wasmi_store.specs.Buffer.{Lent}
-use Rattle.wasmi_store.specs.Growth.{filled, copied, BulkWrites, Growth, metered}
+use Rattle.wasmi_store.specs.Growth.{Growth, metered}
+use Rattle.wasmi_store.specs.Write.{filled, copied, BulkWrites}
 use Rattle.wasmi_store.specs.Memory.{MemoryValue, MakesMemory, growth_of, pages_of, MemoryTypeValue, IsValid, named_type, page_bytes, in_bounds}
 use Rattle.wasmi_region.specs.Memory.{memory_in, made_in}
 use Rattle.wasmi_c.specs.Host.{memory_growth}

@@ -40,6 +40,7 @@ pub use Rattle.wasmi_meter.specs.AnyLimiter
 pub use Rattle.wasmi_meter.specs.Texts
 pub use Rattle.wasmi_store.specs.Memory
 pub use Rattle.wasmi_store.specs.Growth
+pub use Rattle.wasmi_store.specs.Write
 pub use Rattle.wasmi_store.specs.Buffer
 pub use Rattle.wasmi_store.specs.Table
 pub use Rattle.wasmi_store.specs.Segment

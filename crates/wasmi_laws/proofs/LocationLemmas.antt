@@ -2,14 +2,14 @@
 use Rattle.std.proofs.Common.{Err, List, None, Ok, Option, Result, Some, [], ap, ⊎_elim, inl, inr, map, refl, subst, sym, ℕ, ◌∙◌, ◌∷◌, ◌≡◌, ◌⊎◌}
 use Rattle.std.proofs.lemmas.List.Elements.{All-head, All-tail}
 use Rattle.std.specs.Prelude.{slice_get}
-use Rattle.wasmi_machine.proofs.TableEffectsLemmas.{write_type}
-use Rattle.wasmi_machine.proofs.EffectLemmas.{on_live}
-use Rattle.wasmi_machine.specs.Effects.{reply_of}
+use Rattle.wasmi_machine.proofs.EffectLemmas.{both_live, on_live}
+use Rattle.wasmi_machine.proofs.RangeLemmas.{source_range, value_kept}
+use Rattle.wasmi_machine.specs.Effects.{MeteredSlots, WritesRangeAt, reply_of}
 use Rattle.wasmi_machine.specs.MemoryEffects.{CreatesLent}
 use Rattle.wasmi_machine.specs.RegisterEffects.{StoresVectorAt, SetsAt}
 use Rattle.wasmi_machine.specs.State.{MemoryPart, State, memory_part, with_globals, with_registers, with_segments, byte_count, Turn, World}
-use Rattle.wasmi_machine.specs.Steps.{BytesRead, BytesStored, BytesWritten, Change, Changed, Effect, ElementSet, FuelSet, GlobalMade, GlobalSet, ItemsDropped, LentMemoryMade, MemoryDropped, MemoryGrown, MemoryMade, RangeWritten, RegisterSet, SegmentMade, Step, TableDropped, TableGrown, TableMade, HasChange, HasEffect, Told, effect_of}
-use Rattle.wasmi_machine.specs.TableEffects.{MeteredTables, WritesRangeAt, write_of}
+use Rattle.wasmi_machine.specs.Steps.{BytesRead, BytesStored, BytesWritten, Change, Changed, Effect, ElementSet, FuelSet, GlobalMade, GlobalSet, ItemsDropped, LentMemoryMade, MemoryDropped, MemoryGrown, MemoryMade, RangeWritten, RegisterSet, SegmentMade, Step, TableDropped, TableGrown, TableMade, TableWritten, HasChange, HasEffect, Told, effect_of}
+use Rattle.wasmi_machine.specs.TableEffects.{Source, write_of}
 use Rattle.wasmi_machine.specs.ValueEffects.{CreatesGlobal, CreatesSegment}
 use Rattle.wasmi_machine.specs.declared.calls.Call.{Call}
 use Rattle.wasmi_machine.specs.declared.calls.Call.TheVariants.{SetFuel}
@@ -29,7 +29,8 @@ use Rattle.wasmi_store.specs.Buffer.{Lent, Owned}
 use Rattle.wasmi_store.specs.Growth.{Grows, Growth, metered}
 use Rattle.wasmi_store.specs.Memory.{GrowsMemoryCharging, MakesMemory, MemoryValue, WritesMemory, pages_of, MemoryTypeValue}
 use Rattle.wasmi_store.specs.Segment.{SegmentValue}
-use Rattle.wasmi_store.specs.Table.{GrowsTableCharging, MakesTable, SetsTable, TableValue, TableWrite, WritesTableCharging, size_of, same_type}
+use Rattle.wasmi_store.specs.Write.{WritesCharging}
+use Rattle.wasmi_store.specs.Table.{GrowsTableCharging, MakesTable, SetsTable, TableValue, size_of, same_type}
 use Rattle.wasmi_typed.specs.Global.{GlobalInstance, SetsGlobal}
 use Rattle.wasmi_typed.specs.declared.global.GlobalError.{GlobalError}
 use Rattle.wasmi_typed.specs.declared.global.GlobalError.TheVariants.{ImmutableWrite, TypeMismatch}
@@ -229,14 +230,16 @@ lent_made rules ty part l reply part' l' creates = on_live part.spare _ _ create
     l' h.0)
 
 -- a range of a table that is written over
-range_parts : (k : ℕ) (write : Option (TableValue → TableWrite)) (s : MeteredTables) (reply : Reply) (charge : ℕ)
-    (s' : MeteredTables) → WritesRangeAt k write s reply charge s'
+range_parts : (k : ℕ) (source : Source) (dst len : ℕ) (s : MeteredSlots TableValue) (reply : Reply) (charge : ℕ)
+    (s' : MeteredSlots TableValue) → WritesRangeAt replied.Table k (write_of source dst len) s reply charge s'
     → EachAfter (λ j. May (Some (TableAt k)) None (TableAt j)) s.value s'.value
-range_parts k write s reply charge s' writes = on_live write _ _ writes
-    (λ missing. unchanged _ s.value s'.value (ap (λ (t : MeteredTables). t.value) missing.2))
-    (λ w found h. slot_acted _ k (reply_of (λ _. replied.Done) replied.Table) (WritesTableCharging w) s s' reply charge
-    (λ x x' result acts. same_table None k x x' (write_type w (with_value s x) result charge (with_value s' x') acts))
-    h)
+range_parts k source dst len s reply charge s' writes =
+    let write = write_of source dst len in
+    on_live write _ _ (both_live write _ _ _ _ (source_range source dst len) writes)
+    (λ missing. unchanged _ s.value s'.value (ap (λ (t : MeteredSlots TableValue). t.value) missing.1.2))
+    (λ w found h. slot_acted _ k (reply_of (λ _. replied.Done) replied.Table) (WritesCharging w) s s' reply charge
+    (λ x x' result acts. same_table None k x x'
+    (value_kept w h.0 (λ x. (refl, refl)) (with_value s x) result charge (with_value s' x') acts).0) h.1)
 
 -- the index at which a change may change what is there, and the one at which it drops it
 abbrev pub changed_by : Change → Option Location
@@ -262,7 +265,7 @@ abbrev pub changed_in : Effect → Option Location
 changed_in (Changed change) = changed_by change
 changed_in (MemoryGrown k pages) = Some (MemoryAt k)
 changed_in (TableGrown k n init) = Some (TableAt k)
-changed_in (RangeWritten k source dst len) = Some (TableAt k)
+changed_in (RangeWritten (TableWritten k source dst len)) = Some (TableAt k)
 changed_in effect = None
 
 -- dropped
@@ -355,9 +358,9 @@ module _ {S : Type 0} (rules : Rules S) (w : World S) (turn : Turn) (w' : World 
       (λ x x' result acts. same_table None k x x' (table_grown_type rules n init
       (record { value = x; meter = Some w.state.meter; limiter = w.limiter })
       (record { value = x'; meter = Some step.meter; limiter = step.limiter }) result turn.charge acts)) step.effect))
-  effect_parts (RangeWritten k source dst len) step = ends_in _ _ _ step.after
+  effect_parts (RangeWritten (TableWritten k source dst len)) step = ends_in _ _ _ step.after
       (tables_change _ None w.state step.part step.meter
-      (range_parts k (write_of source dst len) (metered w.state.tables (Some w.state.meter)) turn.reply turn.charge
+      (range_parts k source dst len (metered w.state.tables (Some w.state.meter)) turn.reply turn.charge
       (metered step.part (Some step.meter)) step.effect))
 
   -- so in each turn, as its call names the indices

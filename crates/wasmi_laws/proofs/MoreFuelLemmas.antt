@@ -1,5 +1,5 @@
 -- A run that never ran short of fuel, with more of it.
-use Rattle.std.proofs.Common.{◌≡◌, ◌∙◌, ◌≤◌, ℕ, Bool, true, false, Option, Some, None, Result, List, [], ◌∷◌, map, inl, inr, refl, sym, ap, subst, arith}
+use Rattle.std.proofs.Common.{◌≡◌, ◌∙◌, ◌≤◌, ℕ, Bool, true, false, Option, Some, None, Result, Ok, Err, List, [], ◌∷◌, map, inl, inr, refl, sym, ap, subst, arith}
 use Rattle.std.proofs.lemmas.Bool.Decides.{nat_tests}
 use Rattle.std.proofs.lemmas.List.Elements.{All-head, All-tail}
 use Rattle.std.proofs.lemmas.Option.{same_Some}
@@ -8,6 +8,7 @@ use Rattle.std.specs.Prelude.{All, MatchBool, is_none, nat_le, ◌&&◌, if◌th
 use Rattle.wasmi_machine.proofs.StoreLemmas.{acts_too, asks_too, changes_too}
 use Rattle.wasmi_typed.specs.declared.typed_ref.TypedRawRef.{TypedRawRef}
 use Rattle.wasmi_meter.specs.declared.error.TableError.{TableError}
+use Rattle.wasmi_meter.specs.declared.error.TableError.TheVariants as table_error
 use Rattle.wasmi_meter.specs.declared.fuel.CustomFuelCosts.{CustomFuelCosts}
 use Rattle.wasmi_meter.specs.Attempt.{AttemptOutcome, Unasked, Denied, Met, Failed, Follows, IsFirstCause, MayEnd, MeteredValue, Request, answer_of, covers, error_of_failure, optional_due, outcome_charge, with_value}
 use Rattle.wasmi_meter.specs.Limiter.{Rules, optional_rules}
@@ -16,19 +17,21 @@ use Rattle.wasmi_store.specs.Growth.{Grows, Growth, metered, metered_value}
 use Rattle.wasmi_store.specs.Memory as memory
 use Rattle.wasmi_store.specs.Memory.{GrowsMemoryCharging, pages_of}
 use Rattle.wasmi_store.specs.Table as table
-use Rattle.wasmi_store.specs.Table.{EndsBy, GrowsTableCharging, TableValue, TableWrite, WriteEnding, WritesTableCharging, element_price, size_of, same_type}
+use Rattle.wasmi_store.specs.Table.{GrowsTableCharging, TableValue, size_of, same_type}
+use Rattle.wasmi_store.specs.Write.{EndsBy, MeteredWrite, WritesCharging, write_charge}
 use Rattle.wasmi_machine.specs.declared.calls.Call.{Call}
 use Rattle.wasmi_machine.specs.declared.calls.Call.TheVariants.{SetFuel, GetFuel}
 use Rattle.wasmi_machine.specs.declared.calls.Reply.{Reply}
 use Rattle.wasmi_machine.specs.declared.calls.Reply.TheVariants as replied
 use Rattle.wasmi_machine.specs.declared.slots.Slot.{Slot}
 use Rattle.wasmi_machine.specs.Determinism.{AcceptsNotices}
-use Rattle.wasmi_machine.specs.Effects.{ActsAt, reply_of}
-use Rattle.wasmi_machine.specs.Steps.{Run, BytesRead, BytesWritten, Change, Changed, Effect, FuelSet, LentMemoryMade, MemoryGrown, MemoryMade, RangeWritten, Step, TableGrown, TableMade, HasChange, HasEffect, Told, effect_of}
+use Rattle.wasmi_machine.specs.Effects.{ActsAt, OnLive, WritesRangeAt, reply_of}
+use Rattle.wasmi_machine.specs.Steps.{Run, BytesRead, BytesWritten, Change, Changed, Effect, FuelSet, LentMemoryMade, MemoryGrown, MemoryMade, RangeWritten, Step, TableGrown, TableMade, TableWritten, HasChange, HasEffect, Told, effect_of}
 use Rattle.wasmi_machine.specs.State.{State, live_at, Turn, World}
-use Rattle.wasmi_machine.specs.TableEffects.{WritesRangeAt, write_of}
-use Rattle.wasmi_machine.proofs.AccountLemmas.{Growing, after, before, growing, grows_takes, write_takes}
-use Rattle.wasmi_machine.proofs.EffectLemmas.{on_live_too, on_test_too}
+use Rattle.wasmi_machine.specs.TableEffects.{write_of}
+use Rattle.wasmi_machine.proofs.AccountLemmas.{Growing, after, before, growing, grows_takes}
+use Rattle.wasmi_machine.proofs.EffectLemmas.{both_live, on_live_too, on_test_too}
+use Rattle.wasmi_machine.proofs.RangeLemmas.{IsRange, KeepsTable, source_range}
 use Rattle.wasmi_laws.specs.Runs.{HasFuel, MoreFuelChangesNothing, NamesNoFuel, meter_with_more, world_with_more}
 
 module _ {V E : Type 0} (refusal : E → Reply) (e : Request V E) where
@@ -206,46 +209,84 @@ module _ (more : ℕ) where
       on_live_too (live_at s.value k) _ _ _ _ (λ missing. (missing.0, missing.1, ap enriched missing.2))
       (λ x h. (h.0, h.1, richer_acts x h.1 h.0 (subst HasFuel h.3 has) h.2, h.3, h.4)) acts
 
-  -- a write over a part of a table, by how it ends
-  module _ (w : TableWrite) (x : TableValue) (m : Meter) (end : WriteEnding)
-      (has : HasFuel (reply_of (λ _. replied.Done) replied.Table end.result)) where
-    -- its price
-    abbrev price : Option (CustomFuelCosts → ℕ)
-    price = option_map element_price w.paid
+  -- a write over a range, by how it ends
+  module _ {X E : Type 0} (refusal : E → Reply) (w : MeteredWrite X E)
+      (unpaid : (n : ℕ) → HasFuel (refusal (w.unpaid n)) → ⊥) (x : X) (m : Meter) (result : Result (Unit {0}) E)
+      (x' : X) (m' : Meter) (has : HasFuel (reply_of (λ _. replied.Done) refusal result)) where
+    -- before and after it
+    abbrev write_from : MeteredValue X (Unit {0})
+    write_from = metered x (Some m)
+
+    abbrev write_to : MeteredValue X (Unit {0})
+    write_to = metered x' (Some m')
+
+    -- what becomes of the meter and the value by a charge
+    paid_after : (value : X) (charge : ℕ) → charge ≤ amount_left m → write_to ≡ metered value (Some (meter_after m charge))
+        → enriched write_to ≡ metered value (Some (meter_after (richer m) charge))
+    paid_after value charge within after =
+        let values : x' ≡ value = ap (λ (t : MeteredValue X (Unit {0})). t.value) after in
+        let meters = after_is m charge m' within (ap (λ (t : MeteredValue X (Unit {0})). t.meter) after) in
+        λ i. metered (values i) (meters i)
+
+    -- where so much can be paid, it can be with more fuel
+    paid_richer : (value : X) (enough : Bool) → covers (Some m) (due m w.price) ≡ enough
+        → MatchBool enough ((result ≡ Ok tt) × (write_to ≡ metered value (Some (meter_after m (due m w.price)))))
+        ((result ≡ Err (w.unpaid (due m w.price))) × (write_to ≡ write_from))
+        → MatchBool (covers (Some (richer m)) (richer_due m w.price))
+        ((result ≡ Ok tt) × (enriched write_to ≡ metered value (Some (meter_after (richer m) (richer_due m w.price)))))
+        ((result ≡ Err (w.unpaid (richer_due m w.price))) × (enriched write_to ≡ enriched write_from))
+    paid_richer value false short ends = absurd (unpaid (due m w.price)
+        (subst (λ r. HasFuel (reply_of (λ _. replied.Done) refusal r)) ends.0 has))
+    paid_richer value true enough ends =
+        let within : nat_le (due m w.price) (amount_left m) ≡ true = enough in
+        let after = paid_after value (due m w.price) (grind (arith, nat_tests, within)) ends.1 in
+        subst (λ b. MatchBool b
+        ((result ≡ Ok tt) × (enriched write_to ≡ metered value (Some (meter_after (richer m) (richer_due m w.price)))))
+        ((result ≡ Err (w.unpaid (richer_due m w.price))) × (enriched write_to ≡ enriched write_from)))
+        (sym (payable m w.price enough))
+        (ends.0, after ∙ ap (λ n. metered value (Some (meter_after (richer m) n))) (sym (due_is m w.price)))
 
     -- it ends so with more fuel
-    ends_richer : (typed : Bool) (written : Option (List ℕ)) (paid : Bool) → covers (Some m) (due m price) ≡ paid
-        → EndsBy w (metered x (Some m)) typed written paid end
-        → EndsBy w (metered x (Some (richer m))) typed written (covers (Some (richer m)) (richer_due m price)) end
-    ends_richer false written paid enough ends = ends
-    ends_richer true None paid enough ends = ends
-    ends_richer true (Some elements) false enough ends =
-        absurd (subst (λ r. HasFuel (reply_of (λ _. replied.Done) replied.Table r)) ends.0 has)
-    ends_richer true (Some elements) true enough ends =
-        subst (λ b. EndsBy w (metered x (Some (richer m))) true (Some elements) b end)
-        (sym (payable m price enough)) (ends.0, ends.1 ∙ sym (due_is m price), ends.2)
+    ends_richer : (early : Option E) (written : Option X) → EndsBy w write_from result write_to early written
+        → EndsBy w (enriched write_from) result (enriched write_to) early written
+    ends_richer (Some cause) written ends = (ends.0, ap enriched ends.1)
+    ends_richer None None ends = (ends.0, ap enriched ends.1)
+    ends_richer None (Some value) ends = paid_richer value (covers (Some m) (due m w.price)) refl ends
 
-  -- so a write
-  write_richer : (write : TableValue → TableWrite) (x : TableValue) (m : Meter) (result : Result (Unit {0}) TableError)
-      (charge : ℕ) (x' : TableValue) (m' : Meter) → HasFuel (reply_of (λ _. replied.Done) replied.Table result)
-      → WritesTableCharging write (metered x (Some m)) result charge (metered x' (Some m'))
-      → WritesTableCharging write (metered x (Some (richer m))) result charge (metered x' (Some (richer m')))
-  write_richer write x m result charge x' m' has writes = record {
-    ends = ends_richer (write x) x m (record { result = result; charge = charge; value = x' }) has (write x).typed
-        (write x).written _ refl writes.ends;
-    meter = after_is m charge m' (write_takes write x m result charge x' m' writes).0 writes.meter;
+    -- it is charged the same
+    charged_richer : (r : Result (Unit {0}) E) → write_charge w write_from r ≡ write_charge w (enriched write_from) r
+    charged_richer (Ok done) = sym (due_is m w.price)
+    charged_richer (Err error) = refl
+
+  -- a write over a range with more fuel
+  write_richer : {X E : Type 0} (refusal : E → Reply) (write : X → MeteredWrite X E)
+      → ((x : X) (n : ℕ) → HasFuel (refusal ((write x).unpaid n)) → ⊥)
+      → (x : X) (m : Meter) (result : Result (Unit {0}) E) (charge : ℕ) (x' : X) (m' : Meter)
+      → HasFuel (reply_of (λ _. replied.Done) refusal result)
+      → WritesCharging write (metered x (Some m)) result charge (metered x' (Some m'))
+      → WritesCharging write (metered x (Some (richer m))) result charge (metered x' (Some (richer m')))
+  write_richer refusal write unpaid x m result charge x' m' has writing = record {
+    writes = ends_richer refusal (write x) (unpaid x) x m result x' m' has (write x).early (write x).written
+        writing.writes;
+    charged = writing.charged ∙ charged_richer refusal (write x) (unpaid x) x m result x' m' has result;
   }
 
-  -- so where the write may be missing
-  range_richer : (k : ℕ) (part : Option (TableValue → TableWrite)) (slots : List (Slot TableValue)) (m : Meter)
-      (reply : Reply) (charge : ℕ) (slots' : List (Slot TableValue)) (m' : Meter) → HasFuel reply
-      → WritesRangeAt k part (metered slots (Some m)) reply charge (metered slots' (Some m'))
-      → WritesRangeAt k part (metered slots (Some (richer m))) reply charge (metered slots' (Some (richer m')))
-  range_richer k part slots m reply charge slots' m' has writes =
-      on_live_too part _ _ _ _ (λ missing. (missing.0, missing.1, ap enriched missing.2))
-      (λ write h. acts_richer {X = TableValue} {S = Unit {0}} k (reply_of (λ _. replied.Done) replied.Table)
-      (WritesTableCharging write) (metered slots (Some m)) (metered slots' (Some m')) reply charge has
-      (λ x x' result told. write_richer write x m result charge x' m' told) h) writes
+  -- a write that may be missing
+  range_richer : {X E : Type 0} (refusal : E → Reply) (Keeps : X → X → Type 0)
+      (price : Option (CustomFuelCosts → ℕ)) (unpaid : ℕ → E) → ((n : ℕ) → HasFuel (refusal (unpaid n)) → ⊥)
+      → (k : ℕ) (part : Option (X → MeteredWrite X E)) → OnLive part (Unit {0}) (IsRange Keeps price unpaid)
+      → (slots : List (Slot X)) (m : Meter) (reply : Reply) (charge : ℕ) (slots' : List (Slot X)) (m' : Meter)
+      → HasFuel reply → WritesRangeAt refusal k part (metered slots (Some m)) reply charge (metered slots' (Some m'))
+      → WritesRangeAt refusal k part (metered slots (Some (richer m))) reply charge
+      (metered slots' (Some (richer m')))
+  range_richer {X = X} refusal Keeps price unpaid none k part is slots m reply charge slots' m' has writes =
+      let both = both_live part _ _ _ _ is writes in
+      on_live_too part _ _ _ _ (λ missing. (missing.1.0, missing.1.1, ap enriched missing.1.2))
+      (λ write h. acts_richer {X = X} {S = Unit {0}} k (reply_of (λ _. replied.Done) refusal) (WritesCharging write)
+      (metered slots (Some m)) (metered slots' (Some m')) reply charge has
+      (λ x x' result told. write_richer refusal write
+      (λ x n. subst (λ (u : ℕ → _). HasFuel (refusal (u n)) → ⊥) (sym (h.0.unpaid_is x)) (none n))
+      x m result charge x' m' told) h.1) both
 
   -- the state with more fuel
   abbrev richer_state : State → State
@@ -307,10 +348,11 @@ module _ (more : ℕ) {S : Type 0} (rules : Rules S) (accepts : AcceptsNotices r
         (metered_value step.part (Some step.meter) step.limiter) turn.reply turn.charge has
         (λ x x' result. table_grows_richer more rules accepts n init
         (growing w x turn.charge x' step.meter step.limiter) result) step.effect) refl (ap richer_world step.after)
-    effect_richer (RangeWritten k source dst len) keeps step = record {
+    effect_richer (RangeWritten (TableWritten k source dst len)) keeps step = record {
       part = step.part;
       meter = richer more step.meter;
-      effect = range_richer more k (write_of source dst len) w.state.tables w.state.meter turn.reply turn.charge
+      effect = range_richer more replied.Table KeepsTable _ table_error.OutOfFuel (λ n none. none) k
+          (write_of source dst len) (source_range source dst len) w.state.tables w.state.meter turn.reply turn.charge
           step.part step.meter has step.effect;
       wrote = step.wrote;
       after = ap richer_world step.after;

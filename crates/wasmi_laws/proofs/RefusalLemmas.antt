@@ -31,8 +31,9 @@ use Rattle.wasmi_machine.specs.Exchange.{AsksFor, At, Denial, Exchange, New, Not
 use Rattle.wasmi_machine.specs.Laws.{Keeps, KeepsMeter, KeepsSpare}
 use Rattle.wasmi_machine.specs.MemoryEffects.{CreatesLent, spare_after}
 use Rattle.wasmi_machine.specs.State.{MemoryPart, State, live_at, memory_part, IsRefusal, Turn, World}
-use Rattle.wasmi_machine.specs.Steps.{Effect, LentMemoryMade, MemoryGrown, MemoryMade, Step, TableGrown, TableMade, HasEffect, effect_of}
+use Rattle.wasmi_machine.specs.Steps.{Effect, LentMemoryMade, MemoryGrown, MemoryMade, RangeWritten, Step, TableGrown, TableMade, HasEffect, effect_of}
 use Rattle.wasmi_machine.proofs.EffectLemmas.{Creation, on_live}
+use Rattle.wasmi_machine.proofs.RangeLemmas.{range_unasked}
 use Rattle.wasmi_machine.proofs.ExchangeLemmas.{growths_are_permitted}
 use Rattle.wasmi_machine.proofs.RefusalLemmas.{refusals_keep_contents}
 use Rattle.wasmi_laws.specs.Runs.{IsPlainRefusal, OtherRefusalsChangeNothing, PlainRefusalsChangeNothing, PlainlyRefusedRunsChangeNothing}
@@ -249,6 +250,7 @@ module _ {S : Type 0} (rules : Rules S) where
         (λ x x' result. table_grows_unasked n init
         (record { value = x; meter = Some w.state.meter; limiter = w.limiter })
         (record { value = x'; meter = Some step.meter; limiter = step.limiter }) result turn.charge) step.effect plain
+    limiter_stays (RangeWritten write) step = range_unasked w write turn w' step
     limiter_stays effect step = ap (λ (v : World S). v.limiter) step.after
 
     -- the spare region stays

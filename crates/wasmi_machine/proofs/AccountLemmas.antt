@@ -6,13 +6,13 @@ use Rattle.std.proofs.lemmas.Option.{same_Some}
 use Rattle.std.specs.Option.{option_map, unwrap_or}
 use Rattle.std.specs.Prelude.{if◌then◌else◌, is_none, nat_le, ◌&&◌}
 use Rattle.wasmi_machine.proofs.EffectLemmas.{on_live}
+use Rattle.wasmi_machine.proofs.RangeLemmas.{range_facts}
 use Rattle.wasmi_machine.proofs.StepsLemmas.{change_facts}
 use Rattle.wasmi_machine.specs.Account.{Account, Balances, ChangesMeter, PaysCharge, account_after, charged_by, opened}
 use Rattle.wasmi_machine.specs.Effects.{ActsAt, reply_of}
-use Rattle.wasmi_machine.specs.Steps.{Run, Changed, Effect, FuelSet, MemoryGrown, RangeWritten, Step, TableGrown, HasEffect, effect_of}
+use Rattle.wasmi_machine.specs.Steps.{Run, Changed, Effect, FuelSet, MemoryGrown, HasRangeWrite, RangeWrite, RangeWritten, Step, TableGrown, HasEffect, effect_of}
 use Rattle.wasmi_machine.specs.State.{State, live_at, Turn, World}
-use Rattle.wasmi_machine.specs.TableEffects.{MeteredTables, WritesRangeAt, WritesTableAt, write_of}
-use Rattle.wasmi_store.specs.Growth.{metered, Grows, Growth, metered_value}
+use Rattle.wasmi_store.specs.Growth.{Grows, Growth, metered_value}
 use Rattle.wasmi_machine.specs.declared.calls.Call.{Call}
 use Rattle.wasmi_machine.specs.declared.calls.Call.TheVariants.{SetFuel}
 use Rattle.wasmi_machine.specs.declared.calls.Reply.{Reply}
@@ -24,7 +24,7 @@ use Rattle.wasmi_meter.specs.Meter.{Meter, amount_left, due, meter_after, meter_
 use Rattle.wasmi_meter.specs.declared.error.TableError.{TableError}
 use Rattle.wasmi_store.proofs.GrowthLemmas.{on_test}
 use Rattle.wasmi_store.specs.Memory.{GrowsMemoryCharging, MemoryValue, pages_of}
-use Rattle.wasmi_store.specs.Table.{EndsBy, GrowsTableCharging, TableValue, TableWrite, WritesTableCharging, write_due, size_of, same_type}
+use Rattle.wasmi_store.specs.Table.{GrowsTableCharging, TableValue, size_of, same_type}
 use Rattle.wasmi_typed.specs.declared.typed_ref.TypedRawRef.{TypedRawRef}
 use Rattle.wasmi_store.specs.Memory as memory
 use Rattle.wasmi_machine.specs.declared.calls.Reply.TheVariants as replied
@@ -102,25 +102,6 @@ table_grows_takes {S} rules n init x m l result charge x' m' l' grows =
     result charge x' m' l' h)
     (λ h. takes_nothing m m' charge h.1 (same_Some m' m (ap (λ (s : MeteredValue TableValue S). s.meter) h.2)))
 
-module _ (write : TableValue → TableWrite) (x : TableValue) (m : Meter) (result : Result (Unit {0}) TableError)
-    (charge : ℕ) (x' : TableValue) where
-  -- how it is written over
-  abbrev w : TableWrite
-  w = write x
-
-  -- a write over a part of a table is charged no more than is left
-  ends_paid : (typed : Bool) (written : Option (List ℕ)) (payable : Bool)
-      → covers (Some m) (write_due w (metered x (Some m))) ≡ payable
-      → EndsBy w (metered x (Some m)) typed written payable (record { result = result; charge = charge; value = x' })
-      → charge ≤ amount_left m
-  ends_paid true (Some elements) true enough ends = paid_due m _ charge enough ends.1
-  ends_paid typed written payable enough ends = paid_free m charge ends.1
-
-  -- a write over a part of a table takes its charge from the meter
-  pub write_takes : (m' : Meter)
-      → WritesTableCharging write (metered x (Some m)) result charge (metered x' (Some m')) → PaysCharge m charge m'
-  write_takes m' writes = takes_paid m m' charge (ends_paid w.typed w.written _ refl writes.ends) writes.meter
-
 -- a value, the meter that is charged for it, and the limiter that is asked
 pub record ChargedValue (V S : Type 0) : Type 0 where
   pub value : V
@@ -184,25 +165,14 @@ table_growth_takes rules k n init t reply acts =
     (λ x result x'. table_grows_takes rules n init x t.first.meter t.first.limiter result t.charge x' t.last.meter
     t.last.limiter) acts
 
--- a write over a part of the table of an index
-table_write_takes : (k : ℕ) (write : TableValue → TableWrite) (slots : List (Slot TableValue)) (m : Meter)
-    (reply : Reply) (charge : ℕ) (slots' : List (Slot TableValue)) (m' : Meter)
-    → WritesTableAt k write (metered slots (Some m)) reply charge (metered slots' (Some m')) → PaysCharge m charge m'
-table_write_takes k write slots m reply charge slots' m' writes = acts_takes {X = TableValue} {S = Unit {0}}
-    (WritesTableCharging write) k (reply_of (λ _. replied.Done) replied.Table)
-    (record {
-      first = record { value = slots; meter = m; limiter = tt };
-      charge = charge;
-      last = record { value = slots'; meter = m'; limiter = tt };
-    }) reply (λ x result x'. write_takes write x m result charge x' m') writes
-
--- a write over a part of a table, which may be missing, takes its charge
-part_takes : (k : ℕ) (part : Option (TableValue → TableWrite)) (slots : List (Slot TableValue)) (m : Meter)
-    (reply : Reply) (charge : ℕ) (slots' : List (Slot TableValue)) (m' : Meter)
-    → WritesRangeAt k part (metered slots (Some m)) reply charge (metered slots' (Some m')) → PaysCharge m charge m'
-part_takes k part slots m reply charge slots' m' writes = on_live part _ _ writes
-    (λ missing. takes_nothing m m' charge missing.1 (same_Some m' m (ap (λ (s : MeteredTables). s.meter) missing.2)))
-    (λ write found h. table_write_takes k write slots m reply charge slots' m' h)
+-- a write over a range takes its charge from the meter
+range_takes : {S : Type 0} (w : World S) (write : RangeWrite) (turn : Turn) (w' : World S)
+    → HasRangeWrite write w turn w' → PaysCharge w.state.meter turn.charge w'.state.meter
+range_takes w write turn w' step = elim (range_facts w write turn w' step) [
+  | inl idle ↦ takes_nothing w.state.meter w'.state.meter turn.charge idle.uncharged
+      (ap (λ (v : World _). v.state.meter) idle.same)
+  | inr paid ↦ takes_paid w.state.meter w'.state.meter turn.charge paid.enough (ap Some paid.meter)
+]
 
 -- what an effect with a charge makes of the meter
 abbrev ChangesMeterBy : Effect → Meter → ℕ → Meter → Type 0
@@ -238,9 +208,7 @@ module _ {S : Type 0} (rules : Rules S) (w : World S) (turn : Turn) (w' : World 
       (growing w w.state.memories turn.charge step.part step.meter step.limiter) turn.reply step.effect)
   effect_meter (TableGrown k n init) step = paid_in w turn w' step.after (table_growth_takes rules k n init
       (growing w w.state.tables turn.charge step.part step.meter step.limiter) turn.reply step.effect)
-  effect_meter (RangeWritten k source dst len) step = paid_in w turn w' step.after
-      (part_takes k (write_of source dst len) w.state.tables w.state.meter turn.reply turn.charge step.part step.meter
-      step.effect)
+  effect_meter (RangeWritten write) step = range_takes w write turn w' step
   effect_meter effect step = free_in w turn w' step.after step.free.0 refl
 
   -- each step changes the meter as its call says

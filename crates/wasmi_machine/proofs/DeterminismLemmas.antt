@@ -6,11 +6,11 @@ use Rattle.std.specs.Prelude.{MatchBool}
 use Rattle.wasmi_machine.proofs.MemoryEffectsLemmas.{reads_same}
 use Rattle.wasmi_machine.proofs.EffectLemmas.{Acted, HasOneEnding, HasOneOutcome, acts_same, creates_same, on_both}
 use Rattle.wasmi_machine.proofs.StepsLemmas.{change_facts}
-use Rattle.wasmi_machine.proofs.TableEffectsLemmas.{parts_same}
+use Rattle.wasmi_machine.proofs.RangeLemmas.{range_once}
 use Rattle.wasmi_machine.specs.Determinism.{IsNotOutOfMemory, AreNotOutOfMemory, IsDeterministic, IsOtherFailure, never_out_of_memory}
 use Rattle.wasmi_machine.specs.MemoryEffects.{CreatesLent, spare_after}
 use Rattle.wasmi_machine.specs.Effects.{ActsMetered, ActsMeteredUnasked, Asks, Changes, Creates, OnlyReplies, reply_of}
-use Rattle.wasmi_machine.specs.Steps.{Run, BytesRead, Changed, Effect, FuelSet, LentMemoryMade, MemoryGrown, MemoryMade, RangeWritten, TableGrown, TableMade, HasEffect, Told, effect_of}
+use Rattle.wasmi_machine.specs.Steps.{Run, BytesRead, Changed, Effect, FuelSet, LentMemoryMade, MemoryGrown, MemoryMade, RangeWritten, TableGrown, TableMade, TableWritten, HasEffect, Told, effect_of}
 use Rattle.wasmi_machine.specs.State.{MemoryPart, State, memory_part, Turn, World}
 use Rattle.wasmi_machine.specs.TableEffects.{write_of}
 use Rattle.wasmi_machine.specs.declared.calls.Call.{Call}
@@ -294,8 +294,8 @@ module _ {S : Type 0} (rules : Rules S) (once : IsDeterministic rules) (w : Worl
   effect_same (TableGrown k n init) step step' =
       paid_unique w t t' v v' step step' (acts_same (GrowsTableCharging (never_out_of_memory rules) n init)
       (table_growth_same once n init) k (reply_of replied.Number replied.Table) _)
-  effect_same (RangeWritten k source dst len) step step' =
-      unasked_unique w t t' v v' step step' (parts_same k (write_of source dst len) _)
+  effect_same (RangeWritten (TableWritten k source dst len)) step step' =
+      unasked_unique w t t' v v' step step' (range_once replied.Table k (write_of source dst len) _)
 
 module _ {S : Type 0} (rules : Rules S) (once : IsDeterministic rules) where
   -- two runs

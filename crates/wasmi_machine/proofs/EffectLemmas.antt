@@ -251,12 +251,12 @@ module _ {X : Type 0} (Valid : X → Type 0) where
   slot_valid (Some (Live y)) x found = ap (λ z. Some (Live z)) (same_Some y x found)
 
   -- the live value that an index names is valid
-  live_valid : (slots : List (Slot X)) (k : ℕ) (x : X) → live_at slots k ≡ Some x → AllValid slots → Valid x
+  pub live_valid : (slots : List (Slot X)) (k : ℕ) (x : X) → live_at slots k ≡ Some x → AllValid slots → Valid x
   live_valid slots k x found valid =
       read_valid (IsValidSlot Valid) slots k (Live x) (slot_valid (slice_get slots k) x found) valid
 
   -- a slot is written anew
-  put_valid : (slots slots' : List (Slot X)) (k : ℕ) (slot : Slot X) → slots' ≡ slice_set slots k slot
+  pub put_valid : (slots slots' : List (Slot X)) (k : ℕ) (slot : Slot X) → slots' ≡ slice_set slots k slot
       → IsValidSlot Valid slot → AllValid slots → AllValid slots'
   put_valid slots slots' k slot is one valid =
       subst AllValid (sym is) (All-set (IsValidSlot Valid) slots k slot one valid)

@@ -3,23 +3,22 @@ use Rattle.std.proofs.Common.{Bool, Err, List, None, Ok, Option, Result, Some, [
 use Rattle.std.proofs.lemmas.Bool.Decides.{nat_tests}
 use Rattle.std.proofs.lemmas.List.{length-append, length-replicate, map_push}
 use Rattle.std.proofs.lemmas.Option.{none-some, same_Some}
-use Rattle.std.specs.Option.{option_and_then, option_map}
+use Rattle.std.specs.Option.{option_and_then}
 use Rattle.std.specs.Prelude.{MatchBool, if◌then◌else◌, is_none, nat_eq, slice_get, slice_set, ◌&&◌}
 use Rattle.wasmi_machine.proofs.AccountLemmas.{step_meter}
-use Rattle.wasmi_machine.proofs.EffectLemmas.{both_live, on_live}
-use Rattle.wasmi_machine.proofs.StepsLemmas.{change_facts, source_writes}
-use Rattle.wasmi_machine.proofs.TableEffectsLemmas.{part_kept}
-use Rattle.wasmi_machine.proofs.TotalLemmas.{count_at, counts_kept, counts_set, each_kind}
+use Rattle.wasmi_meter.specs.declared.fuel.CustomFuelCosts.{CustomFuelCosts}
+use Rattle.wasmi_machine.proofs.RangeLemmas.{range_charge, range_price, range_still, range_unasked}
+use Rattle.wasmi_machine.proofs.StepsLemmas.{change_facts}
+use Rattle.wasmi_machine.proofs.TotalLemmas.{count_at, counts_kept, counts_set}
 use Rattle.wasmi_machine.proofs.StoreLemmas.{each_turn}
 use Rattle.wasmi_machine.specs.Determinism.{IsOtherFailure}
-use Rattle.wasmi_machine.specs.Exchange.{AsksFor, At, Denial, Exchange, Exchanges, GrowsAsAsked, GrowsBy, New, Nothing, NothingGrows, Notice, Nowhere, Passes, Permission, Place, RepliesTo, charge_at, elements_paid, failed_charge, failed_reply, growth_charge, growth_due, growth_question, place_of, question_in, question_of, table_growth_question, writing_charge}
+use Rattle.wasmi_machine.specs.Exchange.{AsksFor, At, Denial, Exchange, Exchanges, GrowsAsAsked, GrowsBy, New, Nothing, NothingGrows, Notice, Nowhere, Passes, Permission, Place, RepliesTo, charge_at, writing_price, failed_charge, failed_reply, growth_charge, growth_due, growth_question, place_of, question_in, question_of, table_growth_question, writing_charge}
 use Rattle.wasmi_machine.specs.Laws.{RunsGrowAsPermitted}
 use Rattle.wasmi_machine.specs.MemoryEffects.{CreatesLent}
-use Rattle.wasmi_machine.specs.Effects.{ActsAt, AddsEntry, Creates, IsNoSuch, OnLive, reply_of}
-use Rattle.wasmi_machine.specs.State.{MemoryPart, State, live_at, memory_part, with_tables, byte_count, sizes, slot_count, IsRefusal, Turn, World}
+use Rattle.wasmi_machine.specs.Effects.{ActsAt, AddsEntry, Creates, OnLive, reply_of}
+use Rattle.wasmi_machine.specs.State.{MemoryPart, State, live_at, memory_part, byte_count, sizes, slot_count, IsRefusal, Turn, World}
 use Rattle.wasmi_machine.specs.Steps.{Changed, Effect, FuelSet, LentMemoryMade, MemoryGrown, MemoryMade, RangeWritten, Step, TableGrown, TableMade, HasEffect, effect_of}
-use Rattle.wasmi_machine.specs.TableEffects.{OfReference, OfSegment, OfTable, Source, WritesRangeAt, WritesTableAt, write_of}
-use Rattle.wasmi_store.specs.Growth.{metered, Grows, Growth, Makes}
+use Rattle.wasmi_store.specs.Growth.{Grows, Growth, Makes}
 use Rattle.wasmi_machine.specs.declared.calls.Call.{Call}
 use Rattle.wasmi_machine.specs.declared.calls.Call.TheVariants.{GrowMemory, GrowTable, NewLentMemory, NewMemory, NewTable}
 use Rattle.wasmi_machine.specs.declared.calls.Reply.{Reply}
@@ -34,7 +33,7 @@ use Rattle.wasmi_meter.specs.declared.limiter.Kind.{Kind}
 use Rattle.wasmi_meter.specs.declared.limiter.Kind.TheVariants.{Bytes, Elements}
 use Rattle.wasmi_store.specs.Buffer.{LacksMemory, Lent, Owned, Room, fits_room}
 use Rattle.wasmi_store.specs.Memory.{GrowsMemoryCharging, MakesMemory, MemoryValue, new_memory, pages_of, MemoryTypeValue, minimum_bytes, page_bytes}
-use Rattle.wasmi_store.specs.Table.{EndsBy, GrowsTableCharging, MakesTable, TableValue, TableWrite, new_table, size_of, TableTypeValue, is_within_maximum, same_type}
+use Rattle.wasmi_store.specs.Table.{GrowsTableCharging, MakesTable, TableValue, new_table, size_of, TableTypeValue, is_within_maximum, same_type}
 use Rattle.wasmi_typed.specs.declared.typed_ref.TypedRawRef.{TypedRawRef}
 use Rattle.wasmi_store.specs.Memory as memory
 use Rattle.wasmi_store.specs.Table as table
@@ -666,85 +665,26 @@ same_question : (s : State) (call : Call) → question_by s (effect_of s call) �
 same_question s (NewMemory ty) = refl
 same_question s call = refl
 
--- how many elements each source pays for
-abbrev paid_from : Source → ℕ → Option ℕ
-paid_from (OfSegment segment src) len = if nat_eq len 0 then None else Some len
-paid_from source len = Some len
-
--- a write pays for so many elements, if there is one
-abbrev IsChargedFor : Option ℕ → (TableValue → TableWrite) → Type 0
-IsChargedFor elements write = (x : TableValue) → (write x).paid ≡ elements
-
--- each source's does
-source_pays : (source : Source) (dst len : ℕ)
-    → OnLive (write_of source dst len) (Unit {0}) (IsChargedFor (paid_from source len))
-source_pays (OfReference value) dst len = λ x. refl
-source_pays (OfTable None src) dst len = tt
-source_pays (OfTable (Some y) src) dst len = λ x. refl
-source_pays (OfSegment None src) dst len = tt
-source_pays (OfSegment (Some y) src) dst len = λ x. refl
-
 -- nothing is charged where nothing is paid for
 free_writing : (m : Meter) (reply : Reply) → writing_charge m None reply ≡ 0
 free_writing m replied.Done = refl
 free_writing m reply = refl
 
--- what a write over a part of a table is charged
-module _ (w : TableWrite) (x : TableValue) (m : Meter) (charge : ℕ) (x' : TableValue) (elements : Option ℕ)
-    (pays : w.paid ≡ elements) where
-  -- where it is refused
-  refused_charge : (cause : TableError) (result : Result (Unit {0}) TableError) → result ≡ Err cause → charge ≡ 0
-      → charge ≡ writing_charge m elements (reply_of (λ _. replied.Done) replied.Table result)
-  refused_charge cause result is free =
-      free ∙ sym (ap (λ r. writing_charge m elements (reply_of (λ _. replied.Done) replied.Table r)) is)
-
-  -- by how it ends
-  ends_charge : (typed : Bool) (written : Option (List ℕ)) (payable : Bool) (result : Result (Unit {0}) TableError)
-      → EndsBy w (metered x (Some m)) typed written payable (record { result = result; charge = charge; value = x' })
-      → charge ≡ writing_charge m elements (reply_of (λ _. replied.Done) replied.Table result)
-  ends_charge true (Some items) true result ends =
-      ends.1 ∙ ap (λ (p : Option ℕ). optional_due (Some m) (option_map table.element_price p)) pays
-      ∙ sym (ap (λ r. writing_charge m elements (reply_of (λ _. replied.Done) replied.Table r)) ends.0)
-  ends_charge typed written payable result ends = refused_charge _ result ends.0 ends.1
-
-module _ (k : ℕ) (slots : List (Slot TableValue)) (m : Meter) (reply : Reply) (charge : ℕ)
-    (slots' : List (Slot TableValue)) (m' : Meter) (elements : Option ℕ) where
-  -- an index names nothing
-  missing_charge : IsNoSuch (metered slots (Some m)) reply charge (metered slots' (Some m'))
-      → charge ≡ writing_charge m elements reply
-  missing_charge missing = missing.1 ∙ sym (ap (writing_charge m elements) missing.0)
-
-  -- a write over a part of the table of an index
-  write_charge : (write : TableValue → TableWrite) → IsChargedFor elements write
-      → WritesTableAt k write (metered slots (Some m)) reply charge (metered slots' (Some m'))
-      → charge ≡ writing_charge m elements reply
-  write_charge write pays writes = on_live (live_at slots k) _ _ writes missing_charge
-      (λ x found h. ends_charge (write x) x m charge h.1 elements (pays x) (write x).typed (write x).written _ h.0
-      h.2.ends ∙ sym (ap (writing_charge m elements) h.3))
-
-  -- a write over a range of a table, which may be missing, is charged for its elements
-  range_charge : (part : Option (TableValue → TableWrite)) → OnLive part (Unit {0}) (IsChargedFor elements)
-      → WritesRangeAt k part (metered slots (Some m)) reply charge (metered slots' (Some m'))
-      → charge ≡ writing_charge m elements reply
-  range_charge part pays writes =
-      on_live part _ _ (both_live part _ _ _ _ pays writes) (λ missing. missing_charge missing.1)
-      (λ write found h. write_charge write h.0 h.1)
-
--- how many elements an effect pays for
-abbrev elements_by : Effect → Option ℕ
-elements_by (RangeWritten k source dst len) = paid_from source len
-elements_by effect = None
+-- what an effect costs that writes over a range
+abbrev price_by : Effect → Option (CustomFuelCosts → ℕ)
+price_by (RangeWritten write) = range_price write
+price_by effect = None
 
 -- what it is charged, unless it is a growth
 abbrev IsChargedForWriting : Effect → Meter → Reply → ℕ → Type 0
 IsChargedForWriting (MemoryGrown k pages) m reply charge = Unit {0}
 IsChargedForWriting (TableGrown k n init) m reply charge = Unit {0}
-IsChargedForWriting effect m reply charge = charge ≡ writing_charge m (elements_by effect) reply
+IsChargedForWriting effect m reply charge = charge ≡ writing_charge m (price_by effect) reply
 
 -- the charge of an effect is that of the call
 same_charge : (s : State) (call : Call) (exchange : Exchange) (m : Meter) (reply : Reply) (charge : ℕ)
     → IsCharged (place_by (effect_of s call)) exchange m charge → IsChargedForWriting (effect_of s call) m reply charge
-    → charge ≡ charge_at (place_of call) exchange m (writing_charge m (elements_paid call) reply)
+    → charge ≡ charge_at (place_of call) exchange m (writing_charge m (writing_price call) reply)
 same_charge s (NewMemory ty) exchange m reply charge charged writing = charged
 same_charge s (NewLentMemory ty) exchange m reply charge charged writing = charged
 same_charge s (GrowMemory k pages) exchange m reply charge charged writing = charged
@@ -774,11 +714,8 @@ module _ {S : Type 0} (rules : Rules S) (w : World S) (turn : Turn) (w' : World 
   effect_passes (TableGrown k n init) step =
       table_grows rules w turn w' (ap (λ (v : World S). v.state.memories) step.after) k n init step.meter
       (rw step.after step.effect)
-  effect_passes (RangeWritten k source dst len) step = idle rules w turn w' step.after refl
-      (each_kind (λ kind. sizes (with_tables w.state step.part) kind ≡ sizes w.state kind) refl
-      (part_kept k (metered w.state.tables (Some w.state.meter))
-      (metered step.part (Some step.meter)) turn.reply turn.charge len
-      (write_of source dst len) (source_writes source dst len) step.effect))
+  effect_passes (RangeWritten write) step =
+      idle rules w turn w' refl (range_unasked w write turn w' step) (range_still w write turn w' step)
   effect_passes effect step = idle rules w turn w' step.after refl (λ kind. refl)
 
   -- what it is charged, unless it is a growth
@@ -786,9 +723,7 @@ module _ {S : Type 0} (rules : Rules S) (w : World S) (turn : Turn) (w' : World 
       → IsChargedForWriting effect w.state.meter turn.reply turn.charge
   effect_writing (MemoryGrown k pages) step = tt
   effect_writing (TableGrown k n init) step = tt
-  effect_writing (RangeWritten k source dst len) step =
-      range_charge k w.state.tables w.state.meter turn.reply turn.charge step.part step.meter (paid_from source len)
-      (write_of source dst len) (source_pays source dst len) step.effect
+  effect_writing (RangeWritten write) step = range_charge w write turn w' step
   effect_writing effect step = step.free.0 ∙ sym (free_writing w.state.meter turn.reply)
 
 -- each step

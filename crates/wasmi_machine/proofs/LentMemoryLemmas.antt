@@ -12,7 +12,7 @@ use Rattle.wasmi_machine.specs.LentMemory.{FitsRegions, FitsRoom, RunInRegions, 
 use Rattle.wasmi_machine.specs.MemoryEffects.{StoresMemoryAt, WritesMemoryAt, bytes_appended, load_reply}
 use Rattle.wasmi_machine.specs.RegisterEffects.{StoresVectorAt, lane_loaded, vector_at, vector_loaded}
 use Rattle.wasmi_machine.specs.Effects.{ActsAt, AddsEntry, ChangesAt, Creates, DropsAt, OnLive, reply_of}
-use Rattle.wasmi_machine.specs.Steps.{Run, BytesRead, BytesStored, BytesWritten, Change, Changed, Effect, FuelSet, LentMemoryMade, MemoryDropped, MemoryGrown, MemoryMade, RangeWritten, RegisterSet, Step, TableGrown, TableMade, HasChange, HasEffect, Told, effect_of}
+use Rattle.wasmi_machine.specs.Steps.{Run, BytesRead, BytesStored, BytesWritten, Change, Changed, Effect, FuelSet, LentMemoryMade, MemoryDropped, MemoryGrown, MemoryMade, RangeWritten, RegisterSet, Step, TableGrown, TableWritten, TableMade, HasChange, HasEffect, Told, effect_of}
 use Rattle.wasmi_machine.specs.State.{State, live_at, live_value, byte_count, Turn, World}
 use Rattle.wasmi_machine.specs.declared.calls.Call.{Call}
 use Rattle.wasmi_machine.specs.declared.calls.Call.TheVariants.{Load, LoadLane, NewLentMemory, NewMemory, VectorLoad}
@@ -359,7 +359,7 @@ module _ {S : Type 0} (rules : Rules S) (w : World S) (turn : Turn) (w' : World 
   effect_owned (TableMade ty init) fits step = asks_too step step.part step.effect (ap owned_world step.after)
   effect_owned (TableGrown k n init) fits step =
       acts_too step step.part step.meter step.effect refl (ap owned_world step.after)
-  effect_owned (RangeWritten k source dst len) fits step = record {
+  effect_owned (RangeWritten (TableWritten k source dst len)) fits step = record {
     part = step.part;
     meter = step.meter;
     effect = step.effect;

@@ -7,16 +7,15 @@ use Rattle.wasmi_machine.proofs.MemoryEffectsLemmas.{lent_back, lent_spare, memo
 use Rattle.wasmi_machine.proofs.EffectLemmas.{creates_back}
 use Rattle.wasmi_machine.proofs.ExchangeLemmas.{growths_are_permitted, out_of_memory_or_free}
 use Rattle.wasmi_machine.proofs.StepsLemmas.{change_facts}
-use Rattle.wasmi_machine.proofs.TableEffectsLemmas.{part_back, table_growth_back}
+use Rattle.wasmi_machine.proofs.RangeLemmas.{range_back, refused_writing}
+use Rattle.wasmi_machine.proofs.TableEffectsLemmas.{table_growth_back}
 use Rattle.wasmi_machine.proofs.StoreLemmas.{each_turn}
 use Rattle.wasmi_machine.specs.Account.{ChangesMeter, PaysCharge}
-use Rattle.wasmi_machine.specs.Exchange.{AsksFor, At, Denial, Exchange, Exchanges, New, Nothing, Notice, Nowhere, Passes, Permission, Place, RepliesTo, charge_at, elements_paid, growth_charge, growth_due, place_of, question_of, writing_charge}
+use Rattle.wasmi_machine.specs.Exchange.{AsksFor, At, Denial, Exchange, Exchanges, New, Nothing, Notice, Nowhere, Passes, Permission, Place, RepliesTo, charge_at, writing_price, growth_charge, growth_due, place_of, question_of, writing_charge}
 use Rattle.wasmi_machine.specs.Laws.{Keeps, KeepsMeter, KeepsSpare, RefusalsInRunsKeepContents, SameContents}
 use Rattle.wasmi_machine.specs.MemoryEffects.{spare_after}
 use Rattle.wasmi_machine.specs.Steps.{Run, Changed, Effect, FuelSet, LentMemoryMade, MemoryGrown, MemoryMade, RangeWritten, Step, TableGrown, TableMade, HasEffect, effect_of}
 use Rattle.wasmi_machine.specs.State.{State, memory_part, with_memories, with_tables, IsRefusal, Turn, World}
-use Rattle.wasmi_machine.specs.TableEffects.{write_of}
-use Rattle.wasmi_store.specs.Growth.{metered}
 use Rattle.wasmi_machine.specs.declared.calls.Call.{Call}
 use Rattle.wasmi_machine.specs.declared.calls.Call.TheVariants.{NewLentMemory, SetFuel}
 use Rattle.wasmi_machine.specs.declared.calls.Reply.{Reply}
@@ -92,10 +91,7 @@ module _ {S : Type 0} (rules : Rules S) (w : World S) (turn : Turn) (w' : World 
       (record { value = w.state.tables; meter = Some w.state.meter; limiter = w.limiter })
       (record { value = step.part; meter = Some step.meter; limiter = step.limiter }) turn.reply turn.charge refused
       step.effect))
-  effect_back (RangeWritten k source dst len) step = paid w w' step.meter step.after
-      (ap (λ part. let s : State = record (with_tables w.state part) { meter = step.meter } in s)
-      (part_back k (metered w.state.tables (Some w.state.meter))
-      (metered step.part (Some step.meter)) turn.reply turn.charge refused (write_of source dst len) step.effect))
+  effect_back (RangeWritten write) step = kept w w' (range_back w write turn w' step refused) refl
   effect_back effect step = kept w w' step.after refl
 
 -- a meter of which nothing was taken
@@ -110,12 +106,6 @@ unset : (left : Option ℕ) (costs : CustomFuelCosts) (fuel : ℕ) (reply : Repl
     fuel ≡ (let m : Meter = record { left = left; costs = costs } in m)
 unset None costs fuel reply refused is = refl
 unset (Some n) costs fuel reply refused is = absurd (rw is at refused)
-
--- what a refused write over a table is charged
-refused_writing : (m : Meter) (elements : Option ℕ) (reply : Reply) → IsRefusal reply
-    → writing_charge m elements reply ≡ 0
-refused_writing m elements replied.Done refused = absurd refused
-refused_writing m elements reply refused = refl
 
 module _ {S : Type 0} (rules : Rules S) (w : World S) (turn : Turn) (w' : World S)
     (refused : IsRefusal turn.reply) where
@@ -153,9 +143,9 @@ module _ {S : Type 0} (rules : Rules S) (w : World S) (turn : Turn) (w' : World 
     -- by its place
     place_meter : (place : Place) → place_of turn.call ≡ place
         → turn.charge ≡ charge_at place x.exchange w.state.meter (writing_charge w.state.meter
-        (elements_paid turn.call) turn.reply) → KeepsMeter rules w turn w'
+        (writing_price turn.call) turn.reply) → KeepsMeter rules w turn w'
     place_meter Nowhere at charged =
-        stays takes (charged ∙ refused_writing w.state.meter (elements_paid turn.call) turn.reply refused)
+        stays takes (charged ∙ refused_writing w.state.meter (writing_price turn.call) turn.reply refused)
     place_meter New at charged = stays takes charged
     place_meter (At k) at charged = growth_meter (k, at) x.exchange x.asks x.passes x.replies charged takes
 

@@ -1,26 +1,23 @@
--- What holds of each change of one part of the state, and of each write over a part of a table.
-use Rattle.std.proofs.Common.{Bool, List, None, Some, ap, arith, false, inl, inr, length, map, refl, replicate, subst, sym, true, ℕ, ◌∙◌, ◌≡◌, ◌⊎◌}
-use Rattle.std.proofs.lemmas.Bool.Decides.{nat_tests}
-use Rattle.std.specs.Prelude.{All, if◌then◌else◌, nat_eq, slice_get}
-use Rattle.wasmi_machine.proofs.MemoryEffectsLemmas.{overwrite_length, vector_store_back, vector_store_kept, vector_store_valid, vector_stores_same, write_refused, write_valid, writes_same, written_kept}
+-- What holds of each change of one part of the state.
+use Rattle.std.proofs.Common.{List, ap, arith, length, map, refl, subst, sym, ℕ, ◌∙◌, ◌≡◌}
+use Rattle.std.specs.Prelude.{All, slice_get}
+use Rattle.wasmi_machine.proofs.MemoryEffectsLemmas.{vector_store_back, vector_store_kept, vector_store_valid, vector_stores_same, write_refused, write_valid, writes_same, written_kept}
 use Rattle.wasmi_machine.proofs.ValueEffectsLemmas.{takes_back, takes_count, takes_same, creates_segment_valid, global_made_back, global_refused, global_sets_same, globals_same, items_refused, items_same, segment_back, segments_same}
 use Rattle.wasmi_machine.proofs.EffectLemmas.{AllValid, changes_valid, drops_back, drops_kept, drops_same, drops_valid, item_valid}
-use Rattle.wasmi_machine.proofs.TableEffectsLemmas.{IsWrite, copied_length, set_kept, set_refused, set_valid, sets_same}
+use Rattle.wasmi_machine.proofs.TableEffectsLemmas.{set_kept, set_refused, set_valid, sets_same}
 use Rattle.wasmi_machine.proofs.TotalLemmas.{each_kind}
 use Rattle.wasmi_machine.specs.Determinism.{IsNotOutOfMemory}
 use Rattle.wasmi_machine.specs.Exchange.{NothingGrows}
 use Rattle.wasmi_machine.specs.Laws.{IsRefusal}
-use Rattle.wasmi_machine.specs.Effects.{ChangesPart, DropsAt, OnLive}
+use Rattle.wasmi_machine.specs.Effects.{ChangesPart, DropsAt}
 use Rattle.wasmi_machine.specs.State.{State, with_globals, with_memories, with_registers, with_segments, with_tables, byte_count, sizes, slot_count, IsValid, IsValidSegment}
 use Rattle.wasmi_machine.specs.Steps.{BytesStored, BytesWritten, Change, ElementSet, GlobalMade, GlobalSet, ItemsDropped, MemoryDropped, RegisterSet, SegmentMade, TableDropped, HasChange}
-use Rattle.wasmi_machine.specs.TableEffects.{OfReference, OfSegment, OfTable, Source, write_of}
 use Rattle.wasmi_machine.specs.declared.calls.Reply.{Reply}
 use Rattle.wasmi_machine.specs.declared.slots.Slot.{Slot}
 use Rattle.wasmi_raw.specs.declared.raw.RawVal.{RawVal}
 use Rattle.wasmi_store.specs.Memory.{IsValidMemory, MemoryValue}
 use Rattle.wasmi_store.specs.Segment.{SegmentValue}
 use Rattle.wasmi_store.specs.Table.{IsValidTable, TableValue, size_of}
-use Rattle.wasmi_types.specs.Access.{at}
 
 -- what holds of an effect on a part: a refusal leaves it, it is decided where memory isn't wanting, and it keeps a fact
 pub record EffectFacts {A : Type 0} (Effect : Reply → A → Type 0) (old : A) (Keeps : A → Type 0) : Type 0 where
@@ -39,8 +36,8 @@ pub record ChangeFacts (s : State) (Becomes : Reply → State → Type 0) : Type
   pub valid : (reply : Reply) (s' : State) → IsValid s → Becomes reply s' → IsValid s'
 
 -- a part of a state, and what a change of it has to keep
-record PartOf (s : State) {A : Type 0} (with_part : A → State) (old : A) (Keeps : A → Type 0) : Type 0 where
-  whole : with_part old ≡ s
+pub record PartOf (s : State) {A : Type 0} (with_part : A → State) (old : A) (Keeps : A → Type 0) : Type 0 where
+  pub whole : with_part old ≡ s
   pub meter : (part : A) → (with_part part).meter ≡ s.meter
   pub still : (part : A) → Keeps part → NothingGrows (sizes s) (sizes (with_part part))
   pub valid : (part : A) → Keeps part → IsValid s → IsValid (with_part part)
@@ -61,13 +58,13 @@ module _ {s : State} {A : Type 0} {with_part : A → State} {old : A} {Keeps : A
   }
 
 -- what a change of memories, tables, element segments or registers has to keep
-abbrev KeepsMemories : State → List (Slot MemoryValue) → Type 0
+abbrev pub KeepsMemories : State → List (Slot MemoryValue) → Type 0
 KeepsMemories s slots =
     (map (slot_count byte_count) slots ≡ map (slot_count byte_count) s.memories) × (AllValid IsValidMemory s.memories
     → AllValid IsValidMemory slots)
 
 -- tables
-abbrev KeepsTables : State → List (Slot TableValue) → Type 0
+abbrev pub KeepsTables : State → List (Slot TableValue) → Type 0
 KeepsTables s slots =
     (map (slot_count size_of) slots ≡ map (slot_count size_of) s.tables) × (AllValid IsValidTable s.tables
     → AllValid IsValidTable slots)
@@ -95,7 +92,7 @@ valid_by s s' memories tables segments registers v = record {
 -- the parts of a state
 module _ (s : State) where
   -- the memories
-  the_memories : PartOf s (with_memories s) s.memories (KeepsMemories s)
+  pub the_memories : PartOf s (with_memories s) s.memories (KeepsMemories s)
   the_memories = record {
     whole = refl;
     meter = λ part. refl;
@@ -104,7 +101,7 @@ module _ (s : State) where
   }
 
   -- the tables
-  the_tables : PartOf s (with_tables s) s.tables (KeepsTables s)
+  pub the_tables : PartOf s (with_tables s) s.tables (KeepsTables s)
   the_tables = record {
     whole = refl;
     meter = λ part. refl;
@@ -212,19 +209,3 @@ change_facts s (GlobalSet k value) = change_of (the_globals s) (record {
   same = λ reply reply' part part' has has'. global_sets_same k value s.globals reply reply' part part';
   keeps = λ reply part effect. tt;
 })
-
--- an initialization by no item is free
-init_pays : (len : ℕ) (none : Bool) → nat_eq len 0 ≡ none → ((if none then None else Some len) ≡ Some len) ⊎ (len ≡ 0)
-init_pays len true is = inr (grind (arith, nat_tests, is))
-init_pays len false is = inl refl
-
--- what each source writes is a write of so many elements
-pub source_writes : (source : Source) (dst len : ℕ) → OnLive (write_of source dst len) (Unit {0}) (IsWrite len)
-source_writes (OfReference value) dst len =
-    λ x. (λ elements is. overwrite_length x.elements (replicate len value.raw) elements dst is, inl refl)
-source_writes (OfTable None src) dst len = tt
-source_writes (OfTable (Some y) src) dst len =
-    λ x. (λ elements is. copied_length x.elements elements dst (at y.elements src len) is, inl refl)
-source_writes (OfSegment None src) dst len = tt
-source_writes (OfSegment (Some y) src) dst len =
-    λ x. (λ elements is. copied_length x.elements elements dst (at y.items src len) is, init_pays len _ refl)

@@ -1,4 +1,4 @@
--- The sizes of slots as slots change, and a copy between the slots of two tables.
+-- The sizes of slots as slots change, and a copy between two slots.
 use Rattle.std.proofs.Common.{◌≡◌, ◌<◌, ◌++◌, ℕ, List, length, get_or, set, Some, ap, sym, ◌∙◌, arith, None, Option, [], map, sum, ◌+◌, ◌∷◌}
 use Rattle.std.specs.List.{SameBelow, TailFrom}
 use Rattle.std.specs.Prelude.{slice_get, slice_set}
@@ -6,12 +6,12 @@ use Rattle.std.proofs.lemmas.List.{set-append_left, set-append_right, set-get_or
 use Rattle.std.proofs.lemmas.Option.{get_or_from_slice_get, slice_get-get_or, none-some, same_Some, slice_get-map, slice_get_within}
 use Rattle.wasmi_meter.specs.Meter.{Meter}
 use Rattle.wasmi_meter.specs.Attempt.{MeteredValue}
-use Rattle.wasmi_store.specs.Table.{TableValue, TableWrite}
+use Rattle.wasmi_store.specs.Write.{MeteredWrite}
 use Rattle.wasmi_machine.specs.declared.calls.Reply.{Reply}
 use Rattle.wasmi_machine.specs.declared.slots.Slot.{Slot}
 use Rattle.wasmi_machine.specs.declared.slots.Slot.TheVariants.{Live, Gone}
 use Rattle.wasmi_machine.specs.State.{live_at, live_value, slot_count}
-use Rattle.wasmi_machine.specs.TableEffects.{MeteredTables, CopiesSlot, WritesTableFrom}
+use Rattle.wasmi_machine.specs.Effects.{CopiesSlot, MeteredSlots, WritesFrom}
 use Rattle.wasmi_store.specs.Growth.{metered}
 use Rattle.std.proofs.lemmas.List.Sums.{sum_by-set, sum_by_push}
 use Rattle.std.specs.Option.{option_and_then, option_map}
@@ -23,36 +23,37 @@ pub set_read : {X : Type 0} (xs : List X) (k : ℕ) (y : X) → slice_get xs k �
 set_read xs k y found = ap (set xs k) (sym (get_or_from_slice_get xs k y y found)) ∙ set-get_or xs k y
 
 -- slots in two parts, of which the first has so many
-pub record IsSplit (slots front back : List (Slot TableValue)) (many : ℕ) : Type 0 where
+pub record IsSplit {X : Type 0} (slots front back : List (Slot X)) (many : ℕ) : Type 0 where
   pub joined : slots ≡ front ++ back
   pub front_len : length front ≡ many
   pub by_index : SameBelow slots front many × TailFrom slots back many
 
-module _ (slots front back : List (Slot TableValue)) (many : ℕ) (split : IsSplit slots front back many) where
+module _ {X : Type 0} (slots front back : List (Slot X)) (many : ℕ) (split : IsSplit slots front back many) where
   -- a slot of the first part
-  in_front : (k : ℕ) (slot : Slot TableValue) → k < many → k < length slots
+  in_front : (k : ℕ) (slot : Slot X) → k < many → k < length slots
       → slice_get slots k ≡ Some (get_or front k slot)
   in_front k slot before within = slice_get-get_or slots k slot within ∙ ap Some (sym (split.by_index.0 k slot before))
 
   -- the first slot of the rest
-  in_back : (slot : Slot TableValue) → many < length slots → slice_get slots many ≡ Some (get_or back 0 slot)
+  in_back : (slot : Slot X) → many < length slots → slice_get slots many ≡ Some (get_or back 0 slot)
   in_back slot within = slice_get-get_or slots many slot within
       ∙ ap Some (ap (λ k. get_or slots k slot) (omega arith) ∙ sym (split.by_index.1 0 slot))
 
 -- a copy into the slot of one index from that of another: what it writes, the slots and the meter before it
-pub record Copying : Type 0 where
-  pub write : TableValue → TableValue → TableWrite
-  pub slots : List (Slot TableValue)
+pub record Copying (X E : Type 0) : Type 0 where
+  pub refusal : E → Reply
+  pub write : X → X → MeteredWrite X E
+  pub slots : List (Slot X)
   pub into : ℕ
   pub from : ℕ
   pub meter : Meter
 
-module _ (copy : Copying) (reply : Reply) (charge : ℕ) (s' : MeteredValue (Slot TableValue) (Unit {0})) where
+module _ {X E : Type 0} (copy : Copying X E) (reply : Reply) (charge : ℕ) (s' : MeteredValue (Slot X) (Unit {0})) where
   -- nothing is written to the slot, so the list stays
-  nothing_put : (slot : Slot TableValue) → slice_get copy.slots copy.into ≡ Some slot
+  nothing_put : (slot : Slot X) → slice_get copy.slots copy.into ≡ Some slot
       → s' ≡ record { value = slot; meter = Some copy.meter; limiter = tt }
-      → (slots' : List (Slot TableValue)) → slots' ≡ set copy.slots copy.into s'.value
-      → (let after : MeteredTables = record { value = slots'; meter = s'.meter; limiter = tt } in after)
+      → (slots' : List (Slot X)) → slots' ≡ set copy.slots copy.into s'.value
+      → (let after : MeteredSlots X = record { value = slots'; meter = s'.meter; limiter = tt } in after)
       ≡ metered copy.slots (Some copy.meter)
   nothing_put slot at_i same slots' put = λ k. record {
     value = (put ∙ ap (λ s. set copy.slots copy.into s.value) same ∙ set_read copy.slots copy.into slot at_i) k;
@@ -60,12 +61,12 @@ module _ (copy : Copying) (reply : Reply) (charge : ℕ) (s' : MeteredValue (Slo
     limiter = tt;
   }
 
-  -- a table is written over with what another slot has
-  copies_at : (slot source : Slot TableValue) → slice_get copy.slots copy.into ≡ Some slot
+  -- a value is written over with what another slot has
+  copies_at : (slot source : Slot X) → slice_get copy.slots copy.into ≡ Some slot
       → slice_get copy.slots copy.from ≡ Some source
-      → CopiesSlot copy.write source (record { value = slot; meter = Some copy.meter; limiter = tt }) reply charge s'
-      → (slots' : List (Slot TableValue)) → slots' ≡ set copy.slots copy.into s'.value
-      → WritesTableFrom (live_at copy.slots copy.from) copy.into copy.write
+      → CopiesSlot copy.refusal copy.write source (record { value = slot; meter = Some copy.meter; limiter = tt }) reply charge s'
+      → (slots' : List (Slot X)) → slots' ≡ set copy.slots copy.into s'.value
+      → WritesFrom copy.refusal (live_at copy.slots copy.from) copy.into copy.write
       (metered copy.slots (Some copy.meter)) reply charge (record { value = slots'; meter = s'.meter; limiter = tt })
   copies_at slot (Gone size) at_i at_j (replied, charged, same) slots' put =
       rw at_j (replied, charged, nothing_put slot at_i same slots' put)
@@ -76,11 +77,11 @@ module _ (copy : Copying) (reply : Reply) (charge : ℕ) (s' : MeteredValue (Slo
 
   -- a copy between two parts of the slots, of which the first has so many: from the start of the rest into the first
   -- part
-  pub copies_forward : (front back : List (Slot TableValue)) → IsSplit copy.slots front back copy.from
-      → (slot source : Slot TableValue) → copy.into < copy.from → copy.from < length copy.slots
-      → CopiesSlot copy.write (get_or back 0 source)
+  pub copies_forward : (front back : List (Slot X)) → IsSplit copy.slots front back copy.from
+      → (slot source : Slot X) → copy.into < copy.from → copy.from < length copy.slots
+      → CopiesSlot copy.refusal copy.write (get_or back 0 source)
       (record { value = get_or front copy.into slot; meter = Some copy.meter; limiter = tt }) reply charge s'
-      → WritesTableFrom (live_at copy.slots copy.from) copy.into copy.write
+      → WritesFrom copy.refusal (live_at copy.slots copy.from) copy.into copy.write
       (metered copy.slots (Some copy.meter)) reply charge
       (record { value = set front copy.into s'.value ++ back; meter = s'.meter; limiter = tt })
   copies_forward front back split slot source before within copied =
@@ -90,11 +91,11 @@ module _ (copy : Copying) (reply : Reply) (charge : ℕ) (s' : MeteredValue (Slo
       ∙ ap (λ xs. set xs copy.into s'.value) (sym split.joined))
 
   -- and from the first part into the start of the rest
-  pub copies_backward : (front back : List (Slot TableValue)) → IsSplit copy.slots front back copy.into
-      → (slot source : Slot TableValue) → copy.from < copy.into → copy.into < length copy.slots
-      → CopiesSlot copy.write (get_or front copy.from source)
+  pub copies_backward : (front back : List (Slot X)) → IsSplit copy.slots front back copy.into
+      → (slot source : Slot X) → copy.from < copy.into → copy.into < length copy.slots
+      → CopiesSlot copy.refusal copy.write (get_or front copy.from source)
       (record { value = get_or back 0 slot; meter = Some copy.meter; limiter = tt }) reply charge s'
-      → WritesTableFrom (live_at copy.slots copy.from) copy.into copy.write
+      → WritesFrom copy.refusal (live_at copy.slots copy.from) copy.into copy.write
       (metered copy.slots (Some copy.meter)) reply charge
       (record { value = front ++ set back 0 s'.value; meter = s'.meter; limiter = tt })
   copies_backward front back split slot source after within copied =

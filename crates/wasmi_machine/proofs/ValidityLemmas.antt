@@ -1,15 +1,13 @@
 -- What each turn does to a valid state: it stays valid.
-use Rattle.std.proofs.Common.{Some, List, Option, [], ap, map, subst, sym, ℕ, ◌∷◌, ◌≡◌}
+use Rattle.std.proofs.Common.{List, Option, [], ap, map, subst, sym, ℕ, ◌∷◌, ◌≡◌}
 use Rattle.std.proofs.lemmas.List.Elements.{All-head, All-tail}
 use Rattle.std.specs.Prelude.{All}
 use Rattle.wasmi_machine.proofs.EffectLemmas.{AllValid, acts_valid, creates_valid, on_live}
-use Rattle.wasmi_machine.proofs.StepsLemmas.{change_facts, source_writes}
-use Rattle.wasmi_machine.proofs.TableEffectsLemmas.{part_valid}
+use Rattle.wasmi_machine.proofs.RangeLemmas.{range_valid}
+use Rattle.wasmi_machine.proofs.StepsLemmas.{change_facts}
 use Rattle.wasmi_machine.specs.Effects.{reply_of}
 use Rattle.wasmi_machine.specs.Steps.{Run, RepliesWith, Changed, Effect, FuelSet, LentMemoryMade, MemoryGrown, MemoryMade, RangeWritten, TableGrown, TableMade, HasEffect, effect_of}
 use Rattle.wasmi_machine.specs.State.{MemoryPart, State, IsValid, IsValidCall, Turn, World}
-use Rattle.wasmi_machine.specs.TableEffects.{write_of}
-use Rattle.wasmi_store.specs.Growth.{metered}
 use Rattle.wasmi_machine.specs.declared.calls.Call.{Call}
 use Rattle.wasmi_machine.specs.declared.calls.Call.TheVariants.{NewMemory}
 use Rattle.wasmi_machine.specs.declared.calls.Reply.{Reply}
@@ -92,9 +90,7 @@ module _ {S : Type 0} (rules : Rules S) (w : World S) (turn : Turn) (w' : World 
       (acts_valid IsValidTable k (reply_of replied.Number replied.Table) (GrowsTableCharging rules n init)
       (λ s s' result charge h grows. store.grown_table_is_valid rules n init s result charge s' h grows)
       _ _ turn.reply turn.charge step.effect valid.tables) w'.state (ap now step.after)
-  effect_valid (RangeWritten k source dst len) typed step = tables_valid w.state valid step.meter step.part
-      (part_valid k (metered w.state.tables (Some m)) (metered step.part (Some step.meter)) turn.reply turn.charge len
-      (write_of source dst len) (source_writes source dst len) step.effect valid.tables) w'.state (ap now step.after)
+  effect_valid (RangeWritten write) typed step = range_valid w write turn w' step valid
   effect_valid effect typed step = rw (ap now step.after) valid
 
 -- a call that is answered leads from a valid state to a valid one, where the type that it names is valid

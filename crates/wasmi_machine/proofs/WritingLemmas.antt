@@ -1,5 +1,5 @@
 -- What each turn writes, and what it is charged for that.
-use Rattle.std.proofs.Common.{Bool, Err, List, None, Ok, Option, Result, Some, [], ap, arith, false, inl, inr, refl, subst, true, ℕ, ◌*◌, ◌+◌, ◌-◌, ◌/◌, ◌<◌, ◌^◌, ◌∙◌, ◌∷◌, ◌≡◌, ◌≤◌, ◌⊎◌}
+use Rattle.std.proofs.Common.{Bool, Err, List, None, Ok, Option, Result, Some, [], ap, arith, false, inl, inr, refl, subst, true, ℕ, ◌*◌, ◌+◌, ◌-◌, ◌/◌, ◌<◌, ◌^◌, ◌∙◌, ◌∷◌, ◌≡◌, ◌≤◌}
 use Rattle.std.proofs.Math.Nat.{add-mul, lt-div-mul-add, mul-add, mul-le-mul_left, mul_comm}
 use Rattle.std.proofs.lemmas.Bool.{and_parts}
 use Rattle.std.proofs.lemmas.Bool.Decides.{nat_tests}
@@ -7,17 +7,17 @@ use Rattle.std.proofs.lemmas.List.Sums.{sum_by-cons}
 use Rattle.std.proofs.lemmas.Option.{same_Some}
 use Rattle.std.specs.Option.{option_map, option_map_or}
 use Rattle.std.specs.Prelude.{cond, if◌then◌else◌, is_some, nat_eq, nat_le, nat_lt, ◌&&◌}
-use Rattle.wasmi_machine.proofs.AccountLemmas.{Growing, after, before, growing, grows_takes, charged_value, rest_left, write_takes}
-use Rattle.wasmi_machine.proofs.EffectLemmas.{both_live, on_live}
-use Rattle.wasmi_machine.proofs.StepsLemmas.{change_facts, source_writes}
-use Rattle.wasmi_machine.proofs.TableEffectsLemmas.{IsWrite}
+use Rattle.wasmi_machine.proofs.AccountLemmas.{Growing, after, before, growing, grows_takes, charged_value, rest_left}
+use Rattle.wasmi_machine.proofs.EffectLemmas.{on_live}
+use Rattle.wasmi_machine.proofs.RangeLemmas.{IsPriced, range_facts, range_price}
+use Rattle.wasmi_machine.proofs.StepsLemmas.{change_facts}
 use Rattle.wasmi_machine.specs.MemoryEffects.{bytes_appended}
 use Rattle.wasmi_machine.specs.Account.{PaysCharge, IsBounded, amount_set, amounts_set, bytes_written, charges_for_writing, has_written, is_accepted, writing_turns}
-use Rattle.wasmi_machine.specs.Effects.{ActsAt, OnLive, reply_of}
-use Rattle.wasmi_machine.specs.Steps.{Run, Changed, Effect, FuelSet, MemoryGrown, RangeWritten, TableGrown, HasEffect, effect_of, is_charged}
-use Rattle.wasmi_machine.specs.State.{State, live_at, Turn, World}
-use Rattle.wasmi_machine.specs.TableEffects.{MeteredTables, WritesRangeAt, WritesTableAt, element_bytes, write_of}
-use Rattle.wasmi_store.specs.Growth.{metered, Grows, Growth}
+use Rattle.wasmi_machine.specs.Effects.{ActsAt, reply_of}
+use Rattle.wasmi_machine.specs.Steps.{Run, Changed, Effect, FuelSet, MemoryGrown, HasRangeWrite, RangeWrite, RangeWritten, TableGrown, HasEffect, effect_of, is_charged}
+use Rattle.wasmi_machine.specs.State.{IsRefusal, State, live_at, Turn, World}
+use Rattle.wasmi_machine.specs.TableEffects.{element_bytes}
+use Rattle.wasmi_store.specs.Growth.{Grows, Growth}
 use Rattle.wasmi_machine.specs.declared.calls.Call.{Call}
 use Rattle.wasmi_machine.specs.declared.calls.Call.TheVariants.{SetFuel}
 use Rattle.wasmi_machine.specs.declared.calls.Reply.{Reply}
@@ -30,7 +30,7 @@ use Rattle.wasmi_meter.specs.declared.error.TableError.{TableError}
 use Rattle.wasmi_meter.specs.declared.fuel.CustomFuelCosts.{CustomFuelCosts}
 use Rattle.wasmi_store.proofs.GrowthLemmas.{on_test}
 use Rattle.wasmi_store.specs.Memory.{GrowsMemoryCharging, MemoryValue, pages_of, greatest_pages, in_bounds, page_bytes}
-use Rattle.wasmi_store.specs.Table.{EndsBy, GrowsTableCharging, TableValue, TableWrite, WritesTableCharging, write_due, element_price, size_of, same_type}
+use Rattle.wasmi_store.specs.Table.{GrowsTableCharging, TableValue, size_of, same_type}
 use Rattle.wasmi_typed.specs.declared.typed_ref.TypedRawRef.{TypedRawRef}
 use Rattle.wasmi_store.specs.Memory as memory
 use Rattle.wasmi_machine.specs.declared.calls.Reply.TheVariants as replied
@@ -251,57 +251,38 @@ table_growth_writes {S} rules k n init t reply acts = on_live (live_at t.first.v
     (λ h. rw h.0 (idles t.first.meter t.last.meter t.charge _ refl
     (same_Some t.last.meter t.first.meter (ap (λ (s : MeteredValue TableValue S). s.meter) h.2))))))
 
--- a call that writes over a part of a table
-module _ (write : TableValue → TableWrite) (x : TableValue) (len : ℕ) (m : Meter) (charge : ℕ) where
-  -- how it is written over
-  abbrev w : TableWrite
-  w = write x
+-- a refusal isn't accepted
+refused_unaccepted : (reply : Reply) → IsRefusal reply → is_accepted reply ≡ false
+refused_unaccepted replied.Done refused = absurd refused
+refused_unaccepted (replied.Number number) refused = absurd refused
+refused_unaccepted reply refused = refl
 
-  -- the charge pays for the elements, where there are some
-  len_bound : (paid : (w.paid ≡ Some len) ⊎ (len ≡ 0)) → charge ≡ write_due w (metered x (Some m)) → (left : ℕ)
-      → m.left ≡ Some left → 0 < rate m → cut_product len 4 ≤ rate m * charge + (rate m - 1)
-  len_bound (inl paid) charged left on rated = due_pays m left len 4 charge on rated
-      (charged ∙ ap (λ p. optional_due (Some m) (option_map element_price p)) paid)
-  len_bound (inr none) charged left on rated =
-      let nothing : cut_product len 4 ≡ 0 = ap (λ k. cut_product k 4) none ∙ omega arith in omega (arith, nothing)
+-- what is due for what was written pays for it
+range_pays : (m : Meter) (price : Option (CustomFuelCosts → ℕ)) (charge written : ℕ) → IsPriced price written
+    → charge ≡ optional_due (Some m) price → (left : ℕ) → m.left ≡ Some left → 0 < rate m
+    → written ≤ rate m * charge + (rate m - 1)
+range_pays m price charge written priced charged left on rated = elim priced.bytes [
+  | inl none ↦ omega (arith, none)
+  | inr (n, size, is, wrote) ↦
+      let paid : cut_product n size ≤ rate m * charge + (rate m - 1) =
+      due_pays m left n size charge on rated (charged ∙ ap (optional_due (Some m)) is) in
+      omega (arith, paid, wrote)
+]
 
-  -- the charge of a write that has ended well pays for its elements
-  ends_bound : (w.paid ≡ Some len) ⊎ (len ≡ 0) → (x' : TableValue) (typed : Bool) (written : Option (List ℕ))
-      (payable : Bool)
-      → EndsBy w (metered x (Some m)) typed written payable (record { result = (Ok tt); charge = charge; value = x' })
-      → ((left : ℕ) → m.left ≡ Some left → 0 < rate m → cut_product len 4 ≤ rate m * charge + (rate m - 1))
-  ends_bound paid x' true (Some elements) true ends = len_bound paid ends.1
-  ends_bound paid x' typed written payable ends = absurd cc
-
-  -- what it has written, by its result
-  write_result : (w.paid ≡ Some len) ⊎ (len ≡ 0)
-      → (x' : TableValue) (m' : Meter) (result : Result (Unit {0}) TableError)
-      → WritesTableCharging write (metered x (Some m)) result charge (metered x' (Some m'))
-      → Wrote m charge (element_bytes len (reply_of (λ _. replied.Done) replied.Table result))
-      (is_accepted (reply_of (λ _. replied.Done) replied.Table result)) 0 m'
-  write_result paid x' m' (Ok tt) writes = pays m m' charge (cut_product len 4) (same_costs m m' charge writes.meter)
-      (write_takes write x m (Ok tt) charge x' m' writes) (ends_bound paid x' w.typed w.written _ writes.ends)
-  write_result paid x' m' (Err error) writes =
-      refuses m m' charge (same_costs m m' charge writes.meter) (write_takes write x m (Err error) charge x' m' writes)
-
--- the writes over a part of the table of an index
-module _ (k len : ℕ) (slots : List (Slot TableValue)) (m : Meter) (reply : Reply) (charge : ℕ)
-    (slots' : List (Slot TableValue)) (m' : Meter) where
-  -- what a write has written
-  table_write_writes : (write : TableValue → TableWrite) → IsWrite len write
-      → WritesTableAt k write (metered slots (Some m)) reply charge (metered slots' (Some m'))
-      → Wrote m charge (element_bytes len reply) (is_accepted reply) 0 m'
-  table_write_writes write is writes = on_live (live_at slots k) _ _ writes (λ missing. rw missing.0
-      (idles m m' charge _ refl (same_Some m' m (ap (λ (s : MeteredTables). s.meter) missing.2))))
-      (λ x found a. rw a.3 (write_result write x len m charge (is x).1 a.1 m' a.0 a.2))
-
-  -- what a write that may be missing has written
-  part_writes : (part : Option (TableValue → TableWrite)) → OnLive part (Unit {0}) (IsWrite len)
-      → WritesRangeAt k part (metered slots (Some m)) reply charge (metered slots' (Some m'))
-      → Wrote m charge (element_bytes len reply) (is_accepted reply) 0 m'
-  part_writes part is writes = on_live part _ _ (both_live part _ _ _ _ is writes) (λ missing. rw missing.1.0
-      (idles m m' charge _ refl (same_Some m' m (ap (λ (s : MeteredTables). s.meter) missing.1.2))))
-      (λ write found h. table_write_writes write h.0 h.1)
+-- a write over a range
+range_writes : {S : Type 0} (w : World S) (write : RangeWrite) (turn : Turn) (w' : World S)
+    → HasRangeWrite write w turn w'
+    → Wrote w.state.meter turn.charge turn.written (is_accepted turn.reply) 0 w'.state.meter
+range_writes w write turn w' step = elim (range_facts w write turn w' step) [
+  | inl idle ↦ rw (refused_unaccepted turn.reply idle.refused)
+      (idles w.state.meter w'.state.meter turn.charge turn.written idle.unwritten
+      (ap (λ (v : World _). v.state.meter) idle.same))
+  | inr paid ↦ rw paid.done
+      (pays w.state.meter w'.state.meter turn.charge turn.written
+      (same_costs w.state.meter w'.state.meter turn.charge (ap Some paid.meter))
+      (paid.enough, paid.meter)
+      (range_pays w.state.meter (range_price write) turn.charge turn.written paid.priced paid.charged))
+]
 
 module _ {S : Type 0} (w : World S) (turn : Turn) (w' : World S) where
   -- the turn ends in this world
@@ -319,7 +300,7 @@ module _ {S : Type 0} (w : World S) (turn : Turn) (w' : World S) where
 abbrev is_charged_effect : Effect → Bool
 is_charged_effect (MemoryGrown k pages) = true
 is_charged_effect (TableGrown k n init) = true
-is_charged_effect (RangeWritten k source dst len) = true
+is_charged_effect (RangeWritten write) = true
 is_charged_effect effect = false
 
 -- what an effect sets the fuel to
@@ -348,9 +329,7 @@ module _ {S : Type 0} (rules : Rules S) (w : World S) (turn : Turn) (w' : World 
   effect_writes (TableGrown k n init) step = writes_as w turn w' step.after step.wrote
       (table_growth_writes rules k n init
       (growing w w.state.tables turn.charge step.part step.meter step.limiter) turn.reply step.effect)
-  effect_writes (RangeWritten k source dst len) step = writes_as w turn w' step.after step.wrote
-      (part_writes k len w.state.tables w.state.meter turn.reply turn.charge step.part step.meter
-      (write_of source dst len) (source_writes source dst len) step.effect)
+  effect_writes (RangeWritten write) step = range_writes w write turn w' step
   effect_writes effect step = idle w turn w' step.after step.free.1 refl
 
 -- a run, by what is left at its start

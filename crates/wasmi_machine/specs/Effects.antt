@@ -1,13 +1,14 @@
 -- What calls on slots have in common: what each does to the list of slots and in a turn.
 use Rattle.std.specs.Prelude.{◌≡◌, ◌⊎◌, ◌++◌, ℕ, Option, Some, Result, Ok, Err, List, [], ◌∷◌, length, slice_get, slice_set, unwrap_or, MatchOption}
 use Rattle.wasmi_meter.specs.Attempt.{MeteredValue, with_value}
-use Rattle.wasmi_meter.specs.Meter.{Meter}
+use Rattle.wasmi_meter.specs.Meter.{Meter, cut_product}
 use Rattle.wasmi_store.specs.Growth.{metered, metered_value}
+use Rattle.wasmi_store.specs.Write.{MeteredWrite, WritesCharging}
 use Rattle.wasmi_machine.specs.declared.calls.Reply.{Reply}
-use Rattle.wasmi_machine.specs.declared.calls.Reply.TheVariants.{Done, Made, NoSuch, NoRoom}
+use Rattle.wasmi_machine.specs.declared.calls.Reply.TheVariants.{Done, Made, Number, NoSuch, NoRoom}
 use Rattle.wasmi_machine.specs.declared.slots.Slot.{Slot}
 use Rattle.wasmi_machine.specs.declared.slots.Slot.TheVariants.{Live, Gone}
-use Rattle.wasmi_machine.specs.State.{State, live_at, World, world, Turn, IsFree}
+use Rattle.wasmi_machine.specs.State.{State, live_value, live_at, World, world, Turn, IsFree}
 
 -- the reply to a call that returns a value or is refused
 abbrev pub reply_of : {T E : Type 0} → (T → Reply) → (E → Reply) → Result T E → Reply
@@ -64,6 +65,41 @@ abbrev pub ActsAt : {X R S : Type 0} → ℕ → (R → Reply) → (MeteredValue
 ActsAt k reply_to Acts s reply charge s' = OnLive (live_at s.value k) (IsNoSuch s reply charge s')
     (λ x. (result : _) × (x' : _) × Acts (with_value s x) result charge (with_value s' x')
     × (reply ≡ reply_to result) × (s'.value ≡ slice_set s.value k (Live x')))
+
+-- values of one kind in their slots, and the meter that is charged
+abbrev pub MeteredSlots : Type 0 → Type 0
+MeteredSlots X = MeteredValue (List (Slot X)) (Unit {0})
+
+-- a range of the value of an index is written over, with its charge
+abbrev pub WritesAt : {X E : Type 0} → (E → Reply) → ℕ → (X → MeteredWrite X E) → MeteredSlots X → Reply → ℕ
+    → MeteredSlots X → Type 0
+WritesAt refusal k write = ActsAt k (reply_of (λ _. Done) refusal) (WritesCharging write)
+
+-- a range of the value of an index is written over with what a source has, with its charge; without a source the reply
+-- is `NoSuch`, and nothing has changed
+abbrev pub WritesFrom : {X Y E : Type 0} → (E → Reply) → Option Y → ℕ → (Y → X → MeteredWrite X E) → MeteredSlots X
+    → Reply → ℕ → MeteredSlots X → Type 0
+WritesFrom refusal source k write s reply charge s' =
+    OnLive source (IsNoSuch s reply charge s') (λ y. WritesAt refusal k (write y) s reply charge s')
+
+-- a range of the value of an index is written over by such a write, if there is one
+abbrev pub WritesRangeAt : {X E : Type 0} → (E → Reply) → ℕ → Option (X → MeteredWrite X E) → MeteredSlots X → Reply
+    → ℕ → MeteredSlots X → Type 0
+WritesRangeAt refusal k write = WritesFrom refusal write k (λ w. w)
+
+-- a slot's value is written over with what another slot's value has
+abbrev pub CopiesSlot : {X E : Type 0} → (E → Reply) → (X → X → MeteredWrite X E) → Slot X
+    → MeteredValue (Slot X) (Unit {0}) → Reply → ℕ → MeteredValue (Slot X) (Unit {0}) → Type 0
+CopiesSlot refusal write source s reply charge s' = OnLive (live_value source) (IsNoSuch s reply charge s')
+    (λ y. OnLive (live_value s.value) (IsNoSuch s reply charge s')
+    (λ x. (result : _) × (x' : _) × WritesCharging (write y) (with_value s x) result charge (with_value s' x')
+    × (reply ≡ reply_of (λ _. Done) refusal result) × (s'.value ≡ Live x')))
+
+-- the bytes that an accepted call on so many items, of so many bytes each, has written
+abbrev pub item_bytes : ℕ → ℕ → Reply → ℕ
+item_bytes size n Done = cut_product n size
+item_bytes size n (Number number) = cut_product n size
+item_bytes size n reply = 0
 
 -- one part of the state has changed
 pub record ChangesPart {A : Type 0} (with_part : A → State) (Effect : Reply → A → Type 0) (reply : Reply)

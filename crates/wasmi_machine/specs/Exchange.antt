@@ -6,6 +6,7 @@ use Rattle.wasmi_meter.specs.declared.limiter.Kind.TheVariants.{Bytes, Elements}
 use Rattle.wasmi_meter.specs.declared.error.MemoryError.TheVariants as memory_error
 use Rattle.wasmi_meter.specs.declared.error.TableError.TheVariants as table_error
 use Rattle.wasmi_meter.specs.Limiter.{Question, Answer, IsDenial, Failure, MemoryFailure, TableFailure, kind_of, NoticeAnswer, Rules}
+use Rattle.wasmi_meter.specs.declared.fuel.CustomFuelCosts.{CustomFuelCosts}
 use Rattle.wasmi_meter.specs.Meter.{copy_cost, Meter, due}
 use Rattle.wasmi_meter.specs.Attempt.{Request, optional_due}
 use Rattle.wasmi_store.specs.Buffer.{Owned, Lent}
@@ -139,19 +140,23 @@ growth_charge (Denial question answer) m = 0
 growth_charge (Permission question) m = growth_due m question
 growth_charge (Notice question failure notice_answer) m = failed_charge failure (growth_due m question)
 
--- how many elements a call pays for that writes over a part of a table: an initialization by no item pays for none
+-- how many elements a call pays for that writes over a range of a table: an initialization by no item pays for none
 abbrev pub elements_paid : Call → Option ℕ
 elements_paid (InitTable k j dst src len) = if nat_eq len 0 then None else Some len
 elements_paid (CopyTable k dst j src len) = Some len
 elements_paid (FillTable k dst value len) = Some len
 elements_paid call = None
 
--- what is charged for so many elements that are written, by the reply: nothing where it is refused
-abbrev pub writing_charge : Meter → Option ℕ → Reply → ℕ
-writing_charge m elements Done = optional_due (Some m) (option_map table.element_price elements)
-writing_charge m elements reply = 0
+-- the price of what a call writes over a range, if it has one
+abbrev pub writing_price : Call → Option (CustomFuelCosts → ℕ)
+writing_price call = option_map table.element_price (elements_paid call)
 
--- what a turn is charged: what its call writes over a table, where it lets nothing grow; nothing for a creation; and
+-- what is charged for what is written, by its price and the reply: nothing where it is refused
+abbrev pub writing_charge : Meter → Option (CustomFuelCosts → ℕ) → Reply → ℕ
+writing_charge m price Done = optional_due (Some m) price
+writing_charge m price reply = 0
+
+-- what a turn is charged: what its call writes over a range, where it lets nothing grow; nothing for a creation; and
 -- what its exchange says for a growth
 abbrev pub charge_at : Place → Exchange → Meter → ℕ → ℕ
 charge_at Nowhere exchange m writing = writing
@@ -167,6 +172,6 @@ pub record Exchanges {S : Type 0} (rules : Rules S) (w : World S) (turn : Turn) 
   pub replies : RepliesTo exchange turn.reply
   pub grows : GrowsBy (place_of turn.call) exchange (sizes w.state) (sizes w'.state)
   pub charged : turn.charge
-      ≡ charge_at (place_of turn.call) exchange w.state.meter (writing_charge w.state.meter (elements_paid turn.call)
+      ≡ charge_at (place_of turn.call) exchange w.state.meter (writing_charge w.state.meter (writing_price turn.call)
       turn.reply)
   pub meter : ChangesMeter turn.call w.state.meter turn.charge w'.state.meter

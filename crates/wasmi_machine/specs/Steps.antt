@@ -18,11 +18,11 @@ use Rattle.wasmi_store.specs.Table.{TableTypeValue, size_of, MakesTable, GrowsTa
 use Rattle.wasmi_machine.specs.declared.calls.Call.{Call}
 use Rattle.wasmi_machine.specs.declared.calls.Reply.{Reply}
 use Rattle.wasmi_machine.specs.State.{World, Turn, world, State, live_at, with_memories, memory_part, with_memory_part, with_tables, with_segments, with_globals, with_registers, byte_count}
-use Rattle.wasmi_machine.specs.Effects.{reply_of, Creates, DropsAt, ActsAt, ChangesPart, OnlyReplies, Changes, Asks, ActsMetered, ActsMeteredUnasked}
+use Rattle.wasmi_machine.specs.Effects.{reply_of, Creates, DropsAt, ActsAt, ChangesPart, OnlyReplies, Changes, Asks, ActsMetered, ActsMeteredUnasked, WritesRangeAt}
 use Rattle.wasmi_ops.specs.LoadStoreOps.{stored_bytes}
 use Rattle.wasmi_machine.specs.ValueEffects.{SetsFuel, get_fuel_reply, CreatesSegment, DropsItemsAt, CreatesGlobal, SetsGlobalAt, global_reply}
 use Rattle.wasmi_machine.specs.MemoryEffects.{bytes_appended, CreatesLent, ReadsMemoryAt, WritesMemoryAt, load_reply}
-use Rattle.wasmi_machine.specs.TableEffects.{Source, OfReference, OfTable, OfSegment, element_reply, SetsElementAt, write_of, WritesRangeAt, element_bytes}
+use Rattle.wasmi_machine.specs.TableEffects.{Source, OfReference, OfTable, OfSegment, element_reply, SetsElementAt, write_of, element_bytes}
 use Rattle.wasmi_machine.specs.RegisterEffects.{SetsRegister, StoresVectorAt, given_vector, of_one, of_two, of_three, vector_loaded, lane_loaded, raw_reply, vector_at}
 use Rattle.wasmi_machine.specs.declared.calls.Call.TheVariants as call
 use Rattle.wasmi_machine.specs.declared.calls.Reply.TheVariants as reply
@@ -89,8 +89,12 @@ pub data Change : Type 0 where
   GlobalMade : GlobalInstance → Change
   GlobalSet : ℕ → TypedRawVal → Change
 
+-- what is written over a range of one part of the state, with a charge, without the limiter
+pub data RangeWrite : Type 0 where
+  TableWritten : ℕ → Source → ℕ → ℕ → RangeWrite
+
 -- what a call does, once its operands are read: all calls that only reply what is known have one kind of effect, all
--- that change one part alone another, and all that write over a range of a table a third
+-- that change one part alone another, and all that write over a range of one part a third
 pub data Effect : Type 0 where
   Told : Reply → Effect
   BytesRead : ℕ → ℕ → ℕ → Effect
@@ -101,7 +105,7 @@ pub data Effect : Type 0 where
   MemoryGrown : ℕ → ℕ → Effect
   TableMade : TableTypeValue → TypedRawRef → Effect
   TableGrown : ℕ → ℕ → TypedRawRef → Effect
-  RangeWritten : ℕ → Source → ℕ → ℕ → Effect
+  RangeWritten : RangeWrite → Effect
 
 -- what a call that makes a vector of what is in registers gives the register of its result
 abbrev pub vector_given : List RawVal → Call → Option (Result RawVal TrapCode)
@@ -144,9 +148,11 @@ effect_of s (call.GrowTable k n init) = TableGrown k n init
 effect_of s (call.DropTable k) = Changed (TableDropped k)
 effect_of s (call.GetElement k index) = Told (element_reply index (live_at s.tables k))
 effect_of s (call.SetElement k index value) = Changed (ElementSet k index value)
-effect_of s (call.InitTable k j dst src len) = RangeWritten k (OfSegment (slice_get s.segments j) src) dst len
-effect_of s (call.CopyTable k dst j src len) = RangeWritten k (OfTable (live_at s.tables j) src) dst len
-effect_of s (call.FillTable k dst value len) = RangeWritten k (OfReference value) dst len
+effect_of s (call.InitTable k j dst src len) =
+    RangeWritten (TableWritten k (OfSegment (slice_get s.segments j) src) dst len)
+effect_of s (call.CopyTable k dst j src len) =
+    RangeWritten (TableWritten k (OfTable (live_at s.tables j) src) dst len)
+effect_of s (call.FillTable k dst value len) = RangeWritten (TableWritten k (OfReference value) dst len)
 effect_of s (call.NewSegment ty items) = Changed (SegmentMade ty items.items)
 effect_of s (call.DropItems k) = Changed (ItemsDropped k)
 effect_of s (call.NewGlobal value ty) = Changed (GlobalMade (record { value = value; ty = ty }))
@@ -189,6 +195,12 @@ HasChange (ItemsDropped k) s = ChangesPart (with_segments s) (DropsItemsAt k s.s
 HasChange (GlobalMade global) s = ChangesPart (with_globals s) (CreatesGlobal global s.globals)
 HasChange (GlobalSet k value) s = ChangesPart (with_globals s) (SetsGlobalAt k value s.globals)
 
+-- a range of one part of the state is written over: a line for each kind
+abbrev pub HasRangeWrite : {S : Type 0} → RangeWrite → World S → Turn → World S → Type 0
+HasRangeWrite (TableWritten k source dst len) w turn w' =
+    ActsMeteredUnasked w turn w' w.state.tables (with_tables w.state)
+    (WritesRangeAt reply.Table k (write_of source dst len)) (element_bytes len)
+
 -- an effect takes place from one world to the next: a line for each kind
 abbrev pub HasEffect : {S : Type 0} → Rules S → Effect → World S → Turn → World S → Type 0
 HasEffect rules (Told told) w turn w' = OnlyReplies w turn w' (λ answer. answer ≡ told)
@@ -206,9 +218,7 @@ HasEffect rules (TableMade ty init) w turn w' =
     Asks w turn w' (with_tables w.state) (Creates reply.Table (MakesTable rules ty init) w.state.tables)
 HasEffect rules (TableGrown k n init) w turn w' = ActsMetered w turn w' w.state.tables (with_tables w.state)
     (ActsAt k (reply_of reply.Number reply.Table) (GrowsTableCharging rules n init)) (element_bytes n)
-HasEffect rules (RangeWritten k source dst len) w turn w' =
-    ActsMeteredUnasked w turn w' w.state.tables (with_tables w.state) (WritesRangeAt k (write_of source dst len))
-    (element_bytes len)
+HasEffect rules (RangeWritten write) w turn w' = HasRangeWrite write w turn w'
 
 -- a step from one world to the next: the effect of the turn's call takes place
 abbrev pub Step : {S : Type 0} → Rules S → World S → Turn → World S → Type 0

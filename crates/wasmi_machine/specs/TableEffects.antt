@@ -3,16 +3,12 @@ use Rattle.std.specs.Prelude.{◌≡◌, ℕ, Option, Some, Result, List}
 use Rattle.std.specs.Option.{option_map, option_map_or}
 use Rattle.wasmi_typed.specs.declared.typed_ref.TypedRawRef.{TypedRawRef}
 use Rattle.wasmi_meter.specs.declared.error.TableError.{TableError}
-use Rattle.wasmi_meter.specs.Meter.{cut_product}
-use Rattle.wasmi_meter.specs.Attempt.{MeteredValue, with_value}
 use Rattle.wasmi_store.specs.Segment.{SegmentValue}
-use Rattle.wasmi_store.specs.Table.{TableValue, TableWrite, SetsTable, WritesTableCharging, element_at, filling_of, copy_of, initialization_of}
+use Rattle.wasmi_store.specs.Table.{TableValue, TableWrite, SetsTable, element_at, filling_of, copy_of, initialization_of}
 use Rattle.wasmi_machine.specs.declared.calls.Reply.{Reply}
-use Rattle.wasmi_machine.specs.declared.calls.Reply.TheVariants.{Done, Number, Reference, Table, NoSuch}
+use Rattle.wasmi_machine.specs.declared.calls.Reply.TheVariants.{Done, Reference, Table, NoSuch}
 use Rattle.wasmi_machine.specs.declared.slots.Slot.{Slot}
-use Rattle.wasmi_machine.specs.declared.slots.Slot.TheVariants.{Live}
-use Rattle.wasmi_machine.specs.State.{live_value}
-use Rattle.wasmi_machine.specs.Effects.{reply_of, OnLive, IsNoSuch, ChangesAt, ActsAt}
+use Rattle.wasmi_machine.specs.Effects.{reply_of, ChangesAt, MeteredSlots, WritesAt, WritesFrom, item_bytes}
 
 -- the element that is asked of a table, if the table is there
 abbrev pub element_reply : ℕ → Option TableValue → Reply
@@ -24,31 +20,18 @@ SetsElementAt k index value slots reply slots' = ChangesAt k slots reply slots'
     (λ x x'. (result : Result (Unit {0}) TableError) × SetsTable index value x result x'
     × (reply ≡ reply_of (λ _. Done) Table result))
 
--- tables, and the meter that is charged
-abbrev pub MeteredTables : Type 0
-MeteredTables = MeteredValue (List (Slot TableValue)) (Unit {0})
+-- a range of the table of an index is written over, with its charge
+abbrev pub WritesTableAt : ℕ → (TableValue → TableWrite) → MeteredSlots TableValue → Reply → ℕ
+    → MeteredSlots TableValue → Type 0
+WritesTableAt = WritesAt Table
 
--- a part of the table of an index is written over, with its charge
-abbrev pub WritesTableAt : ℕ → (TableValue → TableWrite) → MeteredTables → Reply → ℕ → MeteredTables → Type 0
-WritesTableAt k write = ActsAt k (reply_of (λ _. Done) Table) (WritesTableCharging write)
-
--- a part of the table of an index is written over with what a source has, with its charge; without a source the reply
+-- a range of the table of an index is written over with what a source has, with its charge; without a source the reply
 -- is `NoSuch`, and nothing has changed
-abbrev pub WritesTableFrom : {X : Type 0} → Option X → ℕ → (X → TableValue → TableWrite) → MeteredTables → Reply → ℕ
-    → MeteredTables → Type 0
-WritesTableFrom source k write s reply charge s' =
-    OnLive source (IsNoSuch s reply charge s') (λ x. WritesTableAt k (write x) s reply charge s')
+abbrev pub WritesTableFrom : {Y : Type 0} → Option Y → ℕ → (Y → TableValue → TableWrite) → MeteredSlots TableValue
+    → Reply → ℕ → MeteredSlots TableValue → Type 0
+WritesTableFrom = WritesFrom Table
 
--- a slot's table is written over with what another slot's table has
-abbrev pub CopiesSlot : (TableValue → TableValue → TableWrite) → Slot TableValue
-    → MeteredValue (Slot TableValue) (Unit {0}) → Reply → ℕ → MeteredValue (Slot TableValue) (Unit {0}) → Type 0
-CopiesSlot write source s reply charge s' = OnLive (live_value source) (IsNoSuch s reply charge s')
-    (λ y. OnLive (live_value s.value) (IsNoSuch s reply charge s')
-    (λ x. (result : Result (Unit {0}) TableError) × (x' : TableValue)
-    × WritesTableCharging (write y) (with_value s x) result charge (with_value s' x')
-    × (reply ≡ reply_of (λ _. Done) Table result) × (s'.value ≡ Live x')))
-
--- what a part of a table is written over with: a reference, elements of a table, or items of an element segment, from a
+-- what a range of a table is written over with: a reference, elements of a table, or items of an element segment, from a
 -- place on, if it is there
 pub data Source : Type 0 where
   OfReference : TypedRawRef → Source
@@ -61,12 +44,6 @@ write_of (OfReference value) dst len = Some (filling_of dst value len)
 write_of (OfTable source src) dst len = option_map (copy_of dst src len) source
 write_of (OfSegment segment src) dst len = option_map (initialization_of dst src len) segment
 
--- a range of a table is written over by such a write, if there is one
-abbrev pub WritesRangeAt : ℕ → Option (TableValue → TableWrite) → MeteredTables → Reply → ℕ → MeteredTables → Type 0
-WritesRangeAt k write = WritesTableFrom write k (λ w. w)
-
 -- the bytes that an accepted call on so many elements has written
 abbrev pub element_bytes : ℕ → Reply → ℕ
-element_bytes n Done = cut_product n 4
-element_bytes n (Number size) = cut_product n 4
-element_bytes n reply = 0
+element_bytes = item_bytes 4

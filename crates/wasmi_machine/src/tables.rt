@@ -4,8 +4,8 @@ ghost use Rattle.wasmi_meter.specs.Limiter.{optional_rules, lent_limiter, KeepsL
 ghost use Rattle.wasmi_store.specs.Growth.{metered_value, metered, WithCharge};
 ghost use Rattle.wasmi_store.specs.Segment.{segment_of};
 ghost use Rattle.wasmi_store.specs.Table.{MakesTable, GrowsTableCharging, filling_of, copy_of, initialization_of};
-ghost use Rattle.wasmi_machine.specs.Effects.{reply_of, reply_or_no_such, ActsAt, Creates};
-ghost use Rattle.wasmi_machine.specs.TableEffects.{SetsElementAt, WritesTableAt, WritesTableFrom, CopiesSlot};
+ghost use Rattle.wasmi_machine.specs.Effects.{reply_of, reply_or_no_such, ActsAt, CopiesSlot, Creates};
+ghost use Rattle.wasmi_machine.specs.TableEffects.{SetsElementAt, WritesTableAt, WritesTableFrom};
 ghost use Rattle.wasmi_machine.specs.State.{live_at};
 
 use crate::calls::Reply;
@@ -188,7 +188,7 @@ fn copy_from_slot(
     len: u64,
     fuel: &mut Fuel,
 ) -> Option<Reply>
-    ensures { WithCharge (CopiesSlot (copy_of dst src len) source.now)
+    ensures { WithCharge (CopiesSlot Reply.Table (copy_of dst src len) source.now)
         (metered slot.old (Some fuel.old)) (reply_or_no_such result) (metered slot.new (Some fuel.new)) }
 {
     match (slot, source) {

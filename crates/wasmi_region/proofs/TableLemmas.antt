@@ -15,7 +15,7 @@ use Rattle.wasmi_region.specs.Table.{table_in, typed_as, creation_in, growth_in,
 use Rattle.wasmi_store.proofs.GrowthLemmas as any
 use Rattle.wasmi_store.proofs.GrowthLemmas.{no_cause, a_cause, permitted_by, TellsOf, GrowthAttempt, EndsIn}
 use Rattle.wasmi_store.proofs.TableLemmas.{making_asked, growth_asked}
-use Rattle.wasmi_store.proofs.WriteLemmas.{same_as_itself, writes_elements}
+use Rattle.wasmi_store.proofs.WriteLemmas.{same_as_itself}
 
 -- the making of a table on a region asks for its sizes
 pub making_asked_in : (ty : TableTypeValue) (room size : ℕ) → size ≡ ty.minimum → (maximum : Option ℕ)
@@ -148,6 +148,3 @@ module _ {S : Type 0} (t : RegionGrowth S) where
           ap (λ (l : List ℕ). table_of t.ty l)
           (ap (take desired) split ∙ take_at front (drop desired t.region) desired long
           ∙ ap (λ (k : ℕ). take t.size t.region ++ replicate k t.reference) added)
-
--- what a write over a part of a table is
-pub ruleset writes = (writes_elements, same_as_itself)

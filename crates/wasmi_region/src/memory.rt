@@ -6,7 +6,8 @@
 ghost use Rattle.std.specs.Prelude.{◌≡◌, ◌≤◌, ◌+◌, ◌*◌, ◌/◌, length, drop, OnErr, IfOk, Some, MatchOption, true, false};
 ghost use Rattle.wasmi_meter.specs.Limiter.{optional_rules, lent_limiter, KeepsLoan};
 ghost use Rattle.wasmi_store.specs.Buffer.{Lent};
-ghost use Rattle.wasmi_store.specs.Growth.{filled, copied, BulkWrites, metered_value, metered};
+ghost use Rattle.wasmi_store.specs.Growth.{metered_value, metered};
+ghost use Rattle.wasmi_store.specs.Write.{filled, copied, BulkWrites};
 ghost use Rattle.wasmi_store.specs.Memory.{IsSized, MakesMemory, GrowsMemory, page_bytes, in_bounds, maximum_bytes};
 ghost use Rattle.wasmi_region.specs.Memory.{memory_in, made_in};
 

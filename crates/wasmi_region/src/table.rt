@@ -153,7 +153,6 @@ pub fn set(
 /// # Errors
 ///
 /// Those of [`wasmi_store::Table::fill_raw`].
-#[tactic(auto, using(crate::proofs::TableLemmas::writes))]
 pub fn fill(
     ty: TableType,
     elements: &mut [u32],
@@ -175,7 +174,6 @@ pub fn fill(
 /// # Errors
 ///
 /// Those of [`wasmi_store::Table::copy_within`].
-#[tactic(auto, using(crate::proofs::TableLemmas::writes))]
 pub fn copy_within(
     ty: TableType,
     elements: &mut [u32],
@@ -197,7 +195,6 @@ pub fn copy_within(
 /// # Errors
 ///
 /// Those of [`wasmi_store::Table::copy`].
-#[tactic(auto, using(crate::proofs::TableLemmas::writes))]
 pub fn copy(
     ty: TableType,
     elements: &mut [u32],
@@ -223,7 +220,6 @@ pub fn copy(
 /// # Errors
 ///
 /// Those of [`wasmi_store::Table::init`].
-#[tactic(auto, using(crate::proofs::TableLemmas::writes))]
 pub fn init(
     ty: TableType,
     elements: &mut [u32],

@@ -1,104 +1,213 @@
--- The calls that write over a part of a list of elements: by what was tested on the way, and a copy a part at a time.
-use Rattle.std.proofs.Common.{◌≡◌, ℕ, ◌+◌, Bool, true, Option, Some, None, Err, inl, inr, List, ◌++◌, length, take, drop, refl, sym, ap, ◌∙◌, arith, append_assoc, ◌-◌, ◌≤◌, length-drop}
-use Rattle.std.proofs.lemmas.Bool.{cases_Bool}
+-- Writes over a range: one of a list of items as one of the value that has them, what a write ends in, and a copy a part at a time.
+use Rattle.std.proofs.Common.{◌≡◌, ℕ, ◌+◌, ◌⊎◌, inl, inr, Bool, true, false, Option, Some, None, Ok, Err, List, ◌++◌, length, take, drop, refl, sym, ap, ◌∙◌, arith, append_assoc, ◌-◌, ◌≤◌, length-drop}
 use lib.Seq.{paste, take-add, take-paste, drop-paste}
-use Rattle.std.specs.Prelude.{Result}
+use Rattle.std.specs.Prelude.{Result, MatchBool}
+use Rattle.std.specs.Option.{option_map}
 use Rattle.wasmi_meter.specs.declared.error.MemoryError.{MemoryError}
 use Rattle.wasmi_meter.specs.declared.error.TableError.{TableError}
 use Rattle.wasmi_meter.specs.declared.fuel.CustomFuelCosts.{CustomFuelCosts}
 use Rattle.wasmi_meter.specs.declared.error.TableError.TheVariants.{OutOfFuel}
-use Rattle.wasmi_meter.specs.Attempt.{covers}
+use Rattle.wasmi_meter.specs.Attempt.{MeteredValue, covers, optional_due}
 use Rattle.wasmi_meter.specs.Meter.{Meter, meter_after}
 use Rattle.wasmi_meter.proofs.AttemptLemmas.{meter_after_nothing}
 use Rattle.wasmi_types.specs.declared.value.RefType.{RefType}
 use Rattle.wasmi_types.specs.declared.value.RefType.TheVariants.{Func, Extern}
-use Rattle.wasmi_store.specs.Growth.{metered, BulkWrites}
-use Rattle.wasmi_store.specs.Table.{TableValue, TableWrite, MeteredTable, WriteEnding, Ends, WritesElements, WritesTable, table_of, write_due, TableTypeValue, same_type}
+use Rattle.wasmi_store.specs.Growth.{metered, WithCharge}
+use Rattle.wasmi_store.specs.Write.{MeteredWrite, EndsBy, IsRefusedFor, Writes, WritesCharging, write_charge, write_due, items_write, WritesItems, BulkWrites, item_price}
+use Rattle.wasmi_store.specs.Memory.{MemoryValue, bytes_write}
+use Rattle.wasmi_store.specs.Table.{elements_write, element_price, table_of, TableTypeValue, same_type}
+use Rattle.wasmi_meter.specs.declared.error.MemoryError.TheVariants as memory
 use Rattle.std.proofs.lemmas.List.{length-take-le, take-take, take_at, drop_at, drop-drop, drop-take}
 
-module _ (write : TableValue → TableWrite) (ty : TableTypeValue) (xs : List ℕ) (m : Meter) where
-  -- how the table is written over, and the table with its meter
-  abbrev w : TableWrite
-  w = write (table_of ty xs)
+-- what holds by a test's outcomes holds of what they lead to
+on_outcome : (test : Bool) {P Q P' Q' : Type 0} → (P → P') → (Q → Q') → MatchBool test P Q → MatchBool test P' Q'
+on_outcome true met unmet h = met h
+on_outcome false met unmet h = unmet h
 
-  abbrev s : MeteredTable
-  s = metered (table_of ty xs) (Some m)
+module _ {A V E : Type 0} (put : List A → V) (outside : E) (price : Option (CustomFuelCosts → ℕ)) (unpaid : ℕ → E)
+    (xs : List A) (m : Option Meter) (result : Result (Unit {0}) E) (xs' : List A) (m' : Option Meter) where
+  -- items that are the same are in the same value
+  same_put : metered xs' m' ≡ metered xs m → metered (put xs') m' ≡ metered (put xs) m
+  same_put same = ap (λ s. metered (put s.value) s.meter) same
 
-  module _ (same : w.typed ≡ true) (result : Result (Unit {0}) TableError) (xs' : List ℕ) (m' : Meter) where
-    abbrev Written : Type 0
-    Written = WritesTable write s result (metered (table_of ty xs') (Some m'))
+  -- a write over items is one over the value that has them
+  pub writes_put : (written : Option (List A))
+      → WritesItems unpaid written outside price (metered xs m) result (metered xs' m')
+      → Writes (record {
+        early = None;
+        written = option_map put written;
+        outside = outside;
+        price = price;
+        unpaid = unpaid;
+      }) (metered (put xs) m) result (metered (put xs') m')
+  writes_put None (is, same) = (is, same_put same)
+  writes_put (Some items) writes = on_outcome (covers m (optional_due m price))
+      (λ h. (h.0, ap (λ s. metered (put s.value) s.meter) h.1)) (λ h. (h.0, same_put h.1)) writes
 
-    -- a write that is refused takes nothing
-    refused : (cause : TableError) → Ends w s (record { result = Err cause; charge = 0; value = table_of ty xs })
-        → (result ≡ Err cause) × (metered xs' (Some m') ≡ metered xs (Some m)) → Written
-    refused cause ends (is, kept) =
-        let elements : xs' ≡ xs = ap (λ s. s.value) kept in
-        let meters : Some m' ≡ Some m = ap (λ s. s.meter) kept in
-        let left : m' ≡ m = cc in
-        rw (is, elements, left) (0, record { ends = ends; meter = meter_after_nothing (Some m) })
+-- a write takes place with its charge
+pub charging : {V E : Type 0} (write : V → MeteredWrite V E) {s s' : MeteredValue V (Unit {0})}
+    {result : Result (Unit {0}) E} → Writes (write s.value) s result s'
+    → WithCharge (WritesCharging write) s result s'
+charging write {s} {result = result} writes =
+    (write_charge (write s.value) s result, record { writes = writes; charged = refl })
 
-    -- a write within its lists, by whether it can be paid
-    by_payment : (elements : List ℕ) → w.written ≡ Some elements
-        → WritesElements (Some elements) w.outside w.paid (metered xs (Some m)) result (metered xs' (Some m')) → Written
-    by_payment elements within ends = elim (cases_Bool (covers (Some m) (write_due w s))) [
-      | inl paid ↦ let done = rw paid at ends in
-          let written : xs' ≡ elements = ap (λ s. s.value) done.1 in
-          let meters : Some m' ≡ Some (meter_after m (write_due w s)) = ap (λ s. s.meter) done.1 in
-          let left : m' ≡ meter_after m (write_due w s) = cc in
-          rw (done.0, written, left) (
-            write_due w s,
-            record { ends = rw (same, within, paid) (refl, refl, refl); meter = refl },
-          )
-      | inr unpaid ↦ refused (OutOfFuel (write_due w s)) (rw (same, within, unpaid) (refl, refl, refl))
-          (rw unpaid at ends)
-    ]
+-- a write over elements is one over the table that has them, where the types are the same
+pub writes_elements : (ty : TableTypeValue) (typed : Bool) (written : Option (List ℕ)) (outside : TableError)
+    (paid : Option ℕ) (xs : List ℕ) (m : Option Meter) (result : Result (Unit {0}) TableError) (xs' : List ℕ)
+    (m' : Option Meter) → typed ≡ true
+    → WritesItems OutOfFuel written outside (option_map element_price paid) (metered xs m) result (metered xs' m')
+    → Writes (elements_write (table_of ty xs) typed written outside paid) (metered (table_of ty xs) m) result
+    (metered (table_of ty xs') m')
+writes_elements ty typed written outside paid xs m result xs' m' same writes = rw same
+    (writes_put (table_of ty) outside (option_map element_price paid) OutOfFuel xs m result xs' m' written writes)
 
-    -- a write, by whether its ranges lie within their lists
-    by_range : (written : Option (List ℕ)) → w.written ≡ written
-        → WritesElements written w.outside w.paid (metered xs (Some m)) result (metered xs' (Some m')) → Written
-    by_range None outside short = refused w.outside (rw (same, outside) (refl, refl, refl)) short
-    by_range (Some elements) within ends = by_payment elements within ends
-
-    -- a write over elements is one over the table that has them
-    pub writes_elements : WritesElements w.written w.outside w.paid (metered xs (Some m)) result
-        (metered xs' (Some m')) → Written
-    writes_elements = by_range w.written refl
+-- a write over bytes is one over the memory that has them
+pub writes_bytes : (x : MemoryValue) (written : Option (List ℕ)) (paid : ℕ) (m : Option Meter)
+    (result : Result (Unit {0}) MemoryError) (bytes : List ℕ) (m' : Option Meter)
+    → BulkWrites written paid (metered x.bytes m) result (metered bytes m')
+    → Writes (bytes_write x written paid) (metered x m) result (metered (record x { bytes = bytes }) m')
+writes_bytes x written paid m result bytes m' writes =
+    writes_put (λ bytes. record x { bytes = bytes }) memory.OutOfBoundsAccess (Some (item_price 1 paid))
+    memory.OutOfFuel x.bytes m result bytes m' written writes
 
 -- a meter that is off
 abbrev off : CustomFuelCosts → Meter
 off costs = record { left = None; costs = costs }
 
--- a write over bytes with a meter that is off is one without a meter
-pub bytes_unmetered : (written : Option (List ℕ)) (len : ℕ) (xs xs' : List ℕ) (costs : CustomFuelCosts) (m' : Option Meter)
-    (result : Result (Unit {0}) MemoryError)
-    → BulkWrites written len (metered xs (Some (off costs))) result (metered xs' m')
-    → BulkWrites written len (metered xs None) result (metered xs' None)
-bytes_unmetered None len xs xs' costs m' result writes = (writes.0, ap (λ s. metered s.value None) writes.1)
-bytes_unmetered (Some bytes) len xs xs' costs m' result writes =
-    (writes.0, ap (λ s. metered s.value None) writes.1)
+module _ {V E : Type 0} (x x' : V) (costs : CustomFuelCosts) (m' : Option Meter) (result : Result (Unit {0}) E)
+    (outside : E) (unpaid : ℕ → E) where
+  -- the write of these parts
+  abbrev write_of : Option E → Option V → Option (CustomFuelCosts → ℕ) → MeteredWrite V E
+  write_of early written price =
+      record { early = early; written = written; outside = outside; price = price; unpaid = unpaid }
 
-module _ (x : TableValue) (costs : CustomFuelCosts) (end : WriteEnding) where
   -- how a write ends with a meter that is off, it ends without a meter
-  ends_unmetered : (typed : Bool) (written : Option (List ℕ)) (outside : TableError) (paid : Option ℕ)
-      → Ends (record { typed = typed; written = written; outside = outside; paid = paid })
-      (metered x (Some (off costs))) end
-      → Ends (record { typed = typed; written = written; outside = outside; paid = paid }) (metered x None) end
-  ends_unmetered typed written outside None ends = ends
-  ends_unmetered typed written outside (Some n) ends = ends
+  ends_unmetered : (early : Option E) (written : Option V) (price : Option (CustomFuelCosts → ℕ))
+      → Writes (write_of early written price) (metered x (Some (off costs))) result (metered x' m')
+      → Writes (write_of early written price) (metered x None) result (metered x' None)
+  ends_unmetered (Some cause) written price ends = (ends.0, ap (λ s. metered s.value None) ends.1)
+  ends_unmetered None None price ends = (ends.0, ap (λ s. metered s.value None) ends.1)
+  ends_unmetered None (Some value) None ends = (ends.0, ap (λ s. metered s.value None) ends.1)
+  ends_unmetered None (Some value) (Some price) ends = (ends.0, ap (λ s. metered s.value None) ends.1)
 
--- a write over a table with a meter that is off is one without a meter
-pub table_unmetered : (write : TableValue → TableWrite) (x x' : TableValue) (costs : CustomFuelCosts) (m' : Option Meter)
-    (result : Result (Unit {0}) TableError)
-    → WritesTable write (metered x (Some (off costs))) result (metered x' m')
-    → WritesTable write (metered x None) result (metered x' None)
-table_unmetered write x x' costs m' result (charge, writes) = (
-  charge,
-  record {
-    ends = ends_unmetered x costs (record { result = result; charge = charge; value = x' })
-        (write x).typed (write x).written (write x).outside (write x).paid writes.ends;
-    meter = refl;
-  },
-)
+-- a write with a meter that is off is one without a meter
+pub writes_unmetered : {V E : Type 0} (write : V → MeteredWrite V E) (x x' : V) (costs : CustomFuelCosts)
+    (m' : Option Meter) (result : Result (Unit {0}) E)
+    → WithCharge (WritesCharging write) (metered x (Some (off costs))) result (metered x' m')
+    → WithCharge (WritesCharging write) (metered x None) result (metered x' None)
+writes_unmetered write x x' costs m' result (charge, writing) = charging write
+    (ends_unmetered x x' costs m' result (write x).outside (write x).unpaid (write x).early (write x).written
+    (write x).price writing.writes)
+
+-- a write that is refused for a cause: nothing is written or taken
+pub record RefusedWrite {V E : Type 0} (s : MeteredValue V (Unit {0})) (result : Result (Unit {0}) E) (charge : ℕ)
+    (s' : MeteredValue V (Unit {0})) : Type 0 where
+  pub cause : E
+  pub is : result ≡ Err cause
+  pub uncharged : charge ≡ 0
+  pub same : s' ≡ s
+
+-- a write that is within its ranges and paid for
+pub record PaidWrite {V E : Type 0} (w : MeteredWrite V E) (s : MeteredValue V (Unit {0}))
+    (result : Result (Unit {0}) E) (charge : ℕ) (s' : MeteredValue V (Unit {0})) : Type 0 where
+  pub value : V
+  pub written : w.written ≡ Some value
+  pub is : result ≡ Ok tt
+  pub enough : covers s.meter (write_due w s) ≡ true
+  pub charged : charge ≡ write_due w s
+  pub after : s' ≡ metered value (option_map (λ m. meter_after m charge) s.meter)
+
+module _ {V E : Type 0} (w : MeteredWrite V E) (s : MeteredValue V (Unit {0})) (result : Result (Unit {0}) E)
+    (charge : ℕ) (charged : charge ≡ write_charge w s result) (s' : MeteredValue V (Unit {0})) where
+  -- a write for a cause
+  ends_refused : (cause : E) → IsRefusedFor w s result s' cause → RefusedWrite s result charge s'
+  ends_refused cause (is, same) =
+      record { cause = cause; is = is; uncharged = charged ∙ ap (write_charge w s) is; same = same }
+
+  -- a write in its ranges, by whether so much is left
+  ends_paid : (value : V) → w.written ≡ Some value → (enough : Bool) → covers s.meter (write_due w s) ≡ enough
+      → MatchBool enough
+      ((result ≡ Ok tt) × (s' ≡ metered value (option_map (λ m. meter_after m (write_due w s)) s.meter)))
+      (IsRefusedFor w s result s' (w.unpaid (write_due w s)))
+      → RefusedWrite s result charge s' ⊎ PaidWrite w s result charge s'
+  ends_paid value written true enough (is, after) =
+      let due : charge ≡ write_due w s = charged ∙ ap (write_charge w s) is in
+      inr (record {
+        value = value;
+        written = written;
+        is = is;
+        enough = enough;
+        charged = due;
+        after = after ∙ ap (λ n. metered value (option_map (λ m. meter_after m n) s.meter)) (sym due);
+      })
+  ends_paid value written false enough refused = inl (ends_refused (w.unpaid (write_due w s)) refused)
+
+  -- a write, by what is tested on the way
+  ends_by : (early : Option E) (written : Option V) → w.written ≡ written → EndsBy w s result s' early written
+      → RefusedWrite s result charge s' ⊎ PaidWrite w s result charge s'
+  ends_by (Some cause) written is refused = inl (ends_refused cause refused)
+  ends_by None None is refused = inl (ends_refused w.outside refused)
+  ends_by None (Some value) is ends = ends_paid value is (covers s.meter (write_due w s)) refl ends
+
+-- a write is refused, or it is paid for
+pub write_ends : {V E : Type 0} (write : V → MeteredWrite V E) (s : MeteredValue V (Unit {0}))
+    (result : Result (Unit {0}) E) (charge : ℕ) (s' : MeteredValue V (Unit {0}))
+    → WritesCharging write s result charge s'
+    → RefusedWrite s result charge s' ⊎ PaidWrite (write s.value) s result charge s'
+write_ends write s result charge s' writing =
+    let w = write s.value in ends_by w s result charge writing.charged s' w.early w.written refl writing.writes
+
+-- a write takes its charge from the meter
+pub write_takes : {V E : Type 0} (write : V → MeteredWrite V E) (s : MeteredValue V (Unit {0}))
+    (result : Result (Unit {0}) E) (charge : ℕ) (s' : MeteredValue V (Unit {0}))
+    → WritesCharging write s result charge s' → s'.meter ≡ option_map (λ m. meter_after m charge) s.meter
+write_takes write s result charge s' writing = elim (write_ends write s result charge s' writing) [
+  | inl refused ↦ rw (refused.same, refused.uncharged) (meter_after_nothing s.meter)
+  | inr paid ↦ ap (λ s. s.meter) paid.after
+]
+
+-- a write over items takes some amount from the meter
+pub items_taken : {A E : Type 0} (unpaid : ℕ → E) (written : Option (List A)) (outside : E)
+    (price : Option (CustomFuelCosts → ℕ)) (s s' : MeteredValue (List A) (Unit {0})) (result : Result (Unit {0}) E)
+    → WritesItems unpaid written outside price s result s'
+    → (charge : ℕ) × (s'.meter ≡ option_map (λ m. meter_after m charge) s.meter)
+items_taken unpaid written outside price s s' result writes =
+    let charge = write_charge (items_write unpaid written outside price) s result in (
+      charge,
+      write_takes (λ items. items_write unpaid written outside price) s result charge s'
+          (record { writes = writes; charged = refl }),
+    )
+
+module _ {V E : Type 0} (w : MeteredWrite V E) (s : MeteredValue V (Unit {0})) (result result' : Result (Unit {0}) E)
+    (s' s'' : MeteredValue V (Unit {0})) where
+  -- two writes in their ranges end in one way
+  paid_once : (value : V) (enough : Bool)
+      → MatchBool enough
+      ((result ≡ Ok tt) × (s' ≡ metered value (option_map (λ m. meter_after m (write_due w s)) s.meter)))
+      (IsRefusedFor w s result s' (w.unpaid (write_due w s)))
+      → MatchBool enough
+      ((result' ≡ Ok tt) × (s'' ≡ metered value (option_map (λ m. meter_after m (write_due w s)) s.meter)))
+      (IsRefusedFor w s result' s'' (w.unpaid (write_due w s)))
+      → (result ≡ result') × (s' ≡ s'')
+  paid_once value true a b = (a.0 ∙ sym b.0, a.1 ∙ sym b.1)
+  paid_once value false a b = (a.0 ∙ sym b.0, a.1 ∙ sym b.1)
+
+  -- two writes end in one way, by what is tested on the way
+  ends_once : (early : Option E) (written : Option V) → EndsBy w s result s' early written
+      → EndsBy w s result' s'' early written → (result ≡ result') × (s' ≡ s'')
+  ends_once (Some cause) written a b = (a.0 ∙ sym b.0, a.1 ∙ sym b.1)
+  ends_once None None a b = (a.0 ∙ sym b.0, a.1 ∙ sym b.1)
+  ends_once None (Some value) a b = paid_once value (covers s.meter (write_due w s)) a b
+
+-- two writes over a value are one
+pub writes_once : {V E : Type 0} (write : V → MeteredWrite V E) (s : MeteredValue V (Unit {0}))
+    (result result' : Result (Unit {0}) E) (charge charge' : ℕ) (s' s'' : MeteredValue V (Unit {0}))
+    → WritesCharging write s result charge s' → WritesCharging write s result' charge' s''
+    → (result ≡ result') × (charge ≡ charge') × (s' ≡ s'')
+writes_once write s result result' charge charge' s' s'' a b =
+    let w = write s.value in
+    let ends = ends_once w s result result' s' s'' w.early w.written a.writes b.writes in
+    (ends.0, a.charged ∙ ap (write_charge w s) ends.0 ∙ sym b.charged, ends.1)
 
 -- a reference type is the same as itself
 pub same_as_itself : (ty : RefType) → same_type ty ty ≡ true

@@ -1,13 +1,8 @@
--- Making and growing a memory or a table, as an attempt with its answer, and what the bulk instructions write and take.
-use Rattle.std.specs.Prelude.{◌≡◌, ◌<◌, ◌⊎◌, ℕ, Option, None, Result, Ok, List, replicate, MatchBool, Some, Err}
+-- Making and growing a memory or a table, as an attempt with its answer.
+use Rattle.std.specs.Prelude.{◌≡◌, ◌<◌, ◌⊎◌, ℕ, Option, None, Result, Ok}
 use Rattle.wasmi_meter.specs.Limiter.{Question, Answer, IsDenial, Rules}
-use Rattle.wasmi_meter.specs.declared.fuel.CustomFuelCosts.{CustomFuelCosts}
-use Rattle.wasmi_meter.specs.Meter.{Meter, copy_cost, meter_after}
-use Rattle.wasmi_meter.specs.Attempt.{MeteredValue, alone, Request, AttemptOutcome, Attempt, answer_of, optional_due, covers}
-use Rattle.std.specs.Option.{option_map, option_and_then}
-use Rattle.wasmi_types.specs.Access.{at, overwrite}
-use Rattle.wasmi_meter.specs.declared.error.MemoryError.{MemoryError}
-use Rattle.wasmi_meter.specs.declared.error.MemoryError.TheVariants.{OutOfBoundsAccess, OutOfFuel}
+use Rattle.wasmi_meter.specs.Meter.{Meter}
+use Rattle.wasmi_meter.specs.Attempt.{MeteredValue, alone, Request, AttemptOutcome, Attempt, answer_of}
 
 -- a value with its meter, if there is one, and its limiter
 abbrev pub metered_value : {V S : Type 0} → V → Option Meter → S → MeteredValue V S
@@ -61,44 +56,3 @@ pub record GrowsBySome {V E S : Type 0} (rules : Rules S) (g : Growth V E) (s : 
 abbrev pub Grows : {V E S : Type 0} → Rules S → Growth V E → MeteredValue V S → Result ℕ E → ℕ → MeteredValue V S
     → Type 0
 Grows rules g s result charge s' = GrowsByNone g s result charge s' ⊎ GrowsBySome rules g s result charge s'
-
--- items of which so many, from dst on, are each filled with a value, or none where they end too early
-abbrev pub filled : {A : Type 0} → List A → ℕ → A → ℕ → Option (List A)
-filled items dst value len = overwrite items dst (replicate len value)
-
--- items whose part from dst on is written over by so many items of a list from src on, or none where a list ends too
--- early
-abbrev pub copied : {A : Type 0} → List A → ℕ → List A → ℕ → ℕ → Option (List A)
-copied items dst source src len = option_and_then (λ part. overwrite items dst part) (at source src len)
-
--- the fuel that is due for writing so many bytes
-abbrev pub bytes_due : Option Meter → ℕ → ℕ
-bytes_due meter len = optional_due meter (Some (λ costs. copy_cost costs len 1))
-
--- the fuel for so many items of so many bytes each
-abbrev pub item_price : ℕ → ℕ → CustomFuelCosts → ℕ
-item_price size n costs = copy_cost costs n size
-
--- items with their meter, if there is one
-abbrev pub MeteredItems : Type 0 → Type 0
-MeteredItems A = MeteredValue (List A) (Unit {0})
-
--- bytes with their meter, if there is one
-abbrev pub MeteredBytes : Type 0
-MeteredBytes = MeteredItems ℕ
-
--- Items are written over, wherever they lie: by the error of a meter with less than is needed, what the items become, or
--- none where a range ends past its list, the error there, and what they cost, if anything. The ranges are tested first,
--- then the fuel; a write that is refused writes and takes nothing.
-abbrev pub WritesItems : {A E : Type 0} → (ℕ → E) → Option (List A) → E → Option (CustomFuelCosts → ℕ) → MeteredItems A
-    → Result (Unit {0}) E → MeteredItems A → Type 0
-WritesItems unpaid None outside price s result s' = (result ≡ Err outside) × (s' ≡ s)
-WritesItems unpaid (Some items) outside price s result s' =
-    let amount = optional_due s.meter price in
-    MatchBool (covers s.meter amount)
-    ((result ≡ Ok tt) × (s' ≡ metered items (option_map (λ m. meter_after m amount) s.meter)))
-    ((result ≡ Err (unpaid amount)) × (s' ≡ s))
-
--- a bulk instruction writes so many bytes, each of which is paid for
-abbrev pub BulkWrites : Option (List ℕ) → ℕ → MeteredBytes → Result (Unit {0}) MemoryError → MeteredBytes → Type 0
-BulkWrites written len = WritesItems OutOfFuel written OutOfBoundsAccess (Some (item_price 1 len))

@@ -1,4 +1,5 @@
 pub mod Growth
+pub mod Write
 pub mod Buffer
 pub mod Memory
 pub mod Segment

@@ -16,6 +16,7 @@ use Rattle.wasmi_meter.specs.Meter.{copy_cost}
 use Rattle.wasmi_meter.specs.Attempt.{MeteredValue, Request}
 use Rattle.wasmi_store.specs.Buffer.{BufferValue, Room, Owned, fits_room, LacksMemory, zeros_in, with_zeros}
 use Rattle.wasmi_store.specs.Growth.{WithCharge, Makes, Grows}
+use Rattle.wasmi_store.specs.Write.{filled, copied, item_price, MeteredWrite, WritesCharging}
 
 -- an optional maximum is no looser than another
 abbrev pub IsNoLooser : Option ℕ → Option ℕ → Type 0
@@ -190,7 +191,30 @@ WritesMemory x offset source (Ok _) x' =
 WritesMemory x offset source (Err error) x' =
     (error ≡ OutOfBoundsAccess) × (overwrite x.bytes offset source ≡ None) × (x' ≡ x)
 
--- bytes are written over, and the type of the memory and its room stay
-pub record KeepsPlace (x x' : MemoryValue) : Type 0 where
-  pub type : x'.ty ≡ x.ty
-  pub room : x'.room ≡ x.room
+-- a write over a range of a memory
+abbrev pub MemoryWrite : Type 0
+MemoryWrite = MeteredWrite MemoryValue MemoryError
+
+-- the bytes of a memory are written over: what they become, or none where a range ends past its list, and how many of
+-- them are paid for
+abbrev pub bytes_write : MemoryValue → Option (List ℕ) → ℕ → MemoryWrite
+bytes_write x written paid = record {
+  early = None;
+  written = option_map (λ bytes. record x { bytes = bytes }) written;
+  outside = OutOfBoundsAccess;
+  price = Some (item_price 1 paid);
+  unpaid = OutOfFuel;
+}
+
+-- so many bytes from dst on are filled with a value
+abbrev pub byte_filling_of : ℕ → ℕ → ℕ → MemoryValue → MemoryWrite
+byte_filling_of dst value len x = bytes_write x (filled x.bytes dst value len) len
+
+-- so many bytes of a source from src on, perhaps those of the memory itself, are copied over the bytes from dst on
+abbrev pub byte_copy_of : ℕ → ℕ → ℕ → List ℕ → MemoryValue → MemoryWrite
+byte_copy_of dst src len source x = bytes_write x (copied x.bytes dst source src len) len
+
+-- a range of a memory is written over, and its type and its room stay
+abbrev pub WritesMemoryRange : (MemoryValue → MemoryWrite) → MeteredValue MemoryValue (Unit {0})
+    → Result (Unit {0}) MemoryError → MeteredValue MemoryValue (Unit {0}) → Type 0
+WritesMemoryRange write = WithCharge (WritesCharging write)

@@ -13,9 +13,10 @@ use Rattle.wasmi_meter.specs.declared.error.TableError.{TableError}
 use Rattle.wasmi_meter.specs.declared.error.TableError.TheVariants.{OutOfSystemMemory, ResourceLimiterDeniedAllocation, GrowOutOfBounds, InitOutOfBounds, FillOutOfBounds, SetOutOfBounds, CopyOutOfBounds, ElementTypeMismatch, OutOfFuel}
 use Rattle.wasmi_meter.specs.declared.limiter.Kind.TheVariants.{Elements}
 use Rattle.wasmi_meter.specs.Limiter.{TableFailure, Rules}
-use Rattle.wasmi_meter.specs.Meter.{copy_cost, meter_after}
-use Rattle.wasmi_meter.specs.Attempt.{MeteredValue, Request, optional_due, covers}
-use Rattle.wasmi_store.specs.Growth.{filled, copied, WithCharge, Makes, Grows, MeteredItems, WritesItems}
+use Rattle.wasmi_meter.specs.Meter.{copy_cost}
+use Rattle.wasmi_meter.specs.Attempt.{MeteredValue, Request}
+use Rattle.wasmi_store.specs.Growth.{WithCharge, Makes, Grows}
+use Rattle.wasmi_store.specs.Write.{filled, copied, MeteredWrite, WritesCharging}
 use Rattle.wasmi_store.specs.Segment.{SegmentValue}
 
 -- a table type: its index type, the type of its elements, and its limits in elements
@@ -169,84 +170,42 @@ abbrev pub SetsTable : ℕ → TypedRawRef → TableValue → Result (Unit {0}) 
 SetsTable index value x result x' = MatchBool (same_type x.ty.element value.ty)
     (SetsTableRaw index value.raw x result x') ((result ≡ Err ElementTypeMismatch) × (x' ≡ x))
 
--- A call that writes over a part of a table: whether the types are the same; the elements afterwards, or none where a
--- range ends past its list; the error there; and how many elements are paid for, if any.
-pub record TableWrite : Type 0 where
-  pub typed : Bool
-  pub written : Option (List ℕ)
-  pub outside : TableError
-  pub paid : Option ℕ
+-- a write over a range of a table
+abbrev pub TableWrite : Type 0
+TableWrite = MeteredWrite TableValue TableError
+
+-- the elements of a table are written over: whether the types are the same, what the elements become, or none where a
+-- range ends past its list, the error there, and how many elements are paid for, if any
+abbrev pub elements_write : TableValue → Bool → Option (List ℕ) → TableError → Option ℕ → TableWrite
+elements_write x typed written outside paid = record {
+  early = if typed then None else Some ElementTypeMismatch;
+  written = option_map (table_of x.ty) written;
+  outside = outside;
+  price = option_map element_price paid;
+  unpaid = OutOfFuel;
+}
 
 -- so many elements from dst on are filled with a reference, whose type isn't tested
 abbrev pub raw_filling_of : ℕ → ℕ → ℕ → TableValue → TableWrite
 raw_filling_of dst reference len x =
-    record { typed = true; written = filled x.elements dst reference len; outside = FillOutOfBounds; paid = Some len }
+    elements_write x true (filled x.elements dst reference len) FillOutOfBounds (Some len)
 
 -- so many elements from dst on are filled with a reference, whose type is tested
 abbrev pub filling_of : ℕ → TypedRawRef → ℕ → TableValue → TableWrite
-filling_of dst value len x = record (raw_filling_of dst value.raw len x) { typed = same_type x.ty.element value.ty }
+filling_of dst value len x = elements_write x (same_type x.ty.element value.ty)
+    (filled x.elements dst value.raw len) FillOutOfBounds (Some len)
 
 -- so many elements from src on of a table, perhaps the same one, are copied over those from dst on
 abbrev pub copy_of : ℕ → ℕ → ℕ → TableValue → TableValue → TableWrite
-copy_of dst src len source x = record {
-  typed = same_type x.ty.element source.ty.element;
-  written = copied x.elements dst source.elements src len;
-  outside = CopyOutOfBounds;
-  paid = Some len;
-}
+copy_of dst src len source x = elements_write x (same_type x.ty.element source.ty.element)
+    (copied x.elements dst source.elements src len) CopyOutOfBounds (Some len)
 
 -- so many items from src on of an element segment are copied over the elements from dst on; no item is free
 abbrev pub initialization_of : ℕ → ℕ → ℕ → SegmentValue → TableValue → TableWrite
-initialization_of dst src len segment x = record {
-  typed = same_type x.ty.element segment.ty;
-  written = copied x.elements dst segment.items src len;
-  outside = InitOutOfBounds;
-  paid = if nat_eq len 0 then None else Some len;
-}
+initialization_of dst src len segment x = elements_write x (same_type x.ty.element segment.ty)
+    (copied x.elements dst segment.items src len) InitOutOfBounds (if nat_eq len 0 then None else Some len)
 
--- a table with its meter, if there is one; a write asks no limiter
-abbrev pub MeteredTable : Type 0
-MeteredTable = MeteredValue TableValue (Unit {0})
-
--- what a write over a part of a table ends with
-pub record WriteEnding : Type 0 where
-  pub result : Result (Unit {0}) TableError
-  pub charge : ℕ
-  pub value : TableValue
-
-module _ (w : TableWrite) (s : MeteredTable) where
-  -- what is due for it
-  abbrev pub write_due : ℕ
-  write_due = optional_due s.meter (option_map element_price w.paid)
-
-  -- refused for a cause: nothing is taken, and the table stays
-  abbrev pub Refuses : TableError → WriteEnding → Type 0
-  Refuses cause end = (end.result ≡ Err cause) × (end.charge ≡ 0) × (end.value ≡ s.value)
-
-  -- how it ends, by whether the types are the same, whether the ranges lie within, and whether so much can be paid
-  abbrev pub EndsBy : Bool → Option (List ℕ) → Bool → WriteEnding → Type 0
-  EndsBy false written payable end = Refuses ElementTypeMismatch end
-  EndsBy true None payable end = Refuses w.outside end
-  EndsBy true (Some elements) false end = Refuses (OutOfFuel write_due) end
-  EndsBy true (Some elements) true end =
-      (end.result ≡ Ok tt) × (end.charge ≡ write_due) × (end.value ≡ record s.value { elements = elements })
-
-  -- how it ends
-  abbrev pub Ends : WriteEnding → Type 0
-  Ends = EndsBy w.typed w.written (covers s.meter write_due)
-
--- a part of a table is written over, with this charge
-pub record WritesTableCharging (write : TableValue → TableWrite) (s : MeteredTable)
-    (result : Result (Unit {0}) TableError) (charge : ℕ) (s' : MeteredTable) : Type 0 where
-  pub ends : Ends (write s.value) s (record { result = result; charge = charge; value = s'.value })
-  pub meter : s'.meter ≡ option_map (λ m. meter_after m charge) s.meter
-
--- a part of a table is written over
-abbrev pub WritesTable : (TableValue → TableWrite) → MeteredTable → Result (Unit {0}) TableError → MeteredTable → Type 0
-WritesTable write = WithCharge (WritesTableCharging write)
-
--- Elements are written over, wherever they lie: by what they become, or none where a range ends past its list, the
--- error there, and how many of them are paid for, if any.
-abbrev pub WritesElements : {A : Type 0} → Option (List A) → TableError → Option ℕ → MeteredItems A
-    → Result (Unit {0}) TableError → MeteredItems A → Type 0
-WritesElements written outside paid = WritesItems OutOfFuel written outside (option_map element_price paid)
+-- a range of a table is written over
+abbrev pub WritesTable : (TableValue → TableWrite) → MeteredValue TableValue (Unit {0})
+    → Result (Unit {0}) TableError → MeteredValue TableValue (Unit {0}) → Type 0
+WritesTable write = WithCharge (WritesCharging write)

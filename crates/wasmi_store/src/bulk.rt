@@ -6,7 +6,8 @@
 //! calls on tables.
 ghost use Rattle.std.specs.Prelude.{◌≡◌, length, nat_eq, if◌then◌else◌, None, Some};
 ghost use Rattle.std.specs.Option.{option_map};
-ghost use Rattle.wasmi_store.specs.Growth.{filled, copied, item_price, WritesItems, metered};
+ghost use Rattle.wasmi_store.specs.Growth.{metered};
+ghost use Rattle.wasmi_store.specs.Write.{filled, copied, item_price, WritesItems};
 
 use crate::growth::{GrowthError, charge};
 use crate::range::{Chunk, copy_overlapping, fill_range, lies_within, write_range};

@@ -5,8 +5,8 @@ ghost use Rattle.wasmi_types.specs.Access.{at};
 ghost use Rattle.wasmi_meter.specs.Limiter.{optional_rules, lent_limiter, KeepsLoan};
 ghost use Rattle.wasmi_meter.specs.Meter.{copy_cost, Charges, due, meter_at_entry, meter_at_exit};
 ghost use Rattle.wasmi_store.specs.Buffer.{fits_room, Owned, Lent, with_bytes};
-ghost use Rattle.wasmi_store.specs.Growth.{filled, copied, BulkWrites, metered_value, metered, IsAsked};
-ghost use Rattle.wasmi_store.specs.Memory.{MemoryValue, PermitsMinimum, GrowsMemory, IsSized, size_question, growth_of, in_bounds, MakesMemory, memory_of, buffer_of, pages_of, dynamic_type, WritesMemory, KeepsPlace, IsSubtype};
+ghost use Rattle.wasmi_store.specs.Growth.{metered_value, metered, IsAsked};
+ghost use Rattle.wasmi_store.specs.Memory.{MemoryValue, PermitsMinimum, GrowsMemory, IsSized, size_question, growth_of, in_bounds, MakesMemory, memory_of, buffer_of, pages_of, dynamic_type, WritesMemory, WritesMemoryRange, byte_filling_of, byte_copy_of, IsSubtype};
 ghost use Rattle.wasmi_store.specs.contracts.memory.LinearMemory.{the_row};
 
 mod buffer;
@@ -295,12 +295,29 @@ impl<R: Region> LinearMemory<R> {
         len: u64,
         fuel: Option<&mut Fuel>,
     ) -> Result<(), MemoryError>
-        ensures written { BulkWrites (filled self.old.bytes dst value len) len
-            (metered self.old.bytes (meter_at_entry fuel.entry)) result
-            (metered self.new.bytes (meter_at_exit fuel.exit)) }
-        ensures kept { KeepsPlace self.old self.new }
+        ensures { WritesMemoryRange (byte_filling_of dst value len)
+            (metered self.old (meter_at_entry fuel.entry)) result
+            (metered self.new (meter_at_exit fuel.exit)) }
     {
-        with_meter!(fuel => fill_items(self.data_mut(), dst, value, len, OUTSIDE, fuel))
+        with_meter!(fuel => self.fill_metered(dst, value, len, fuel))
+    }
+
+    /// As `fill`, with a meter that isn't optional.
+    ///
+    /// # Errors
+    ///
+    /// Those of `fill`.
+    pub fn fill_metered(
+        &mut self,
+        dst: u64,
+        value: u8,
+        len: u64,
+        fuel: &mut Fuel,
+    ) -> Result<(), MemoryError>
+        ensures { WritesMemoryRange (byte_filling_of dst value len)
+            (metered self.old (Some fuel.old)) result (metered self.new (Some fuel.new)) }
+    {
+        fill_items(self.data_mut(), dst, value, len, OUTSIDE, fuel)
     }
 
     /// Copies `len` bytes from `src` on over those from `dst` on. If the ranges overlap, the old
@@ -318,12 +335,29 @@ impl<R: Region> LinearMemory<R> {
         len: u64,
         fuel: Option<&mut Fuel>,
     ) -> Result<(), MemoryError>
-        ensures written { BulkWrites (copied self.old.bytes dst self.old.bytes src len) len
-            (metered self.old.bytes (meter_at_entry fuel.entry)) result
-            (metered self.new.bytes (meter_at_exit fuel.exit)) }
-        ensures kept { KeepsPlace self.old self.new }
+        ensures { WritesMemoryRange (byte_copy_of dst src len self.old.bytes)
+            (metered self.old (meter_at_entry fuel.entry)) result
+            (metered self.new (meter_at_exit fuel.exit)) }
     {
-        with_meter!(fuel => copy_items_within(self.data_mut(), dst, src, len, OUTSIDE, fuel))
+        with_meter!(fuel => self.copy_within_metered(dst, src, len, fuel))
+    }
+
+    /// As `copy_within`, with a meter that isn't optional.
+    ///
+    /// # Errors
+    ///
+    /// Those of `copy_within`.
+    pub fn copy_within_metered(
+        &mut self,
+        dst: u64,
+        src: u64,
+        len: u64,
+        fuel: &mut Fuel,
+    ) -> Result<(), MemoryError>
+        ensures { WritesMemoryRange (byte_copy_of dst src len self.old.bytes)
+            (metered self.old (Some fuel.old)) result (metered self.new (Some fuel.new)) }
+    {
+        copy_items_within(self.data_mut(), dst, src, len, OUTSIDE, fuel)
     }
 
     /// Copies `len` bytes of another memory, from `src` on, over the bytes of a memory from `dst`
@@ -342,14 +376,31 @@ impl<R: Region> LinearMemory<R> {
         len: u64,
         fuel: Option<&mut Fuel>,
     ) -> Result<(), MemoryError>
-        ensures written { BulkWrites
-            (copied dst_memory.old.bytes dst src_memory.now.bytes src len) len
-            (metered dst_memory.old.bytes (meter_at_entry fuel.entry)) result
-            (metered dst_memory.new.bytes (meter_at_exit fuel.exit)) }
-        ensures kept { KeepsPlace dst_memory.old dst_memory.new }
+        ensures { WritesMemoryRange (byte_copy_of dst src len src_memory.now.bytes)
+            (metered dst_memory.old (meter_at_entry fuel.entry)) result
+            (metered dst_memory.new (meter_at_exit fuel.exit)) }
+    {
+        with_meter!(fuel => dst_memory.copy_metered(dst, src_memory, src, len, fuel))
+    }
+
+    /// As `copy`, with a meter that isn't optional.
+    ///
+    /// # Errors
+    ///
+    /// Those of `copy`.
+    pub fn copy_metered<S: Region>(
+        &mut self,
+        dst: u64,
+        src_memory: &LinearMemory<S>,
+        src: u64,
+        len: u64,
+        fuel: &mut Fuel,
+    ) -> Result<(), MemoryError>
+        ensures { WritesMemoryRange (byte_copy_of dst src len src_memory.now.bytes)
+            (metered self.old (Some fuel.old)) result (metered self.new (Some fuel.new)) }
     {
         let source = src_memory.data();
-        with_meter!(fuel => copy_items(dst_memory.data_mut(), dst, source, src, len, OUTSIDE, fuel))
+        copy_items(self.data_mut(), dst, source, src, len, OUTSIDE, fuel)
     }
 
     /// Copies `len` bytes of a data segment, from `src` on, over the bytes from `dst` on. A segment
@@ -368,12 +419,30 @@ impl<R: Region> LinearMemory<R> {
         len: u32,
         fuel: Option<&mut Fuel>,
     ) -> Result<(), MemoryError>
-        ensures written { BulkWrites (copied self.old.bytes dst segment.now src len) len
-            (metered self.old.bytes (meter_at_entry fuel.entry)) result
-            (metered self.new.bytes (meter_at_exit fuel.exit)) }
-        ensures kept { KeepsPlace self.old self.new }
+        ensures { WritesMemoryRange (byte_copy_of dst src len segment.now)
+            (metered self.old (meter_at_entry fuel.entry)) result
+            (metered self.new (meter_at_exit fuel.exit)) }
+    {
+        with_meter!(fuel => self.init_metered(segment, dst, src, len, fuel))
+    }
+
+    /// As `init`, with a meter that isn't optional.
+    ///
+    /// # Errors
+    ///
+    /// Those of `init`.
+    pub fn init_metered(
+        &mut self,
+        segment: &[u8],
+        dst: u64,
+        src: u32,
+        len: u32,
+        fuel: &mut Fuel,
+    ) -> Result<(), MemoryError>
+        ensures { WritesMemoryRange (byte_copy_of dst src len segment.now)
+            (metered self.old (Some fuel.old)) result (metered self.new (Some fuel.new)) }
     {
         let (src, len) = (u64::from(src), u64::from(len));
-        with_meter!(fuel => copy_items(self.data_mut(), dst, segment, src, len, OUTSIDE, fuel))
+        copy_items(self.data_mut(), dst, segment, src, len, OUTSIDE, fuel)
     }
 }

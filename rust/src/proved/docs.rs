@@ -186,14 +186,12 @@ Those of `fill`, if a range ends past its memory.
 # Contract
 
 ```text
-ensures written: BulkWrites
-    (copied dst_memory.old.bytes dst src_memory.now.bytes src len) len
-    (metered dst_memory.old.bytes (meter_at_entry fuel.entry)) result
-    (metered dst_memory.new.bytes (meter_at_exit fuel.exit))
-ensures kept: KeepsPlace dst_memory.old dst_memory.new
+ensures: WritesMemoryRange (byte_copy_of dst src len src_memory.now.bytes)
+    (metered dst_memory.old (meter_at_entry fuel.entry)) result
+    (metered dst_memory.new (meter_at_exit fuel.exit))
 ```
 
-Definitions: [`BulkWrites`](crate::specs::store::GrowthSpecs#BulkWrites), [`copied`](crate::specs::store::GrowthSpecs#copied), [`metered`](crate::specs::store::GrowthSpecs#metered), [`meter_at_entry`](crate::specs::meter::MeterSpecs#meter_at_entry), [`meter_at_exit`](crate::specs::meter::MeterSpecs#meter_at_exit), [`KeepsPlace`](crate::specs::store::MemorySpecs#KeepsPlace).
+Definitions: [`WritesMemoryRange`](crate::specs::store::MemorySpecs#WritesMemoryRange), [`byte_copy_of`](crate::specs::store::MemorySpecs#byte_copy_of), [`metered`](crate::specs::store::GrowthSpecs#metered), [`meter_at_entry`](crate::specs::meter::MeterSpecs#meter_at_entry), [`meter_at_exit`](crate::specs::meter::MeterSpecs#meter_at_exit).
 "#### };
     (store LinearMemory.copy_within) => { r####"Copies `len` bytes from `src` on over those from `dst` on. If the ranges overlap, the old
 bytes are copied.
@@ -207,13 +205,12 @@ Those of `fill`, if a range ends past the memory.
 # Contract
 
 ```text
-ensures written: BulkWrites (copied self.old.bytes dst self.old.bytes src len) len
-    (metered self.old.bytes (meter_at_entry fuel.entry)) result
-    (metered self.new.bytes (meter_at_exit fuel.exit))
-ensures kept: KeepsPlace self.old self.new
+ensures: WritesMemoryRange (byte_copy_of dst src len self.old.bytes)
+    (metered self.old (meter_at_entry fuel.entry)) result
+    (metered self.new (meter_at_exit fuel.exit))
 ```
 
-Definitions: [`BulkWrites`](crate::specs::store::GrowthSpecs#BulkWrites), [`copied`](crate::specs::store::GrowthSpecs#copied), [`metered`](crate::specs::store::GrowthSpecs#metered), [`meter_at_entry`](crate::specs::meter::MeterSpecs#meter_at_entry), [`meter_at_exit`](crate::specs::meter::MeterSpecs#meter_at_exit), [`KeepsPlace`](crate::specs::store::MemorySpecs#KeepsPlace).
+Definitions: [`WritesMemoryRange`](crate::specs::store::MemorySpecs#WritesMemoryRange), [`byte_copy_of`](crate::specs::store::MemorySpecs#byte_copy_of), [`metered`](crate::specs::store::GrowthSpecs#metered), [`meter_at_entry`](crate::specs::meter::MeterSpecs#meter_at_entry), [`meter_at_exit`](crate::specs::meter::MeterSpecs#meter_at_exit).
 "#### };
     (store LinearMemory.data) => { r####"The bytes.
 
@@ -273,13 +270,12 @@ which is tested also if no byte is filled. Then no byte is written, and no fuel 
 # Contract
 
 ```text
-ensures written: BulkWrites (filled self.old.bytes dst value len) len
-    (metered self.old.bytes (meter_at_entry fuel.entry)) result
-    (metered self.new.bytes (meter_at_exit fuel.exit))
-ensures kept: KeepsPlace self.old self.new
+ensures: WritesMemoryRange (byte_filling_of dst value len)
+    (metered self.old (meter_at_entry fuel.entry)) result
+    (metered self.new (meter_at_exit fuel.exit))
 ```
 
-Definitions: [`BulkWrites`](crate::specs::store::GrowthSpecs#BulkWrites), [`filled`](crate::specs::store::GrowthSpecs#filled), [`metered`](crate::specs::store::GrowthSpecs#metered), [`meter_at_entry`](crate::specs::meter::MeterSpecs#meter_at_entry), [`meter_at_exit`](crate::specs::meter::MeterSpecs#meter_at_exit), [`KeepsPlace`](crate::specs::store::MemorySpecs#KeepsPlace).
+Definitions: [`WritesMemoryRange`](crate::specs::store::MemorySpecs#WritesMemoryRange), [`byte_filling_of`](crate::specs::store::MemorySpecs#byte_filling_of), [`metered`](crate::specs::store::GrowthSpecs#metered), [`meter_at_entry`](crate::specs::meter::MeterSpecs#meter_at_entry), [`meter_at_exit`](crate::specs::meter::MeterSpecs#meter_at_exit).
 "#### };
     (store LinearMemory.grow) => { r####"Grows by `additional` pages of zeros, and returns the old size in pages. A growth by 0 pages
 changes nothing and asks no limiter. Bytes of a borrowed buffer past the new size stay as
@@ -327,13 +323,12 @@ Those of `fill`, if a range ends past the segment or the memory.
 # Contract
 
 ```text
-ensures written: BulkWrites (copied self.old.bytes dst segment.now src len) len
-    (metered self.old.bytes (meter_at_entry fuel.entry)) result
-    (metered self.new.bytes (meter_at_exit fuel.exit))
-ensures kept: KeepsPlace self.old self.new
+ensures: WritesMemoryRange (byte_copy_of dst src len segment.now)
+    (metered self.old (meter_at_entry fuel.entry)) result
+    (metered self.new (meter_at_exit fuel.exit))
 ```
 
-Definitions: [`BulkWrites`](crate::specs::store::GrowthSpecs#BulkWrites), [`copied`](crate::specs::store::GrowthSpecs#copied), [`metered`](crate::specs::store::GrowthSpecs#metered), [`meter_at_entry`](crate::specs::meter::MeterSpecs#meter_at_entry), [`meter_at_exit`](crate::specs::meter::MeterSpecs#meter_at_exit), [`KeepsPlace`](crate::specs::store::MemorySpecs#KeepsPlace).
+Definitions: [`WritesMemoryRange`](crate::specs::store::MemorySpecs#WritesMemoryRange), [`byte_copy_of`](crate::specs::store::MemorySpecs#byte_copy_of), [`metered`](crate::specs::store::GrowthSpecs#metered), [`meter_at_entry`](crate::specs::meter::MeterSpecs#meter_at_entry), [`meter_at_exit`](crate::specs::meter::MeterSpecs#meter_at_exit).
 "#### };
     (store LinearMemory.new) => { r####"A memory of zeros, at the minimum of its type. It takes no fuel.
 

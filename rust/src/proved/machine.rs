@@ -2319,11 +2319,11 @@ mod tables {
     /// # Contract
     ///
     /// ```text
-    /// ensures: WithCharge (CopiesSlot (copy_of dst src len) source.now)
+    /// ensures: WithCharge (CopiesSlot Reply.Table (copy_of dst src len) source.now)
     ///     (metered slot.old (Some fuel.old)) (reply_or_no_such result) (metered slot.new (Some fuel.new))
     /// ```
     ///
-    /// Definitions: [`WithCharge`](crate::specs::store::GrowthSpecs#WithCharge), [`CopiesSlot`](crate::specs::machine::TableEffectsSpecs#CopiesSlot), [`copy_of`](crate::specs::store::TableSpecs#copy_of), [`metered`](crate::specs::store::GrowthSpecs#metered), [`reply_or_no_such`](crate::specs::machine::EffectsSpecs#reply_or_no_such).
+    /// Definitions: [`WithCharge`](crate::specs::store::GrowthSpecs#WithCharge), [`CopiesSlot`](crate::specs::machine::EffectsSpecs#CopiesSlot), [`copy_of`](crate::specs::store::TableSpecs#copy_of), [`metered`](crate::specs::store::GrowthSpecs#metered), [`reply_or_no_such`](crate::specs::machine::EffectsSpecs#reply_or_no_such).
     #[inline(always)]
     fn copy_from_slot(
         slot: &mut Slot<Table>,

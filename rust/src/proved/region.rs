@@ -248,7 +248,7 @@ pub mod memory {
     ///     (metered bytes.old (Some fuel.old)) result (metered bytes.new (Some fuel.new))
     /// ```
     ///
-    /// Definitions: [`BulkWrites`](crate::specs::store::GrowthSpecs#BulkWrites), [`filled`](crate::specs::store::GrowthSpecs#filled), [`metered`](crate::specs::store::GrowthSpecs#metered).
+    /// Definitions: [`BulkWrites`](crate::specs::store::WriteSpecs#BulkWrites), [`filled`](crate::specs::store::WriteSpecs#filled), [`metered`](crate::specs::store::GrowthSpecs#metered).
     #[inline]
     pub fn fill(
         bytes: &mut [u8],
@@ -273,7 +273,7 @@ pub mod memory {
     ///     (metered bytes.old (Some fuel.old)) result (metered bytes.new (Some fuel.new))
     /// ```
     ///
-    /// Definitions: [`BulkWrites`](crate::specs::store::GrowthSpecs#BulkWrites), [`copied`](crate::specs::store::GrowthSpecs#copied), [`metered`](crate::specs::store::GrowthSpecs#metered).
+    /// Definitions: [`BulkWrites`](crate::specs::store::WriteSpecs#BulkWrites), [`copied`](crate::specs::store::WriteSpecs#copied), [`metered`](crate::specs::store::GrowthSpecs#metered).
     #[inline]
     pub fn copy_within(
         bytes: &mut [u8],
@@ -298,7 +298,7 @@ pub mod memory {
     ///     (metered bytes.old (Some fuel.old)) result (metered bytes.new (Some fuel.new))
     /// ```
     ///
-    /// Definitions: [`BulkWrites`](crate::specs::store::GrowthSpecs#BulkWrites), [`copied`](crate::specs::store::GrowthSpecs#copied), [`metered`](crate::specs::store::GrowthSpecs#metered).
+    /// Definitions: [`BulkWrites`](crate::specs::store::WriteSpecs#BulkWrites), [`copied`](crate::specs::store::WriteSpecs#copied), [`metered`](crate::specs::store::GrowthSpecs#metered).
     #[inline]
     pub fn copy(
         bytes: &mut [u8],
@@ -324,7 +324,7 @@ pub mod memory {
     ///     (metered bytes.old (Some fuel.old)) result (metered bytes.new (Some fuel.new))
     /// ```
     ///
-    /// Definitions: [`BulkWrites`](crate::specs::store::GrowthSpecs#BulkWrites), [`copied`](crate::specs::store::GrowthSpecs#copied), [`metered`](crate::specs::store::GrowthSpecs#metered).
+    /// Definitions: [`BulkWrites`](crate::specs::store::WriteSpecs#BulkWrites), [`copied`](crate::specs::store::WriteSpecs#copied), [`metered`](crate::specs::store::GrowthSpecs#metered).
     #[inline]
     pub fn init(
         bytes: &mut [u8],

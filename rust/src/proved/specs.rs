@@ -2820,17 +2820,12 @@ module _ {Region : Type 0} where
 </code></pre>
 "####]
     pub mod BufferSpecs {}
-    #[doc = r####"Making and growing a memory or a table, as an attempt with its answer, and what the bulk instructions write and take.
+    #[doc = r####"Making and growing a memory or a table, as an attempt with its answer.
 
-<pre><code>use Rattle.std.specs.Prelude.{◌≡◌, ◌&lt;◌, ◌⊎◌, ℕ, Option, None, Result, Ok, List, replicate, MatchBool, Some, Err}
+<pre><code>use Rattle.std.specs.Prelude.{◌≡◌, ◌&lt;◌, ◌⊎◌, ℕ, Option, None, Result, Ok}
 use Rattle.wasmi_meter.specs.Limiter.{<a href="../../meter/LimiterSpecs/index.html#Question">Question</a>, <a href="../../meter/LimiterSpecs/index.html#Answer">Answer</a>, <a href="../../meter/LimiterSpecs/index.html#IsDenial">IsDenial</a>, <a href="../../meter/LimiterSpecs/index.html#Rules">Rules</a>}
-use Rattle.wasmi_meter.specs.declared.fuel.CustomFuelCosts.{CustomFuelCosts}
-use Rattle.wasmi_meter.specs.Meter.{<a href="../../meter/MeterSpecs/index.html#Meter">Meter</a>, <a href="../../meter/MeterSpecs/index.html#copy_cost">copy_cost</a>, <a href="../../meter/MeterSpecs/index.html#meter_after">meter_after</a>}
-use Rattle.wasmi_meter.specs.Attempt.{<a href="../../meter/AttemptSpecs/index.html#MeteredValue">MeteredValue</a>, <a href="../../meter/AttemptSpecs/index.html#alone">alone</a>, <a href="../../meter/AttemptSpecs/index.html#Request">Request</a>, <a href="../../meter/AttemptSpecs/index.html#AttemptOutcome">AttemptOutcome</a>, <a href="../../meter/AttemptSpecs/index.html#Attempt">Attempt</a>, <a href="../../meter/AttemptSpecs/index.html#answer_of">answer_of</a>, <a href="../../meter/AttemptSpecs/index.html#optional_due">optional_due</a>, <a href="../../meter/AttemptSpecs/index.html#covers">covers</a>}
-use Rattle.std.specs.Option.{option_map, option_and_then}
-use Rattle.wasmi_types.specs.Access.{<a href="../../types/AccessSpecs/index.html#at">at</a>, <a href="../../types/AccessSpecs/index.html#overwrite">overwrite</a>}
-use Rattle.wasmi_meter.specs.declared.error.MemoryError.{MemoryError}
-use Rattle.wasmi_meter.specs.declared.error.MemoryError.TheVariants.{OutOfBoundsAccess, OutOfFuel}
+use Rattle.wasmi_meter.specs.Meter.{<a href="../../meter/MeterSpecs/index.html#Meter">Meter</a>}
+use Rattle.wasmi_meter.specs.Attempt.{<a href="../../meter/AttemptSpecs/index.html#MeteredValue">MeteredValue</a>, <a href="../../meter/AttemptSpecs/index.html#alone">alone</a>, <a href="../../meter/AttemptSpecs/index.html#Request">Request</a>, <a href="../../meter/AttemptSpecs/index.html#AttemptOutcome">AttemptOutcome</a>, <a href="../../meter/AttemptSpecs/index.html#Attempt">Attempt</a>, <a href="../../meter/AttemptSpecs/index.html#answer_of">answer_of</a>}
 
 -- a value with its meter, if there is one, and its limiter
 abbrev pub <b id="metered_value">metered_value</b> : {V S : Type 0} → V → Option <a href="../../meter/MeterSpecs/index.html#Meter">Meter</a> → S → <a href="../../meter/AttemptSpecs/index.html#MeteredValue">MeteredValue</a> V S
@@ -2884,47 +2879,6 @@ pub record <b id="GrowsBySome">GrowsBySome</b> {V E S : Type 0} (rules : <a href
 abbrev pub <b id="Grows">Grows</b> : {V E S : Type 0} → <a href="../../meter/LimiterSpecs/index.html#Rules">Rules</a> S → <a href="../../store/GrowthSpecs/index.html#Growth">Growth</a> V E → <a href="../../meter/AttemptSpecs/index.html#MeteredValue">MeteredValue</a> V S → Result ℕ E → ℕ → <a href="../../meter/AttemptSpecs/index.html#MeteredValue">MeteredValue</a> V S
     → Type 0
 <a href="../../store/GrowthSpecs/index.html#Grows">Grows</a> rules g s result charge s&#x27; = <a href="../../store/GrowthSpecs/index.html#GrowsByNone">GrowsByNone</a> g s result charge s&#x27; ⊎ <a href="../../store/GrowthSpecs/index.html#GrowsBySome">GrowsBySome</a> rules g s result charge s&#x27;
-
--- items of which so many, from dst on, are each filled with a value, or none where they end too early
-abbrev pub <b id="filled">filled</b> : {A : Type 0} → List A → ℕ → A → ℕ → Option (List A)
-<a href="../../store/GrowthSpecs/index.html#filled">filled</a> items dst value len = <a href="../../types/AccessSpecs/index.html#overwrite">overwrite</a> items dst (replicate len value)
-
--- items whose part from dst on is written over by so many items of a list from src on, or none where a list ends too
--- early
-abbrev pub <b id="copied">copied</b> : {A : Type 0} → List A → ℕ → List A → ℕ → ℕ → Option (List A)
-<a href="../../store/GrowthSpecs/index.html#copied">copied</a> items dst source src len = option_and_then (λ part. <a href="../../types/AccessSpecs/index.html#overwrite">overwrite</a> items dst part) (<a href="../../types/AccessSpecs/index.html#at">at</a> source src len)
-
--- the fuel that is due for writing so many bytes
-abbrev pub <b id="bytes_due">bytes_due</b> : Option <a href="../../meter/MeterSpecs/index.html#Meter">Meter</a> → ℕ → ℕ
-<a href="../../store/GrowthSpecs/index.html#bytes_due">bytes_due</a> meter len = <a href="../../meter/AttemptSpecs/index.html#optional_due">optional_due</a> meter (Some (λ costs. <a href="../../meter/MeterSpecs/index.html#copy_cost">copy_cost</a> costs len 1))
-
--- the fuel for so many items of so many bytes each
-abbrev pub <b id="item_price">item_price</b> : ℕ → ℕ → CustomFuelCosts → ℕ
-<a href="../../store/GrowthSpecs/index.html#item_price">item_price</a> <a href="../../store/GrowthSpecs/index.html#size">size</a> n costs = <a href="../../meter/MeterSpecs/index.html#copy_cost">copy_cost</a> costs n <a href="../../store/GrowthSpecs/index.html#size">size</a>
-
--- items with their meter, if there is one
-abbrev pub <b id="MeteredItems">MeteredItems</b> : Type 0 → Type 0
-<a href="../../store/GrowthSpecs/index.html#MeteredItems">MeteredItems</a> A = <a href="../../meter/AttemptSpecs/index.html#MeteredValue">MeteredValue</a> (List A) (Unit {0})
-
--- bytes with their meter, if there is one
-abbrev pub <b id="MeteredBytes">MeteredBytes</b> : Type 0
-<a href="../../store/GrowthSpecs/index.html#MeteredBytes">MeteredBytes</a> = <a href="../../store/GrowthSpecs/index.html#MeteredItems">MeteredItems</a> ℕ
-
--- Items are written over, wherever they lie: by the error of a meter with less than is needed, what the items become, or
--- none where a range ends past its list, the error there, and what they cost, if anything. The ranges are tested first,
--- then the fuel; a write that is refused writes and takes nothing.
-abbrev pub <b id="WritesItems">WritesItems</b> : {A E : Type 0} → (ℕ → E) → Option (List A) → E → Option (CustomFuelCosts → ℕ) → <a href="../../store/GrowthSpecs/index.html#MeteredItems">MeteredItems</a> A
-    → Result (Unit {0}) E → <a href="../../store/GrowthSpecs/index.html#MeteredItems">MeteredItems</a> A → Type 0
-<a href="../../store/GrowthSpecs/index.html#WritesItems">WritesItems</a> unpaid None outside price s result s&#x27; = (result ≡ Err outside) × (s&#x27; ≡ s)
-<a href="../../store/GrowthSpecs/index.html#WritesItems">WritesItems</a> unpaid (Some items) outside price s result s&#x27; =
-    let <a href="../../store/GrowthSpecs/index.html#amount">amount</a> = <a href="../../meter/AttemptSpecs/index.html#optional_due">optional_due</a> s.meter price in
-    MatchBool (<a href="../../meter/AttemptSpecs/index.html#covers">covers</a> s.meter <a href="../../store/GrowthSpecs/index.html#amount">amount</a>)
-    ((result ≡ Ok tt) × (s&#x27; ≡ <a href="../../store/GrowthSpecs/index.html#metered">metered</a> items (option_map (λ m. <a href="../../meter/MeterSpecs/index.html#meter_after">meter_after</a> m <a href="../../store/GrowthSpecs/index.html#amount">amount</a>) s.meter)))
-    ((result ≡ Err (unpaid <a href="../../store/GrowthSpecs/index.html#amount">amount</a>)) × (s&#x27; ≡ s))
-
--- a bulk instruction writes so many bytes, each of which is paid for
-abbrev pub <b id="BulkWrites">BulkWrites</b> : Option (List ℕ) → ℕ → <a href="../../store/GrowthSpecs/index.html#MeteredBytes">MeteredBytes</a> → Result (Unit {0}) MemoryError → <a href="../../store/GrowthSpecs/index.html#MeteredBytes">MeteredBytes</a> → Type 0
-<a href="../../store/GrowthSpecs/index.html#BulkWrites">BulkWrites</a> written len = <a href="../../store/GrowthSpecs/index.html#WritesItems">WritesItems</a> OutOfFuel written OutOfBoundsAccess (Some (<a href="../../store/GrowthSpecs/index.html#item_price">item_price</a> 1 len))
 </code></pre>
 "####]
     pub mod GrowthSpecs {}
@@ -2947,6 +2901,7 @@ use Rattle.wasmi_meter.specs.Meter.{<a href="../../meter/MeterSpecs/index.html#c
 use Rattle.wasmi_meter.specs.Attempt.{<a href="../../meter/AttemptSpecs/index.html#MeteredValue">MeteredValue</a>, <a href="../../meter/AttemptSpecs/index.html#Request">Request</a>}
 use Rattle.wasmi_store.specs.Buffer.{<a href="../../store/BufferSpecs/index.html#BufferValue">BufferValue</a>, <a href="../../store/BufferSpecs/index.html#Room">Room</a>, <a href="../../store/BufferSpecs/index.html#Owned">Owned</a>, <a href="../../store/BufferSpecs/index.html#fits_room">fits_room</a>, <a href="../../store/BufferSpecs/index.html#LacksMemory">LacksMemory</a>, <a href="../../store/BufferSpecs/index.html#zeros_in">zeros_in</a>, <a href="../../store/BufferSpecs/index.html#with_zeros">with_zeros</a>}
 use Rattle.wasmi_store.specs.Growth.{<a href="../../store/GrowthSpecs/index.html#WithCharge">WithCharge</a>, <a href="../../store/GrowthSpecs/index.html#Makes">Makes</a>, <a href="../../store/GrowthSpecs/index.html#Grows">Grows</a>}
+use Rattle.wasmi_store.specs.Write.{<a href="../../store/WriteSpecs/index.html#filled">filled</a>, <a href="../../store/WriteSpecs/index.html#copied">copied</a>, <a href="../../store/WriteSpecs/index.html#item_price">item_price</a>, <a href="../../store/WriteSpecs/index.html#MeteredWrite">MeteredWrite</a>, <a href="../../store/WriteSpecs/index.html#WritesCharging">WritesCharging</a>}
 
 -- an optional maximum is no looser than another
 abbrev pub <b id="IsNoLooser">IsNoLooser</b> : Option ℕ → Option ℕ → Type 0
@@ -3121,10 +3076,33 @@ abbrev pub <b id="WritesMemory">WritesMemory</b> : <a href="../../store/MemorySp
 <a href="../../store/MemorySpecs/index.html#WritesMemory">WritesMemory</a> x offset source (Err error) x&#x27; =
     (error ≡ OutOfBoundsAccess) × (<a href="../../types/AccessSpecs/index.html#overwrite">overwrite</a> x.bytes offset source ≡ None) × (x&#x27; ≡ x)
 
--- bytes are written over, and the type of the memory and its room stay
-pub record <b id="KeepsPlace">KeepsPlace</b> (x x&#x27; : <a href="../../store/MemorySpecs/index.html#MemoryValue">MemoryValue</a>) : Type 0 where
-  pub <b id="type">type</b> : x&#x27;.<a href="../../store/MemorySpecs/index.html#ty">ty</a> ≡ x.ty
-  pub <b id="room">room</b> : x&#x27;.<a href="../../store/MemorySpecs/index.html#room">room</a> ≡ x.room
+-- a write over a range of a memory
+abbrev pub <b id="MemoryWrite">MemoryWrite</b> : Type 0
+<a href="../../store/MemorySpecs/index.html#MemoryWrite">MemoryWrite</a> = <a href="../../store/WriteSpecs/index.html#MeteredWrite">MeteredWrite</a> <a href="../../store/MemorySpecs/index.html#MemoryValue">MemoryValue</a> MemoryError
+
+-- the bytes of a memory are written over: what they become, or none where a range ends past its list, and how many of
+-- them are paid for
+abbrev pub <b id="bytes_write">bytes_write</b> : <a href="../../store/MemorySpecs/index.html#MemoryValue">MemoryValue</a> → Option (List ℕ) → ℕ → <a href="../../store/MemorySpecs/index.html#MemoryWrite">MemoryWrite</a>
+<a href="../../store/MemorySpecs/index.html#bytes_write">bytes_write</a> x written paid = record {
+  early = None;
+  written = option_map (λ <a href="../../store/MemorySpecs/index.html#bytes">bytes</a>. record x { <a href="../../store/MemorySpecs/index.html#bytes">bytes</a> = <a href="../../store/MemorySpecs/index.html#bytes">bytes</a> }) written;
+  outside = OutOfBoundsAccess;
+  price = Some (<a href="../../store/WriteSpecs/index.html#item_price">item_price</a> 1 paid);
+  unpaid = OutOfFuel;
+}
+
+-- so many bytes from dst on are filled with a value
+abbrev pub <b id="byte_filling_of">byte_filling_of</b> : ℕ → ℕ → ℕ → <a href="../../store/MemorySpecs/index.html#MemoryValue">MemoryValue</a> → <a href="../../store/MemorySpecs/index.html#MemoryWrite">MemoryWrite</a>
+<a href="../../store/MemorySpecs/index.html#byte_filling_of">byte_filling_of</a> dst value len x = <a href="../../store/MemorySpecs/index.html#bytes_write">bytes_write</a> x (<a href="../../store/WriteSpecs/index.html#filled">filled</a> x.bytes dst value len) len
+
+-- so many bytes of a source from src on, perhaps those of the memory itself, are copied over the bytes from dst on
+abbrev pub <b id="byte_copy_of">byte_copy_of</b> : ℕ → ℕ → ℕ → List ℕ → <a href="../../store/MemorySpecs/index.html#MemoryValue">MemoryValue</a> → <a href="../../store/MemorySpecs/index.html#MemoryWrite">MemoryWrite</a>
+<a href="../../store/MemorySpecs/index.html#byte_copy_of">byte_copy_of</a> dst src len source x = <a href="../../store/MemorySpecs/index.html#bytes_write">bytes_write</a> x (<a href="../../store/WriteSpecs/index.html#copied">copied</a> x.bytes dst source src len) len
+
+-- a range of a memory is written over, and its type and its room stay
+abbrev pub <b id="WritesMemoryRange">WritesMemoryRange</b> : (<a href="../../store/MemorySpecs/index.html#MemoryValue">MemoryValue</a> → <a href="../../store/MemorySpecs/index.html#MemoryWrite">MemoryWrite</a>) → <a href="../../meter/AttemptSpecs/index.html#MeteredValue">MeteredValue</a> <a href="../../store/MemorySpecs/index.html#MemoryValue">MemoryValue</a> (Unit {0})
+    → Result (Unit {0}) MemoryError → <a href="../../meter/AttemptSpecs/index.html#MeteredValue">MeteredValue</a> <a href="../../store/MemorySpecs/index.html#MemoryValue">MemoryValue</a> (Unit {0}) → Type 0
+<a href="../../store/MemorySpecs/index.html#WritesMemoryRange">WritesMemoryRange</a> write = <a href="../../store/GrowthSpecs/index.html#WithCharge">WithCharge</a> (<a href="../../store/WriteSpecs/index.html#WritesCharging">WritesCharging</a> write)
 </code></pre>
 "####]
     pub mod MemorySpecs {}
@@ -3209,9 +3187,10 @@ use Rattle.wasmi_meter.specs.declared.error.TableError.{TableError}
 use Rattle.wasmi_meter.specs.declared.error.TableError.TheVariants.{OutOfSystemMemory, ResourceLimiterDeniedAllocation, GrowOutOfBounds, InitOutOfBounds, FillOutOfBounds, SetOutOfBounds, CopyOutOfBounds, ElementTypeMismatch, OutOfFuel}
 use Rattle.wasmi_meter.specs.declared.limiter.Kind.TheVariants.{Elements}
 use Rattle.wasmi_meter.specs.Limiter.{<a href="../../meter/LimiterSpecs/index.html#TableFailure">TableFailure</a>, <a href="../../meter/LimiterSpecs/index.html#Rules">Rules</a>}
-use Rattle.wasmi_meter.specs.Meter.{<a href="../../meter/MeterSpecs/index.html#copy_cost">copy_cost</a>, <a href="../../meter/MeterSpecs/index.html#meter_after">meter_after</a>}
-use Rattle.wasmi_meter.specs.Attempt.{<a href="../../meter/AttemptSpecs/index.html#MeteredValue">MeteredValue</a>, <a href="../../meter/AttemptSpecs/index.html#Request">Request</a>, <a href="../../meter/AttemptSpecs/index.html#optional_due">optional_due</a>, <a href="../../meter/AttemptSpecs/index.html#covers">covers</a>}
-use Rattle.wasmi_store.specs.Growth.{<a href="../../store/GrowthSpecs/index.html#filled">filled</a>, <a href="../../store/GrowthSpecs/index.html#copied">copied</a>, <a href="../../store/GrowthSpecs/index.html#WithCharge">WithCharge</a>, <a href="../../store/GrowthSpecs/index.html#Makes">Makes</a>, <a href="../../store/GrowthSpecs/index.html#Grows">Grows</a>, <a href="../../store/GrowthSpecs/index.html#MeteredItems">MeteredItems</a>, <a href="../../store/GrowthSpecs/index.html#WritesItems">WritesItems</a>}
+use Rattle.wasmi_meter.specs.Meter.{<a href="../../meter/MeterSpecs/index.html#copy_cost">copy_cost</a>}
+use Rattle.wasmi_meter.specs.Attempt.{<a href="../../meter/AttemptSpecs/index.html#MeteredValue">MeteredValue</a>, <a href="../../meter/AttemptSpecs/index.html#Request">Request</a>}
+use Rattle.wasmi_store.specs.Growth.{<a href="../../store/GrowthSpecs/index.html#WithCharge">WithCharge</a>, <a href="../../store/GrowthSpecs/index.html#Makes">Makes</a>, <a href="../../store/GrowthSpecs/index.html#Grows">Grows</a>}
+use Rattle.wasmi_store.specs.Write.{<a href="../../store/WriteSpecs/index.html#filled">filled</a>, <a href="../../store/WriteSpecs/index.html#copied">copied</a>, <a href="../../store/WriteSpecs/index.html#MeteredWrite">MeteredWrite</a>, <a href="../../store/WriteSpecs/index.html#WritesCharging">WritesCharging</a>}
 use Rattle.wasmi_store.specs.Segment.{<a href="../../store/SegmentSpecs/index.html#SegmentValue">SegmentValue</a>}
 
 -- a table type: its index type, the type of its elements, and its limits in elements
@@ -3322,22 +3301,22 @@ abbrev pub <b id="growth_of">growth_of</b> : <a href="../../store/TableSpecs/ind
 -- a table of a type is made of a reference
 abbrev pub <b id="MakesTable">MakesTable</b> : {S : Type 0} → <a href="../../meter/LimiterSpecs/index.html#Rules">Rules</a> S → <a href="../../store/TableSpecs/index.html#TableTypeValue">TableTypeValue</a> → TypedRawRef → S → Result <a href="../../store/TableSpecs/index.html#TableValue">TableValue</a> TableError → S
     → Type 0
-<a href="../../store/TableSpecs/index.html#MakesTable">MakesTable</a> rules <a href="../../store/TableSpecs/index.html#ty">ty</a> init l <a href="../../store/TableSpecs/index.html#result">result</a> l&#x27; = <a href="../../store/GrowthSpecs/index.html#Makes">Makes</a> rules (<a href="../../store/TableSpecs/index.html#creation_of">creation_of</a> <a href="../../store/TableSpecs/index.html#ty">ty</a> init.ty) (<a href="../../store/TableSpecs/index.html#new_table">new_table</a> <a href="../../store/TableSpecs/index.html#ty">ty</a> init.raw) l <a href="../../store/TableSpecs/index.html#result">result</a> l&#x27;
+<a href="../../store/TableSpecs/index.html#MakesTable">MakesTable</a> rules <a href="../../store/TableSpecs/index.html#ty">ty</a> init l result l&#x27; = <a href="../../store/GrowthSpecs/index.html#Makes">Makes</a> rules (<a href="../../store/TableSpecs/index.html#creation_of">creation_of</a> <a href="../../store/TableSpecs/index.html#ty">ty</a> init.ty) (<a href="../../store/TableSpecs/index.html#new_table">new_table</a> <a href="../../store/TableSpecs/index.html#ty">ty</a> init.raw) l result l&#x27;
 
 -- a table grows by n elements, with this charge; it returns the old size
 abbrev pub <b id="GrowsTableRawCharging">GrowsTableRawCharging</b> : {S : Type 0} → <a href="../../meter/LimiterSpecs/index.html#Rules">Rules</a> S → ℕ → ℕ → <a href="../../meter/AttemptSpecs/index.html#MeteredValue">MeteredValue</a> <a href="../../store/TableSpecs/index.html#TableValue">TableValue</a> S → Result ℕ TableError → ℕ
     → <a href="../../meter/AttemptSpecs/index.html#MeteredValue">MeteredValue</a> <a href="../../store/TableSpecs/index.html#TableValue">TableValue</a> S → Type 0
-<a href="../../store/TableSpecs/index.html#GrowsTableRawCharging">GrowsTableRawCharging</a> rules n reference s <a href="../../store/TableSpecs/index.html#result">result</a> <a href="../../store/TableSpecs/index.html#charge">charge</a> s&#x27; =
-    <a href="../../store/GrowthSpecs/index.html#Grows">Grows</a> rules (record { amount = n; size = <a href="../../store/TableSpecs/index.html#size_of">size_of</a> s.value; request = <a href="../../store/TableSpecs/index.html#growth_of">growth_of</a> s.value n reference }) s <a href="../../store/TableSpecs/index.html#result">result</a> <a href="../../store/TableSpecs/index.html#charge">charge</a>
+<a href="../../store/TableSpecs/index.html#GrowsTableRawCharging">GrowsTableRawCharging</a> rules n reference s result charge s&#x27; =
+    <a href="../../store/GrowthSpecs/index.html#Grows">Grows</a> rules (record { amount = n; size = <a href="../../store/TableSpecs/index.html#size_of">size_of</a> s.value; request = <a href="../../store/TableSpecs/index.html#growth_of">growth_of</a> s.value n reference }) s result charge
     s&#x27;
 
 -- a growth by a reference that has a type, with this charge: the type is tested first, also for no element, and where
 -- it is another, nothing is touched
 abbrev pub <b id="GrowsTableCharging">GrowsTableCharging</b> : {S : Type 0} → <a href="../../meter/LimiterSpecs/index.html#Rules">Rules</a> S → ℕ → TypedRawRef → <a href="../../meter/AttemptSpecs/index.html#MeteredValue">MeteredValue</a> <a href="../../store/TableSpecs/index.html#TableValue">TableValue</a> S
     → Result ℕ TableError → ℕ → <a href="../../meter/AttemptSpecs/index.html#MeteredValue">MeteredValue</a> <a href="../../store/TableSpecs/index.html#TableValue">TableValue</a> S → Type 0
-<a href="../../store/TableSpecs/index.html#GrowsTableCharging">GrowsTableCharging</a> rules n init s <a href="../../store/TableSpecs/index.html#result">result</a> <a href="../../store/TableSpecs/index.html#charge">charge</a> s&#x27; = MatchBool (<a href="../../store/TableSpecs/index.html#same_type">same_type</a> s.value.ty.element init.ty)
-    (<a href="../../store/TableSpecs/index.html#GrowsTableRawCharging">GrowsTableRawCharging</a> rules n init.raw s <a href="../../store/TableSpecs/index.html#result">result</a> <a href="../../store/TableSpecs/index.html#charge">charge</a> s&#x27;)
-    ((<a href="../../store/TableSpecs/index.html#result">result</a> ≡ Err ElementTypeMismatch) × (<a href="../../store/TableSpecs/index.html#charge">charge</a> ≡ 0) × (s&#x27; ≡ s))
+<a href="../../store/TableSpecs/index.html#GrowsTableCharging">GrowsTableCharging</a> rules n init s result charge s&#x27; = MatchBool (<a href="../../store/TableSpecs/index.html#same_type">same_type</a> s.value.ty.element init.ty)
+    (<a href="../../store/TableSpecs/index.html#GrowsTableRawCharging">GrowsTableRawCharging</a> rules n init.raw s result charge s&#x27;)
+    ((result ≡ Err ElementTypeMismatch) × (charge ≡ 0) × (s&#x27; ≡ s))
 
 -- a table grows by n elements; it returns the old size
 abbrev pub <b id="GrowsTableRaw">GrowsTableRaw</b> : {S : Type 0} → <a href="../../meter/LimiterSpecs/index.html#Rules">Rules</a> S → ℕ → ℕ → <a href="../../meter/AttemptSpecs/index.html#MeteredValue">MeteredValue</a> <a href="../../store/TableSpecs/index.html#TableValue">TableValue</a> S → Result ℕ TableError
@@ -3356,99 +3335,148 @@ abbrev pub <b id="element_at">element_at</b> : <a href="../../store/TableSpecs/i
 
 -- the element at an index is set to a reference; past the end it is refused, and the table stays
 abbrev pub <b id="SetsTableRaw">SetsTableRaw</b> : ℕ → ℕ → <a href="../../store/TableSpecs/index.html#TableValue">TableValue</a> → Result (Unit {0}) TableError → <a href="../../store/TableSpecs/index.html#TableValue">TableValue</a> → Type 0
-<a href="../../store/TableSpecs/index.html#SetsTableRaw">SetsTableRaw</a> <a href="../../store/TableSpecs/index.html#index">index</a> reference x <a href="../../store/TableSpecs/index.html#result">result</a> x&#x27; = MatchOption (<a href="../../types/AccessSpecs/index.html#overwrite">overwrite</a> x.elements <a href="../../store/TableSpecs/index.html#index">index</a> (reference ∷ []))
-    ((<a href="../../store/TableSpecs/index.html#result">result</a> ≡ Err SetOutOfBounds) × (x&#x27; ≡ x))
-    (λ <a href="../../store/TableSpecs/index.html#elements">elements</a>. (<a href="../../store/TableSpecs/index.html#result">result</a> ≡ Ok tt) × (x&#x27; ≡ record x { <a href="../../store/TableSpecs/index.html#elements">elements</a> = <a href="../../store/TableSpecs/index.html#elements">elements</a> }))
+<a href="../../store/TableSpecs/index.html#SetsTableRaw">SetsTableRaw</a> <a href="../../store/TableSpecs/index.html#index">index</a> reference x result x&#x27; = MatchOption (<a href="../../types/AccessSpecs/index.html#overwrite">overwrite</a> x.elements <a href="../../store/TableSpecs/index.html#index">index</a> (reference ∷ []))
+    ((result ≡ Err SetOutOfBounds) × (x&#x27; ≡ x))
+    (λ <a href="../../store/TableSpecs/index.html#elements">elements</a>. (result ≡ Ok tt) × (x&#x27; ≡ record x { <a href="../../store/TableSpecs/index.html#elements">elements</a> = <a href="../../store/TableSpecs/index.html#elements">elements</a> }))
 
 -- the element at an index is set to a reference that has a type, which is tested first
 abbrev pub <b id="SetsTable">SetsTable</b> : ℕ → TypedRawRef → <a href="../../store/TableSpecs/index.html#TableValue">TableValue</a> → Result (Unit {0}) TableError → <a href="../../store/TableSpecs/index.html#TableValue">TableValue</a> → Type 0
-<a href="../../store/TableSpecs/index.html#SetsTable">SetsTable</a> <a href="../../store/TableSpecs/index.html#index">index</a> <a href="../../store/TableSpecs/index.html#value">value</a> x <a href="../../store/TableSpecs/index.html#result">result</a> x&#x27; = MatchBool (<a href="../../store/TableSpecs/index.html#same_type">same_type</a> x.ty.<a href="../../store/TableSpecs/index.html#element">element</a> value.ty)
-    (<a href="../../store/TableSpecs/index.html#SetsTableRaw">SetsTableRaw</a> <a href="../../store/TableSpecs/index.html#index">index</a> value.raw x <a href="../../store/TableSpecs/index.html#result">result</a> x&#x27;) ((<a href="../../store/TableSpecs/index.html#result">result</a> ≡ Err ElementTypeMismatch) × (x&#x27; ≡ x))
+<a href="../../store/TableSpecs/index.html#SetsTable">SetsTable</a> <a href="../../store/TableSpecs/index.html#index">index</a> value x result x&#x27; = MatchBool (<a href="../../store/TableSpecs/index.html#same_type">same_type</a> x.ty.<a href="../../store/TableSpecs/index.html#element">element</a> value.ty)
+    (<a href="../../store/TableSpecs/index.html#SetsTableRaw">SetsTableRaw</a> <a href="../../store/TableSpecs/index.html#index">index</a> value.raw x result x&#x27;) ((result ≡ Err ElementTypeMismatch) × (x&#x27; ≡ x))
 
--- A call that writes over a part of a table: whether the types are the same; the elements afterwards, or none where a
--- range ends past its list; the error there; and how many elements are paid for, if any.
-pub record <b id="TableWrite">TableWrite</b> : Type 0 where
-  pub <b id="typed">typed</b> : Bool
-  pub <b id="written">written</b> : Option (List ℕ)
-  pub <b id="outside">outside</b> : TableError
-  pub <b id="paid">paid</b> : Option ℕ
+-- a write over a range of a table
+abbrev pub <b id="TableWrite">TableWrite</b> : Type 0
+<a href="../../store/TableSpecs/index.html#TableWrite">TableWrite</a> = <a href="../../store/WriteSpecs/index.html#MeteredWrite">MeteredWrite</a> <a href="../../store/TableSpecs/index.html#TableValue">TableValue</a> TableError
+
+-- the elements of a table are written over: whether the types are the same, what the elements become, or none where a
+-- range ends past its list, the error there, and how many elements are paid for, if any
+abbrev pub <b id="elements_write">elements_write</b> : <a href="../../store/TableSpecs/index.html#TableValue">TableValue</a> → Bool → Option (List ℕ) → TableError → Option ℕ → <a href="../../store/TableSpecs/index.html#TableWrite">TableWrite</a>
+<a href="../../store/TableSpecs/index.html#elements_write">elements_write</a> x typed written outside paid = record {
+  early = if typed then None else Some ElementTypeMismatch;
+  written = option_map (<a href="../../store/TableSpecs/index.html#table_of">table_of</a> x.ty) written;
+  outside = outside;
+  price = option_map <a href="../../store/TableSpecs/index.html#element_price">element_price</a> paid;
+  unpaid = OutOfFuel;
+}
 
 -- so many elements from dst on are filled with a reference, whose type isn&#x27;t tested
 abbrev pub <b id="raw_filling_of">raw_filling_of</b> : ℕ → ℕ → ℕ → <a href="../../store/TableSpecs/index.html#TableValue">TableValue</a> → <a href="../../store/TableSpecs/index.html#TableWrite">TableWrite</a>
 <a href="../../store/TableSpecs/index.html#raw_filling_of">raw_filling_of</a> dst reference len x =
-    record { <a href="../../store/TableSpecs/index.html#typed">typed</a> = true; <a href="../../store/TableSpecs/index.html#written">written</a> = <a href="../../store/GrowthSpecs/index.html#filled">filled</a> x.elements dst reference len; <a href="../../store/TableSpecs/index.html#outside">outside</a> = FillOutOfBounds; <a href="../../store/TableSpecs/index.html#paid">paid</a> = Some len }
+    <a href="../../store/TableSpecs/index.html#elements_write">elements_write</a> x true (<a href="../../store/WriteSpecs/index.html#filled">filled</a> x.elements dst reference len) FillOutOfBounds (Some len)
 
 -- so many elements from dst on are filled with a reference, whose type is tested
 abbrev pub <b id="filling_of">filling_of</b> : ℕ → TypedRawRef → ℕ → <a href="../../store/TableSpecs/index.html#TableValue">TableValue</a> → <a href="../../store/TableSpecs/index.html#TableWrite">TableWrite</a>
-<a href="../../store/TableSpecs/index.html#filling_of">filling_of</a> dst <a href="../../store/TableSpecs/index.html#value">value</a> len x = record (<a href="../../store/TableSpecs/index.html#raw_filling_of">raw_filling_of</a> dst value.raw len x) { <a href="../../store/TableSpecs/index.html#typed">typed</a> = <a href="../../store/TableSpecs/index.html#same_type">same_type</a> x.ty.<a href="../../store/TableSpecs/index.html#element">element</a> value.ty }
+<a href="../../store/TableSpecs/index.html#filling_of">filling_of</a> dst value len x = <a href="../../store/TableSpecs/index.html#elements_write">elements_write</a> x (<a href="../../store/TableSpecs/index.html#same_type">same_type</a> x.ty.<a href="../../store/TableSpecs/index.html#element">element</a> value.ty)
+    (<a href="../../store/WriteSpecs/index.html#filled">filled</a> x.elements dst value.raw len) FillOutOfBounds (Some len)
 
 -- so many elements from src on of a table, perhaps the same one, are copied over those from dst on
 abbrev pub <b id="copy_of">copy_of</b> : ℕ → ℕ → ℕ → <a href="../../store/TableSpecs/index.html#TableValue">TableValue</a> → <a href="../../store/TableSpecs/index.html#TableValue">TableValue</a> → <a href="../../store/TableSpecs/index.html#TableWrite">TableWrite</a>
-<a href="../../store/TableSpecs/index.html#copy_of">copy_of</a> dst src len source x = record {
-  <a href="../../store/TableSpecs/index.html#typed">typed</a> = <a href="../../store/TableSpecs/index.html#same_type">same_type</a> x.ty.<a href="../../store/TableSpecs/index.html#element">element</a> source.ty.<a href="../../store/TableSpecs/index.html#element">element</a>;
-  <a href="../../store/TableSpecs/index.html#written">written</a> = <a href="../../store/GrowthSpecs/index.html#copied">copied</a> x.elements dst source.elements src len;
-  <a href="../../store/TableSpecs/index.html#outside">outside</a> = CopyOutOfBounds;
-  <a href="../../store/TableSpecs/index.html#paid">paid</a> = Some len;
-}
+<a href="../../store/TableSpecs/index.html#copy_of">copy_of</a> dst src len source x = <a href="../../store/TableSpecs/index.html#elements_write">elements_write</a> x (<a href="../../store/TableSpecs/index.html#same_type">same_type</a> x.ty.<a href="../../store/TableSpecs/index.html#element">element</a> source.ty.<a href="../../store/TableSpecs/index.html#element">element</a>)
+    (<a href="../../store/WriteSpecs/index.html#copied">copied</a> x.elements dst source.elements src len) CopyOutOfBounds (Some len)
 
 -- so many items from src on of an element segment are copied over the elements from dst on; no item is free
 abbrev pub <b id="initialization_of">initialization_of</b> : ℕ → ℕ → ℕ → <a href="../../store/SegmentSpecs/index.html#SegmentValue">SegmentValue</a> → <a href="../../store/TableSpecs/index.html#TableValue">TableValue</a> → <a href="../../store/TableSpecs/index.html#TableWrite">TableWrite</a>
-<a href="../../store/TableSpecs/index.html#initialization_of">initialization_of</a> dst src len segment x = record {
-  <a href="../../store/TableSpecs/index.html#typed">typed</a> = <a href="../../store/TableSpecs/index.html#same_type">same_type</a> x.ty.<a href="../../store/TableSpecs/index.html#element">element</a> segment.ty;
-  <a href="../../store/TableSpecs/index.html#written">written</a> = <a href="../../store/GrowthSpecs/index.html#copied">copied</a> x.elements dst segment.items src len;
-  <a href="../../store/TableSpecs/index.html#outside">outside</a> = InitOutOfBounds;
-  <a href="../../store/TableSpecs/index.html#paid">paid</a> = if nat_eq len 0 then None else Some len;
-}
+<a href="../../store/TableSpecs/index.html#initialization_of">initialization_of</a> dst src len segment x = <a href="../../store/TableSpecs/index.html#elements_write">elements_write</a> x (<a href="../../store/TableSpecs/index.html#same_type">same_type</a> x.ty.<a href="../../store/TableSpecs/index.html#element">element</a> segment.ty)
+    (<a href="../../store/WriteSpecs/index.html#copied">copied</a> x.elements dst segment.items src len) InitOutOfBounds (if nat_eq len 0 then None else Some len)
 
--- a table with its meter, if there is one; a write asks no limiter
-abbrev pub <b id="MeteredTable">MeteredTable</b> : Type 0
-<a href="../../store/TableSpecs/index.html#MeteredTable">MeteredTable</a> = <a href="../../meter/AttemptSpecs/index.html#MeteredValue">MeteredValue</a> <a href="../../store/TableSpecs/index.html#TableValue">TableValue</a> (Unit {0})
-
--- what a write over a part of a table ends with
-pub record <b id="WriteEnding">WriteEnding</b> : Type 0 where
-  pub <b id="result">result</b> : Result (Unit {0}) TableError
-  pub <b id="charge">charge</b> : ℕ
-  pub <b id="value">value</b> : <a href="../../store/TableSpecs/index.html#TableValue">TableValue</a>
-
-module _ (w : <a href="../../store/TableSpecs/index.html#TableWrite">TableWrite</a>) (s : <a href="../../store/TableSpecs/index.html#MeteredTable">MeteredTable</a>) where
-  -- what is due for it
-  abbrev pub <b id="write_due">write_due</b> : ℕ
-  <a href="../../store/TableSpecs/index.html#write_due">write_due</a> = <a href="../../meter/AttemptSpecs/index.html#optional_due">optional_due</a> s.meter (option_map <a href="../../store/TableSpecs/index.html#element_price">element_price</a> w.paid)
-
-  -- refused for a cause: nothing is taken, and the table stays
-  abbrev pub <b id="Refuses">Refuses</b> : TableError → <a href="../../store/TableSpecs/index.html#WriteEnding">WriteEnding</a> → Type 0
-  <a href="../../store/TableSpecs/index.html#Refuses">Refuses</a> cause end = (end.result ≡ Err cause) × (end.charge ≡ 0) × (end.value ≡ s.value)
-
-  -- how it ends, by whether the types are the same, whether the ranges lie within, and whether so much can be paid
-  abbrev pub <b id="EndsBy">EndsBy</b> : Bool → Option (List ℕ) → Bool → <a href="../../store/TableSpecs/index.html#WriteEnding">WriteEnding</a> → Type 0
-  <a href="../../store/TableSpecs/index.html#EndsBy">EndsBy</a> false <a href="../../store/TableSpecs/index.html#written">written</a> payable end = <a href="../../store/TableSpecs/index.html#Refuses">Refuses</a> ElementTypeMismatch end
-  <a href="../../store/TableSpecs/index.html#EndsBy">EndsBy</a> true None payable end = <a href="../../store/TableSpecs/index.html#Refuses">Refuses</a> w.outside end
-  <a href="../../store/TableSpecs/index.html#EndsBy">EndsBy</a> true (Some <a href="../../store/TableSpecs/index.html#elements">elements</a>) false end = <a href="../../store/TableSpecs/index.html#Refuses">Refuses</a> (OutOfFuel <a href="../../store/TableSpecs/index.html#write_due">write_due</a>) end
-  <a href="../../store/TableSpecs/index.html#EndsBy">EndsBy</a> true (Some <a href="../../store/TableSpecs/index.html#elements">elements</a>) true end =
-      (end.result ≡ Ok tt) × (end.charge ≡ <a href="../../store/TableSpecs/index.html#write_due">write_due</a>) × (end.value ≡ record s.value { <a href="../../store/TableSpecs/index.html#elements">elements</a> = <a href="../../store/TableSpecs/index.html#elements">elements</a> })
-
-  -- how it ends
-  abbrev pub <b id="Ends">Ends</b> : <a href="../../store/TableSpecs/index.html#WriteEnding">WriteEnding</a> → Type 0
-  <a href="../../store/TableSpecs/index.html#Ends">Ends</a> = <a href="../../store/TableSpecs/index.html#EndsBy">EndsBy</a> w.typed w.written (<a href="../../meter/AttemptSpecs/index.html#covers">covers</a> s.meter <a href="../../store/TableSpecs/index.html#write_due">write_due</a>)
-
--- a part of a table is written over, with this charge
-pub record <b id="WritesTableCharging">WritesTableCharging</b> (write : <a href="../../store/TableSpecs/index.html#TableValue">TableValue</a> → <a href="../../store/TableSpecs/index.html#TableWrite">TableWrite</a>) (s : <a href="../../store/TableSpecs/index.html#MeteredTable">MeteredTable</a>)
-    (<a href="../../store/TableSpecs/index.html#result">result</a> : Result (Unit {0}) TableError) (<a href="../../store/TableSpecs/index.html#charge">charge</a> : ℕ) (s&#x27; : <a href="../../store/TableSpecs/index.html#MeteredTable">MeteredTable</a>) : Type 0 where
-  pub <b id="ends">ends</b> : <a href="../../store/TableSpecs/index.html#Ends">Ends</a> (write s.value) s (record { <a href="../../store/TableSpecs/index.html#result">result</a> = <a href="../../store/TableSpecs/index.html#result">result</a>; <a href="../../store/TableSpecs/index.html#charge">charge</a> = <a href="../../store/TableSpecs/index.html#charge">charge</a>; <a href="../../store/TableSpecs/index.html#value">value</a> = s&#x27;.<a href="../../store/TableSpecs/index.html#value">value</a> })
-  pub <b id="meter">meter</b> : s&#x27;.<a href="../../store/TableSpecs/index.html#meter">meter</a> ≡ option_map (λ m. <a href="../../meter/MeterSpecs/index.html#meter_after">meter_after</a> m <a href="../../store/TableSpecs/index.html#charge">charge</a>) s.meter
-
--- a part of a table is written over
-abbrev pub <b id="WritesTable">WritesTable</b> : (<a href="../../store/TableSpecs/index.html#TableValue">TableValue</a> → <a href="../../store/TableSpecs/index.html#TableWrite">TableWrite</a>) → <a href="../../store/TableSpecs/index.html#MeteredTable">MeteredTable</a> → Result (Unit {0}) TableError → <a href="../../store/TableSpecs/index.html#MeteredTable">MeteredTable</a> → Type 0
-<a href="../../store/TableSpecs/index.html#WritesTable">WritesTable</a> write = <a href="../../store/GrowthSpecs/index.html#WithCharge">WithCharge</a> (<a href="../../store/TableSpecs/index.html#WritesTableCharging">WritesTableCharging</a> write)
-
--- Elements are written over, wherever they lie: by what they become, or none where a range ends past its list, the
--- error there, and how many of them are paid for, if any.
-abbrev pub <b id="WritesElements">WritesElements</b> : {A : Type 0} → Option (List A) → TableError → Option ℕ → <a href="../../store/GrowthSpecs/index.html#MeteredItems">MeteredItems</a> A
-    → Result (Unit {0}) TableError → <a href="../../store/GrowthSpecs/index.html#MeteredItems">MeteredItems</a> A → Type 0
-<a href="../../store/TableSpecs/index.html#WritesElements">WritesElements</a> <a href="../../store/TableSpecs/index.html#written">written</a> <a href="../../store/TableSpecs/index.html#outside">outside</a> <a href="../../store/TableSpecs/index.html#paid">paid</a> = <a href="../../store/GrowthSpecs/index.html#WritesItems">WritesItems</a> OutOfFuel <a href="../../store/TableSpecs/index.html#written">written</a> <a href="../../store/TableSpecs/index.html#outside">outside</a> (option_map <a href="../../store/TableSpecs/index.html#element_price">element_price</a> <a href="../../store/TableSpecs/index.html#paid">paid</a>)
+-- a range of a table is written over
+abbrev pub <b id="WritesTable">WritesTable</b> : (<a href="../../store/TableSpecs/index.html#TableValue">TableValue</a> → <a href="../../store/TableSpecs/index.html#TableWrite">TableWrite</a>) → <a href="../../meter/AttemptSpecs/index.html#MeteredValue">MeteredValue</a> <a href="../../store/TableSpecs/index.html#TableValue">TableValue</a> (Unit {0})
+    → Result (Unit {0}) TableError → <a href="../../meter/AttemptSpecs/index.html#MeteredValue">MeteredValue</a> <a href="../../store/TableSpecs/index.html#TableValue">TableValue</a> (Unit {0}) → Type 0
+<a href="../../store/TableSpecs/index.html#WritesTable">WritesTable</a> write = <a href="../../store/GrowthSpecs/index.html#WithCharge">WithCharge</a> (<a href="../../store/WriteSpecs/index.html#WritesCharging">WritesCharging</a> write)
 </code></pre>
 "####]
     pub mod TableSpecs {}
+    #[doc = r####"A write over a range of a memory's bytes or of a table's elements, as a bulk instruction makes it: what stands before it, what it writes, and what it costs.
+
+<pre><code>use Rattle.std.specs.Prelude.{◌≡◌, ℕ, Option, Some, None, Result, Ok, Err, List, replicate, MatchBool}
+use Rattle.std.specs.Option.{option_map, option_and_then}
+use Rattle.wasmi_types.specs.Access.{<a href="../../types/AccessSpecs/index.html#at">at</a>, <a href="../../types/AccessSpecs/index.html#overwrite">overwrite</a>}
+use Rattle.wasmi_meter.specs.declared.error.MemoryError.{MemoryError}
+use Rattle.wasmi_meter.specs.declared.error.MemoryError.TheVariants.{OutOfBoundsAccess, OutOfFuel}
+use Rattle.wasmi_meter.specs.declared.fuel.CustomFuelCosts.{CustomFuelCosts}
+use Rattle.wasmi_meter.specs.Meter.{<a href="../../meter/MeterSpecs/index.html#copy_cost">copy_cost</a>, <a href="../../meter/MeterSpecs/index.html#meter_after">meter_after</a>}
+use Rattle.wasmi_meter.specs.Attempt.{<a href="../../meter/AttemptSpecs/index.html#MeteredValue">MeteredValue</a>, <a href="../../meter/AttemptSpecs/index.html#optional_due">optional_due</a>, <a href="../../meter/AttemptSpecs/index.html#covers">covers</a>}
+use Rattle.wasmi_store.specs.Growth.{<a href="../../store/GrowthSpecs/index.html#metered">metered</a>}
+
+-- items of which so many, from dst on, are each filled with a value, or none where they end too early
+abbrev pub <b id="filled">filled</b> : {A : Type 0} → List A → ℕ → A → ℕ → Option (List A)
+<a href="../../store/WriteSpecs/index.html#filled">filled</a> items dst value len = <a href="../../types/AccessSpecs/index.html#overwrite">overwrite</a> items dst (replicate len value)
+
+-- items whose part from dst on is written over by so many items of a list from src on, or none where a list ends too
+-- early
+abbrev pub <b id="copied">copied</b> : {A : Type 0} → List A → ℕ → List A → ℕ → ℕ → Option (List A)
+<a href="../../store/WriteSpecs/index.html#copied">copied</a> items dst source src len = option_and_then (λ part. <a href="../../types/AccessSpecs/index.html#overwrite">overwrite</a> items dst part) (<a href="../../types/AccessSpecs/index.html#at">at</a> source src len)
+
+-- the fuel for so many items of so many bytes each
+abbrev pub <b id="item_price">item_price</b> : ℕ → ℕ → CustomFuelCosts → ℕ
+<a href="../../store/WriteSpecs/index.html#item_price">item_price</a> size n costs = <a href="../../meter/MeterSpecs/index.html#copy_cost">copy_cost</a> costs n size
+
+-- A write over a range of a value: the error of what stands before it, if anything does; the value afterwards, or none
+-- where a range ends past its list; the error there; its price by a meter&#x27;s costs, if there is one; and the error if so
+-- much isn&#x27;t left.
+pub record <b id="MeteredWrite">MeteredWrite</b> (V E : Type 0) : Type 0 where
+  pub <b id="early">early</b> : Option E
+  pub <b id="written">written</b> : Option V
+  pub <b id="outside">outside</b> : E
+  pub <b id="price">price</b> : Option (CustomFuelCosts → ℕ)
+  pub <b id="unpaid">unpaid</b> : ℕ → E
+
+module _ {V E : Type 0} (w : <a href="../../store/WriteSpecs/index.html#MeteredWrite">MeteredWrite</a> V E) (s : <a href="../../meter/AttemptSpecs/index.html#MeteredValue">MeteredValue</a> V (Unit {0})) where
+  -- what is due for it
+  abbrev pub <b id="write_due">write_due</b> : ℕ
+  <a href="../../store/WriteSpecs/index.html#write_due">write_due</a> = <a href="../../meter/AttemptSpecs/index.html#optional_due">optional_due</a> s.meter w.price
+
+  -- what it is charged, by its result
+  abbrev pub <b id="write_charge">write_charge</b> : Result (Unit {0}) E → ℕ
+  <a href="../../store/WriteSpecs/index.html#write_charge">write_charge</a> (Ok _) = <a href="../../store/WriteSpecs/index.html#write_due">write_due</a>
+  <a href="../../store/WriteSpecs/index.html#write_charge">write_charge</a> (Err error) = 0
+
+  module _ (result : Result (Unit {0}) E) (s&#x27; : <a href="../../meter/AttemptSpecs/index.html#MeteredValue">MeteredValue</a> V (Unit {0})) where
+    -- it is refused for a cause: nothing is written or taken
+    abbrev pub <b id="IsRefusedFor">IsRefusedFor</b> : E → Type 0
+    <a href="../../store/WriteSpecs/index.html#IsRefusedFor">IsRefusedFor</a> cause = (result ≡ Err cause) × (s&#x27; ≡ s)
+
+    -- it ends in so much: what is due is taken, or isn&#x27;t left
+    abbrev pub <b id="IsPaidFor">IsPaidFor</b> : V → Type 0
+    <a href="../../store/WriteSpecs/index.html#IsPaidFor">IsPaidFor</a> value = MatchBool (<a href="../../meter/AttemptSpecs/index.html#covers">covers</a> s.meter <a href="../../store/WriteSpecs/index.html#write_due">write_due</a>)
+        ((result ≡ Ok tt) × (s&#x27; ≡ <a href="../../store/GrowthSpecs/index.html#metered">metered</a> value (option_map (λ m. <a href="../../meter/MeterSpecs/index.html#meter_after">meter_after</a> m <a href="../../store/WriteSpecs/index.html#write_due">write_due</a>) s.meter)))
+        (<a href="../../store/WriteSpecs/index.html#IsRefusedFor">IsRefusedFor</a> (w.unpaid <a href="../../store/WriteSpecs/index.html#write_due">write_due</a>))
+
+    -- how it ends, by the tests in their order: what stands before it, its ranges, its fuel
+    abbrev pub <b id="EndsBy">EndsBy</b> : Option E → Option V → Type 0
+    <a href="../../store/WriteSpecs/index.html#EndsBy">EndsBy</a> (Some cause) <a href="../../store/WriteSpecs/index.html#written">written</a> = <a href="../../store/WriteSpecs/index.html#IsRefusedFor">IsRefusedFor</a> cause
+    <a href="../../store/WriteSpecs/index.html#EndsBy">EndsBy</a> None None = <a href="../../store/WriteSpecs/index.html#IsRefusedFor">IsRefusedFor</a> w.outside
+    <a href="../../store/WriteSpecs/index.html#EndsBy">EndsBy</a> None (Some value) = <a href="../../store/WriteSpecs/index.html#IsPaidFor">IsPaidFor</a> value
+
+    -- how it ends
+    abbrev pub <b id="Writes">Writes</b> : Type 0
+    <a href="../../store/WriteSpecs/index.html#Writes">Writes</a> = <a href="../../store/WriteSpecs/index.html#EndsBy">EndsBy</a> w.early w.written
+
+-- a write over a range of a value takes place, with its charge
+pub record <b id="WritesCharging">WritesCharging</b> {V E : Type 0} (write : V → <a href="../../store/WriteSpecs/index.html#MeteredWrite">MeteredWrite</a> V E) (s : <a href="../../meter/AttemptSpecs/index.html#MeteredValue">MeteredValue</a> V (Unit {0}))
+    (result : Result (Unit {0}) E) (charge : ℕ) (s&#x27; : <a href="../../meter/AttemptSpecs/index.html#MeteredValue">MeteredValue</a> V (Unit {0})) : Type 0 where
+  pub <b id="writes">writes</b> : <a href="../../store/WriteSpecs/index.html#Writes">Writes</a> (write s.value) s result s&#x27;
+  pub <b id="charged">charged</b> : charge ≡ <a href="../../store/WriteSpecs/index.html#write_charge">write_charge</a> (write s.value) s result
+
+-- a write over items, wherever they lie: by the error of a meter with less than is needed, what the items become, or
+-- none where a range ends past its list, the error there, and what they cost, if anything
+abbrev pub <b id="items_write">items_write</b> : {A E : Type 0} → (ℕ → E) → Option (List A) → E → Option (CustomFuelCosts → ℕ)
+    → <a href="../../store/WriteSpecs/index.html#MeteredWrite">MeteredWrite</a> (List A) E
+<a href="../../store/WriteSpecs/index.html#items_write">items_write</a> <a href="../../store/WriteSpecs/index.html#unpaid">unpaid</a> <a href="../../store/WriteSpecs/index.html#written">written</a> <a href="../../store/WriteSpecs/index.html#outside">outside</a> <a href="../../store/WriteSpecs/index.html#price">price</a> =
+    record { <a href="../../store/WriteSpecs/index.html#early">early</a> = None; <a href="../../store/WriteSpecs/index.html#written">written</a> = <a href="../../store/WriteSpecs/index.html#written">written</a>; <a href="../../store/WriteSpecs/index.html#outside">outside</a> = <a href="../../store/WriteSpecs/index.html#outside">outside</a>; <a href="../../store/WriteSpecs/index.html#price">price</a> = <a href="../../store/WriteSpecs/index.html#price">price</a>; <a href="../../store/WriteSpecs/index.html#unpaid">unpaid</a> = <a href="../../store/WriteSpecs/index.html#unpaid">unpaid</a> }
+
+-- items are written over
+abbrev pub <b id="WritesItems">WritesItems</b> : {A E : Type 0} → (ℕ → E) → Option (List A) → E → Option (CustomFuelCosts → ℕ)
+    → <a href="../../meter/AttemptSpecs/index.html#MeteredValue">MeteredValue</a> (List A) (Unit {0}) → Result (Unit {0}) E → <a href="../../meter/AttemptSpecs/index.html#MeteredValue">MeteredValue</a> (List A) (Unit {0}) → Type 0
+<a href="../../store/WriteSpecs/index.html#WritesItems">WritesItems</a> <a href="../../store/WriteSpecs/index.html#unpaid">unpaid</a> <a href="../../store/WriteSpecs/index.html#written">written</a> <a href="../../store/WriteSpecs/index.html#outside">outside</a> <a href="../../store/WriteSpecs/index.html#price">price</a> = <a href="../../store/WriteSpecs/index.html#Writes">Writes</a> (<a href="../../store/WriteSpecs/index.html#items_write">items_write</a> <a href="../../store/WriteSpecs/index.html#unpaid">unpaid</a> <a href="../../store/WriteSpecs/index.html#written">written</a> <a href="../../store/WriteSpecs/index.html#outside">outside</a> <a href="../../store/WriteSpecs/index.html#price">price</a>)
+
+-- a bulk instruction writes so many bytes, each of which is paid for
+abbrev pub <b id="BulkWrites">BulkWrites</b> : Option (List ℕ) → ℕ → <a href="../../meter/AttemptSpecs/index.html#MeteredValue">MeteredValue</a> (List ℕ) (Unit {0}) → Result (Unit {0}) MemoryError
+    → <a href="../../meter/AttemptSpecs/index.html#MeteredValue">MeteredValue</a> (List ℕ) (Unit {0}) → Type 0
+<a href="../../store/WriteSpecs/index.html#BulkWrites">BulkWrites</a> <a href="../../store/WriteSpecs/index.html#written">written</a> len = <a href="../../store/WriteSpecs/index.html#WritesItems">WritesItems</a> OutOfFuel <a href="../../store/WriteSpecs/index.html#written">written</a> OutOfBoundsAccess (Some (<a href="../../store/WriteSpecs/index.html#item_price">item_price</a> 1 len))
+</code></pre>
+"####]
+    pub mod WriteSpecs {}
 }
 /// Definitions of `wasmi_machine`.
 pub mod machine {
@@ -3670,13 +3698,14 @@ abbrev pub <b id="RepliesKeepKind">RepliesKeepKind</b> : Type 0
 
 <pre><code>use Rattle.std.specs.Prelude.{◌≡◌, ◌⊎◌, ◌++◌, ℕ, Option, Some, Result, Ok, Err, List, [], ◌∷◌, length, slice_get, slice_set, unwrap_or, MatchOption}
 use Rattle.wasmi_meter.specs.Attempt.{<a href="../../meter/AttemptSpecs/index.html#MeteredValue">MeteredValue</a>, <a href="../../meter/AttemptSpecs/index.html#with_value">with_value</a>}
-use Rattle.wasmi_meter.specs.Meter.{<a href="../../meter/MeterSpecs/index.html#Meter">Meter</a>}
+use Rattle.wasmi_meter.specs.Meter.{<a href="../../meter/MeterSpecs/index.html#Meter">Meter</a>, <a href="../../meter/MeterSpecs/index.html#cut_product">cut_product</a>}
 use Rattle.wasmi_store.specs.Growth.{<a href="../../store/GrowthSpecs/index.html#metered">metered</a>, <a href="../../store/GrowthSpecs/index.html#metered_value">metered_value</a>}
+use Rattle.wasmi_store.specs.Write.{<a href="../../store/WriteSpecs/index.html#MeteredWrite">MeteredWrite</a>, <a href="../../store/WriteSpecs/index.html#WritesCharging">WritesCharging</a>}
 use Rattle.wasmi_machine.specs.declared.calls.Reply.{Reply}
-use Rattle.wasmi_machine.specs.declared.calls.Reply.TheVariants.{Done, Made, NoSuch, NoRoom}
+use Rattle.wasmi_machine.specs.declared.calls.Reply.TheVariants.{Done, Made, Number, NoSuch, NoRoom}
 use Rattle.wasmi_machine.specs.declared.slots.Slot.{Slot}
 use Rattle.wasmi_machine.specs.declared.slots.Slot.TheVariants.{Live, Gone}
-use Rattle.wasmi_machine.specs.State.{<a href="../../machine/StateSpecs/index.html#State">State</a>, <a href="../../machine/StateSpecs/index.html#live_at">live_at</a>, <a href="../../machine/StateSpecs/index.html#World">World</a>, <a href="../../machine/StateSpecs/index.html#world">world</a>, <a href="../../machine/StateSpecs/index.html#Turn">Turn</a>, <a href="../../machine/StateSpecs/index.html#IsFree">IsFree</a>}
+use Rattle.wasmi_machine.specs.State.{<a href="../../machine/StateSpecs/index.html#State">State</a>, <a href="../../machine/StateSpecs/index.html#live_value">live_value</a>, <a href="../../machine/StateSpecs/index.html#live_at">live_at</a>, <a href="../../machine/StateSpecs/index.html#World">World</a>, <a href="../../machine/StateSpecs/index.html#world">world</a>, <a href="../../machine/StateSpecs/index.html#Turn">Turn</a>, <a href="../../machine/StateSpecs/index.html#IsFree">IsFree</a>}
 
 -- the reply to a call that returns a value or is refused
 abbrev pub <b id="reply_of">reply_of</b> : {T E : Type 0} → (T → Reply) → (E → Reply) → Result T E → Reply
@@ -3733,6 +3762,41 @@ abbrev pub <b id="ActsAt">ActsAt</b> : {X R S : Type 0} → ℕ → (R → Reply
 <a href="../../machine/EffectsSpecs/index.html#ActsAt">ActsAt</a> k reply_to Acts s reply charge s&#x27; = <a href="../../machine/EffectsSpecs/index.html#OnLive">OnLive</a> (<a href="../../machine/StateSpecs/index.html#live_at">live_at</a> s.value k) (<a href="../../machine/EffectsSpecs/index.html#IsNoSuch">IsNoSuch</a> s reply charge s&#x27;)
     (λ x. (result : _) × (x&#x27; : _) × Acts (<a href="../../meter/AttemptSpecs/index.html#with_value">with_value</a> s x) result charge (<a href="../../meter/AttemptSpecs/index.html#with_value">with_value</a> s&#x27; x&#x27;)
     × (reply ≡ reply_to result) × (s&#x27;.value ≡ slice_set s.value k (Live x&#x27;)))
+
+-- values of one kind in their slots, and the meter that is charged
+abbrev pub <b id="MeteredSlots">MeteredSlots</b> : Type 0 → Type 0
+<a href="../../machine/EffectsSpecs/index.html#MeteredSlots">MeteredSlots</a> X = <a href="../../meter/AttemptSpecs/index.html#MeteredValue">MeteredValue</a> (List (Slot X)) (Unit {0})
+
+-- a range of the value of an index is written over, with its charge
+abbrev pub <b id="WritesAt">WritesAt</b> : {X E : Type 0} → (E → Reply) → ℕ → (X → <a href="../../store/WriteSpecs/index.html#MeteredWrite">MeteredWrite</a> X E) → <a href="../../machine/EffectsSpecs/index.html#MeteredSlots">MeteredSlots</a> X → Reply → ℕ
+    → <a href="../../machine/EffectsSpecs/index.html#MeteredSlots">MeteredSlots</a> X → Type 0
+<a href="../../machine/EffectsSpecs/index.html#WritesAt">WritesAt</a> refusal k write = <a href="../../machine/EffectsSpecs/index.html#ActsAt">ActsAt</a> k (<a href="../../machine/EffectsSpecs/index.html#reply_of">reply_of</a> (λ _. Done) refusal) (<a href="../../store/WriteSpecs/index.html#WritesCharging">WritesCharging</a> write)
+
+-- a range of the value of an index is written over with what a source has, with its charge; without a source the reply
+-- is `NoSuch`, and nothing has changed
+abbrev pub <b id="WritesFrom">WritesFrom</b> : {X Y E : Type 0} → (E → Reply) → Option Y → ℕ → (Y → X → <a href="../../store/WriteSpecs/index.html#MeteredWrite">MeteredWrite</a> X E) → <a href="../../machine/EffectsSpecs/index.html#MeteredSlots">MeteredSlots</a> X
+    → Reply → ℕ → <a href="../../machine/EffectsSpecs/index.html#MeteredSlots">MeteredSlots</a> X → Type 0
+<a href="../../machine/EffectsSpecs/index.html#WritesFrom">WritesFrom</a> refusal source k write s reply charge s&#x27; =
+    <a href="../../machine/EffectsSpecs/index.html#OnLive">OnLive</a> source (<a href="../../machine/EffectsSpecs/index.html#IsNoSuch">IsNoSuch</a> s reply charge s&#x27;) (λ y. <a href="../../machine/EffectsSpecs/index.html#WritesAt">WritesAt</a> refusal k (write y) s reply charge s&#x27;)
+
+-- a range of the value of an index is written over by such a write, if there is one
+abbrev pub <b id="WritesRangeAt">WritesRangeAt</b> : {X E : Type 0} → (E → Reply) → ℕ → Option (X → <a href="../../store/WriteSpecs/index.html#MeteredWrite">MeteredWrite</a> X E) → <a href="../../machine/EffectsSpecs/index.html#MeteredSlots">MeteredSlots</a> X → Reply
+    → ℕ → <a href="../../machine/EffectsSpecs/index.html#MeteredSlots">MeteredSlots</a> X → Type 0
+<a href="../../machine/EffectsSpecs/index.html#WritesRangeAt">WritesRangeAt</a> refusal k write = <a href="../../machine/EffectsSpecs/index.html#WritesFrom">WritesFrom</a> refusal write k (λ w. w)
+
+-- a slot&#x27;s value is written over with what another slot&#x27;s value has
+abbrev pub <b id="CopiesSlot">CopiesSlot</b> : {X E : Type 0} → (E → Reply) → (X → X → <a href="../../store/WriteSpecs/index.html#MeteredWrite">MeteredWrite</a> X E) → Slot X
+    → <a href="../../meter/AttemptSpecs/index.html#MeteredValue">MeteredValue</a> (Slot X) (Unit {0}) → Reply → ℕ → <a href="../../meter/AttemptSpecs/index.html#MeteredValue">MeteredValue</a> (Slot X) (Unit {0}) → Type 0
+<a href="../../machine/EffectsSpecs/index.html#CopiesSlot">CopiesSlot</a> refusal write source s reply charge s&#x27; = <a href="../../machine/EffectsSpecs/index.html#OnLive">OnLive</a> (<a href="../../machine/StateSpecs/index.html#live_value">live_value</a> source) (<a href="../../machine/EffectsSpecs/index.html#IsNoSuch">IsNoSuch</a> s reply charge s&#x27;)
+    (λ y. <a href="../../machine/EffectsSpecs/index.html#OnLive">OnLive</a> (<a href="../../machine/StateSpecs/index.html#live_value">live_value</a> s.value) (<a href="../../machine/EffectsSpecs/index.html#IsNoSuch">IsNoSuch</a> s reply charge s&#x27;)
+    (λ x. (result : _) × (x&#x27; : _) × <a href="../../store/WriteSpecs/index.html#WritesCharging">WritesCharging</a> (write y) (<a href="../../meter/AttemptSpecs/index.html#with_value">with_value</a> s x) result charge (<a href="../../meter/AttemptSpecs/index.html#with_value">with_value</a> s&#x27; x&#x27;)
+    × (reply ≡ <a href="../../machine/EffectsSpecs/index.html#reply_of">reply_of</a> (λ _. Done) refusal result) × (s&#x27;.value ≡ Live x&#x27;)))
+
+-- the bytes that an accepted call on so many items, of so many bytes each, has written
+abbrev pub <b id="item_bytes">item_bytes</b> : ℕ → ℕ → Reply → ℕ
+<a href="../../machine/EffectsSpecs/index.html#item_bytes">item_bytes</a> size n Done = <a href="../../meter/MeterSpecs/index.html#cut_product">cut_product</a> n size
+<a href="../../machine/EffectsSpecs/index.html#item_bytes">item_bytes</a> size n (Number number) = <a href="../../meter/MeterSpecs/index.html#cut_product">cut_product</a> n size
+<a href="../../machine/EffectsSpecs/index.html#item_bytes">item_bytes</a> size n reply = 0
 
 -- one part of the state has changed
 pub record <b id="ChangesPart">ChangesPart</b> {A : Type 0} (with_part : A → <a href="../../machine/StateSpecs/index.html#State">State</a>) (Effect : Reply → A → Type 0) (reply : Reply)
@@ -3796,6 +3860,7 @@ use Rattle.wasmi_meter.specs.declared.limiter.Kind.TheVariants.{Bytes, Elements}
 use Rattle.wasmi_meter.specs.declared.error.MemoryError.TheVariants as memory_error
 use Rattle.wasmi_meter.specs.declared.error.TableError.TheVariants as table_error
 use Rattle.wasmi_meter.specs.Limiter.{<a href="../../meter/LimiterSpecs/index.html#Question">Question</a>, <a href="../../meter/LimiterSpecs/index.html#Answer">Answer</a>, <a href="../../meter/LimiterSpecs/index.html#IsDenial">IsDenial</a>, <a href="../../meter/LimiterSpecs/index.html#Failure">Failure</a>, <a href="../../meter/LimiterSpecs/index.html#MemoryFailure">MemoryFailure</a>, <a href="../../meter/LimiterSpecs/index.html#TableFailure">TableFailure</a>, <a href="../../meter/LimiterSpecs/index.html#kind_of">kind_of</a>, <a href="../../meter/LimiterSpecs/index.html#NoticeAnswer">NoticeAnswer</a>, <a href="../../meter/LimiterSpecs/index.html#Rules">Rules</a>}
+use Rattle.wasmi_meter.specs.declared.fuel.CustomFuelCosts.{CustomFuelCosts}
 use Rattle.wasmi_meter.specs.Meter.{<a href="../../meter/MeterSpecs/index.html#copy_cost">copy_cost</a>, <a href="../../meter/MeterSpecs/index.html#Meter">Meter</a>, <a href="../../meter/MeterSpecs/index.html#due">due</a>}
 use Rattle.wasmi_meter.specs.Attempt.{<a href="../../meter/AttemptSpecs/index.html#Request">Request</a>, <a href="../../meter/AttemptSpecs/index.html#optional_due">optional_due</a>}
 use Rattle.wasmi_store.specs.Buffer.{<a href="../../store/BufferSpecs/index.html#Owned">Owned</a>, <a href="../../store/BufferSpecs/index.html#Lent">Lent</a>}
@@ -3929,19 +3994,23 @@ abbrev pub <b id="growth_charge">growth_charge</b> : <a href="../../machine/Exch
 <a href="../../machine/ExchangeSpecs/index.html#growth_charge">growth_charge</a> (<a href="../../machine/ExchangeSpecs/index.html#Permission">Permission</a> question) m = <a href="../../machine/ExchangeSpecs/index.html#growth_due">growth_due</a> m question
 <a href="../../machine/ExchangeSpecs/index.html#growth_charge">growth_charge</a> (<a href="../../machine/ExchangeSpecs/index.html#Notice">Notice</a> question failure notice_answer) m = <a href="../../machine/ExchangeSpecs/index.html#failed_charge">failed_charge</a> failure (<a href="../../machine/ExchangeSpecs/index.html#growth_due">growth_due</a> m question)
 
--- how many elements a call pays for that writes over a part of a table: an initialization by no item pays for none
+-- how many elements a call pays for that writes over a range of a table: an initialization by no item pays for none
 abbrev pub <b id="elements_paid">elements_paid</b> : Call → Option ℕ
 <a href="../../machine/ExchangeSpecs/index.html#elements_paid">elements_paid</a> (InitTable k j dst src len) = if nat_eq len 0 then None else Some len
 <a href="../../machine/ExchangeSpecs/index.html#elements_paid">elements_paid</a> (CopyTable k dst j src len) = Some len
 <a href="../../machine/ExchangeSpecs/index.html#elements_paid">elements_paid</a> (FillTable k dst value len) = Some len
 <a href="../../machine/ExchangeSpecs/index.html#elements_paid">elements_paid</a> call = None
 
--- what is charged for so many elements that are written, by the reply: nothing where it is refused
-abbrev pub <b id="writing_charge">writing_charge</b> : <a href="../../meter/MeterSpecs/index.html#Meter">Meter</a> → Option ℕ → Reply → ℕ
-<a href="../../machine/ExchangeSpecs/index.html#writing_charge">writing_charge</a> m elements Done = <a href="../../meter/AttemptSpecs/index.html#optional_due">optional_due</a> (Some m) (option_map <a href="../../store/TableSpecs/index.html#element_price">table.element_price</a> elements)
-<a href="../../machine/ExchangeSpecs/index.html#writing_charge">writing_charge</a> m elements reply = 0
+-- the price of what a call writes over a range, if it has one
+abbrev pub <b id="writing_price">writing_price</b> : Call → Option (CustomFuelCosts → ℕ)
+<a href="../../machine/ExchangeSpecs/index.html#writing_price">writing_price</a> call = option_map <a href="../../store/TableSpecs/index.html#element_price">table.element_price</a> (<a href="../../machine/ExchangeSpecs/index.html#elements_paid">elements_paid</a> call)
 
--- what a turn is charged: what its call writes over a table, where it lets nothing grow; nothing for a creation; and
+-- what is charged for what is written, by its price and the reply: nothing where it is refused
+abbrev pub <b id="writing_charge">writing_charge</b> : <a href="../../meter/MeterSpecs/index.html#Meter">Meter</a> → Option (CustomFuelCosts → ℕ) → Reply → ℕ
+<a href="../../machine/ExchangeSpecs/index.html#writing_charge">writing_charge</a> m price Done = <a href="../../meter/AttemptSpecs/index.html#optional_due">optional_due</a> (Some m) price
+<a href="../../machine/ExchangeSpecs/index.html#writing_charge">writing_charge</a> m price reply = 0
+
+-- what a turn is charged: what its call writes over a range, where it lets nothing grow; nothing for a creation; and
 -- what its exchange says for a growth
 abbrev pub <b id="charge_at">charge_at</b> : <a href="../../machine/ExchangeSpecs/index.html#Place">Place</a> → <a href="../../machine/ExchangeSpecs/index.html#Exchange">Exchange</a> → <a href="../../meter/MeterSpecs/index.html#Meter">Meter</a> → ℕ → ℕ
 <a href="../../machine/ExchangeSpecs/index.html#charge_at">charge_at</a> <a href="../../machine/ExchangeSpecs/index.html#Nowhere">Nowhere</a> <a href="../../machine/ExchangeSpecs/index.html#exchange">exchange</a> m writing = writing
@@ -3957,7 +4026,7 @@ pub record <b id="Exchanges">Exchanges</b> {S : Type 0} (rules : <a href="../../
   pub <b id="replies">replies</b> : <a href="../../machine/ExchangeSpecs/index.html#RepliesTo">RepliesTo</a> <a href="../../machine/ExchangeSpecs/index.html#exchange">exchange</a> turn.reply
   pub <b id="grows">grows</b> : <a href="../../machine/ExchangeSpecs/index.html#GrowsBy">GrowsBy</a> (<a href="../../machine/ExchangeSpecs/index.html#place_of">place_of</a> turn.call) <a href="../../machine/ExchangeSpecs/index.html#exchange">exchange</a> (<a href="../../machine/StateSpecs/index.html#sizes">sizes</a> w.state) (<a href="../../machine/StateSpecs/index.html#sizes">sizes</a> w&#x27;.state)
   pub <b id="charged">charged</b> : turn.charge
-      ≡ <a href="../../machine/ExchangeSpecs/index.html#charge_at">charge_at</a> (<a href="../../machine/ExchangeSpecs/index.html#place_of">place_of</a> turn.call) <a href="../../machine/ExchangeSpecs/index.html#exchange">exchange</a> w.state.<a href="../../machine/ExchangeSpecs/index.html#meter">meter</a> (<a href="../../machine/ExchangeSpecs/index.html#writing_charge">writing_charge</a> w.state.<a href="../../machine/ExchangeSpecs/index.html#meter">meter</a> (<a href="../../machine/ExchangeSpecs/index.html#elements_paid">elements_paid</a> turn.call)
+      ≡ <a href="../../machine/ExchangeSpecs/index.html#charge_at">charge_at</a> (<a href="../../machine/ExchangeSpecs/index.html#place_of">place_of</a> turn.call) <a href="../../machine/ExchangeSpecs/index.html#exchange">exchange</a> w.state.<a href="../../machine/ExchangeSpecs/index.html#meter">meter</a> (<a href="../../machine/ExchangeSpecs/index.html#writing_charge">writing_charge</a> w.state.<a href="../../machine/ExchangeSpecs/index.html#meter">meter</a> (<a href="../../machine/ExchangeSpecs/index.html#writing_price">writing_price</a> turn.call)
       turn.reply)
   pub <b id="meter">meter</b> : <a href="../../machine/AccountSpecs/index.html#ChangesMeter">ChangesMeter</a> turn.call w.state.<a href="../../machine/ExchangeSpecs/index.html#meter">meter</a> turn.charge w&#x27;.state.meter
 </code></pre>
@@ -4564,11 +4633,11 @@ use Rattle.wasmi_store.specs.Table.{<a href="../../store/TableSpecs/index.html#T
 use Rattle.wasmi_machine.specs.declared.calls.Call.{Call}
 use Rattle.wasmi_machine.specs.declared.calls.Reply.{Reply}
 use Rattle.wasmi_machine.specs.State.{<a href="../../machine/StateSpecs/index.html#World">World</a>, <a href="../../machine/StateSpecs/index.html#Turn">Turn</a>, <a href="../../machine/StateSpecs/index.html#world">world</a>, <a href="../../machine/StateSpecs/index.html#State">State</a>, <a href="../../machine/StateSpecs/index.html#live_at">live_at</a>, <a href="../../machine/StateSpecs/index.html#with_memories">with_memories</a>, <a href="../../machine/StateSpecs/index.html#memory_part">memory_part</a>, <a href="../../machine/StateSpecs/index.html#with_memory_part">with_memory_part</a>, <a href="../../machine/StateSpecs/index.html#with_tables">with_tables</a>, <a href="../../machine/StateSpecs/index.html#with_segments">with_segments</a>, <a href="../../machine/StateSpecs/index.html#with_globals">with_globals</a>, <a href="../../machine/StateSpecs/index.html#with_registers">with_registers</a>, <a href="../../machine/StateSpecs/index.html#byte_count">byte_count</a>}
-use Rattle.wasmi_machine.specs.Effects.{<a href="../../machine/EffectsSpecs/index.html#reply_of">reply_of</a>, <a href="../../machine/EffectsSpecs/index.html#Creates">Creates</a>, <a href="../../machine/EffectsSpecs/index.html#DropsAt">DropsAt</a>, <a href="../../machine/EffectsSpecs/index.html#ActsAt">ActsAt</a>, <a href="../../machine/EffectsSpecs/index.html#ChangesPart">ChangesPart</a>, <a href="../../machine/EffectsSpecs/index.html#OnlyReplies">OnlyReplies</a>, <a href="../../machine/EffectsSpecs/index.html#Changes">Changes</a>, <a href="../../machine/EffectsSpecs/index.html#Asks">Asks</a>, <a href="../../machine/EffectsSpecs/index.html#ActsMetered">ActsMetered</a>, <a href="../../machine/EffectsSpecs/index.html#ActsMeteredUnasked">ActsMeteredUnasked</a>}
+use Rattle.wasmi_machine.specs.Effects.{<a href="../../machine/EffectsSpecs/index.html#reply_of">reply_of</a>, <a href="../../machine/EffectsSpecs/index.html#Creates">Creates</a>, <a href="../../machine/EffectsSpecs/index.html#DropsAt">DropsAt</a>, <a href="../../machine/EffectsSpecs/index.html#ActsAt">ActsAt</a>, <a href="../../machine/EffectsSpecs/index.html#ChangesPart">ChangesPart</a>, <a href="../../machine/EffectsSpecs/index.html#OnlyReplies">OnlyReplies</a>, <a href="../../machine/EffectsSpecs/index.html#Changes">Changes</a>, <a href="../../machine/EffectsSpecs/index.html#Asks">Asks</a>, <a href="../../machine/EffectsSpecs/index.html#ActsMetered">ActsMetered</a>, <a href="../../machine/EffectsSpecs/index.html#ActsMeteredUnasked">ActsMeteredUnasked</a>, <a href="../../machine/EffectsSpecs/index.html#WritesRangeAt">WritesRangeAt</a>}
 use Rattle.wasmi_ops.specs.LoadStoreOps.{<a href="../../ops/LoadStoreOpsSpecs/index.html#stored_bytes">stored_bytes</a>}
 use Rattle.wasmi_machine.specs.ValueEffects.{<a href="../../machine/ValueEffectsSpecs/index.html#SetsFuel">SetsFuel</a>, <a href="../../machine/ValueEffectsSpecs/index.html#get_fuel_reply">get_fuel_reply</a>, <a href="../../machine/ValueEffectsSpecs/index.html#CreatesSegment">CreatesSegment</a>, <a href="../../machine/ValueEffectsSpecs/index.html#DropsItemsAt">DropsItemsAt</a>, <a href="../../machine/ValueEffectsSpecs/index.html#CreatesGlobal">CreatesGlobal</a>, <a href="../../machine/ValueEffectsSpecs/index.html#SetsGlobalAt">SetsGlobalAt</a>, <a href="../../machine/ValueEffectsSpecs/index.html#global_reply">global_reply</a>}
 use Rattle.wasmi_machine.specs.MemoryEffects.{<a href="../../machine/MemoryEffectsSpecs/index.html#bytes_appended">bytes_appended</a>, <a href="../../machine/MemoryEffectsSpecs/index.html#CreatesLent">CreatesLent</a>, <a href="../../machine/MemoryEffectsSpecs/index.html#ReadsMemoryAt">ReadsMemoryAt</a>, <a href="../../machine/MemoryEffectsSpecs/index.html#WritesMemoryAt">WritesMemoryAt</a>, <a href="../../machine/MemoryEffectsSpecs/index.html#load_reply">load_reply</a>}
-use Rattle.wasmi_machine.specs.TableEffects.{<a href="../../machine/TableEffectsSpecs/index.html#Source">Source</a>, <a href="../../machine/TableEffectsSpecs/index.html#OfReference">OfReference</a>, <a href="../../machine/TableEffectsSpecs/index.html#OfTable">OfTable</a>, <a href="../../machine/TableEffectsSpecs/index.html#OfSegment">OfSegment</a>, <a href="../../machine/TableEffectsSpecs/index.html#element_reply">element_reply</a>, <a href="../../machine/TableEffectsSpecs/index.html#SetsElementAt">SetsElementAt</a>, <a href="../../machine/TableEffectsSpecs/index.html#write_of">write_of</a>, <a href="../../machine/TableEffectsSpecs/index.html#WritesRangeAt">WritesRangeAt</a>, <a href="../../machine/TableEffectsSpecs/index.html#element_bytes">element_bytes</a>}
+use Rattle.wasmi_machine.specs.TableEffects.{<a href="../../machine/TableEffectsSpecs/index.html#Source">Source</a>, <a href="../../machine/TableEffectsSpecs/index.html#OfReference">OfReference</a>, <a href="../../machine/TableEffectsSpecs/index.html#OfTable">OfTable</a>, <a href="../../machine/TableEffectsSpecs/index.html#OfSegment">OfSegment</a>, <a href="../../machine/TableEffectsSpecs/index.html#element_reply">element_reply</a>, <a href="../../machine/TableEffectsSpecs/index.html#SetsElementAt">SetsElementAt</a>, <a href="../../machine/TableEffectsSpecs/index.html#write_of">write_of</a>, <a href="../../machine/TableEffectsSpecs/index.html#element_bytes">element_bytes</a>}
 use Rattle.wasmi_machine.specs.RegisterEffects.{<a href="../../machine/RegisterEffectsSpecs/index.html#SetsRegister">SetsRegister</a>, <a href="../../machine/RegisterEffectsSpecs/index.html#StoresVectorAt">StoresVectorAt</a>, <a href="../../machine/RegisterEffectsSpecs/index.html#given_vector">given_vector</a>, <a href="../../machine/RegisterEffectsSpecs/index.html#of_one">of_one</a>, <a href="../../machine/RegisterEffectsSpecs/index.html#of_two">of_two</a>, <a href="../../machine/RegisterEffectsSpecs/index.html#of_three">of_three</a>, <a href="../../machine/RegisterEffectsSpecs/index.html#vector_loaded">vector_loaded</a>, <a href="../../machine/RegisterEffectsSpecs/index.html#lane_loaded">lane_loaded</a>, <a href="../../machine/RegisterEffectsSpecs/index.html#raw_reply">raw_reply</a>, <a href="../../machine/RegisterEffectsSpecs/index.html#vector_at">vector_at</a>}
 use Rattle.wasmi_machine.specs.declared.calls.Call.TheVariants as call
 use Rattle.wasmi_machine.specs.declared.calls.Reply.TheVariants as reply
@@ -4635,8 +4704,12 @@ pub data <b id="Change">Change</b> : Type 0 where
   <b id="GlobalMade">GlobalMade</b> : <a href="../../typed/GlobalSpecs/index.html#GlobalInstance">GlobalInstance</a> → <a href="../../machine/StepsSpecs/index.html#Change">Change</a>
   <b id="GlobalSet">GlobalSet</b> : ℕ → TypedRawVal → <a href="../../machine/StepsSpecs/index.html#Change">Change</a>
 
+-- what is written over a range of one part of the state, with a charge, without the limiter
+pub data <b id="RangeWrite">RangeWrite</b> : Type 0 where
+  <b id="TableWritten">TableWritten</b> : ℕ → <a href="../../machine/TableEffectsSpecs/index.html#Source">Source</a> → ℕ → ℕ → <a href="../../machine/StepsSpecs/index.html#RangeWrite">RangeWrite</a>
+
 -- what a call does, once its operands are read: all calls that only reply what is known have one kind of effect, all
--- that change one part alone another, and all that write over a range of a table a third
+-- that change one part alone another, and all that write over a range of one part a third
 pub data <b id="Effect">Effect</b> : Type 0 where
   <b id="Told">Told</b> : Reply → <a href="../../machine/StepsSpecs/index.html#Effect">Effect</a>
   <b id="BytesRead">BytesRead</b> : ℕ → ℕ → ℕ → <a href="../../machine/StepsSpecs/index.html#Effect">Effect</a>
@@ -4647,7 +4720,7 @@ pub data <b id="Effect">Effect</b> : Type 0 where
   <b id="MemoryGrown">MemoryGrown</b> : ℕ → ℕ → <a href="../../machine/StepsSpecs/index.html#Effect">Effect</a>
   <b id="TableMade">TableMade</b> : <a href="../../store/TableSpecs/index.html#TableTypeValue">TableTypeValue</a> → TypedRawRef → <a href="../../machine/StepsSpecs/index.html#Effect">Effect</a>
   <b id="TableGrown">TableGrown</b> : ℕ → ℕ → TypedRawRef → <a href="../../machine/StepsSpecs/index.html#Effect">Effect</a>
-  <b id="RangeWritten">RangeWritten</b> : ℕ → <a href="../../machine/TableEffectsSpecs/index.html#Source">Source</a> → ℕ → ℕ → <a href="../../machine/StepsSpecs/index.html#Effect">Effect</a>
+  <b id="RangeWritten">RangeWritten</b> : <a href="../../machine/StepsSpecs/index.html#RangeWrite">RangeWrite</a> → <a href="../../machine/StepsSpecs/index.html#Effect">Effect</a>
 
 -- what a call that makes a vector of what is in registers gives the register of its result
 abbrev pub <b id="vector_given">vector_given</b> : List RawVal → Call → Option (Result RawVal TrapCode)
@@ -4690,9 +4763,11 @@ abbrev pub <b id="effect_of">effect_of</b> : <a href="../../machine/StateSpecs/i
 <a href="../../machine/StepsSpecs/index.html#effect_of">effect_of</a> s (call.DropTable k) = <a href="../../machine/StepsSpecs/index.html#Changed">Changed</a> (<a href="../../machine/StepsSpecs/index.html#TableDropped">TableDropped</a> k)
 <a href="../../machine/StepsSpecs/index.html#effect_of">effect_of</a> s (call.GetElement k index) = <a href="../../machine/StepsSpecs/index.html#Told">Told</a> (<a href="../../machine/TableEffectsSpecs/index.html#element_reply">element_reply</a> index (<a href="../../machine/StateSpecs/index.html#live_at">live_at</a> s.tables k))
 <a href="../../machine/StepsSpecs/index.html#effect_of">effect_of</a> s (call.SetElement k index value) = <a href="../../machine/StepsSpecs/index.html#Changed">Changed</a> (<a href="../../machine/StepsSpecs/index.html#ElementSet">ElementSet</a> k index value)
-<a href="../../machine/StepsSpecs/index.html#effect_of">effect_of</a> s (call.InitTable k j dst src len) = <a href="../../machine/StepsSpecs/index.html#RangeWritten">RangeWritten</a> k (<a href="../../machine/TableEffectsSpecs/index.html#OfSegment">OfSegment</a> (slice_get s.segments j) src) dst len
-<a href="../../machine/StepsSpecs/index.html#effect_of">effect_of</a> s (call.CopyTable k dst j src len) = <a href="../../machine/StepsSpecs/index.html#RangeWritten">RangeWritten</a> k (<a href="../../machine/TableEffectsSpecs/index.html#OfTable">OfTable</a> (<a href="../../machine/StateSpecs/index.html#live_at">live_at</a> s.tables j) src) dst len
-<a href="../../machine/StepsSpecs/index.html#effect_of">effect_of</a> s (call.FillTable k dst value len) = <a href="../../machine/StepsSpecs/index.html#RangeWritten">RangeWritten</a> k (<a href="../../machine/TableEffectsSpecs/index.html#OfReference">OfReference</a> value) dst len
+<a href="../../machine/StepsSpecs/index.html#effect_of">effect_of</a> s (call.InitTable k j dst src len) =
+    <a href="../../machine/StepsSpecs/index.html#RangeWritten">RangeWritten</a> (<a href="../../machine/StepsSpecs/index.html#TableWritten">TableWritten</a> k (<a href="../../machine/TableEffectsSpecs/index.html#OfSegment">OfSegment</a> (slice_get s.segments j) src) dst len)
+<a href="../../machine/StepsSpecs/index.html#effect_of">effect_of</a> s (call.CopyTable k dst j src len) =
+    <a href="../../machine/StepsSpecs/index.html#RangeWritten">RangeWritten</a> (<a href="../../machine/StepsSpecs/index.html#TableWritten">TableWritten</a> k (<a href="../../machine/TableEffectsSpecs/index.html#OfTable">OfTable</a> (<a href="../../machine/StateSpecs/index.html#live_at">live_at</a> s.tables j) src) dst len)
+<a href="../../machine/StepsSpecs/index.html#effect_of">effect_of</a> s (call.FillTable k dst value len) = <a href="../../machine/StepsSpecs/index.html#RangeWritten">RangeWritten</a> (<a href="../../machine/StepsSpecs/index.html#TableWritten">TableWritten</a> k (<a href="../../machine/TableEffectsSpecs/index.html#OfReference">OfReference</a> value) dst len)
 <a href="../../machine/StepsSpecs/index.html#effect_of">effect_of</a> s (call.NewSegment ty items) = <a href="../../machine/StepsSpecs/index.html#Changed">Changed</a> (<a href="../../machine/StepsSpecs/index.html#SegmentMade">SegmentMade</a> ty items.items)
 <a href="../../machine/StepsSpecs/index.html#effect_of">effect_of</a> s (call.DropItems k) = <a href="../../machine/StepsSpecs/index.html#Changed">Changed</a> (<a href="../../machine/StepsSpecs/index.html#ItemsDropped">ItemsDropped</a> k)
 <a href="../../machine/StepsSpecs/index.html#effect_of">effect_of</a> s (call.NewGlobal value ty) = <a href="../../machine/StepsSpecs/index.html#Changed">Changed</a> (<a href="../../machine/StepsSpecs/index.html#GlobalMade">GlobalMade</a> (record { value = value; ty = ty }))
@@ -4735,6 +4810,12 @@ abbrev pub <b id="HasChange">HasChange</b> : <a href="../../machine/StepsSpecs/i
 <a href="../../machine/StepsSpecs/index.html#HasChange">HasChange</a> (<a href="../../machine/StepsSpecs/index.html#GlobalMade">GlobalMade</a> global) s = <a href="../../machine/EffectsSpecs/index.html#ChangesPart">ChangesPart</a> (<a href="../../machine/StateSpecs/index.html#with_globals">with_globals</a> s) (<a href="../../machine/ValueEffectsSpecs/index.html#CreatesGlobal">CreatesGlobal</a> global s.globals)
 <a href="../../machine/StepsSpecs/index.html#HasChange">HasChange</a> (<a href="../../machine/StepsSpecs/index.html#GlobalSet">GlobalSet</a> k value) s = <a href="../../machine/EffectsSpecs/index.html#ChangesPart">ChangesPart</a> (<a href="../../machine/StateSpecs/index.html#with_globals">with_globals</a> s) (<a href="../../machine/ValueEffectsSpecs/index.html#SetsGlobalAt">SetsGlobalAt</a> k value s.globals)
 
+-- a range of one part of the state is written over: a line for each kind
+abbrev pub <b id="HasRangeWrite">HasRangeWrite</b> : {S : Type 0} → <a href="../../machine/StepsSpecs/index.html#RangeWrite">RangeWrite</a> → <a href="../../machine/StateSpecs/index.html#World">World</a> S → <a href="../../machine/StateSpecs/index.html#Turn">Turn</a> → <a href="../../machine/StateSpecs/index.html#World">World</a> S → Type 0
+<a href="../../machine/StepsSpecs/index.html#HasRangeWrite">HasRangeWrite</a> (<a href="../../machine/StepsSpecs/index.html#TableWritten">TableWritten</a> k source dst len) w turn w&#x27; =
+    <a href="../../machine/EffectsSpecs/index.html#ActsMeteredUnasked">ActsMeteredUnasked</a> w turn w&#x27; w.state.tables (<a href="../../machine/StateSpecs/index.html#with_tables">with_tables</a> w.state)
+    (<a href="../../machine/EffectsSpecs/index.html#WritesRangeAt">WritesRangeAt</a> reply.Table k (<a href="../../machine/TableEffectsSpecs/index.html#write_of">write_of</a> source dst len)) (<a href="../../machine/TableEffectsSpecs/index.html#element_bytes">element_bytes</a> len)
+
 -- an effect takes place from one world to the next: a line for each kind
 abbrev pub <b id="HasEffect">HasEffect</b> : {S : Type 0} → <a href="../../meter/LimiterSpecs/index.html#Rules">Rules</a> S → <a href="../../machine/StepsSpecs/index.html#Effect">Effect</a> → <a href="../../machine/StateSpecs/index.html#World">World</a> S → <a href="../../machine/StateSpecs/index.html#Turn">Turn</a> → <a href="../../machine/StateSpecs/index.html#World">World</a> S → Type 0
 <a href="../../machine/StepsSpecs/index.html#HasEffect">HasEffect</a> rules (<a href="../../machine/StepsSpecs/index.html#Told">Told</a> told) w turn w&#x27; = <a href="../../machine/EffectsSpecs/index.html#OnlyReplies">OnlyReplies</a> w turn w&#x27; (λ answer. answer ≡ told)
@@ -4752,9 +4833,7 @@ abbrev pub <b id="HasEffect">HasEffect</b> : {S : Type 0} → <a href="../../met
     <a href="../../machine/EffectsSpecs/index.html#Asks">Asks</a> w turn w&#x27; (<a href="../../machine/StateSpecs/index.html#with_tables">with_tables</a> w.state) (<a href="../../machine/EffectsSpecs/index.html#Creates">Creates</a> reply.Table (<a href="../../store/TableSpecs/index.html#MakesTable">MakesTable</a> rules ty init) w.state.tables)
 <a href="../../machine/StepsSpecs/index.html#HasEffect">HasEffect</a> rules (<a href="../../machine/StepsSpecs/index.html#TableGrown">TableGrown</a> k n init) w turn w&#x27; = <a href="../../machine/EffectsSpecs/index.html#ActsMetered">ActsMetered</a> w turn w&#x27; w.state.tables (<a href="../../machine/StateSpecs/index.html#with_tables">with_tables</a> w.state)
     (<a href="../../machine/EffectsSpecs/index.html#ActsAt">ActsAt</a> k (<a href="../../machine/EffectsSpecs/index.html#reply_of">reply_of</a> reply.Number reply.Table) (<a href="../../store/TableSpecs/index.html#GrowsTableCharging">GrowsTableCharging</a> rules n init)) (<a href="../../machine/TableEffectsSpecs/index.html#element_bytes">element_bytes</a> n)
-<a href="../../machine/StepsSpecs/index.html#HasEffect">HasEffect</a> rules (<a href="../../machine/StepsSpecs/index.html#RangeWritten">RangeWritten</a> k source dst len) w turn w&#x27; =
-    <a href="../../machine/EffectsSpecs/index.html#ActsMeteredUnasked">ActsMeteredUnasked</a> w turn w&#x27; w.state.tables (<a href="../../machine/StateSpecs/index.html#with_tables">with_tables</a> w.state) (<a href="../../machine/TableEffectsSpecs/index.html#WritesRangeAt">WritesRangeAt</a> k (<a href="../../machine/TableEffectsSpecs/index.html#write_of">write_of</a> source dst len))
-    (<a href="../../machine/TableEffectsSpecs/index.html#element_bytes">element_bytes</a> len)
+<a href="../../machine/StepsSpecs/index.html#HasEffect">HasEffect</a> rules (<a href="../../machine/StepsSpecs/index.html#RangeWritten">RangeWritten</a> write) w turn w&#x27; = <a href="../../machine/StepsSpecs/index.html#HasRangeWrite">HasRangeWrite</a> write w turn w&#x27;
 
 -- a step from one world to the next: the effect of the turn&#x27;s call takes place
 abbrev pub <b id="Step">Step</b> : {S : Type 0} → <a href="../../meter/LimiterSpecs/index.html#Rules">Rules</a> S → <a href="../../machine/StateSpecs/index.html#World">World</a> S → <a href="../../machine/StateSpecs/index.html#Turn">Turn</a> → <a href="../../machine/StateSpecs/index.html#World">World</a> S → Type 0
@@ -4797,16 +4876,12 @@ abbrev pub <b id="IsRunOf">IsRunOf</b> : {S : Type 0} → <a href="../../meter/L
 use Rattle.std.specs.Option.{option_map, option_map_or}
 use Rattle.wasmi_typed.specs.declared.typed_ref.TypedRawRef.{TypedRawRef}
 use Rattle.wasmi_meter.specs.declared.error.TableError.{TableError}
-use Rattle.wasmi_meter.specs.Meter.{<a href="../../meter/MeterSpecs/index.html#cut_product">cut_product</a>}
-use Rattle.wasmi_meter.specs.Attempt.{<a href="../../meter/AttemptSpecs/index.html#MeteredValue">MeteredValue</a>, <a href="../../meter/AttemptSpecs/index.html#with_value">with_value</a>}
 use Rattle.wasmi_store.specs.Segment.{<a href="../../store/SegmentSpecs/index.html#SegmentValue">SegmentValue</a>}
-use Rattle.wasmi_store.specs.Table.{<a href="../../store/TableSpecs/index.html#TableValue">TableValue</a>, <a href="../../store/TableSpecs/index.html#TableWrite">TableWrite</a>, <a href="../../store/TableSpecs/index.html#SetsTable">SetsTable</a>, <a href="../../store/TableSpecs/index.html#WritesTableCharging">WritesTableCharging</a>, <a href="../../store/TableSpecs/index.html#element_at">element_at</a>, <a href="../../store/TableSpecs/index.html#filling_of">filling_of</a>, <a href="../../store/TableSpecs/index.html#copy_of">copy_of</a>, <a href="../../store/TableSpecs/index.html#initialization_of">initialization_of</a>}
+use Rattle.wasmi_store.specs.Table.{<a href="../../store/TableSpecs/index.html#TableValue">TableValue</a>, <a href="../../store/TableSpecs/index.html#TableWrite">TableWrite</a>, <a href="../../store/TableSpecs/index.html#SetsTable">SetsTable</a>, <a href="../../store/TableSpecs/index.html#element_at">element_at</a>, <a href="../../store/TableSpecs/index.html#filling_of">filling_of</a>, <a href="../../store/TableSpecs/index.html#copy_of">copy_of</a>, <a href="../../store/TableSpecs/index.html#initialization_of">initialization_of</a>}
 use Rattle.wasmi_machine.specs.declared.calls.Reply.{Reply}
-use Rattle.wasmi_machine.specs.declared.calls.Reply.TheVariants.{Done, Number, Reference, Table, NoSuch}
+use Rattle.wasmi_machine.specs.declared.calls.Reply.TheVariants.{Done, Reference, Table, NoSuch}
 use Rattle.wasmi_machine.specs.declared.slots.Slot.{Slot}
-use Rattle.wasmi_machine.specs.declared.slots.Slot.TheVariants.{Live}
-use Rattle.wasmi_machine.specs.State.{<a href="../../machine/StateSpecs/index.html#live_value">live_value</a>}
-use Rattle.wasmi_machine.specs.Effects.{<a href="../../machine/EffectsSpecs/index.html#reply_of">reply_of</a>, <a href="../../machine/EffectsSpecs/index.html#OnLive">OnLive</a>, <a href="../../machine/EffectsSpecs/index.html#IsNoSuch">IsNoSuch</a>, <a href="../../machine/EffectsSpecs/index.html#ChangesAt">ChangesAt</a>, <a href="../../machine/EffectsSpecs/index.html#ActsAt">ActsAt</a>}
+use Rattle.wasmi_machine.specs.Effects.{<a href="../../machine/EffectsSpecs/index.html#reply_of">reply_of</a>, <a href="../../machine/EffectsSpecs/index.html#ChangesAt">ChangesAt</a>, <a href="../../machine/EffectsSpecs/index.html#MeteredSlots">MeteredSlots</a>, <a href="../../machine/EffectsSpecs/index.html#WritesAt">WritesAt</a>, <a href="../../machine/EffectsSpecs/index.html#WritesFrom">WritesFrom</a>, <a href="../../machine/EffectsSpecs/index.html#item_bytes">item_bytes</a>}
 
 -- the element that is asked of a table, if the table is there
 abbrev pub <b id="element_reply">element_reply</b> : ℕ → Option <a href="../../store/TableSpecs/index.html#TableValue">TableValue</a> → Reply
@@ -4818,31 +4893,18 @@ abbrev pub <b id="SetsElementAt">SetsElementAt</b> : ℕ → ℕ → TypedRawRef
     (λ x x&#x27;. (result : Result (Unit {0}) TableError) × <a href="../../store/TableSpecs/index.html#SetsTable">SetsTable</a> index value x result x&#x27;
     × (reply ≡ <a href="../../machine/EffectsSpecs/index.html#reply_of">reply_of</a> (λ _. Done) Table result))
 
--- tables, and the meter that is charged
-abbrev pub <b id="MeteredTables">MeteredTables</b> : Type 0
-<a href="../../machine/TableEffectsSpecs/index.html#MeteredTables">MeteredTables</a> = <a href="../../meter/AttemptSpecs/index.html#MeteredValue">MeteredValue</a> (List (Slot <a href="../../store/TableSpecs/index.html#TableValue">TableValue</a>)) (Unit {0})
+-- a range of the table of an index is written over, with its charge
+abbrev pub <b id="WritesTableAt">WritesTableAt</b> : ℕ → (<a href="../../store/TableSpecs/index.html#TableValue">TableValue</a> → <a href="../../store/TableSpecs/index.html#TableWrite">TableWrite</a>) → <a href="../../machine/EffectsSpecs/index.html#MeteredSlots">MeteredSlots</a> <a href="../../store/TableSpecs/index.html#TableValue">TableValue</a> → Reply → ℕ
+    → <a href="../../machine/EffectsSpecs/index.html#MeteredSlots">MeteredSlots</a> <a href="../../store/TableSpecs/index.html#TableValue">TableValue</a> → Type 0
+<a href="../../machine/TableEffectsSpecs/index.html#WritesTableAt">WritesTableAt</a> = <a href="../../machine/EffectsSpecs/index.html#WritesAt">WritesAt</a> Table
 
--- a part of the table of an index is written over, with its charge
-abbrev pub <b id="WritesTableAt">WritesTableAt</b> : ℕ → (<a href="../../store/TableSpecs/index.html#TableValue">TableValue</a> → <a href="../../store/TableSpecs/index.html#TableWrite">TableWrite</a>) → <a href="../../machine/TableEffectsSpecs/index.html#MeteredTables">MeteredTables</a> → Reply → ℕ → <a href="../../machine/TableEffectsSpecs/index.html#MeteredTables">MeteredTables</a> → Type 0
-<a href="../../machine/TableEffectsSpecs/index.html#WritesTableAt">WritesTableAt</a> k write = <a href="../../machine/EffectsSpecs/index.html#ActsAt">ActsAt</a> k (<a href="../../machine/EffectsSpecs/index.html#reply_of">reply_of</a> (λ _. Done) Table) (<a href="../../store/TableSpecs/index.html#WritesTableCharging">WritesTableCharging</a> write)
-
--- a part of the table of an index is written over with what a source has, with its charge; without a source the reply
+-- a range of the table of an index is written over with what a source has, with its charge; without a source the reply
 -- is `NoSuch`, and nothing has changed
-abbrev pub <b id="WritesTableFrom">WritesTableFrom</b> : {X : Type 0} → Option X → ℕ → (X → <a href="../../store/TableSpecs/index.html#TableValue">TableValue</a> → <a href="../../store/TableSpecs/index.html#TableWrite">TableWrite</a>) → <a href="../../machine/TableEffectsSpecs/index.html#MeteredTables">MeteredTables</a> → Reply → ℕ
-    → <a href="../../machine/TableEffectsSpecs/index.html#MeteredTables">MeteredTables</a> → Type 0
-<a href="../../machine/TableEffectsSpecs/index.html#WritesTableFrom">WritesTableFrom</a> source k write s reply charge s&#x27; =
-    <a href="../../machine/EffectsSpecs/index.html#OnLive">OnLive</a> source (<a href="../../machine/EffectsSpecs/index.html#IsNoSuch">IsNoSuch</a> s reply charge s&#x27;) (λ x. <a href="../../machine/TableEffectsSpecs/index.html#WritesTableAt">WritesTableAt</a> k (write x) s reply charge s&#x27;)
+abbrev pub <b id="WritesTableFrom">WritesTableFrom</b> : {Y : Type 0} → Option Y → ℕ → (Y → <a href="../../store/TableSpecs/index.html#TableValue">TableValue</a> → <a href="../../store/TableSpecs/index.html#TableWrite">TableWrite</a>) → <a href="../../machine/EffectsSpecs/index.html#MeteredSlots">MeteredSlots</a> <a href="../../store/TableSpecs/index.html#TableValue">TableValue</a>
+    → Reply → ℕ → <a href="../../machine/EffectsSpecs/index.html#MeteredSlots">MeteredSlots</a> <a href="../../store/TableSpecs/index.html#TableValue">TableValue</a> → Type 0
+<a href="../../machine/TableEffectsSpecs/index.html#WritesTableFrom">WritesTableFrom</a> = <a href="../../machine/EffectsSpecs/index.html#WritesFrom">WritesFrom</a> Table
 
--- a slot&#x27;s table is written over with what another slot&#x27;s table has
-abbrev pub <b id="CopiesSlot">CopiesSlot</b> : (<a href="../../store/TableSpecs/index.html#TableValue">TableValue</a> → <a href="../../store/TableSpecs/index.html#TableValue">TableValue</a> → <a href="../../store/TableSpecs/index.html#TableWrite">TableWrite</a>) → Slot <a href="../../store/TableSpecs/index.html#TableValue">TableValue</a>
-    → <a href="../../meter/AttemptSpecs/index.html#MeteredValue">MeteredValue</a> (Slot <a href="../../store/TableSpecs/index.html#TableValue">TableValue</a>) (Unit {0}) → Reply → ℕ → <a href="../../meter/AttemptSpecs/index.html#MeteredValue">MeteredValue</a> (Slot <a href="../../store/TableSpecs/index.html#TableValue">TableValue</a>) (Unit {0}) → Type 0
-<a href="../../machine/TableEffectsSpecs/index.html#CopiesSlot">CopiesSlot</a> write source s reply charge s&#x27; = <a href="../../machine/EffectsSpecs/index.html#OnLive">OnLive</a> (<a href="../../machine/StateSpecs/index.html#live_value">live_value</a> source) (<a href="../../machine/EffectsSpecs/index.html#IsNoSuch">IsNoSuch</a> s reply charge s&#x27;)
-    (λ y. <a href="../../machine/EffectsSpecs/index.html#OnLive">OnLive</a> (<a href="../../machine/StateSpecs/index.html#live_value">live_value</a> s.value) (<a href="../../machine/EffectsSpecs/index.html#IsNoSuch">IsNoSuch</a> s reply charge s&#x27;)
-    (λ x. (result : Result (Unit {0}) TableError) × (x&#x27; : <a href="../../store/TableSpecs/index.html#TableValue">TableValue</a>)
-    × <a href="../../store/TableSpecs/index.html#WritesTableCharging">WritesTableCharging</a> (write y) (<a href="../../meter/AttemptSpecs/index.html#with_value">with_value</a> s x) result charge (<a href="../../meter/AttemptSpecs/index.html#with_value">with_value</a> s&#x27; x&#x27;)
-    × (reply ≡ <a href="../../machine/EffectsSpecs/index.html#reply_of">reply_of</a> (λ _. Done) Table result) × (s&#x27;.value ≡ Live x&#x27;)))
-
--- what a part of a table is written over with: a reference, elements of a table, or items of an element segment, from a
+-- what a range of a table is written over with: a reference, elements of a table, or items of an element segment, from a
 -- place on, if it is there
 pub data <b id="Source">Source</b> : Type 0 where
   <b id="OfReference">OfReference</b> : TypedRawRef → <a href="../../machine/TableEffectsSpecs/index.html#Source">Source</a>
@@ -4855,15 +4917,9 @@ abbrev pub <b id="write_of">write_of</b> : <a href="../../machine/TableEffectsSp
 <a href="../../machine/TableEffectsSpecs/index.html#write_of">write_of</a> (<a href="../../machine/TableEffectsSpecs/index.html#OfTable">OfTable</a> source src) dst len = option_map (<a href="../../store/TableSpecs/index.html#copy_of">copy_of</a> dst src len) source
 <a href="../../machine/TableEffectsSpecs/index.html#write_of">write_of</a> (<a href="../../machine/TableEffectsSpecs/index.html#OfSegment">OfSegment</a> segment src) dst len = option_map (<a href="../../store/TableSpecs/index.html#initialization_of">initialization_of</a> dst src len) segment
 
--- a range of a table is written over by such a write, if there is one
-abbrev pub <b id="WritesRangeAt">WritesRangeAt</b> : ℕ → Option (<a href="../../store/TableSpecs/index.html#TableValue">TableValue</a> → <a href="../../store/TableSpecs/index.html#TableWrite">TableWrite</a>) → <a href="../../machine/TableEffectsSpecs/index.html#MeteredTables">MeteredTables</a> → Reply → ℕ → <a href="../../machine/TableEffectsSpecs/index.html#MeteredTables">MeteredTables</a> → Type 0
-<a href="../../machine/TableEffectsSpecs/index.html#WritesRangeAt">WritesRangeAt</a> k write = <a href="../../machine/TableEffectsSpecs/index.html#WritesTableFrom">WritesTableFrom</a> write k (λ w. w)
-
 -- the bytes that an accepted call on so many elements has written
 abbrev pub <b id="element_bytes">element_bytes</b> : ℕ → Reply → ℕ
-<a href="../../machine/TableEffectsSpecs/index.html#element_bytes">element_bytes</a> n Done = <a href="../../meter/MeterSpecs/index.html#cut_product">cut_product</a> n 4
-<a href="../../machine/TableEffectsSpecs/index.html#element_bytes">element_bytes</a> n (Number size) = <a href="../../meter/MeterSpecs/index.html#cut_product">cut_product</a> n 4
-<a href="../../machine/TableEffectsSpecs/index.html#element_bytes">element_bytes</a> n reply = 0
+<a href="../../machine/TableEffectsSpecs/index.html#element_bytes">element_bytes</a> = <a href="../../machine/EffectsSpecs/index.html#item_bytes">item_bytes</a> 4
 </code></pre>
 "####]
     pub mod TableEffectsSpecs {}

@@ -30,7 +30,7 @@ pub mod bulk {
     /// ensures len: length items.new ≡ length items.old
     /// ```
     ///
-    /// Definitions: [`WritesItems`](crate::specs::store::GrowthSpecs#WritesItems), [`filled`](crate::specs::store::GrowthSpecs#filled), [`item_price`](crate::specs::store::GrowthSpecs#item_price), [`metered`](crate::specs::store::GrowthSpecs#metered).
+    /// Definitions: [`WritesItems`](crate::specs::store::WriteSpecs#WritesItems), [`filled`](crate::specs::store::WriteSpecs#filled), [`item_price`](crate::specs::store::WriteSpecs#item_price), [`metered`](crate::specs::store::GrowthSpecs#metered).
     ///
     /// `E` is a type with the trait `GrowthError`. `T` is a type with the trait `Copy`.
     #[inline]
@@ -66,7 +66,7 @@ pub mod bulk {
     /// ensures len: length items.new ≡ length items.old
     /// ```
     ///
-    /// Definitions: [`WritesItems`](crate::specs::store::GrowthSpecs#WritesItems), [`copied`](crate::specs::store::GrowthSpecs#copied), [`item_price`](crate::specs::store::GrowthSpecs#item_price), [`metered`](crate::specs::store::GrowthSpecs#metered).
+    /// Definitions: [`WritesItems`](crate::specs::store::WriteSpecs#WritesItems), [`copied`](crate::specs::store::WriteSpecs#copied), [`item_price`](crate::specs::store::WriteSpecs#item_price), [`metered`](crate::specs::store::GrowthSpecs#metered).
     ///
     /// `E` is a type with the trait `GrowthError`. `T` is a type with the trait `Chunk`.
     #[inline]
@@ -101,7 +101,7 @@ pub mod bulk {
     /// ensures len: length items.new ≡ length items.old
     /// ```
     ///
-    /// Definitions: [`WritesItems`](crate::specs::store::GrowthSpecs#WritesItems), [`copied`](crate::specs::store::GrowthSpecs#copied), [`item_price`](crate::specs::store::GrowthSpecs#item_price), [`metered`](crate::specs::store::GrowthSpecs#metered).
+    /// Definitions: [`WritesItems`](crate::specs::store::WriteSpecs#WritesItems), [`copied`](crate::specs::store::WriteSpecs#copied), [`item_price`](crate::specs::store::WriteSpecs#item_price), [`metered`](crate::specs::store::GrowthSpecs#metered).
     ///
     /// `E` is a type with the trait `GrowthError`. `T` is a type with the trait `Copy`.
     #[inline]
@@ -138,7 +138,7 @@ pub mod bulk {
     /// ensures len: length elements.new ≡ length elements.old
     /// ```
     ///
-    /// Definitions: [`WritesItems`](crate::specs::store::GrowthSpecs#WritesItems), [`copied`](crate::specs::store::GrowthSpecs#copied), [`item_price`](crate::specs::store::GrowthSpecs#item_price), [`metered`](crate::specs::store::GrowthSpecs#metered).
+    /// Definitions: [`WritesItems`](crate::specs::store::WriteSpecs#WritesItems), [`copied`](crate::specs::store::WriteSpecs#copied), [`item_price`](crate::specs::store::WriteSpecs#item_price), [`metered`](crate::specs::store::GrowthSpecs#metered).
     ///
     /// `T` is a type with the trait `Copy`.
     #[inline]
@@ -1709,13 +1709,12 @@ mod memory {
         /// # Contract
         ///
         /// ```text
-        /// ensures written: BulkWrites (filled self.old.bytes dst value len) len
-        ///     (metered self.old.bytes (meter_at_entry fuel.entry)) result
-        ///     (metered self.new.bytes (meter_at_exit fuel.exit))
-        /// ensures kept: KeepsPlace self.old self.new
+        /// ensures: WritesMemoryRange (byte_filling_of dst value len)
+        ///     (metered self.old (meter_at_entry fuel.entry)) result
+        ///     (metered self.new (meter_at_exit fuel.exit))
         /// ```
         ///
-        /// Definitions: [`BulkWrites`](crate::specs::store::GrowthSpecs#BulkWrites), [`filled`](crate::specs::store::GrowthSpecs#filled), [`metered`](crate::specs::store::GrowthSpecs#metered), [`meter_at_entry`](crate::specs::meter::MeterSpecs#meter_at_entry), [`meter_at_exit`](crate::specs::meter::MeterSpecs#meter_at_exit), [`KeepsPlace`](crate::specs::store::MemorySpecs#KeepsPlace).
+        /// Definitions: [`WritesMemoryRange`](crate::specs::store::MemorySpecs#WritesMemoryRange), [`byte_filling_of`](crate::specs::store::MemorySpecs#byte_filling_of), [`metered`](crate::specs::store::GrowthSpecs#metered), [`meter_at_entry`](crate::specs::meter::MeterSpecs#meter_at_entry), [`meter_at_exit`](crate::specs::meter::MeterSpecs#meter_at_exit).
         #[inline]
         pub fn fill(
             &mut self,
@@ -1724,7 +1723,32 @@ mod memory {
             len: u64,
             fuel: Option<&mut Fuel>,
         ) -> Result<(), MemoryError> {
-            with_meter!(fuel => fill_items(self.data_mut(), dst, value, len, OUTSIDE, fuel))
+            with_meter!(fuel => self.fill_metered(dst, value, len, fuel))
+        }
+
+        /// As `fill`, with a meter that isn't optional.
+        ///
+        /// # Errors
+        ///
+        /// Those of `fill`.
+        ///
+        /// # Contract
+        ///
+        /// ```text
+        /// ensures: WritesMemoryRange (byte_filling_of dst value len)
+        ///     (metered self.old (Some fuel.old)) result (metered self.new (Some fuel.new))
+        /// ```
+        ///
+        /// Definitions: [`WritesMemoryRange`](crate::specs::store::MemorySpecs#WritesMemoryRange), [`byte_filling_of`](crate::specs::store::MemorySpecs#byte_filling_of), [`metered`](crate::specs::store::GrowthSpecs#metered).
+        #[inline]
+        pub fn fill_metered(
+            &mut self,
+            dst: u64,
+            value: u8,
+            len: u64,
+            fuel: &mut Fuel,
+        ) -> Result<(), MemoryError> {
+            fill_items(self.data_mut(), dst, value, len, OUTSIDE, fuel)
         }
 
         /// Copies `len` bytes from `src` on over those from `dst` on. If the ranges overlap, the old
@@ -1739,13 +1763,12 @@ mod memory {
         /// # Contract
         ///
         /// ```text
-        /// ensures written: BulkWrites (copied self.old.bytes dst self.old.bytes src len) len
-        ///     (metered self.old.bytes (meter_at_entry fuel.entry)) result
-        ///     (metered self.new.bytes (meter_at_exit fuel.exit))
-        /// ensures kept: KeepsPlace self.old self.new
+        /// ensures: WritesMemoryRange (byte_copy_of dst src len self.old.bytes)
+        ///     (metered self.old (meter_at_entry fuel.entry)) result
+        ///     (metered self.new (meter_at_exit fuel.exit))
         /// ```
         ///
-        /// Definitions: [`BulkWrites`](crate::specs::store::GrowthSpecs#BulkWrites), [`copied`](crate::specs::store::GrowthSpecs#copied), [`metered`](crate::specs::store::GrowthSpecs#metered), [`meter_at_entry`](crate::specs::meter::MeterSpecs#meter_at_entry), [`meter_at_exit`](crate::specs::meter::MeterSpecs#meter_at_exit), [`KeepsPlace`](crate::specs::store::MemorySpecs#KeepsPlace).
+        /// Definitions: [`WritesMemoryRange`](crate::specs::store::MemorySpecs#WritesMemoryRange), [`byte_copy_of`](crate::specs::store::MemorySpecs#byte_copy_of), [`metered`](crate::specs::store::GrowthSpecs#metered), [`meter_at_entry`](crate::specs::meter::MeterSpecs#meter_at_entry), [`meter_at_exit`](crate::specs::meter::MeterSpecs#meter_at_exit).
         #[inline]
         pub fn copy_within(
             &mut self,
@@ -1754,7 +1777,32 @@ mod memory {
             len: u64,
             fuel: Option<&mut Fuel>,
         ) -> Result<(), MemoryError> {
-            with_meter!(fuel => copy_items_within(self.data_mut(), dst, src, len, OUTSIDE, fuel))
+            with_meter!(fuel => self.copy_within_metered(dst, src, len, fuel))
+        }
+
+        /// As `copy_within`, with a meter that isn't optional.
+        ///
+        /// # Errors
+        ///
+        /// Those of `copy_within`.
+        ///
+        /// # Contract
+        ///
+        /// ```text
+        /// ensures: WritesMemoryRange (byte_copy_of dst src len self.old.bytes)
+        ///     (metered self.old (Some fuel.old)) result (metered self.new (Some fuel.new))
+        /// ```
+        ///
+        /// Definitions: [`WritesMemoryRange`](crate::specs::store::MemorySpecs#WritesMemoryRange), [`byte_copy_of`](crate::specs::store::MemorySpecs#byte_copy_of), [`metered`](crate::specs::store::GrowthSpecs#metered).
+        #[inline]
+        pub fn copy_within_metered(
+            &mut self,
+            dst: u64,
+            src: u64,
+            len: u64,
+            fuel: &mut Fuel,
+        ) -> Result<(), MemoryError> {
+            copy_items_within(self.data_mut(), dst, src, len, OUTSIDE, fuel)
         }
 
         /// Copies `len` bytes of another memory, from `src` on, over the bytes of a memory from `dst`
@@ -1769,14 +1817,12 @@ mod memory {
         /// # Contract
         ///
         /// ```text
-        /// ensures written: BulkWrites
-        ///     (copied dst_memory.old.bytes dst src_memory.now.bytes src len) len
-        ///     (metered dst_memory.old.bytes (meter_at_entry fuel.entry)) result
-        ///     (metered dst_memory.new.bytes (meter_at_exit fuel.exit))
-        /// ensures kept: KeepsPlace dst_memory.old dst_memory.new
+        /// ensures: WritesMemoryRange (byte_copy_of dst src len src_memory.now.bytes)
+        ///     (metered dst_memory.old (meter_at_entry fuel.entry)) result
+        ///     (metered dst_memory.new (meter_at_exit fuel.exit))
         /// ```
         ///
-        /// Definitions: [`BulkWrites`](crate::specs::store::GrowthSpecs#BulkWrites), [`copied`](crate::specs::store::GrowthSpecs#copied), [`metered`](crate::specs::store::GrowthSpecs#metered), [`meter_at_entry`](crate::specs::meter::MeterSpecs#meter_at_entry), [`meter_at_exit`](crate::specs::meter::MeterSpecs#meter_at_exit), [`KeepsPlace`](crate::specs::store::MemorySpecs#KeepsPlace).
+        /// Definitions: [`WritesMemoryRange`](crate::specs::store::MemorySpecs#WritesMemoryRange), [`byte_copy_of`](crate::specs::store::MemorySpecs#byte_copy_of), [`metered`](crate::specs::store::GrowthSpecs#metered), [`meter_at_entry`](crate::specs::meter::MeterSpecs#meter_at_entry), [`meter_at_exit`](crate::specs::meter::MeterSpecs#meter_at_exit).
         #[inline]
         pub fn copy<S: Region>(
             dst_memory: &mut LinearMemory<R>,
@@ -1786,8 +1832,34 @@ mod memory {
             len: u64,
             fuel: Option<&mut Fuel>,
         ) -> Result<(), MemoryError> {
+            with_meter!(fuel => dst_memory.copy_metered(dst, src_memory, src, len, fuel))
+        }
+
+        /// As `copy`, with a meter that isn't optional.
+        ///
+        /// # Errors
+        ///
+        /// Those of `copy`.
+        ///
+        /// # Contract
+        ///
+        /// ```text
+        /// ensures: WritesMemoryRange (byte_copy_of dst src len src_memory.now.bytes)
+        ///     (metered self.old (Some fuel.old)) result (metered self.new (Some fuel.new))
+        /// ```
+        ///
+        /// Definitions: [`WritesMemoryRange`](crate::specs::store::MemorySpecs#WritesMemoryRange), [`byte_copy_of`](crate::specs::store::MemorySpecs#byte_copy_of), [`metered`](crate::specs::store::GrowthSpecs#metered).
+        #[inline]
+        pub fn copy_metered<S: Region>(
+            &mut self,
+            dst: u64,
+            src_memory: &LinearMemory<S>,
+            src: u64,
+            len: u64,
+            fuel: &mut Fuel,
+        ) -> Result<(), MemoryError> {
             let source = src_memory.data();
-            with_meter!(fuel => copy_items(dst_memory.data_mut(), dst, source, src, len, OUTSIDE, fuel))
+            copy_items(self.data_mut(), dst, source, src, len, OUTSIDE, fuel)
         }
 
         /// Copies `len` bytes of a data segment, from `src` on, over the bytes from `dst` on. A segment
@@ -1802,13 +1874,12 @@ mod memory {
         /// # Contract
         ///
         /// ```text
-        /// ensures written: BulkWrites (copied self.old.bytes dst segment.now src len) len
-        ///     (metered self.old.bytes (meter_at_entry fuel.entry)) result
-        ///     (metered self.new.bytes (meter_at_exit fuel.exit))
-        /// ensures kept: KeepsPlace self.old self.new
+        /// ensures: WritesMemoryRange (byte_copy_of dst src len segment.now)
+        ///     (metered self.old (meter_at_entry fuel.entry)) result
+        ///     (metered self.new (meter_at_exit fuel.exit))
         /// ```
         ///
-        /// Definitions: [`BulkWrites`](crate::specs::store::GrowthSpecs#BulkWrites), [`copied`](crate::specs::store::GrowthSpecs#copied), [`metered`](crate::specs::store::GrowthSpecs#metered), [`meter_at_entry`](crate::specs::meter::MeterSpecs#meter_at_entry), [`meter_at_exit`](crate::specs::meter::MeterSpecs#meter_at_exit), [`KeepsPlace`](crate::specs::store::MemorySpecs#KeepsPlace).
+        /// Definitions: [`WritesMemoryRange`](crate::specs::store::MemorySpecs#WritesMemoryRange), [`byte_copy_of`](crate::specs::store::MemorySpecs#byte_copy_of), [`metered`](crate::specs::store::GrowthSpecs#metered), [`meter_at_entry`](crate::specs::meter::MeterSpecs#meter_at_entry), [`meter_at_exit`](crate::specs::meter::MeterSpecs#meter_at_exit).
         #[inline]
         pub fn init(
             &mut self,
@@ -1818,8 +1889,34 @@ mod memory {
             len: u32,
             fuel: Option<&mut Fuel>,
         ) -> Result<(), MemoryError> {
+            with_meter!(fuel => self.init_metered(segment, dst, src, len, fuel))
+        }
+
+        /// As `init`, with a meter that isn't optional.
+        ///
+        /// # Errors
+        ///
+        /// Those of `init`.
+        ///
+        /// # Contract
+        ///
+        /// ```text
+        /// ensures: WritesMemoryRange (byte_copy_of dst src len segment.now)
+        ///     (metered self.old (Some fuel.old)) result (metered self.new (Some fuel.new))
+        /// ```
+        ///
+        /// Definitions: [`WritesMemoryRange`](crate::specs::store::MemorySpecs#WritesMemoryRange), [`byte_copy_of`](crate::specs::store::MemorySpecs#byte_copy_of), [`metered`](crate::specs::store::GrowthSpecs#metered).
+        #[inline]
+        pub fn init_metered(
+            &mut self,
+            segment: &[u8],
+            dst: u64,
+            src: u32,
+            len: u32,
+            fuel: &mut Fuel,
+        ) -> Result<(), MemoryError> {
             let (src, len) = (u64::from(src), u64::from(len));
-            with_meter!(fuel => copy_items(self.data_mut(), dst, segment, src, len, OUTSIDE, fuel))
+            copy_items(self.data_mut(), dst, segment, src, len, OUTSIDE, fuel)
         }
     }
 }

@@ -1,14 +1,17 @@
 use Rattle.std.proofs.Common.{List, arith, ℕ}
 use Rattle.wasmi_meter.specs.Meter.{Meter}
 use Rattle.wasmi_store.specs.Table.{TableValue, TableWrite, copy_of}
+use Rattle.wasmi_meter.specs.declared.error.TableError.{TableError}
 use Rattle.wasmi_machine.specs.declared.slots.Slot.{Slot}
+use Rattle.wasmi_machine.specs.declared.calls.Reply.TheVariants.{Table}
 use Rattle.wasmi_machine.proofs.TotalLemmas.{Copying, copies_backward, copies_forward}
 use Rattle.wasmi_machine.proofs.tables.copy_to_other.Goals as goal
 
 -- a copy to another slot
-abbrev copying : (TableValue → TableValue → TableWrite) → List (Slot TableValue) → ℕ → ℕ → Meter → Copying
+abbrev copying : (TableValue → TableValue → TableWrite) → List (Slot TableValue) → ℕ → ℕ → Meter
+    → Copying TableValue TableError
 copying write slots into from meter =
-    record { write = write; slots = slots; into = into; from = from; meter = meter }
+    record { refusal = Table; write = write; slots = slots; into = into; from = from; meter = meter }
 
 pub returns-then-dst_index-src_index : goal.returns-then-dst_index-src_index
 returns-then-dst_index-src_index c =

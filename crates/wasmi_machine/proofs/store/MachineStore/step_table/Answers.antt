@@ -6,7 +6,8 @@ use Rattle.wasmi_machine.specs.TableEffects.{WritesTableAt}
 use Rattle.wasmi_store.specs.Table.{initialization_of}
 use Rattle.wasmi_store.specs.Growth.{metered}
 use Rattle.wasmi_machine.specs.State.{live_at}
-use Rattle.wasmi_machine.proofs.TableEffectsLemmas.{part_from}
+use Rattle.wasmi_machine.specs.declared.calls.Reply.TheVariants.{Table}
+use Rattle.wasmi_machine.proofs.RangeLemmas.{range_from}
 use Rattle.wasmi_machine.proofs.store.MachineStore.step_table.Goals as goal
 
 pub returns-in-NewTable-clause-step : goal.returns-in-NewTable-clause-step
@@ -56,7 +57,7 @@ pub returns-in-CopyTable-clause-step : goal.returns-in-CopyTable-clause-step
 returns-in-CopyTable-clause-step g c = rw (c.in-CopyTable.is, ← c.self.view_is)
     (acts_unasked _ (
       c.copy.ensures.0,
-      part_from (live_at c.self.inside.tables.slots.items c.in-CopyTable.src_table) c.in-CopyTable.dst_table _ _ _ _ _
+      range_from Table (live_at c.self.inside.tables.slots.items c.in-CopyTable.src_table) c.in-CopyTable.dst_table _ _ _ _ _
           c.copy.ensures.1,
     ))
 

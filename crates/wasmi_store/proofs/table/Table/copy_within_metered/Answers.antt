@@ -1,7 +1,10 @@
 use Rattle.std.proofs.lemmas.Grind.{common_steps}
-use Rattle.std.proofs.Common.{◌∙◌, ap, length, sym, arith}
+use Rattle.std.proofs.Common.{◌∙◌, Some, ap, length, sym, arith}
 use Rattle.std.proofs.lemmas.List.{with_items_is}
-use Rattle.wasmi_store.proofs.WriteLemmas.{writes_elements, same_as_itself}
+use Rattle.wasmi_meter.specs.declared.error.TableError.TheVariants.{CopyOutOfBounds}
+use Rattle.wasmi_store.specs.Table.{copy_of, table_of}
+use Rattle.wasmi_store.specs.Write.{copied}
+use Rattle.wasmi_store.proofs.WriteLemmas.{charging, writes_elements, same_as_itself}
 use Rattle.wasmi_store.proofs.table.Table.copy_within_metered.Goals as goal
 
 pub returns : goal.returns
@@ -9,8 +12,11 @@ returns c =
     let long = c.copy_items_within.ensures.len ∙ ap length c.as_mut_slice-elements.ensures.value
     ∙ sym c.self.inside.elements.ok.0 in
     rw (← c.self.view_is, with_items_is c.self.inside.elements _ long)
-    (writes_elements _ c.self.inside.ty _ _ (same_as_itself _) _ _ _
-    (rw c.as_mut_slice-elements.ensures.value at c.copy_items_within.ensures.written))
+    (charging (copy_of c.args.dst c.args.src c.args.len (table_of c.self.inside.ty c.self.inside.elements.items))
+    (writes_elements c.self.inside.ty _
+    (copied c.self.inside.elements.items c.args.dst c.self.inside.elements.items c.args.src c.args.len) CopyOutOfBounds
+    (Some c.args.len) _ _ _ _ _ (same_as_itself c.self.inside.ty.element)
+    (rw c.as_mut_slice-elements.ensures.value at c.copy_items_within.ensures.written)))
 
 pub invariant_of-self : goal.invariant_of-self
 invariant_of-self c = grind (arith, common_steps)

@@ -1,4 +1,4 @@
-use Rattle.wasmi_store.proofs.WriteLemmas.{table_unmetered}
+use Rattle.wasmi_store.proofs.WriteLemmas.{writes_unmetered}
 use Rattle.wasmi_store.proofs.table.Table.fill.Goals as goal
 
 pub returns-in-Some : goal.returns-in-Some
@@ -6,4 +6,4 @@ returns-in-Some c = rw c.in-Some.is c.fill_metered.ensures
 
 pub returns-in-None : goal.returns-in-None
 returns-in-None c = rw c.in-None.is
-    (table_unmetered _ _ _ _ _ _ (rw c.unmetered-off.ensures at c.fill_metered-in-None.ensures))
+    (writes_unmetered _ _ _ _ _ _ (rw c.unmetered-off.ensures at c.fill_metered-in-None.ensures))

@@ -1,0 +1,392 @@
+-- What holds of each write over a range of one part of the state: it is refused, and nothing has changed, or it is paid for.
+use Rattle.std.proofs.Common.{List, None, Option, Result, Some, ap, inl, inr, refl, replicate, subst, sym, true, false, Bool, ℕ, arith, ◌∙◌, ◌≡◌, ◌≤◌, ◌⊎◌}
+use Rattle.std.proofs.lemmas.Bool.Decides.{nat_tests}
+use Rattle.std.proofs.lemmas.Option.{none-some, same_Some}
+use Rattle.std.specs.Option.{option_and_then, option_map}
+use Rattle.std.specs.Prelude.{nat_eq, nat_le, slice_set, if◌then◌else◌}
+use Rattle.wasmi_types.specs.Access.{at, overwrite}
+use Rattle.wasmi_meter.specs.declared.error.TableError.{TableError}
+use Rattle.wasmi_meter.specs.declared.error.TableError.TheVariants.{OutOfFuel}
+use Rattle.wasmi_meter.specs.declared.fuel.CustomFuelCosts.{CustomFuelCosts}
+use Rattle.wasmi_meter.specs.Attempt.{MeteredValue, covers, optional_due, with_value}
+use Rattle.wasmi_meter.specs.Meter.{Meter, amount_left, cut_product, meter_after}
+use Rattle.wasmi_store.specs.Growth.{metered}
+use Rattle.wasmi_store.specs.Write.{MeteredWrite, WritesCharging, item_price}
+use Rattle.wasmi_store.specs.Table.{IsValidTable, TableValue, element_price, size_of, table_of}
+use Rattle.wasmi_store.proofs.WriteLemmas.{PaidWrite, RefusedWrite, write_ends, writes_once}
+use Rattle.wasmi_machine.specs.declared.calls.Reply.{Reply}
+use Rattle.wasmi_machine.specs.declared.slots.Slot.{Slot}
+use Rattle.wasmi_machine.specs.declared.slots.Slot.TheVariants.{Live}
+use Rattle.wasmi_machine.specs.Effects.{ActsMeteredUnasked, MeteredSlots, OnLive, WritesAt, WritesFrom, WritesRangeAt, item_bytes, reply_of}
+use Rattle.wasmi_machine.specs.Exchange.{NothingGrows, writing_charge}
+use Rattle.wasmi_machine.specs.State.{IsRefusal, IsValid, State, Turn, World, live_at, sizes, with_tables}
+use Rattle.wasmi_machine.specs.Steps.{HasRangeWrite, RangeWrite, TableWritten}
+use Rattle.wasmi_machine.specs.TableEffects.{OfReference, OfSegment, OfTable, Source, write_of}
+use Rattle.wasmi_machine.proofs.EffectLemmas.{HasOneEnding, acts_same, live_valid, on_both, on_live, put_back, put_valid}
+use Rattle.wasmi_machine.proofs.MemoryEffectsLemmas.{overwrite_length}
+use Rattle.wasmi_machine.proofs.StepsLemmas.{KeepsTables, PartOf, the_tables}
+use Rattle.wasmi_machine.proofs.TableEffectsLemmas.{table_as_long}
+use Rattle.wasmi_machine.proofs.TotalLemmas.{counts_kept, each_kind}
+use Rattle.wasmi_machine.specs.declared.calls.Reply.TheVariants as replied
+
+-- ---- a write in a slot
+
+-- a write over a range that is refused
+pub record IsIdle {A : Type 0} (s : MeteredValue A (Unit {0})) (reply : Reply) (charge : ℕ)
+    (s' : MeteredValue A (Unit {0})) : Type 0 where
+  pub refused : IsRefusal reply
+  pub uncharged : charge ≡ 0
+  pub same : s' ≡ s
+
+-- a write over a range of the value of an index that is paid for
+pub record IsPaid {X E : Type 0} (k : ℕ) (write : X → MeteredWrite X E) (s : MeteredSlots X) (reply : Reply)
+    (charge : ℕ) (s' : MeteredSlots X) : Type 0 where
+  pub old : X
+  pub found : live_at s.value k ≡ Some old
+  pub new : X
+  pub written : (write old).written ≡ Some new
+  pub done : reply ≡ replied.Done
+  pub enough : covers s.meter (optional_due s.meter (write old).price) ≡ true
+  pub charged : charge ≡ optional_due s.meter (write old).price
+  pub after : s' ≡ metered (slice_set s.value k (Live new)) (option_map (λ m. meter_after m charge) s.meter)
+
+module _ {X E : Type 0} (refusal : E → Reply) (refuses : (error : E) → IsRefusal (refusal error)) (k : ℕ)
+    (write : X → MeteredWrite X E) (s : MeteredSlots X) (reply : Reply) (charge : ℕ) (s' : MeteredSlots X) where
+  module _ (x : X) (found : live_at s.value k ≡ Some x) (x' : X) (result : Result (Unit {0}) E)
+      (replies : reply ≡ reply_of (λ _. replied.Done) refusal result) (put : s'.value ≡ slice_set s.value k (Live x'))
+    where
+      -- a refused write leaves the slots and the meter
+      slot_idle : RefusedWrite (with_value s x) result charge (with_value s' x') → IsIdle s reply charge s'
+      slot_idle r =
+          let value = put ∙ put_back s.value k x x' found (ap (λ (t : MeteredValue X (Unit {0})). t.value) r.same) in
+          let meter = ap (λ (t : MeteredValue X (Unit {0})). t.meter) r.same in
+          record {
+            refused = rw (replies, r.is) (refuses r.cause);
+            uncharged = r.uncharged;
+            same = λ i. record { value = value i; meter = meter i; limiter = tt };
+          }
+
+      -- a write that is paid for is in the slots
+      slot_paid : PaidWrite (write x) (with_value s x) result charge (with_value s' x') → IsPaid k write s reply charge s'
+      slot_paid p =
+          let value = put ∙ ap (λ (t : MeteredValue X (Unit {0})). slice_set s.value k (Live t.value)) p.after in
+          let meter = ap (λ (t : MeteredValue X (Unit {0})). t.meter) p.after in
+          record {
+            old = x;
+            found = found;
+            new = p.value;
+            written = p.written;
+            done = replies ∙ ap (reply_of (λ _. replied.Done) refusal) p.is;
+            enough = p.enough;
+            charged = p.charged;
+            after = λ i. record { value = value i; meter = meter i; limiter = tt };
+          }
+
+  -- a write at an index is refused, or it is paid for
+  slot_ends : WritesAt refusal k write s reply charge s' → IsIdle s reply charge s' ⊎ IsPaid k write s reply charge s'
+  slot_ends writes = on_live (live_at s.value k) _ _ writes
+      (λ missing. inl (record { refused = rw missing.0 tt; uncharged = missing.1; same = missing.2 }))
+      (λ x found h. elim (write_ends write (with_value s x) h.0 charge (with_value s' h.1) h.2) [
+        | inl r ↦ inl (slot_idle x found h.1 h.0 h.3 h.4 r)
+        | inr p ↦ inr (slot_paid x found h.1 h.0 h.3 h.4 p)
+      ])
+
+-- two writes at an index, which may be missing, are one
+pub range_once : {X E : Type 0} (refusal : E → Reply) (k : ℕ) (write : Option (X → MeteredWrite X E))
+    (s : MeteredSlots X) → HasOneEnding (WritesRangeAt refusal k write s)
+range_once {X = X} refusal k write s o o' a b =
+    on_both write _ _ _ _ a b (λ h h'. (h.0 ∙ sym h'.0, h.1 ∙ sym h'.1, h.2 ∙ sym h'.2))
+    (λ w h h'. acts_same {X = X} {S = Unit {0}} (WritesCharging w) (writes_once w) k
+    (reply_of (λ _. replied.Done) refusal) s o o' h h')
+
+-- what is written with what a source has, as a write that is there if the source is
+pub range_from : {X Y E : Type 0} (refusal : E → Reply) (source : Option Y) (k : ℕ)
+    (write : Y → X → MeteredWrite X E) (s : MeteredSlots X) (reply : Reply) (charge : ℕ) (s' : MeteredSlots X)
+    → WritesFrom refusal source k write s reply charge s'
+    → WritesRangeAt refusal k (option_map write source) s reply charge s'
+range_from refusal None k write s reply charge s' writes = writes
+range_from refusal (Some y) k write s reply charge s' writes = writes
+
+-- ---- a write in a world
+
+-- what a write keeps of a value, and what it costs and which error it has without so much fuel, whatever the value is
+pub record IsRange {X E : Type 0} (Keeps : X → X → Type 0) (price : Option (CustomFuelCosts → ℕ)) (unpaid : ℕ → E)
+    (write : X → MeteredWrite X E) : Type 0 where
+  pub keeps : (x x' : X) → (write x).written ≡ Some x' → Keeps x x'
+  pub priced : (x : X) → (write x).price ≡ price
+  pub unpaid_is : (x : X) → (write x).unpaid ≡ unpaid
+
+-- what a write keeps of a value, also where it is refused
+pub value_kept : {X E : Type 0} {Keeps : X → X → Type 0} {price : Option (CustomFuelCosts → ℕ)} {unpaid : ℕ → E}
+    (write : X → MeteredWrite X E) → IsRange Keeps price unpaid write → ((x : X) → Keeps x x)
+    → (s : MeteredValue X (Unit {0})) (result : Result (Unit {0}) E) (charge : ℕ) (s' : MeteredValue X (Unit {0}))
+    → WritesCharging write s result charge s' → Keeps s.value s'.value
+value_kept {X = X} {Keeps = Keeps} write is same s result charge s' writes =
+    elim (write_ends write s result charge s' writes) [
+      | inl r ↦ subst (Keeps s.value) (sym (ap (λ (t : MeteredValue X (Unit {0})). t.value) r.same)) (same s.value)
+      | inr p ↦ subst (Keeps s.value) (sym (ap (λ (t : MeteredValue X (Unit {0})). t.value) p.after))
+          (is.keeps s.value p.value p.written)
+    ]
+
+-- so many bytes are written, each of which is paid for
+pub record IsPriced (price : Option (CustomFuelCosts → ℕ)) (written : ℕ) : Type 0 where
+  pub bytes : (written ≡ 0) ⊎ ((n : ℕ) × (size : ℕ) × (price ≡ Some (item_price size n))
+      × (written ≡ cut_product n size))
+
+-- a turn whose write is refused
+pub record IsIdleTurn {S : Type 0} (w : World S) (turn : Turn) (w' : World S) : Type 0 where
+  pub refused : IsRefusal turn.reply
+  pub uncharged : turn.charge ≡ 0
+  pub unwritten : turn.written ≡ 0
+  pub same : w' ≡ w
+
+-- a turn whose write is paid for
+pub record IsPaidTurn {S : Type 0} (price : Option (CustomFuelCosts → ℕ)) (w : World S) (turn : Turn) (w' : World S)
+    : Type 0 where
+  pub done : turn.reply ≡ replied.Done
+  pub charged : turn.charge ≡ optional_due (Some w.state.meter) price
+  pub enough : turn.charge ≤ amount_left w.state.meter
+  pub meter : w'.state.meter ≡ meter_after w.state.meter turn.charge
+  pub limiter : w'.limiter ≡ w.limiter
+  pub priced : IsPriced price turn.written
+  pub still : NothingGrows (sizes w.state) (sizes w'.state)
+  pub valid : IsValid w.state → IsValid w'.state
+
+-- a write over a range of the value of an index, of which the part of a state has many
+pub record RangeOf (s : State) (X E : Type 0) : Type 1 where
+  pub refusal : E → Reply
+  pub refuses : (error : E) → IsRefusal (refusal error)
+  pub unpaid : ℕ → E
+  pub with_part : List (Slot X) → State
+  pub slots : List (Slot X)
+  pub KeepsPart : List (Slot X) → Type 0
+  pub part : PartOf s with_part slots KeepsPart
+  pub KeepsValue : X → X → Type 0
+  pub kept : (k : ℕ) (x x' : X) → live_at slots k ≡ Some x → KeepsValue x x'
+      → KeepsPart (slice_set slots k (Live x'))
+
+-- a state with another meter is valid
+metered_valid : (s : State) (m : Meter) → IsValid s → IsValid (record s { meter = m })
+metered_valid s m v =
+    record { memories = v.memories; tables = v.tables; segments = v.segments; registers = v.registers }
+
+-- what a refused write over a range is charged
+pub refused_writing : (m : Meter) (price : Option (CustomFuelCosts → ℕ)) (reply : Reply) → IsRefusal reply
+    → writing_charge m price reply ≡ 0
+refused_writing m price replied.Done refused = absurd refused
+refused_writing m price reply refused = refl
+
+-- no item has no byte
+no_item : (size n : ℕ) (reply : Reply) → n ≡ 0 → item_bytes size n reply ≡ 0
+no_item size n replied.Done none = ap (λ k. cut_product k size) none ∙ omega arith
+no_item size n (replied.Number number) none = ap (λ k. cut_product k size) none ∙ omega arith
+no_item size n reply none = refl
+
+-- a refusal has written no byte
+refused_bytes : (size n : ℕ) (reply : Reply) → IsRefusal reply → item_bytes size n reply ≡ 0
+refused_bytes size n replied.Done refused = absurd refused
+refused_bytes size n (replied.Number number) refused = absurd refused
+refused_bytes size n reply refused = refl
+
+module _ {S X E : Type 0} (w : World S) (r : RangeOf w.state X E) (price : Option (CustomFuelCosts → ℕ))
+    (size n : ℕ) (paid : (price ≡ Some (item_price size n)) ⊎ (n ≡ 0)) (turn : Turn) (w' : World S) where
+  -- what has become of the part, and of the meter
+  abbrev Becomes : (k : ℕ) → Option (X → MeteredWrite X E) → Type 0
+  Becomes k write = ActsMeteredUnasked w turn w' r.slots r.with_part (WritesRangeAt r.refusal k write)
+      (item_bytes size n)
+
+  -- a write that is refused leaves the world
+  range_idle : (k : ℕ) (write : Option (X → MeteredWrite X E)) (step : Becomes k write)
+      → IsIdle (metered r.slots (Some w.state.meter)) turn.reply turn.charge (metered step.part (Some step.meter))
+      → IsIdleTurn w turn w'
+  range_idle k write step idle =
+      let part = ap (λ (s : MeteredSlots X). s.value) idle.same in
+      let meter = same_Some step.meter w.state.meter (ap (λ (s : MeteredSlots X). s.meter) idle.same) in
+      let whole = ap r.with_part part ∙ r.part.whole in
+      record {
+        refused = idle.refused;
+        uncharged = idle.uncharged;
+        unwritten = step.wrote ∙ refused_bytes size n turn.reply idle.refused;
+        same = step.after
+            ∙ (λ i. record w { state = record (whole i) { meter = meter i } });
+      }
+
+  -- a write that is paid for
+  range_paid : (k : ℕ) (write : Option (X → MeteredWrite X E)) (step : Becomes k write) (v : X → MeteredWrite X E)
+      → IsRange r.KeepsValue price r.unpaid v
+      → IsPaid k v (metered r.slots (Some w.state.meter)) turn.reply turn.charge (metered step.part (Some step.meter))
+      → IsPaidTurn price w turn w'
+  range_paid k write step v is p =
+      let m = w.state.meter in
+      let due = ap (optional_due (Some m)) (is.priced p.old) in
+      let charged : turn.charge ≡ optional_due (Some m) price = p.charged ∙ due in
+      let part : step.part ≡ slice_set r.slots k (Live p.new) = ap (λ (s : MeteredSlots X). s.value) p.after in
+      let meter = same_Some step.meter (meter_after m turn.charge) (ap (λ (s : MeteredSlots X). s.meter) p.after) in
+      let keeps : r.KeepsPart step.part =
+      subst r.KeepsPart (sym part) (r.kept k p.old p.new p.found (is.keeps p.old p.new p.written)) in
+      let within : nat_le (optional_due (Some m) (v p.old).price) (amount_left m) ≡ true = p.enough in
+      record {
+        done = p.done;
+        charged = charged;
+        enough = grind (arith, nat_tests, within, p.charged);
+        meter = ap (λ (x : World S). x.state.meter) step.after ∙ meter;
+        limiter = ap (λ (x : World S). x.limiter) step.after;
+        priced = record { bytes = written_by paid };
+        still = λ kind. ap (λ (x : World S). sizes x.state kind) step.after
+            ∙ each_kind (λ kind. sizes (record (r.with_part step.part) { meter = step.meter }) kind
+            ≡ sizes (r.with_part step.part) kind) refl refl kind
+            ∙ r.part.still step.part keeps kind;
+        valid = λ valid. subst (λ (x : World S). IsValid x.state) (sym step.after)
+            (metered_valid (r.with_part step.part) step.meter (r.part.valid step.part keeps valid));
+      }
+    where
+      written_by : (price ≡ Some (item_price size n)) ⊎ (n ≡ 0) → (turn.written ≡ 0)
+          ⊎ ((n : ℕ) × (size : ℕ) × (price ≡ Some (item_price size n)) × (turn.written ≡ cut_product n size))
+      written_by (inl priced) = inr (n, size, priced, step.wrote ∙ ap (item_bytes size n) p.done)
+      written_by (inr none) = inl (step.wrote ∙ no_item size n turn.reply none)
+
+  -- a turn that writes over a range is refused, or it is paid for
+  range_ends : (k : ℕ) (write : Option (X → MeteredWrite X E))
+      → OnLive write (Unit {0}) (IsRange r.KeepsValue price r.unpaid) → Becomes k write
+      → IsIdleTurn w turn w' ⊎ IsPaidTurn price w turn w'
+  range_ends k write is step = by_source write is step.effect
+    where
+      by_source : (source : Option (X → MeteredWrite X E)) → OnLive source (Unit {0}) (IsRange r.KeepsValue price r.unpaid)
+          → WritesRangeAt r.refusal k source (metered r.slots (Some w.state.meter)) turn.reply turn.charge
+          (metered step.part (Some step.meter)) → IsIdleTurn w turn w' ⊎ IsPaidTurn price w turn w'
+      by_source None is missing = inl (range_idle k write step
+          (record { refused = rw missing.0 tt; uncharged = missing.1; same = missing.2 }))
+      by_source (Some v) is writes = elim (slot_ends r.refusal r.refuses k v (metered r.slots (Some w.state.meter))
+          turn.reply turn.charge (metered step.part (Some step.meter)) writes) [
+            | inl idle ↦ inl (range_idle k write step idle)
+            | inr p ↦ inr (range_paid k write step v is p)
+          ]
+
+-- ---- each write over a range
+
+-- what a write over a range of a table keeps
+abbrev pub KeepsTable : TableValue → TableValue → Type 0
+KeepsTable x x' = (x'.ty ≡ x.ty) × (size_of x' ≡ size_of x)
+
+-- the tables of a state
+abbrev table_range : (s : State) → RangeOf s TableValue TableError
+table_range s = record {
+  refusal = replied.Table;
+  refuses = λ error. tt;
+  unpaid = OutOfFuel;
+  with_part = with_tables s;
+  slots = s.tables;
+  KeepsPart = KeepsTables s;
+  part = the_tables s;
+  KeepsValue = KeepsTable;
+  kept = λ k x x' found keeps. (
+    counts_kept size_of s.tables k x (Live x') found keeps.1,
+    λ valid. put_valid IsValidTable s.tables _ k (Live x') refl
+        (table_as_long x x' keeps.0 keeps.1 (live_valid IsValidTable s.tables k x found valid)) valid,
+  );
+}
+
+-- how many elements each source pays for
+abbrev pub paid_from : Source → ℕ → Option ℕ
+paid_from (OfSegment segment src) len = if nat_eq len 0 then None else Some len
+paid_from source len = Some len
+
+-- an initialization by no item is free
+init_pays : (len : ℕ) (none : Bool) → nat_eq len 0 ≡ none → ((if none then None else Some len) ≡ Some len) ⊎ (len ≡ 0)
+init_pays len true is = inr (grind (arith, nat_tests, is))
+init_pays len false is = inl refl
+
+-- each source pays for its elements, if there are some
+source_pays : (source : Source) (len : ℕ)
+    → (option_map element_price (paid_from source len) ≡ Some (item_price 4 len)) ⊎ (len ≡ 0)
+source_pays (OfReference value) len = inl refl
+source_pays (OfTable table src) len = inl refl
+source_pays (OfSegment segment src) len = elim (init_pays len _ refl) [
+  | inl some ↦ inl (ap (option_map element_price) some)
+  | inr none ↦ inr none
+]
+
+-- what is written over the elements of a table keeps the type and the size
+elements_kept : (x : TableValue) (dst : ℕ) (part written : Option (List ℕ)) (x' : TableValue)
+    → written ≡ option_and_then (λ ys. overwrite x.elements dst ys) part
+    → option_map (table_of x.ty) written ≡ Some x' → KeepsTable x x'
+elements_kept x dst None written x' is some = absurd (none-some x' (rw is at some))
+elements_kept x dst (Some part) None x' is some = absurd (none-some x' some)
+elements_kept x dst (Some part) (Some elements) x' is some =
+    let same = same_Some (table_of x.ty elements) x' some in (
+      ap (λ (t : TableValue). t.ty) (sym same),
+      ap size_of (sym same) ∙ overwrite_length x.elements part elements dst (sym is),
+    )
+
+-- what each source writes
+pub source_range : (source : Source) (dst len : ℕ) → OnLive (write_of source dst len) (Unit {0})
+    (IsRange KeepsTable (option_map element_price (paid_from source len)) OutOfFuel)
+source_range (OfReference value) dst len = record {
+  keeps = λ x x' is. elements_kept x dst (Some (replicate len value.raw)) _ x' refl is;
+  priced = λ x. refl;
+  unpaid_is = λ x. refl;
+}
+source_range (OfTable None src) dst len = tt
+source_range (OfTable (Some y) src) dst len = record {
+  keeps = λ x x' is. elements_kept x dst (at y.elements src len) _ x' refl is;
+  priced = λ x. refl;
+  unpaid_is = λ x. refl;
+}
+source_range (OfSegment None src) dst len = tt
+source_range (OfSegment (Some y) src) dst len = record {
+  keeps = λ x x' is. elements_kept x dst (at y.items src len) _ x' refl is;
+  priced = λ x. refl;
+  unpaid_is = λ x. refl;
+}
+
+-- what a write over a range costs, if it costs anything
+abbrev pub range_price : RangeWrite → Option (CustomFuelCosts → ℕ)
+range_price (TableWritten k source dst len) = option_map element_price (paid_from source len)
+
+module _ {S : Type 0} (w : World S) (write : RangeWrite) (turn : Turn) (w' : World S) where
+  -- each write over a range is refused, or it is paid for
+  pub range_facts : HasRangeWrite write w turn w' → IsIdleTurn w turn w' ⊎ IsPaidTurn (range_price write) w turn w'
+  range_facts = by_kind write
+    where
+      by_kind : (write : RangeWrite) → HasRangeWrite write w turn w'
+          → IsIdleTurn w turn w' ⊎ IsPaidTurn (range_price write) w turn w'
+      by_kind (TableWritten k source dst len) step =
+          range_ends w (table_range w.state) (option_map element_price (paid_from source len)) 4 len
+          (source_pays source len) turn w' k (write_of source dst len) (source_range source dst len) step
+
+  module _ (step : HasRangeWrite write w turn w') where
+    -- a refused one leaves the world
+    pub range_back : IsRefusal turn.reply → w' ≡ w
+    range_back refused = elim (range_facts step) [
+      | inl idle ↦ idle.same
+      | inr paid ↦ absurd (rw paid.done at refused)
+    ]
+
+    -- it is charged for what it writes
+    pub range_charge : turn.charge ≡ writing_charge w.state.meter (range_price write) turn.reply
+    range_charge = elim (range_facts step) [
+      | inl idle ↦ idle.uncharged
+          ∙ sym (refused_writing w.state.meter (range_price write) turn.reply idle.refused)
+      | inr paid ↦ paid.charged ∙ ap (writing_charge w.state.meter (range_price write)) (sym paid.done)
+    ]
+
+    -- the limiter isn't reached
+    pub range_unasked : w'.limiter ≡ w.limiter
+    range_unasked = elim (range_facts step) [
+      | inl idle ↦ ap (λ (v : World S). v.limiter) idle.same
+      | inr paid ↦ paid.limiter
+    ]
+
+    -- nothing grows
+    pub range_still : NothingGrows (sizes w.state) (sizes w'.state)
+    range_still = elim (range_facts step) [
+      | inl idle ↦ λ kind. ap (λ (v : World S). sizes v.state kind) idle.same
+      | inr paid ↦ paid.still
+    ]
+
+    -- a valid state stays valid
+    pub range_valid : IsValid w.state → IsValid w'.state
+    range_valid valid = elim (range_facts step) [
+      | inl idle ↦ rw idle.same valid
+      | inr paid ↦ paid.valid valid
+    ]
