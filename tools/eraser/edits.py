@@ -92,6 +92,13 @@ EDITS += [("machine", "\n            | ".join(patterns(calls)) + f" => self.{ste
            "".join(f"{pattern} => self.{step},\n" for pattern in patterns(calls)), 1) for step, calls in GROUPS.items()]
 EDITS += [("machine", "            _ => self.step_register", " | ".join(patterns(REGISTERS)) + " => self.step_register", 1)]
 
+# A macro that is exported is at the root.
+EDITS += [("c", f"$crate::generated::c::{name}!", f"$crate::{name}!", 1) for name in ("on_machine", "on_pool")]
+EDITS += [("c", f"Box::new({name})", f"crate::memory::boxed({name})", 1) for name in ("machine", "pool")]
+EDITS += [("c", "numbers.iter().map(|number| answer(*number)).collect()",
+           "let mut answers = Vec::new();\n    answers.read_all(numbers.iter().map(|number| answer(*number)), usize::MAX)?;\n    Ok(answers)", 1)]
+EDITS += [("c_lib", "use crate::generated::c::{on_machine, on_pool};", "use crate::{on_machine, on_pool};", 1)]
+
 # A test of a size that a `usize` of 32 bits hasn't got.
 EDITS += [("tests", "fn prints_the_cost_of_the_greatest_growth", '#[cfg(target_pointer_width = "64")]\nfn prints_the_cost_of_the_greatest_growth', 1)]
 

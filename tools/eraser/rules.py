@@ -28,7 +28,7 @@ A form that no rule knows ends the program. tools/eraser/edits.py lists what is 
 import re
 
 from .source import MARK, Source, Unknown, body, closing
-from .tables import (ATTRIBUTES, ATTRIBUTES_OF_TESTS, DERIVES, ERRORS, HIDDEN_FIELDS, INLINED_ALWAYS, LEGENDS, MACROS, MACROS_OF_TESTS, OF_TESTS, OF_TRAITS,
+from .tables import (ATTRIBUTES, ATTRIBUTES_OF_C, ATTRIBUTES_OF_TESTS, DERIVES, ERRORS, HIDDEN_FIELDS, INLINED_ALWAYS, LEGENDS, MACROS, MACROS_OF_TESTS, OF_TESTS, OF_TRAITS,
                      PLACES_OF_ERRORS, REQUIRES, STD_KEPT, UNTESTED, module_of_instruction)
 
 ATTRIBUTES_OF_ITEM = r"(?P<attributes>(?:^ *#\[[^\]]*\]\n)*)"
@@ -117,7 +117,7 @@ class File(Source):
         while found := re.search(r"#!?\[tactic\b", self.text):
             end = closing(self.text, self.text.index("[", found.start()))
             self.text = self.text[:found.start()] + self.text[end:].lstrip()
-        if unknown := set(re.findall(r"#!?\[(\w+)", self.text)) - ATTRIBUTES - (ATTRIBUTES_OF_TESTS if self.is_test else set()):
+        if unknown := set(re.findall(r"#!?\[(\w+)", self.text)) - ATTRIBUTES - (ATTRIBUTES_OF_TESTS if self.is_test else ATTRIBUTES_OF_C if self.crate in self.known.of_c else set()):
             raise Unknown(f"attributes {unknown}")
 
         def derive(found):
@@ -177,7 +177,8 @@ class File(Source):
     def tests_of(self, name, head, opening, clauses, is_public):
         """What a function tests of what it requires, and what its panics say: no proof covers the callers of a public one in Rust."""
         required = [re.sub(r"\s+", " ", it.removeprefix("requires").strip()) for it in clauses if it.startswith("requires")]
-        required = [it for it in required if it not in UNTESTED]
+        # What the package for C exports requires nothing, and all other callers are proved.
+        required = [] if self.crate in self.known.of_c else [it for it in required if it not in UNTESTED]
         if opening == ";":
             if required and is_public and name not in OF_TRAITS:
                 raise Unknown(f"{name} of a trait requires {required[0]}")
@@ -298,6 +299,7 @@ class File(Source):
         argument = rf"([(\[{{,]\s*)(?:«[dc]\d+»\s*)*{part},\s*|([(\[,]\s*){part}(?=\s*[)\]])|(,\s*)alloc(?=\s*\}})"
         while self.sub(argument, r"\1\2\3"):
             pass
+        self.sub(r"\$alloc:expr,\s*", "")
 
     def of_alloc(self, found):
         names = [it for it in re.split(r"[{},\s]+", found[2].replace("Global as ", "Global")) if it and not it.startswith(("Global", "AllocGlobal"))]
@@ -312,11 +314,14 @@ class File(Source):
             if not function:
                 return found[0]
             return f"{found[1]}{self.mark('d', f'/// [`{function}`](crate::{module_of_instruction(function)}::{function})')}\n{found[0]}"
-        self.sub(r"(?<!»\n)^( +)([A-Z]\w*)(?:\([^)]*\))?,\n", documented, re.M)
+        if self.crate not in self.known.of_c:
+            self.sub(r"(?<!»\n)^( +)([A-Z]\w*)(?:\([^)]*\))?,\n", documented, re.M)
 
     def laws(self):
         """Laws are there for the reference and for tests."""
         self.sub(r"^ *pub use \w+::laws as \w+;\n|\blaws as \w+,\s*|,\s*laws as \w+", "", re.M)
+        if self.crate in self.known.of_c:
+            self.sub(r"^ *(?:pub mod laws|use crate::laws|laws::\w+\(\));\n", "", re.M)
         self.sub(r"^(?=(?:pub )?mod laws;)", "#[cfg(any(doc, test))]\n", re.M)
 
     def paths(self):

@@ -2,10 +2,11 @@
 
 import re
 
-STD_KEPT = {"fmt", "cmp", "error", "hash", "num", "str", "io"}  # as in Rust's std
+STD_KEPT = {"mem", "slice", "fmt", "cmp", "error", "hash", "num", "str", "io"}  # as in Rust's std
 ATTRIBUTES = {"inline", "cold", "derive", "repr"}  # kept; `tactic` is left out
 DERIVES = {"Clone", "Copy", "Debug", "Default", "PartialEq", "Eq", "PartialOrd", "Ord", "Hash"}
 MACROS = {"assert", "matches", "unreachable", "write", "writeln", "stringify", "format_args"}
+ATTRIBUTES_OF_C = {"macro_export", "unsafe"}
 ATTRIBUTES_OF_TESTS, MACROS_OF_TESTS = {"test"}, {"concat"}
 # What tests and programs have otherwise.
 OF_TESTS = {
