@@ -11,17 +11,18 @@
 //! | `digest` | `ok:` and a line that tells contents apart |
 //! | `fuel N` | `ok:`; from now on fuel is charged, and so much is there; the first such line drops all modules |
 //! | `left` | `ok: N`, the fuel that is left |
-//! | `lenient` | `ok:`; from now on a module may have functions with floats, which stop when they are called |
+//! | `strict` | `ok:`; from now on a module with floats is refused |
 //!
 //! A name may have `%` and two hexadecimal digits in place of a byte. A line has one reply, after what the guest prints.
-//! Other replies than `ok:` are `malformed:`, `invalid:`, `unsupported:` (floats, or beyond a limit), `unlinkable:`,
-//! `trap:`, and `error:` for a line that makes no sense; after one of them the module is the one before.
+//! Other replies than `ok:` are `malformed:`, `invalid:`, `unsupported:` (what the engine lacks, or beyond a limit; of a
+//! call, that it came to an instruction which computes with floats), `unlinkable:`, `trap:`, and `error:` for a line that
+//! makes no sense; after one of them the module is the one before.
 
 use crate::spectest::{self, Host};
 use crate::values;
 use engine::library::{RawRef, TypedRawRef, V128, ValType};
 use engine::{
-    Caps, Config, Contents, Engine, Error, Instance, Linker, Module, Refusal, RefusalKind, Store, Unsupported, Val,
+    Caps, Config, Contents, Engine, Error, FloatInstruction, Instance, Linker, Module, Refusal, RefusalKind, Store, Val,
 };
 use std::collections::HashMap;
 use std::fmt::Display;
@@ -36,7 +37,7 @@ pub struct Script {
     linker: Linker<Host>,
     made: Option<Made>,
     named: HashMap<String, Made>,
-    is_lenient: bool,
+    is_strict: bool,
 }
 
 type Made = (Module, Instance);
@@ -54,10 +55,10 @@ impl Script {
         Self::with(caps, false, false)
     }
 
-    fn with(caps: Caps, is_metered: bool, is_lenient: bool) -> Script {
+    fn with(caps: Caps, is_metered: bool, is_strict: bool) -> Script {
         let store = store(is_metered, caps);
         let linker = Linker::new(store.engine());
-        Script { caps, store, linker, made: None, named: HashMap::new(), is_lenient }
+        Script { caps, store, linker, made: None, named: HashMap::new(), is_strict }
     }
 
     /// Replies to each line of the input.
@@ -101,14 +102,14 @@ impl Script {
             "fuel" => {
                 let fuel = rest.parse().or(Err("error: fuel is a number"))?;
                 if !self.store.engine().is_metered() {
-                    *self = Self::with(self.caps, true, self.is_lenient);
+                    *self = Self::with(self.caps, true, self.is_strict);
                 }
                 self.store.set_fuel(fuel).map_err(error)?;
                 Ok("ok:".into())
             }
             "left" => Ok(format!("ok: {}", self.store.get_fuel().map_err(error)?)),
-            "lenient" => {
-                self.is_lenient = true;
+            "strict" => {
+                self.is_strict = true;
                 Ok("ok:".into())
             }
             _ => Err(format!("error: {word} is no command")),
@@ -122,7 +123,7 @@ impl Script {
     fn module(&mut self, file: &str) -> Result<String, String> {
         let bytes = fs::read(file).map_err(|it| format!("error: {file} can't be read: {it}"))?;
         let engine = self.store.engine().clone();
-        let read = if self.is_lenient { Module::new_lenient } else { Module::new };
+        let read = if self.is_strict { Module::new_strict } else { Module::new };
         let module = read(&engine, &bytes).map_err(refused)?;
         let mut linker = self.linker.clone();
         spectest::define(&mut linker, &mut self.store, &module).map_err(failed)?;
@@ -164,7 +165,7 @@ fn failed(error: Error) -> String {
         Error::Module(refusal) => refused(refusal),
         Error::Link(what) => format!("unlinkable: {what}"),
         Error::Misused(what) => format!("error: {what}"),
-        Error::Trap(trap) => match trap.downcast_ref::<Unsupported>() {
+        Error::Trap(trap) => match trap.downcast_ref::<FloatInstruction>() {
             Some(_) => format!("unsupported: {trap}"),
             None => format!("trap: {trap}"),
         },

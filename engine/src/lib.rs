@@ -57,9 +57,11 @@
 //! | Module | What it does |
 //! |---|---|
 //! | `reader` | bytes, numbers, names and types of the binary format |
+//! | `proposals` | what the engine lacks of the binary format, by name |
 //! | `limits` | bounds on what a module may have |
 //! | `module` | sections, and what they must keep |
 //! | `instructions` | the table of the library's instructions, and the form of the code that runs |
+//! | `floats` | the instructions on floats: which of them are the library's on bits, and which trap |
 //! | `translate` | the validation of a function, and its translation |
 //! | `engine`, `store`, `stack` | what tenants share, what a tenant has, and what calls run on |
 //! | `handle`, `arena`, `references` | who needs an item of a store, items by number, and references of functions |
@@ -89,6 +91,7 @@ mod context;
 mod engine;
 mod error;
 mod execute;
+mod floats;
 mod func;
 mod handle;
 mod instance;
@@ -96,6 +99,7 @@ mod instructions;
 mod items;
 mod linker;
 mod module;
+mod proposals;
 mod reader;
 mod references;
 mod resume;
@@ -109,7 +113,8 @@ pub use caller::Caller;
 pub use compiled::{ExternType, ImportType, Module};
 pub use context::{AsContext, AsContextMut, StoreContext, StoreContextMut};
 pub use engine::{Config, Engine};
-pub use error::{Error, Unsupported};
+pub use error::Error;
+pub use floats::FloatInstruction;
 pub use func::{Func, IntoFunc, TypedFunc};
 pub use instance::{Contents, Instance};
 pub use items::{Extern, Global, Memory, Table};
@@ -159,7 +164,4 @@ mod limits {
 
     /// Of an engine: the stacks that are kept for later calls.
     pub(crate) const STACKS: usize = 16;
-
-    /// The number of no function of the host: that of a function that is left out for its floats.
-    pub(crate) const NO_HOST: u32 = u32::MAX;
 }

@@ -9,11 +9,13 @@
 //! Code charges its fuel in blocks: an instruction `fuel` stands before each piece of code that only its first instruction
 //! is jumped to, and takes one unit for each instruction of the piece.
 
+use crate::floats::{self, Meaning};
 use crate::instructions::{self, Code, Form, Op};
 use crate::library::simd::ImmLaneIdx32;
 use crate::library::{self, FuelCostsProvider, FuncType, RawRef, RawVal, ValType, ValType::*};
 use crate::limits;
 use crate::module::Module;
+use crate::proposals;
 use crate::reader::{Read, Reader, Refusal, RefusalKind, ensure};
 use std::collections::HashMap;
 
@@ -600,7 +602,7 @@ impl<'m> Translator<'m, '_> {
         }
         match opcode {
             0x00..=0x05 | 0x0b..=0x0f => self.control(opcode),
-            0x10 | 0x11 => self.call(opcode),
+            0x10..=0x13 => self.call(opcode),
             0x1a => self.pop_any().map(drop),
             0x1b | 0x1c => self.select(opcode),
             0x20..=0x24 => self.variable(opcode),
@@ -612,8 +614,44 @@ impl<'m> Translator<'m, '_> {
             0xfc013..=0xfc016 => self.wide(opcode),
             0xfd00c => self.reader.v128().and_then(|value| self.constant(V128, value.as_u128())),
             0xfd00d => self.shuffle(),
-            _ if instructions::is_of_floats(opcode) => Err(begin.unsupported("an instruction is one on floats")),
-            _ => Err(begin.malformed("an instruction is unknown")),
+            _ => match floats::meaning(opcode) {
+                Some(_) if begin.is_strict => Err(begin.unsupported("an instruction is one on floats")),
+                Some(meaning) => self.of_floats(meaning),
+                None => Err(begin.unknown(proposals::of_instruction(opcode), "an instruction is unknown")),
+            },
+        }
+    }
+
+    fn of_floats(&mut self, meaning: Meaning) -> Read<()> {
+        match meaning {
+            Meaning::Constant(ty) => {
+                let bits = self.reader.float(if ty == F32 { 4 } else { 8 })?;
+                self.constant(ty, bits)
+            }
+            Meaning::Moves(code, form) => self.of_the_library(Op::new(code), form),
+            Meaning::Reinterprets(from, to) => {
+                let (operand, _) = self.pop_typed(from)?;
+                self.push_at(Some(to), operand.place).map(drop)
+            }
+            Meaning::Sign(code, ty, bits) => {
+                let (a, b) = (self.pop(ty)?, CONSTANTS + self.constant_slot(bits)?);
+                self.result(Op { a, b, ..Op::new(code) }, Some(ty))
+            }
+            Meaning::CopiesSign(and, or, ty, sign) => {
+                let (b, a) = (self.pop(ty)?, self.pop(ty)?);
+                let (rest, sign) = (CONSTANTS + self.constant_slot(sign - 1)?, CONSTANTS + self.constant_slot(sign)?);
+                let (left, right) = (self.own(self.stack.len()), self.own(self.stack.len() + 1));
+                self.emit(Op { d: left, a, b: rest, ..Op::new(and) });
+                self.emit_for(Op { d: right, a: b, b: sign, ..Op::new(and) }, 0);
+                self.emit_for(Op { d: left, a: left, b: right, ..Op::new(or) }, 0);
+                self.push_at(Some(ty), Place::Own).map(drop)
+            }
+            Meaning::Computes(lane, form) => {
+                self.of_the_library(Op { lane, ..Op::of(Code::float, self.at as u32) }, form)?;
+                // What follows isn't reached, but has its operands.
+                self.block().is_dead = true;
+                Ok(())
+            }
         }
     }
 
@@ -642,7 +680,7 @@ impl<'m> Translator<'m, '_> {
     fn call(&mut self, opcode: u32) -> Read<()> {
         let module = self.module;
         let number = self.reader.u32()?;
-        let (ty, op) = if opcode == 0x10 {
+        let (ty, op) = if matches!(opcode, 0x10 | 0x12) {
             let ty = module.functions.get(number as usize).ok_or(self.invalid("a function is unknown"))?;
             (*ty as usize, Op::of(Code::call, number))
         } else {
@@ -652,10 +690,29 @@ impl<'m> Translator<'m, '_> {
             (number as usize, Op { b: self.pop(index)?, lane: table as u16, ..Op::of(Code::call_indirect, same) })
         };
         let ty = &module.types[ty];
+        if opcode >= 0x12 {
+            return self.return_call(op, ty);
+        }
         self.take_settled(ty.params())?;
         let a = self.own(self.stack.len());
         self.emit(Op { a, ..op });
         self.push_all(ty.results())
+    }
+
+    /// A call whose results are those of the function, the frame of which becomes that of the callee.
+    fn return_call(&mut self, op: Op, ty: &FuncType) -> Read<()> {
+        let is_right = ty.results() == self.blocks[0].results;
+        ensure(is_right, self.invalid("a tail call has other results than the function"))?;
+        self.take_settled(ty.params())?;
+        let code = if op.code == Code::call { Code::return_call } else { Code::return_call_indirect };
+        let a = self.own(self.stack.len());
+        self.emit_for(Op { a, code, ..op }, 1 + price(ty.params().len()));
+        // A function of another instance returns to here.
+        if code == Code::return_call_indirect {
+            self.emit_for(Op { a, ..Op::of(Code::ret, ty.results().len() as u32) }, 0);
+        }
+        self.end_here();
+        Ok(())
     }
 
     fn select(&mut self, opcode: u32) -> Read<()> {
