@@ -21,7 +21,8 @@ pub struct Segment {
 /// What a module has, before its functions' bodies are made.
 pub struct Shape {
     pub signatures: Vec<Signature>,
-    /// The signature of each function. Function 0 sets the budget anew.
+    /// The signature of each function. Function 0 sets the budget anew, and is of a signature that no other one has, since
+    /// calls by a table would find it else.
     pub functions: Vec<usize>,
     pub memory: Option<Limits>,
     pub is_wide: bool,
@@ -38,7 +39,7 @@ pub struct Case {
     pub lines: Vec<String>,
 }
 
-const VALUES: [Type; 8] = [I32, I32, I32, I64, I64, V128, Func, Extern];
+const VALUES: [Type; 10] = [I32, I32, I32, I64, I64, F32, F64, V128, Func, Extern];
 
 pub fn case(seed: u64, instructions: &[Instruction]) -> Case {
     let mut random = Random::new(seed);
@@ -67,6 +68,14 @@ pub fn constant(code: &mut Vec<u8>, ty: Type, random: &mut Random, functions: us
             code.push(0x42);
             signed(code, random.number() as i64);
         }
+        F32 => {
+            code.push(0x43);
+            code.extend((random.float(23) as u32).to_le_bytes());
+        }
+        F64 => {
+            code.push(0x44);
+            code.extend(random.float(52).to_le_bytes());
+        }
         V128 => {
             code.extend([0xfd, 12]);
             code.extend(random.number().to_le_bytes());
@@ -81,11 +90,12 @@ pub fn constant(code: &mut Vec<u8>, ty: Type, random: &mut Random, functions: us
 }
 
 fn shape(random: &mut Random) -> Shape {
+    let of_budget = Signature { params: vec![], results: vec![I64; 4] };
     let nothing = Signature { params: vec![], results: vec![] };
-    let mut signatures = vec![nothing, Signature { params: vec![I32], results: vec![I64] }];
+    let mut signatures = vec![of_budget, nothing, Signature { params: vec![I32], results: vec![I64] }];
     signatures.extend((0..1 + random.below(5)).map(|_| signature(random)));
     let functions: Vec<_> =
-        [0].into_iter().chain((0..2 + random.below(5)).map(|_| random.below(signatures.len()))).collect();
+        [0].into_iter().chain((0..2 + random.below(5)).map(|_| 1 + random.below(signatures.len() - 1))).collect();
     let count = functions.len();
     let mut budget = vec![0x41];
     signed(&mut budget, BUDGETED);
@@ -131,7 +141,7 @@ impl Shape {
     fn is_called(&self, function: usize) -> bool {
         let signature = self.signature(function);
         !signature.params.iter().any(|it| it.is_reference())
-            && !signature.params.iter().chain(&signature.results).any(|it| *it == V128)
+            && !signature.params.iter().chain(&signature.results).any(|it| matches!(it, F32 | F64 | V128))
     }
 }
 
@@ -233,8 +243,8 @@ fn module(shape: &Shape, random: &mut Random, instructions: &[Instruction]) -> V
     section(&mut bytes, 5, &shape.memory.iter().map(|it| encoded(it, shape.is_wide)).collect::<Vec<_>>());
     section(&mut bytes, 6, &shape.globals.iter().map(global).collect::<Vec<_>>());
     section(&mut bytes, 7, &exports(shape));
-    let nothing: Vec<_> = (0..shape.functions.len()).filter(|it| shape.functions[*it] == 0).collect();
-    if random.once_in(4) {
+    let nothing: Vec<_> = (0..shape.functions.len()).filter(|it| shape.functions[*it] == 1).collect();
+    if !nothing.is_empty() && random.once_in(4) {
         bytes.extend([8, 1, *random.of(&nothing) as u8]);
     }
     let mut elements: Vec<_> = shape.elements.iter().map(|it| element(shape, it, random)).collect();
@@ -253,7 +263,9 @@ fn module(shape: &Shape, random: &mut Random, instructions: &[Instruction]) -> V
 pub fn with_budget() -> Vec<u8> {
     let mut code = vec![0, 0x41];
     signed(&mut code, BUDGETED);
-    code.extend([0x24, BUDGET as u8, 0x0b]);
+    code.extend([0x24, BUDGET as u8]);
+    code.extend([0x42, 0].repeat(4));
+    code.push(0x0b);
     code
 }
 
@@ -275,11 +287,13 @@ fn lines(shape: &Shape, random: &mut Random) -> Vec<String> {
 
 // ---- the binary format
 
-/// A type of values; floats have none here.
+/// A type of values.
 #[derive(Clone, Copy, PartialEq, Eq, Debug)]
 pub enum Type {
     I32 = 0x7f,
     I64 = 0x7e,
+    F32 = 0x7d,
+    F64 = 0x7c,
     V128 = 0x7b,
     Func = 0x70,
     Extern = 0x6f,
