@@ -4,6 +4,7 @@
 
 use crate::library::{FuncType, GlobalType, MemoryType, RawRef, RawVal, RefType, TableType, ValType, wasm};
 use crate::limits;
+use crate::operands::Operands;
 use crate::proposals;
 use crate::reader::{Read, Reader, Refusal, ensure};
 use crate::translate::{self, Function};
@@ -328,8 +329,9 @@ impl Module {
         let bodies = reader.list(Reader::part)?;
         let is_right = bodies.len() == self.functions.len() - self.imported.functions;
         ensure(is_right, begin.malformed("functions and their bodies differ in number"))?;
+        let mut operands = Operands::default();
         for body in bodies {
-            let function = translate::function(self, self.code.len() as u32, body)?;
+            let function = translate::function(self, self.code.len() as u32, body, &mut operands)?;
             self.code.push(function);
         }
         Ok(())
