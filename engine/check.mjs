@@ -147,7 +147,8 @@ const shown = (value) => typeof value === 'number' || typeof value === 'bigint' 
 
 const print = (text) => fs.writeSync(1, `${text}\n`);
 let instance = null, of = null;
-// The host of an instance, as src/host.rs has it. What a call prints comes before its reply.
+let registered = {};
+// The host of an instance, as program/spectest.rs has it. What a call prints comes before its reply.
 const host = () => ({
   print: () => print(''),
   print_i32: (value) => print(String(value)),
@@ -159,6 +160,8 @@ const host = () => ({
   },
   memory: new WebAssembly.Memory({ initial: 1, maximum: 2 }),
   table: new WebAssembly.Table({ element: 'anyfunc', initial: 10, maximum: 20 }),
+  mix: (a, b) => [BigInt.asIntN(64, (b << 7n | BigInt.asUintN(64, b) >> 57n) ^ BigInt(a)), Math.imul(a, 3)],
+  refuse: (value) => { if (value % 8 === 0) throw new WebAssembly.RuntimeError('unreachable'); },
   global_i32: 666,
   global_i64: 666n,
   counter: new WebAssembly.Global({ value: 'i64', mutable: true }, 0n),
@@ -236,7 +239,7 @@ function load(file) {
   if (!WebAssembly.validate(bytes)) return 'refused: by V8';
   const copy = exposed(bytes);
   of = copy.shape;
-  try { instance = new WebAssembly.Instance(new WebAssembly.Module(copy.bytes), { host: host() }); }
+  try { instance = new WebAssembly.Instance(new WebAssembly.Module(copy.bytes), { ...registered, host: host() }); }
   catch (error) { return error instanceof WebAssembly.LinkError ? 'unlinkable: by V8' : trap(error); }
   of.params = operands(bytes, instance.exports);
   return 'ok:';
@@ -247,8 +250,10 @@ function reply(line) {
   if (command === 'module') return load(words.join(' '));
   if (command === 'validate') return validated(words.join(' '));
   if (command === 'fuel') return 'ok:';
+  if (command === 'drop') { registered = {}; instance = null; return 'ok:'; }
   if (command === 'left') return 'none: V8 has no fuel';
   if (!instance) return 'error: there is no instance';
+  if (command === 'register') { registered[words[0]] = instance.exports; return 'ok:'; }
   if (command === 'digest') return digest();
   const f = instance.exports[words[0]];
   if (typeof f !== 'function') return `error: there is no function ${words[0]}`;

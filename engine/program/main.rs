@@ -135,7 +135,7 @@ fn call(instance: &Instance, store: &mut Store<Host>, name: &str, args: &[Val]) 
     let args: Option<Vec<_>> = args.iter().map(|it| values::referring(instance, &mut *store, *it)).collect();
     let args = args.ok_or(Error::Misused("there is no function of this number".into()))?;
     let results = function.call(&mut *store, &args)?;
-    Ok(results.into_iter().map(|it| values::print(values::numbered(instance, &*store, it))).collect())
+    Ok(results.into_iter().map(|it| values::print(values::numbered(&*store, it))).collect())
 }
 
 /// The processor time of this thread, as Linux counts it; elsewhere the time of the clock.

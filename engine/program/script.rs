@@ -6,6 +6,7 @@
 //! | `name NAME` | `ok:`; the present module has this name from now on, and is kept |
 //! | `use NAME` | `ok:`; the module of this name is the present one |
 //! | `register NAME` | `ok:`; later modules can import what the present one exports, from a module of this name |
+//! | `drop` | `ok:`; all modules are dropped, and what was registered |
 //! | `invoke FUNCTION ARGS..` | `ok: V..`, the results |
 //! | `get GLOBAL` | `ok: V` |
 //! | `digest` | `ok:` and a line that tells contents apart |
@@ -42,22 +43,20 @@ pub struct Script {
 
 type Made = (Module, Instance);
 
-fn store(is_metered: bool, caps: Caps) -> Store<Host> {
-    let engine = Engine::new(Config::default().consume_fuel(is_metered));
-    let mut store = Store::new(&engine, Host::default());
-    store.set_caps(caps);
-    store
+fn engine(is_metered: bool) -> Engine {
+    Engine::new(Config::default().consume_fuel(is_metered))
 }
 
 impl Script {
     /// A script whose modules share these caps. No fuel is charged.
     pub fn new(caps: Caps) -> Script {
-        Self::with(caps, false, false)
+        Self::with(&engine(false), caps, false)
     }
 
-    fn with(caps: Caps, is_metered: bool, is_strict: bool) -> Script {
-        let store = store(is_metered, caps);
-        let linker = Linker::new(store.engine());
+    fn with(engine: &Engine, caps: Caps, is_strict: bool) -> Script {
+        let mut store = Store::new(engine, Host::default());
+        store.set_caps(caps);
+        let linker = Linker::new(engine);
         Script { caps, store, linker, made: None, named: HashMap::new(), is_strict }
     }
 
@@ -81,6 +80,10 @@ impl Script {
                 self.named.insert(rest.into(), self.made()?.clone());
                 Ok("ok:".into())
             }
+            "drop" => {
+                *self = Self::with(&self.store.engine().clone(), self.caps, self.is_strict);
+                Ok("ok:".into())
+            }
             "use" => {
                 let made = self.named.get(rest).ok_or(format!("error: no module has the name {rest}"))?;
                 self.made = Some(made.clone());
@@ -96,13 +99,13 @@ impl Script {
                 let (_, instance) = self.made()?;
                 let global = instance.get_global(&self.store, &name(rest)?);
                 let value = global.ok_or("error: there is no exported global of this name")?.get(&self.store);
-                Ok(format!("ok: {}", values::print(values::numbered(instance, &self.store, value))))
+                Ok(format!("ok: {}", values::print(values::numbered(&self.store, value))))
             }
             "digest" => Ok(format!("ok: {}", digest(&self.made()?.1, &self.store))),
             "fuel" => {
                 let fuel = rest.parse().or(Err("error: fuel is a number"))?;
                 if !self.store.engine().is_metered() {
-                    *self = Self::with(self.caps, true, self.is_strict);
+                    *self = Self::with(&engine(true), self.caps, self.is_strict);
                 }
                 self.store.set_fuel(fuel).map_err(error)?;
                 Ok("ok:".into())
@@ -142,7 +145,7 @@ impl Script {
         let args: Vec<_> = args.collect::<Option<_>>().ok_or("error: there is no function of this number")?;
         let function = instance.get_func(&self.store, &function).ok_or("error: there is no such function")?;
         let results = function.call(&mut self.store, &args).map_err(failed)?;
-        let results = results.into_iter().map(|it| values::numbered(instance, &self.store, it));
+        let results = results.into_iter().map(|it| values::numbered(&self.store, it));
         Ok(results.fold("ok:".into(), |line, it| line + " " + &values::print(it)))
     }
 }
@@ -190,7 +193,7 @@ fn name(text: &str) -> Result<String, String> {
 /// function and 1; a global has 16. The least byte comes first.
 fn digest(instance: &Instance, store: &Store<Host>) -> String {
     let Contents { memories, tables, globals } = instance.contents(store);
-    let numbered = |value| values::numbered(instance, store, value);
+    let numbered = |value| values::numbered(store, value);
     let mut words = vec![];
     for memory in memories {
         words.push(format!("memory {} {:016x}", memory.size(), fnv(memory.data().iter().copied())));

@@ -1,7 +1,7 @@
 //! Values as text: what a user writes as an argument, and what a result is printed as.
 
 use engine::library::{FuncType, RawRef, RawVal, TypedRawVal, V128, ValType};
-use engine::{AsContext, AsContextMut, ExternType, Instance, Module, Val};
+use engine::{AsContext, AsContextMut, ExternType, Func, Instance, Module, Val};
 
 /// Reads an argument of this type: a number in decimal or, after `0x`, in hexadecimal, or `null`. A float has its bits, in
 /// hexadecimal. A number of a reference is that of a function or of an object of the host.
@@ -37,12 +37,11 @@ pub fn referring(instance: &Instance, context: impl AsContextMut, value: Val) ->
     Some(Val::new(ValType::FuncRef, reference.into()))
 }
 
-/// A value to be [printed](print), with a number in place of a function of the instance.
-pub fn numbered(instance: &Instance, context: impl AsContext, value: Val) -> Val {
-    let number = instance.function_number(context, value.raw().into());
-    match (value.ty(), number) {
-        (ValType::FuncRef, Some(number)) => Val::new(ValType::FuncRef, RawRef::from(number + 1).into()),
-        _ => value,
+/// A value to be [printed](print), with a number in place of a function: that which it has in its module.
+pub fn numbered(context: impl AsContext, value: Val) -> Val {
+    match Func::from_val(&context, value) {
+        Some(function) => Val::new(ValType::FuncRef, RawRef::from(function.index(&context) + 1).into()),
+        None => value,
     }
 }
 
