@@ -3,7 +3,9 @@
 // that a module doesn't export are exported in the copy that is run, so that the digest can see them.
 import fs from 'node:fs';
 
-const I32 = 0x7f, I64 = 0x7e, V128 = 0x7b;
+const I32 = 0x7f, I64 = 0x7e, F32 = 0x7d, F64 = 0x7c, V128 = 0x7b;
+// The code after `global.get` that gives the bits of a global as numbers of 64 bits, for the types that JavaScript doesn't take as they are.
+const BITS = { [F32]: [[0xbc, 0xad]], [F64]: [[0xbd]], [V128]: [[0xfd, 0x1d, 0], [0xfd, 0x1d, 1]] };
 const SECTIONS_BEFORE = { 1: [], 3: [1, 2], 7: [1, 2, 3, 4, 5, 6], 10: [1, 2, 3, 4, 5, 6, 7, 8, 9, 12] };
 
 class Reader {
@@ -80,19 +82,19 @@ function append(found, id, items) {
   section.content = Buffer.from([...leb(count + items.length), ...section.content.subarray(reader.at), ...items.flat()]);
 }
 
-// The module with all exported, and with two functions for each global that is a vector, which give its halves.
+// The module with all exported, and with functions for each global that is a float or a vector, which give its bits.
 function exposed(bytes) {
   const found = sections(bytes), it = shape(found), exports = [], bodies = [];
   const add = (name, kind, index) => exports.push([...leb(name.length), ...Buffer.from(name), kind, ...leb(index)]);
   for (let i = 0; i < it.memories; i++) add(`~m${i}`, 2, i);
   for (let i = 0; i < it.tables; i++) add(`~t${i}`, 1, i);
   it.globals.forEach((type, i) => {
-    if (type !== V128) { add(`~g${i}`, 3, i); return; }
-    for (const half of [0, 1]) {
-      add(`~v${i}.${half}`, 0, it.functions + bodies.length);
-      const body = [0, 0x23, ...leb(i), 0xfd, 0x1d, half, 0x0b];
+    if (!BITS[type]) { add(`~g${i}`, 3, i); return; }
+    BITS[type].forEach((code, part) => {
+      add(`~v${i}.${part}`, 0, it.functions + bodies.length);
+      const body = [0, 0x23, ...leb(i), ...code, 0x0b];
       bodies.push([...leb(body.length), ...body]);
-    }
+    });
   });
   if (bodies.length) append(found, 1, [[0x60, 0, 1, I64]]);
   append(found, 3, bodies.map(() => leb(it.types)));
@@ -145,7 +147,8 @@ const shown = (value) => typeof value === 'number' || typeof value === 'bigint' 
 
 const print = (text) => fs.writeSync(1, `${text}\n`);
 let instance = null, of = null;
-// The host of an instance, as src/host.rs has it. What a call prints comes before its reply.
+let registered = {};
+// The host of an instance, as program/spectest.rs has it. What a call prints comes before its reply.
 const host = () => ({
   print: () => print(''),
   print_i32: (value) => print(String(value)),
@@ -157,6 +160,8 @@ const host = () => ({
   },
   memory: new WebAssembly.Memory({ initial: 1, maximum: 2 }),
   table: new WebAssembly.Table({ element: 'anyfunc', initial: 10, maximum: 20 }),
+  mix: (a, b) => [BigInt.asIntN(64, (b << 7n | BigInt.asUintN(64, b) >> 57n) ^ BigInt(a)), Math.imul(a, 3)],
+  refuse: (value) => { if (value % 8 === 0) throw new WebAssembly.RuntimeError('unreachable'); },
   global_i32: 666,
   global_i64: 666n,
   counter: new WebAssembly.Global({ value: 'i64', mutable: true }, 0n),
@@ -210,8 +215,10 @@ function digest() {
   }
   const sum = new Sum();
   of.globals.forEach((type, i) => {
-    if (type === V128) for (const half of [0, 1]) sum.number(exports[`~v${i}.${half}`](), 8);
-    else {
+    if (BITS[type]) {
+      const parts = BITS[type].map((_, part) => exports[`~v${i}.${part}`]());
+      parts.forEach((bits) => sum.number(bits, 16 / parts.length));
+    } else {
       const value = number(exports[`~g${i}`].value);
       sum.number(type === I32 ? value >>> 0 : value, 16);
     }
@@ -232,7 +239,7 @@ function load(file) {
   if (!WebAssembly.validate(bytes)) return 'refused: by V8';
   const copy = exposed(bytes);
   of = copy.shape;
-  try { instance = new WebAssembly.Instance(new WebAssembly.Module(copy.bytes), { host: host() }); }
+  try { instance = new WebAssembly.Instance(new WebAssembly.Module(copy.bytes), { ...registered, host: host() }); }
   catch (error) { return error instanceof WebAssembly.LinkError ? 'unlinkable: by V8' : trap(error); }
   of.params = operands(bytes, instance.exports);
   return 'ok:';
@@ -243,8 +250,10 @@ function reply(line) {
   if (command === 'module') return load(words.join(' '));
   if (command === 'validate') return validated(words.join(' '));
   if (command === 'fuel') return 'ok:';
+  if (command === 'drop') { registered = {}; instance = null; return 'ok:'; }
   if (command === 'left') return 'none: V8 has no fuel';
   if (!instance) return 'error: there is no instance';
+  if (command === 'register') { registered[words[0]] = instance.exports; return 'ok:'; }
   if (command === 'digest') return digest();
   const f = instance.exports[words[0]];
   if (typeof f !== 'function') return `error: there is no function ${words[0]}`;

@@ -16,11 +16,12 @@ usage: engine FILE.wasm FUNCTION ARGS.. [OPTION..]
        engine --script [OPTION..]
 
 It runs an exported function of a WebAssembly module, and prints its results, one a line. Arguments are numbers in decimal
-or, after 0x, in hexadecimal, or null.
+or, after 0x, in hexadecimal, or null. A float is given and printed by its bits, in hexadecimal.
 
   --fuel N               stop after N units of fuel; the last line of the standard error has what was used
   --memory-cap BYTES     the most bytes of all memories together; 1 GiB if it isn't given
   --table-cap ELEMENTS   the most elements of all tables together; 10,000,000 if it isn't given
+  --strict-floats        refuse a module with floats; without it an instruction that computes with floats traps
   --time                 print the processor time of the call to the standard error
   --script               read lines from the standard input, as the documentation of the module `script` says
   --help                 print this
@@ -33,6 +34,7 @@ struct Options {
     words: Vec<String>,
     fuel: Option<u64>,
     caps: Caps,
+    is_strict: bool,
     has_time: bool,
     is_script: bool,
 }
@@ -65,7 +67,7 @@ fn misused(what: impl Into<String>) -> Failed {
 
 fn options(mut args: impl Iterator<Item = String>) -> Result<Options, Failed> {
     let caps = Caps { bytes: 1 << 30, elements: 10_000_000 };
-    let mut options = Options { words: vec![], fuel: None, caps, has_time: false, is_script: false };
+    let mut options = Options { words: vec![], fuel: None, caps, is_strict: false, has_time: false, is_script: false };
     while let Some(arg) = args.next() {
         let mut number = || {
             let number = args.next().and_then(|it| it.parse::<u64>().ok());
@@ -75,6 +77,7 @@ fn options(mut args: impl Iterator<Item = String>) -> Result<Options, Failed> {
             "--fuel" => options.fuel = Some(number()?),
             "--memory-cap" => options.caps.bytes = number()? as usize,
             "--table-cap" => options.caps.elements = number()? as usize,
+            "--strict-floats" => options.is_strict = true,
             "--time" => options.has_time = true,
             "--script" => options.is_script = true,
             _ if arg.starts_with("--") => return Err(misused(format!("{arg} is no option"))),
@@ -95,7 +98,8 @@ fn run(options: &Options) -> Result<(), Failed> {
     let bytes = fs::read(file).map_err(|it| misused(format!("{file} can't be read: {it}")))?;
     let refused = |what: String| Failed(3, format!("{file}: {what}"));
     let engine = Engine::new(Config::default().consume_fuel(options.fuel.is_some()));
-    let module = Module::new(&engine, &bytes).map_err(|it| refused(it.to_string()))?;
+    let read = if options.is_strict { Module::new_strict } else { Module::new };
+    let module = read(&engine, &bytes).map_err(|it| refused(it.to_string()))?;
     let ty = values::type_of(&module, function).map_err(misused)?;
     let args = values::arguments(&ty, function, words.iter().map(String::as_str)).map_err(misused)?;
     let mut store = Store::new(&engine, Host::default());
@@ -131,7 +135,7 @@ fn call(instance: &Instance, store: &mut Store<Host>, name: &str, args: &[Val]) 
     let args: Option<Vec<_>> = args.iter().map(|it| values::referring(instance, &mut *store, *it)).collect();
     let args = args.ok_or(Error::Misused("there is no function of this number".into()))?;
     let results = function.call(&mut *store, &args)?;
-    Ok(results.into_iter().map(|it| values::print(values::numbered(instance, &*store, it))).collect())
+    Ok(results.into_iter().map(|it| values::print(values::numbered(&*store, it))).collect())
 }
 
 /// The processor time of this thread, as Linux counts it; elsewhere the time of the clock.

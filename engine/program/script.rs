@@ -6,22 +6,24 @@
 //! | `name NAME` | `ok:`; the present module has this name from now on, and is kept |
 //! | `use NAME` | `ok:`; the module of this name is the present one |
 //! | `register NAME` | `ok:`; later modules can import what the present one exports, from a module of this name |
+//! | `drop` | `ok:`; all modules are dropped, and what was registered |
 //! | `invoke FUNCTION ARGS..` | `ok: V..`, the results |
 //! | `get GLOBAL` | `ok: V` |
 //! | `digest` | `ok:` and a line that tells contents apart |
 //! | `fuel N` | `ok:`; from now on fuel is charged, and so much is there; the first such line drops all modules |
 //! | `left` | `ok: N`, the fuel that is left |
-//! | `lenient` | `ok:`; from now on a module may have functions with floats, which stop when they are called |
+//! | `strict` | `ok:`; from now on a module with floats is refused |
 //!
 //! A name may have `%` and two hexadecimal digits in place of a byte. A line has one reply, after what the guest prints.
-//! Other replies than `ok:` are `malformed:`, `invalid:`, `unsupported:` (floats, or beyond a limit), `unlinkable:`,
-//! `trap:`, and `error:` for a line that makes no sense; after one of them the module is the one before.
+//! Other replies than `ok:` are `malformed:`, `invalid:`, `unsupported:` (what the engine lacks, or beyond a limit; of a
+//! call, that it came to an instruction which computes with floats), `unlinkable:`, `trap:`, and `error:` for a line that
+//! makes no sense; after one of them the module is the one before.
 
 use crate::spectest::{self, Host};
 use crate::values;
 use engine::library::{RawRef, TypedRawRef, V128, ValType};
 use engine::{
-    Caps, Config, Contents, Engine, Error, Instance, Linker, Module, Refusal, RefusalKind, Store, Unsupported, Val,
+    Caps, Config, Contents, Engine, Error, FloatInstruction, Instance, Linker, Module, Refusal, RefusalKind, Store, Val,
 };
 use std::collections::HashMap;
 use std::fmt::Display;
@@ -36,28 +38,26 @@ pub struct Script {
     linker: Linker<Host>,
     made: Option<Made>,
     named: HashMap<String, Made>,
-    is_lenient: bool,
+    is_strict: bool,
 }
 
 type Made = (Module, Instance);
 
-fn store(is_metered: bool, caps: Caps) -> Store<Host> {
-    let engine = Engine::new(Config::default().consume_fuel(is_metered));
-    let mut store = Store::new(&engine, Host::default());
-    store.set_caps(caps);
-    store
+fn engine(is_metered: bool) -> Engine {
+    Engine::new(Config::default().consume_fuel(is_metered))
 }
 
 impl Script {
     /// A script whose modules share these caps. No fuel is charged.
     pub fn new(caps: Caps) -> Script {
-        Self::with(caps, false, false)
+        Self::with(&engine(false), caps, false)
     }
 
-    fn with(caps: Caps, is_metered: bool, is_lenient: bool) -> Script {
-        let store = store(is_metered, caps);
-        let linker = Linker::new(store.engine());
-        Script { caps, store, linker, made: None, named: HashMap::new(), is_lenient }
+    fn with(engine: &Engine, caps: Caps, is_strict: bool) -> Script {
+        let mut store = Store::new(engine, Host::default());
+        store.set_caps(caps);
+        let linker = Linker::new(engine);
+        Script { caps, store, linker, made: None, named: HashMap::new(), is_strict }
     }
 
     /// Replies to each line of the input.
@@ -80,6 +80,10 @@ impl Script {
                 self.named.insert(rest.into(), self.made()?.clone());
                 Ok("ok:".into())
             }
+            "drop" => {
+                *self = Self::with(&self.store.engine().clone(), self.caps, self.is_strict);
+                Ok("ok:".into())
+            }
             "use" => {
                 let made = self.named.get(rest).ok_or(format!("error: no module has the name {rest}"))?;
                 self.made = Some(made.clone());
@@ -95,20 +99,20 @@ impl Script {
                 let (_, instance) = self.made()?;
                 let global = instance.get_global(&self.store, &name(rest)?);
                 let value = global.ok_or("error: there is no exported global of this name")?.get(&self.store);
-                Ok(format!("ok: {}", values::print(values::numbered(instance, &self.store, value))))
+                Ok(format!("ok: {}", values::print(values::numbered(&self.store, value))))
             }
             "digest" => Ok(format!("ok: {}", digest(&self.made()?.1, &self.store))),
             "fuel" => {
                 let fuel = rest.parse().or(Err("error: fuel is a number"))?;
                 if !self.store.engine().is_metered() {
-                    *self = Self::with(self.caps, true, self.is_lenient);
+                    *self = Self::with(&engine(true), self.caps, self.is_strict);
                 }
                 self.store.set_fuel(fuel).map_err(error)?;
                 Ok("ok:".into())
             }
             "left" => Ok(format!("ok: {}", self.store.get_fuel().map_err(error)?)),
-            "lenient" => {
-                self.is_lenient = true;
+            "strict" => {
+                self.is_strict = true;
                 Ok("ok:".into())
             }
             _ => Err(format!("error: {word} is no command")),
@@ -122,7 +126,7 @@ impl Script {
     fn module(&mut self, file: &str) -> Result<String, String> {
         let bytes = fs::read(file).map_err(|it| format!("error: {file} can't be read: {it}"))?;
         let engine = self.store.engine().clone();
-        let read = if self.is_lenient { Module::new_lenient } else { Module::new };
+        let read = if self.is_strict { Module::new_strict } else { Module::new };
         let module = read(&engine, &bytes).map_err(refused)?;
         let mut linker = self.linker.clone();
         spectest::define(&mut linker, &mut self.store, &module).map_err(failed)?;
@@ -141,7 +145,7 @@ impl Script {
         let args: Vec<_> = args.collect::<Option<_>>().ok_or("error: there is no function of this number")?;
         let function = instance.get_func(&self.store, &function).ok_or("error: there is no such function")?;
         let results = function.call(&mut self.store, &args).map_err(failed)?;
-        let results = results.into_iter().map(|it| values::numbered(instance, &self.store, it));
+        let results = results.into_iter().map(|it| values::numbered(&self.store, it));
         Ok(results.fold("ok:".into(), |line, it| line + " " + &values::print(it)))
     }
 }
@@ -164,7 +168,7 @@ fn failed(error: Error) -> String {
         Error::Module(refusal) => refused(refusal),
         Error::Link(what) => format!("unlinkable: {what}"),
         Error::Misused(what) => format!("error: {what}"),
-        Error::Trap(trap) => match trap.downcast_ref::<Unsupported>() {
+        Error::Trap(trap) => match trap.downcast_ref::<FloatInstruction>() {
             Some(_) => format!("unsupported: {trap}"),
             None => format!("trap: {trap}"),
         },
@@ -189,7 +193,7 @@ fn name(text: &str) -> Result<String, String> {
 /// function and 1; a global has 16. The least byte comes first.
 fn digest(instance: &Instance, store: &Store<Host>) -> String {
     let Contents { memories, tables, globals } = instance.contents(store);
-    let numbered = |value| values::numbered(instance, store, value);
+    let numbered = |value| values::numbered(store, value);
     let mut words = vec![];
     for memory in memories {
         words.push(format!("memory {} {:016x}", memory.size(), fnv(memory.data().iter().copied())));

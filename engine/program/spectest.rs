@@ -4,6 +4,8 @@
 //! |---|---|
 //! | `print`, `print_i32`, `print_i64` | functions that print a line: nothing, an `i32`, an `i64` |
 //! | `print_bytes` | a function of a place and a length, both `i32`: prints these bytes of the first memory |
+//! | `mix` | a function of an `i32` and an `i64`, with an `i64` and an `i32` as results |
+//! | `refuse` | a function that traps if its argument, an `i32`, is a multiple of 8 |
 //! | `memory` | a memory of 1 page, which grows to 2 |
 //! | `table`, `table64` | tables of 10 functions, which grow to 20, with indices of 32 and of 64 bits |
 //! | `global_i32`, `global_i64` | constants, 666 |
@@ -56,6 +58,8 @@ pub fn define(linker: &mut Linker<Host>, store: &mut Store<Host>, module: &Modul
                     .func_wrap(module, name, |it: Caller<'_, Host>, value: i64| print(it, format_args!("{value}\n")))?,
             ),
             "print_bytes" => drop(linker.func_wrap(module, name, print_bytes)?),
+            "mix" => drop(linker.func_wrap(module, name, mix)?),
+            "refuse" => drop(linker.func_wrap(module, name, refuse)?),
             _ => {
                 if let Some(item) = item(&mut *store, name)? {
                     linker.define(module, name, item)?;
@@ -76,6 +80,14 @@ fn print_bytes(mut caller: Caller<'_, Host>, place: u32, len: u32) -> Result<(),
     let bytes = bytes.ok_or(TrapCode::MemoryOutOfBounds)?.to_vec();
     caller.charge_bytes(len.into())?;
     caller.data_mut().output.write_all(&bytes).map_err(|it| Error::host(Unwritten(it)))
+}
+
+fn mix(a: i32, b: i64) -> (i64, i32) {
+    (b.rotate_left(7) ^ i64::from(a), a.wrapping_mul(3))
+}
+
+fn refuse(value: i32) -> Result<(), Error> {
+    if value % 8 == 0 { Err(TrapCode::UnreachableCodeReached.into()) } else { Ok(()) }
 }
 
 fn item(context: impl AsContextMut, name: &str) -> Result<Option<Extern>, Error> {

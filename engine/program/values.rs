@@ -1,10 +1,10 @@
 //! Values as text: what a user writes as an argument, and what a result is printed as.
 
 use engine::library::{FuncType, RawRef, RawVal, TypedRawVal, V128, ValType};
-use engine::{AsContext, AsContextMut, ExternType, Instance, Module, Val};
+use engine::{AsContext, AsContextMut, ExternType, Func, Instance, Module, Val};
 
-/// Reads an argument of this type: a number in decimal or, after `0x`, in hexadecimal, or `null`. A number of a reference
-/// is that of a function or of an object of the host.
+/// Reads an argument of this type: a number in decimal or, after `0x`, in hexadecimal, or `null`. A float has its bits, in
+/// hexadecimal. A number of a reference is that of a function or of an object of the host.
 pub fn parse(text: &str, ty: ValType) -> Option<TypedRawVal> {
     let raw: RawVal = match ty {
         ValType::I32 => (integer(text, 32)? as u32).into(),
@@ -12,7 +12,9 @@ pub fn parse(text: &str, ty: ValType) -> Option<TypedRawVal> {
         ValType::V128 => V128::from(integer(text, 128)?).into(),
         ValType::FuncRef | ValType::ExternRef if text == "null" => RawRef::null().into(),
         ValType::FuncRef | ValType::ExternRef => RawRef::from(text.parse::<u32>().ok()?.checked_add(1)?).into(),
-        ValType::F32 | ValType::F64 => return None,
+        ValType::F32 | ValType::F64 if !text.starts_with("0x") => return None,
+        ValType::F32 => (integer(text, 32)? as u32).into(),
+        ValType::F64 => (integer(text, 64)? as u64).into(),
     };
     Some(TypedRawVal::new(ty, raw))
 }
@@ -35,12 +37,11 @@ pub fn referring(instance: &Instance, context: impl AsContextMut, value: Val) ->
     Some(Val::new(ValType::FuncRef, reference.into()))
 }
 
-/// A value to be [printed](print), with a number in place of a function of the instance.
-pub fn numbered(instance: &Instance, context: impl AsContext, value: Val) -> Val {
-    let number = instance.function_number(context, value.raw().into());
-    match (value.ty(), number) {
-        (ValType::FuncRef, Some(number)) => Val::new(ValType::FuncRef, RawRef::from(number + 1).into()),
-        _ => value,
+/// A value to be [printed](print), with a number in place of a function: that which it has in its module.
+pub fn numbered(context: impl AsContext, value: Val) -> Val {
+    match Func::from_val(&context, value) {
+        Some(function) => Val::new(ValType::FuncRef, RawRef::from(function.index(&context) + 1).into()),
+        None => value,
     }
 }
 
@@ -73,7 +74,8 @@ fn integer(text: &str, bits: u32) -> Option<u128> {
     }
 }
 
-/// A value as text: an integer in signed decimal, a vector as `0x` and 32 digits, a reference as `null` or by its number.
+/// A value as text: an integer in signed decimal, the bits of a float as `0x` and 8 or 16 digits, a vector as `0x` and 32
+/// digits, a reference as `null` or by its number.
 pub fn print(value: TypedRawVal) -> String {
     let reference = RawRef::from(value.raw());
     let number = u32::from(reference).wrapping_sub(1);
@@ -84,7 +86,8 @@ pub fn print(value: TypedRawVal) -> String {
         ValType::FuncRef | ValType::ExternRef if reference.is_null() => "null".into(),
         ValType::FuncRef => format!("func {number}"),
         ValType::ExternRef => format!("extern {number}"),
-        ValType::F32 | ValType::F64 => format!("0x{:x}", u64::from(value)),
+        ValType::F32 => format!("0x{:08x}", u32::from(value.raw())),
+        ValType::F64 => format!("0x{:016x}", u64::from(value.raw())),
     }
 }
 
@@ -112,6 +115,8 @@ mod tests {
             (ValType::I64, "9223372036854775807"),
             (ValType::V128, "0x00000000000000010000000000000002"),
             (ValType::ExternRef, "null"),
+            (ValType::F32, "0x7fa00000"),
+            (ValType::F64, "0x3ff0000000000000"),
         ] {
             assert_eq!(parse(text, ty).map(print).as_deref(), Some(text));
         }

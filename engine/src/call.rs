@@ -1,7 +1,7 @@
 //! Calls: from the host to a guest, from a guest to the host, and from one instance to another. WebAssembly core
 //! specification, 4.4.10 (function calls).
 
-use crate::error::{Error, Unsupported};
+use crate::error::Error;
 use crate::execute::{self, Exit};
 use crate::handle::Owner;
 use crate::library::{RawVal, TrapCode};
@@ -75,12 +75,15 @@ impl<T> Store<T> {
         ended
     }
 
+    /// The code of an imported function has nothing left to do after the call, so that a tail call of it is one.
     fn proceed(&mut self, calls: &mut Calls) -> Result<(), Error> {
         let Calls { at, away, is_out_of_fuel } = calls;
         let mut callees = self.callees[at.instance as usize].clone();
         loop {
             let found;
-            let (callee, base) = match execute::execute(&mut self.inner, at)? {
+            let exit = execute::execute(&mut self.inner, at)?;
+            let is_last = matches!(exit, Exit::Host(_)) && self.inner.stack().frames.len() == at.floor;
+            let (callee, base) = match exit {
                 Exit::Done => {
                     let Some(before) = away.pop() else { return Ok(()) };
                     *at = before;
@@ -91,7 +94,7 @@ impl<T> Store<T> {
                     *is_out_of_fuel = true;
                     return Err(TrapCode::OutOfFuel.into());
                 }
-                Exit::Host(limits::NO_HOST) => return Err(Unsupported.into()),
+                Exit::Float(instruction) => return Err(instruction.into()),
                 Exit::Host(number) => (&callees[number as usize], at.frame.base),
                 Exit::Foreign { reference, ty, base } => {
                     found = self.foreign(at.instance, reference, ty)?;
@@ -106,8 +109,13 @@ impl<T> Store<T> {
                 }
                 Callee::Guest { instance, function } => {
                     let (instance, function) = (*instance, *function);
+                    if away.len() >= self.inner.stack().calls {
+                        return Err(TrapCode::StackOverflow.into());
+                    }
                     let before = std::mem::replace(at, self.inner.enter(instance, function, base)?);
-                    away.push(before);
+                    if !is_last {
+                        away.push(before);
+                    }
                     callees = self.callees[instance as usize].clone();
                 }
             }

@@ -39,7 +39,8 @@ pub struct ImportType<'m> {
 }
 
 impl Module {
-    /// Reads a module in the binary format. A function with a type, a constant or an instruction of floats is refused.
+    /// Reads a module in the binary format. An instruction that computes with floats traps when it is executed, as
+    /// [`FloatInstruction`](crate::FloatInstruction).
     ///
     /// # Errors
     ///
@@ -48,13 +49,13 @@ impl Module {
         Self::of(engine, module::Module::new(bytes)?)
     }
 
-    /// The same, but a function with floats is kept and traps when it is called.
+    /// The same, but a module that has a type, a constant or an instruction of floats is refused.
     ///
     /// # Errors
     ///
     /// What is wrong with the bytes, and where.
-    pub fn new_lenient(engine: &Engine, bytes: &[u8]) -> Result<Module, Refusal> {
-        Self::of(engine, module::Module::new_lenient(bytes)?)
+    pub fn new_strict(engine: &Engine, bytes: &[u8]) -> Result<Module, Refusal> {
+        Self::of(engine, module::Module::new_strict(bytes)?)
     }
 
     fn of(engine: &Engine, inner: module::Module) -> Result<Module, Refusal> {

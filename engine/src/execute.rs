@@ -4,10 +4,12 @@
 
 #[cfg(feature = "crate")]
 use crate::bulk::Bulk;
+use crate::floats::{self, FloatInstruction};
 use crate::instructions::{Code, Op, instructions};
 use crate::library::{
     Fuel, Memory, MemoryError, RawRef, RawVal, ReadAs, Table, TableError, TrapCode, TypedRawVal, WriteAs,
 };
+use crate::module::Module;
 use crate::stack::{self, Activation, Frame, Lent, SLOTS};
 use crate::store::{Caps, Entity, Inner, Items};
 
@@ -27,6 +29,8 @@ pub(crate) enum Exit {
     /// A function of another instance was called through a table, with arguments that begin at this value. Its type has to
     /// be this one of the module.
     Foreign { reference: u32, ty: u32, base: usize },
+    /// An instruction computes with floats.
+    Float(FloatInstruction),
 }
 
 /// The slots that instructions name, of which the first ones are those of the frame.
@@ -172,36 +176,40 @@ pub(crate) fn execute(inner: &mut Inner, at: &mut Activation) -> Result<Exit, Tr
                                 }
                                 continue 'frame;
                             }
-                            Code::call | Code::call_indirect => {
-                                let mut callee = op.imm;
-                                if op.code == Code::call_indirect {
+                            Code::call | Code::call_indirect | Code::return_call | Code::return_call_indirect => {
+                                let mut callee = op.imm as usize;
+                                if matches!(op.code, Code::call_indirect | Code::return_call_indirect) {
                                     let table = &items.tables[tables[usize::from(op.lane)]];
-                                    let element = table.get(slots.number(op.b)).ok_or(TrapCode::TableOutOfBounds)?;
-                                    let reference = u32::from(element.raw());
-                                    callee = reference.wrapping_sub(*first);
-                                    let Some(ty) = module.functions.get(callee as usize) else {
-                                        if reference == 0 {
-                                            return Err(TrapCode::IndirectCallToNull);
+                                    match indirect(op.imm, module, *first, table, slots.number(op.b))? {
+                                        Element::Own(function) => callee = function,
+                                        Element::Foreign(reference) => {
+                                            at.frame = Frame { function, next, base };
+                                            let base = base + usize::from(op.a);
+                                            return Ok(Exit::Foreign { reference, ty: op.imm, base });
                                         }
-                                        at.frame = Frame { function, next, base };
-                                        let base = base + usize::from(op.a);
-                                        return Ok(Exit::Foreign { reference, ty: op.imm, base });
-                                    };
-                                    if module.same[*ty as usize] != op.imm {
-                                        return Err(TrapCode::BadSignature);
                                     }
                                 }
-                                if frames.len() >= calls {
-                                    return Err(TrapCode::StackOverflow);
+                                let body = &module.code[callee];
+                                if matches!(op.code, Code::return_call | Code::return_call_indirect) {
+                                    slots.copy(0, op.a, body.params as u32);
+                                } else {
+                                    if frames.len() >= calls {
+                                        return Err(TrapCode::StackOverflow);
+                                    }
+                                    frames.push(Frame { function, next, base });
+                                    base += usize::from(op.a);
                                 }
-                                frames.push(Frame { function, next, base });
-                                (function, next, base) = (callee as usize, 0, base + usize::from(op.a));
-                                stack::enter(values, &module.code[function], base)?;
+                                (function, next) = (callee, 0);
+                                stack::enter(values, body, base)?;
                                 continue 'frame;
                             }
                             Code::host => {
                                 at.frame = Frame { function, next, base };
                                 return Ok(Exit::Host(op.imm));
+                            }
+                            Code::float => {
+                                let (name, offset) = (floats::name(op.lane), op.imm as usize);
+                                return Ok(Exit::Float(FloatInstruction { name, offset }));
                             }
                             Code::unreachable => return Err(TrapCode::UnreachableCodeReached),
                             Code::global_get => {
@@ -254,6 +262,25 @@ pub(crate) fn execute(inner: &mut Inner, at: &mut Activation) -> Result<Exit, Tr
                 instructions!(step);
             }
         }
+    }
+}
+
+/// The function that an element of a table refers to: one of the instance by its number, or one of another instance.
+enum Element {
+    Own(usize),
+    Foreign(u32),
+}
+
+/// Finds the function that a call through a table leads to. One of the instance has to be of this type.
+#[inline(always)]
+fn indirect(ty: u32, module: &Module, first: u32, table: &Table, index: u64) -> Result<Element, TrapCode> {
+    let reference = u32::from(table.get(index).ok_or(TrapCode::TableOutOfBounds)?.raw());
+    let callee = reference.wrapping_sub(first) as usize;
+    match module.functions.get(callee) {
+        Some(found) if module.same[*found as usize] == ty => Ok(Element::Own(callee)),
+        Some(_) => Err(TrapCode::BadSignature),
+        None if reference == 0 => Err(TrapCode::IndirectCallToNull),
+        None => Ok(Element::Foreign(reference)),
     }
 }
 

@@ -62,12 +62,22 @@ impl Func {
     }
 
     /// The function of a reference, unless it is null.
-    pub fn from_val(mut context: impl AsContextMut, value: Val) -> Option<Func> {
-        let inner = &mut context.as_context_mut().store.inner;
+    pub fn from_val(context: impl AsContext, value: Val) -> Option<Func> {
+        let inner = &context.as_context().store.inner;
         let (instance, function) = inner.references.find(RawRef::from(value.raw()).into())?;
         let entity = &inner.instances[instance];
         let is_function = value.ty() == ValType::FuncRef && (function as usize) < entity.module.functions.len();
         Some(Func { owner: entity.owner.upgrade().filter(|_| is_function)?, function })
+    }
+
+    /// Its number in its module: if its instance imports it from another one, in the module of that one.
+    pub fn index(&self, context: impl AsContext) -> u32 {
+        let context = context.as_context();
+        let (instance, _) = context.store.inner.instance(&self.owner);
+        match context.store.callee(instance, self.function) {
+            Callee::Guest { function, .. } => function,
+            Callee::Host { .. } => self.function,
+        }
     }
 
     /// Its type.

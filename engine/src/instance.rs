@@ -143,14 +143,6 @@ impl Instance {
         }
     }
 
-    /// The number in the module of the function that a reference is to, if it is one of this instance.
-    pub fn function_number(&self, context: impl AsContext, reference: RawRef) -> Option<u32> {
-        let context = context.as_context();
-        let (_, entity) = context.store.inner.instance(&self.owner);
-        let number = u32::from(reference).checked_sub(entity.first)?;
-        Some(number).filter(|it| (*it as usize) < entity.module.functions.len())
-    }
-
     /// A reference to a function of this instance, by its number in the module.
     pub fn function_reference(&self, mut context: impl AsContextMut, number: u32) -> Option<RawRef> {
         let inner = &mut context.as_context_mut().store.inner;

@@ -140,7 +140,10 @@ macro_rules! codes {
         pub enum Code {
             $($($u,)*)* $($($b,)*)* $($t,)* $($($d,)*)* $($($l,)*)* $($($s,)*)* $($($e,)*)* $($($r,)*)* $($ll,)* $($sl,)*
             // Control: `imm` is the place that is jumped to, the amount of fuel, or the number of values or of a function.
-            fuel, branch, branch_if, branch_unless, branch_table, ret, call, call_indirect, host, unreachable,
+            fuel, branch, branch_if, branch_unless, branch_table, ret, call, call_indirect, return_call, return_call_indirect, host,
+            unreachable,
+            // An instruction that computes with floats: `lane` is its number, `imm` its place in the file.
+            float,
             // Values: from slot `a` to slot `d`.
             copy, copy_many, select, global_get, global_set, is_null, ref_func, shuffle, i64_add128, i64_sub128, i64_mul_wide_s,
             i64_mul_wide_u,
@@ -169,17 +172,6 @@ macro_rules! codes {
     };
 }
 instructions!(codes);
-
-/// Whether an opcode is that of an instruction on floats, of which the library has none.
-pub fn is_of_floats(opcode: u32) -> bool {
-    matches!(
-        opcode,
-        0x2a | 0x2b | 0x38 | 0x39 | 0x43 | 0x44 | 0x5b..=0x66 | 0x8b..=0xa6 | 0xa8..=0xab | 0xae..=0xbf
-            | 0xfc000..=0xfc007
-            | 0xfd013 | 0xfd014 | 0xfd01f..=0xfd022 | 0xfd041..=0xfd04c | 0xfd05e | 0xfd05f | 0xfd067..=0xfd06a
-            | 0xfd074 | 0xfd075 | 0xfd07a | 0xfd094 | 0xfd0e0..=0xfd0ff | 0xfd101..=0xfd108 | 0xfd10d..=0xfd110
-    )
-}
 
 /// Operands, immediates and result of an instruction of the library.
 #[derive(Clone, Copy)]

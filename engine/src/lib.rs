@@ -57,10 +57,12 @@
 //! | Module | What it does |
 //! |---|---|
 //! | `reader` | bytes, numbers, names and types of the binary format |
+//! | `proposals` | what the engine lacks of the binary format, by name |
 //! | `limits` | bounds on what a module may have |
 //! | `module` | sections, and what they must keep |
 //! | `instructions` | the table of the library's instructions, and the form of the code that runs |
-//! | `translate` | the validation of a function, and its translation |
+//! | `floats` | the instructions on floats: which of them are the library's on bits, and which trap |
+//! | `translate`, `operands` | the validation of a function, and its translation, with its stack of operands |
 //! | `engine`, `store`, `stack` | what tenants share, what a tenant has, and what calls run on |
 //! | `handle`, `arena`, `references` | who needs an item of a store, items by number, and references of functions |
 //! | `instance`, `compiled`, `items` | instances, modules, memories, tables and globals, as an embedder has them |
@@ -89,6 +91,7 @@ mod context;
 mod engine;
 mod error;
 mod execute;
+mod floats;
 mod func;
 mod handle;
 mod instance;
@@ -96,6 +99,8 @@ mod instructions;
 mod items;
 mod linker;
 mod module;
+mod operands;
+mod proposals;
 mod reader;
 mod references;
 mod resume;
@@ -109,7 +114,8 @@ pub use caller::Caller;
 pub use compiled::{ExternType, ImportType, Module};
 pub use context::{AsContext, AsContextMut, StoreContext, StoreContextMut};
 pub use engine::{Config, Engine};
-pub use error::{Error, Unsupported};
+pub use error::Error;
+pub use floats::FloatInstruction;
 pub use func::{Func, IntoFunc, TypedFunc};
 pub use instance::{Contents, Instance};
 pub use items::{Extern, Global, Memory, Table};
@@ -128,8 +134,12 @@ pub mod guests {
     pub const PLAIN: &[u8] = include_bytes!("../tests/hosts/plain.wasm");
 }
 
-/// Bounds on what a module may have, so that a hostile one costs no more than its size. WebAssembly core specification,
-/// A.2 (implementation limitations).
+/// Bounds on what a module may have. WebAssembly core specification, A.2 (implementation limitations).
+///
+/// With them no module of n bytes takes more than ten times as long to read as plain code of n bytes
+/// (`tests/modules.rs`): an instruction takes at most 1,000 operands, the library's bound on parameters and results, and
+/// `operands` handles them as slices. The rest is a constant for each byte, and for a name or a constant of the module a
+/// look-up.
 ///
 /// A function's slots are numbered by 16 bits: [`LOCALS`], [`CONSTANTS`] and [`OPERANDS`] together have fewer than 2^16.
 mod limits {
@@ -147,6 +157,8 @@ mod limits {
     pub(crate) const CONSTANTS: usize = 16_000;
     pub(crate) const OPERANDS: usize = 16_000;
     pub(crate) const BLOCKS: usize = 16_000;
+    /// Of one `br_table`, as V8 has it.
+    pub(crate) const LABELS: usize = 65_520;
 
     /// Of a store: the values in the frames of all calls, and the calls that are open at once.
     pub(crate) const VALUES: usize = 1 << 17;
@@ -159,7 +171,4 @@ mod limits {
 
     /// Of an engine: the stacks that are kept for later calls.
     pub(crate) const STACKS: usize = 16;
-
-    /// The number of no function of the host: that of a function that is left out for its floats.
-    pub(crate) const NO_HOST: u32 = u32::MAX;
 }

@@ -4,7 +4,9 @@
 
 use crate::library::{FuncType, GlobalType, MemoryType, RawRef, RawVal, RefType, TableType, ValType, wasm};
 use crate::limits;
-use crate::reader::{Read, Reader, Refusal, RefusalKind, ensure};
+use crate::operands::Operands;
+use crate::proposals;
+use crate::reader::{Read, Reader, Refusal, ensure};
 use crate::translate::{self, Function};
 use std::collections::{BTreeMap, HashMap};
 
@@ -122,13 +124,13 @@ pub(crate) struct Imported {
 }
 
 impl Module {
-    /// Reads a module in the binary format. A function with a type, a constant or an instruction of floats is refused.
+    /// Reads a module in the binary format. An instruction that computes with floats traps when it is executed.
     pub fn new(bytes: &[u8]) -> Result<Module, Refusal> {
         Self::read(Reader::new(bytes, false))
     }
 
-    /// The same, but a function with floats is kept and traps when it is called.
-    pub fn new_lenient(bytes: &[u8]) -> Result<Module, Refusal> {
+    /// The same, but a module that has a type, a constant or an instruction of floats is refused.
+    pub fn new_strict(bytes: &[u8]) -> Result<Module, Refusal> {
         Self::read(Reader::new(bytes, true))
     }
 
@@ -146,8 +148,9 @@ impl Module {
     fn read(mut reader: Reader) -> Read<Module> {
         let begin = reader;
         ensure(reader.take(4).ok() == Some(b"\0asm"), begin.malformed("this isn't a WebAssembly module"))?;
-        let version = reader.malformed("the version of the binary format isn't 1");
-        ensure(reader.take(4)? == [1, 0, 0, 0], version)?;
+        let (begin, version) = (reader, reader.take(4)?);
+        let unknown = begin.unknown(proposals::of_version(version), "the version of the binary format isn't 1");
+        ensure(version == [1, 0, 0, 0], unknown)?;
         let mut module = Module::default();
         let (mut last, mut has_data) = (0, false);
         while !reader.is_empty() {
@@ -159,7 +162,8 @@ impl Module {
                 continue;
             }
             let order = [0, 1, 2, 3, 4, 5, 6, 7, 8, 9, 11, 12, 10];
-            let place = *order.get(usize::from(id)).ok_or(begin.malformed("a section is unknown"))?;
+            let place =
+                *order.get(usize::from(id)).ok_or(begin.unknown(proposals::of_section(id), "a section is unknown"))?;
             ensure(place > last, begin.malformed("a section is out of order or comes twice"))?;
             last = place;
             has_data |= id == 11;
@@ -240,7 +244,7 @@ impl Module {
                 self.globals.push((reader.global_type()?, Constant::Value(RawVal::default())));
                 (&mut self.imported.globals, Item::Global)
             }
-            _ => return Err(begin.malformed("an import is of an unknown kind")),
+            kind => return Err(begin.unknown(proposals::of_extern(kind), "an import is of an unknown kind")),
         };
         *count += 1;
         Ok(Import { module, name, item: kind(*count as u32 - 1) })
@@ -325,14 +329,9 @@ impl Module {
         let bodies = reader.list(Reader::part)?;
         let is_right = bodies.len() == self.functions.len() - self.imported.functions;
         ensure(is_right, begin.malformed("functions and their bodies differ in number"))?;
+        let mut operands = Operands::default();
         for body in bodies {
-            let number = self.code.len() as u32;
-            let function = match translate::function(self, number, body) {
-                Err(refusal) if begin.is_lenient && refusal.kind == RefusalKind::Unsupported => {
-                    Function::of_host(limits::NO_HOST, self.type_of(number))
-                }
-                function => function?,
-            };
+            let function = translate::function(self, self.code.len() as u32, body, &mut operands)?;
             self.code.push(function);
         }
         Ok(())
@@ -399,6 +398,7 @@ impl Module {
             0xd0 => (reader.ref_type()?.into(), Term::Value(RawRef::null().into())),
             0xd2 => (ValType::FuncRef, Term::Function(self.known_function(reader)?)),
             0xfd if reader.u32()? == 12 => (ValType::V128, Term::Value(reader.v128()?.into())),
+            0xfb => return Err(at.unknown(proposals::of_instruction(0xfb), "an instruction is unknown")),
             _ => return Err(at.invalid("a constant expression has another instruction")),
         })
     }

@@ -3,6 +3,7 @@
 //! WebAssembly core specification, 5.1 to 5.3.
 
 use crate::library::{FuncType, GlobalType, MemoryType, Mutability, RefType, TableType, V128, ValType};
+use crate::proposals;
 use std::fmt;
 
 /// Why a module is refused, and where.
@@ -23,7 +24,7 @@ pub enum RefusalKind {
     Malformed,
     /// Those of validation.
     Invalid,
-    /// Those of this engine, which has no floats and bounds what a module may have.
+    /// Those of this engine, which lacks some proposals and bounds what a module may have.
     Unsupported,
 }
 
@@ -49,13 +50,13 @@ pub(crate) struct Reader<'a> {
     /// The place of the next byte in the file.
     pub at: usize,
     end: usize,
-    /// Whether types of floats may be read.
-    pub is_lenient: bool,
+    /// Whether floats are refused.
+    pub is_strict: bool,
 }
 
 impl<'a> Reader<'a> {
-    pub fn new(file: &'a [u8], is_lenient: bool) -> Self {
-        Self { file, at: 0, end: file.len(), is_lenient }
+    pub fn new(file: &'a [u8], is_strict: bool) -> Self {
+        Self { file, at: 0, end: file.len(), is_strict }
     }
 
     pub fn is_empty(&self) -> bool {
@@ -76,6 +77,11 @@ impl<'a> Reader<'a> {
 
     pub fn unsupported(&self, what: &'static str) -> Refusal {
         Refusal { kind: RefusalKind::Unsupported, offset: self.at, what }
+    }
+
+    /// The refusal of what is unknown, unless a proposal is known to have it.
+    pub fn unknown(&self, proposal: Option<&'static str>, what: &'static str) -> Refusal {
+        proposal.map_or(self.malformed(what), |proposal| self.unsupported(proposal))
     }
 
     pub fn take(&mut self, len: usize) -> Read<&'a [u8]> {
@@ -141,7 +147,7 @@ impl<'a> Reader<'a> {
 
     /// The bits of a float of so many bytes.
     pub fn float(&mut self, bytes: usize) -> Read<u64> {
-        ensure(self.is_lenient, self.unsupported("a constant is a float"))?;
+        ensure(!self.is_strict, self.unsupported("a constant is a float"))?;
         Ok(self.take(bytes)?.iter().rev().fold(0, |bits, byte| bits << 8 | u64::from(*byte)))
     }
 
@@ -175,27 +181,29 @@ impl<'a> Reader<'a> {
         Ok(match self.byte()? {
             0x7f => ValType::I32,
             0x7e => ValType::I64,
-            0x7d if self.is_lenient => ValType::F32,
-            0x7c if self.is_lenient => ValType::F64,
+            0x7c | 0x7d if self.is_strict => return Err(begin.unsupported("a type is one of floats")),
+            0x7d => ValType::F32,
+            0x7c => ValType::F64,
             0x7b => ValType::V128,
             0x70 => ValType::FuncRef,
             0x6f => ValType::ExternRef,
-            0x7c | 0x7d => return Err(begin.unsupported("a type is one of floats")),
-            _ => return Err(begin.malformed("a type of values is unknown")),
+            byte => return Err(begin.unknown(proposals::of_type(byte), "a type of values is unknown")),
         })
     }
 
     pub fn ref_type(&mut self) -> Read<RefType> {
+        let begin = *self;
         match self.byte()? {
             0x70 => Ok(RefType::Func),
             0x6f => Ok(RefType::Extern),
-            _ => Err(self.malformed("a type of references is unknown")),
+            byte => Err(begin.unknown(proposals::of_type(byte), "a type of references is unknown")),
         }
     }
 
     pub fn func_type(&mut self) -> Read<FuncType> {
         let begin = *self;
-        ensure(self.byte()? == 0x60, begin.malformed("a type isn't one of functions"))?;
+        let form = self.byte()?;
+        ensure(form == 0x60, begin.unknown(proposals::of_type(form), "a type isn't one of functions"))?;
         let (params, results) = (self.list(Self::val_type)?, self.list(Self::val_type)?);
         let refusal = begin.unsupported("a type has more than 1,000 parameters or results");
         FuncType::new(params, results).or(Err(refusal))
@@ -205,7 +213,8 @@ impl<'a> Reader<'a> {
     fn limits(&mut self, most_flags: u8) -> Read<(u8, u64, Option<u64>)> {
         let begin = *self;
         let flags = self.byte()?;
-        ensure(flags & !most_flags == 0, begin.malformed("the flags of limits are unknown"))?;
+        let unknown = begin.unknown(proposals::of_limits(flags), "the flags of limits are unknown");
+        ensure(flags & !most_flags == 0, unknown)?;
         let size = |it: &mut Self| if flags & 4 != 0 { it.u64() } else { it.u32().map(u64::from) };
         let min = size(self)?;
         let max = if flags & 1 != 0 { Some(size(self)?) } else { None };
@@ -251,7 +260,7 @@ mod tests {
     use super::*;
 
     fn read<'a, T>(bytes: &'a [u8], f: impl FnOnce(&mut Reader<'a>) -> Read<T>) -> Result<T, &'static str> {
-        f(&mut Reader::new(bytes, false)).map_err(|it| it.what)
+        f(&mut Reader::new(bytes, true)).map_err(|it| it.what)
     }
 
     #[test]
@@ -281,9 +290,14 @@ mod tests {
     #[test]
     fn types() {
         assert_eq!(read(&[0x7d], Reader::val_type), Err("a type is one of floats"));
+        assert_eq!(Reader::new(&[0x7d], false).val_type(), Ok(ValType::F32));
         assert_eq!(read(&[0x70, 1, 2, 1], Reader::table_type), Err("the least size is above the greatest one"));
         assert_eq!(read(&[0x60, 1, 0x7f, 0], Reader::func_type), Ok(FuncType::new([ValType::I32], []).unwrap()));
         assert!(read(&[5, 1, 3], Reader::memory_type).is_ok_and(|it| it.is_64() && it.maximum() == Some(3)));
         assert!(read(&[0, 0x81, 0x80, 0x04], Reader::memory_type).is_err());
+        assert_eq!(read(&[0x69], Reader::val_type), Err("exceptions aren't supported"));
+        assert_eq!(read(&[0x5f, 0], Reader::func_type), Err("garbage collection isn't supported"));
+        assert_eq!(read(&[3, 1, 2], Reader::memory_type), Err("threads aren't supported"));
+        assert_eq!(read(&[0x17, 1, 2], Reader::memory_type), Err("the flags of limits are unknown"));
     }
 }

@@ -9,11 +9,14 @@
 //! Code charges its fuel in blocks: an instruction `fuel` stands before each piece of code that only its first instruction
 //! is jumped to, and takes one unit for each instruction of the piece.
 
+use crate::floats::{self, Meaning};
 use crate::instructions::{self, Code, Form, Op};
 use crate::library::simd::ImmLaneIdx32;
 use crate::library::{self, FuelCostsProvider, FuncType, RawRef, RawVal, ValType, ValType::*};
 use crate::limits;
 use crate::module::Module;
+use crate::operands::{Operands, Place};
+use crate::proposals;
 use crate::reader::{Read, Reader, Refusal, RefusalKind, ensure};
 use std::collections::HashMap;
 
@@ -43,23 +46,6 @@ impl Function {
 /// The first of the slots of constants while a function is translated.
 const CONSTANTS: u16 = 0x8000;
 
-/// Where an operand lies.
-#[derive(Clone, Copy, PartialEq)]
-enum Place {
-    Local(u16),
-    Constant(u16),
-    /// In its own slot, but it is still to be paid for as a copied constant is.
-    Reference,
-    Own,
-}
-
-/// An operand on the stack. After a jump its type may be unknown.
-#[derive(Clone, Copy)]
-struct Operand {
-    ty: Option<ValType>,
-    place: Place,
-}
-
 /// What a block is, with the place that a loop begins at or the test that an `if` begins with.
 #[derive(Clone, Copy)]
 enum Kind {
@@ -88,14 +74,9 @@ struct Translator<'m, 'b> {
     /// Where the present instruction begins.
     at: usize,
     locals: Vec<ValType>,
-    /// How many operands lie in each local, and in all of them.
-    uses: Vec<u32>,
-    lent: u32,
     /// The number of each constant.
     numbers: HashMap<u128, u16>,
-    stack: Vec<Operand>,
-    /// How many operands there were at most.
-    height: usize,
+    operands: &'m mut Operands,
     blocks: Vec<Block<'m>>,
     code: Vec<Op>,
     /// The rest of the result.
@@ -107,20 +88,18 @@ struct Translator<'m, 'b> {
 }
 
 /// Validates and translates the body of a function.
-pub(crate) fn function(module: &Module, number: u32, mut reader: Reader) -> Read<Function> {
+pub(crate) fn function(module: &Module, number: u32, mut reader: Reader, operands: &mut Operands) -> Read<Function> {
     ensure(reader.len() <= limits::BODY, reader.unsupported("the body of a function is too long"))?;
     let ty = module.type_of(number);
     let locals = locals(ty, &mut reader)?;
+    operands.begin(locals.len());
     let mut it = Translator {
         module,
         reader,
         at: reader.at,
-        uses: vec![0; locals.len()],
         locals,
-        lent: 0,
         numbers: HashMap::new(),
-        stack: vec![],
-        height: 0,
+        operands,
         blocks: vec![],
         code: vec![Op::of(Code::fuel, 1)],
         made: Function { params: usize::from(ty.len_params()), ..Function::default() },
@@ -177,7 +156,7 @@ impl<'m> Translator<'m, '_> {
             (op.d, op.a, op.b, op.c) = (moved(op.d), moved(op.a), moved(op.b), moved(op.c));
         }
         self.code[0].imm += price(locals + constants - params);
-        let slots = (locals + constants + self.height).max(results);
+        let slots = (locals + constants + self.operands.most).max(results);
         Function { zeros: locals - params, slots, code: self.code, ..self.made }
     }
 
@@ -222,8 +201,8 @@ impl<'m> Translator<'m, '_> {
 
     // Operands.
 
-    fn slot(&self, operand: Operand, height: usize) -> u16 {
-        match operand.place {
+    fn slot(&self, place: Place, height: usize) -> u16 {
+        match place {
             Place::Local(local) => local,
             Place::Constant(constant) => CONSTANTS + constant,
             Place::Reference | Place::Own => self.own(height),
@@ -235,65 +214,51 @@ impl<'m> Translator<'m, '_> {
     }
 
     fn push_at(&mut self, ty: Option<ValType>, place: Place) -> Read<u16> {
-        if let Place::Local(local) = place {
-            self.uses[usize::from(local)] += 1;
-            self.lent += 1;
-        }
-        self.stack.push(Operand { ty, place });
-        self.height = self.height.max(self.stack.len());
-        let refusal = self.reader.unsupported("a function has too many operands at once");
-        ensure(self.height <= limits::OPERANDS, refusal).map(|()| self.own(self.stack.len() - 1))
+        self.operands.push(ty, place);
+        self.is_bounded().map(|()| self.own(self.operands.len() - 1))
     }
 
     fn push_all(&mut self, types: &[ValType]) -> Read<()> {
-        types.iter().try_for_each(|ty| self.push_at(Some(*ty), Place::Own).map(drop))
+        self.operands.push_all(types);
+        self.is_bounded()
     }
 
-    /// An operand of any type, and its slot.
-    fn pop_any(&mut self) -> Read<(Operand, u16)> {
+    fn is_bounded(&self) -> Read<()> {
+        let refusal = self.reader.unsupported("a function has too many operands at once");
+        ensure(self.operands.len() <= limits::OPERANDS, refusal)
+    }
+
+    /// An operand of any type: its type, and its slot.
+    fn pop_any(&mut self) -> Read<(Option<ValType>, u16)> {
         let (height, is_open) = (self.block().height, self.block().is_open);
-        if self.stack.len() == height {
-            let missing = Operand { ty: None, place: Place::Own };
-            return ensure(is_open, self.invalid("an operand is missing")).map(|()| (missing, 0));
+        if self.operands.len() == height {
+            return ensure(is_open, self.invalid("an operand is missing")).map(|()| (None, 0));
         }
-        let operand = self.stack[self.stack.len() - 1];
-        let slot = self.slot(operand, self.stack.len() - 1);
-        self.forget(operand.place);
-        self.stack.pop();
-        Ok((operand, slot))
-    }
-
-    fn forget(&mut self, place: Place) {
-        if let Place::Local(local) = place {
-            self.uses[usize::from(local)] -= 1;
-            self.lent -= 1;
-        }
+        let slot = self.slot(self.operands.place(), self.operands.len() - 1);
+        Ok((self.operands.pop(), slot))
     }
 
     fn pop(&mut self, wanted: ValType) -> Read<u16> {
-        self.pop_typed(wanted).map(|(_, slot)| slot)
+        let (ty, slot) = self.pop_any()?;
+        ensure(ty.is_none_or(|ty| ty == wanted), self.invalid("an operand has another type")).map(|()| slot)
     }
 
-    fn pop_typed(&mut self, wanted: ValType) -> Read<(Operand, u16)> {
-        let (it, slot) = self.pop_any()?;
-        ensure(it.ty.is_none_or(|ty| ty == wanted), self.invalid("an operand has another type")).map(|()| (it, slot))
+    /// Checks the last operands, of which some may be missing after a jump. Returns whether that is so.
+    fn check_label(&mut self, types: &[ValType]) -> Read<bool> {
+        let (height, is_open) = (self.block().height, self.block().is_open);
+        ensure(self.operands.agree(height, types), self.invalid("an operand has another type"))?;
+        let is_missing = self.operands.len() - height < types.len();
+        ensure(is_open || !is_missing, self.invalid("an operand is missing")).map(|()| is_missing)
     }
 
-    fn pop_all(&mut self, types: &[ValType]) -> Read<()> {
-        types.iter().rev().try_for_each(|ty| self.pop(*ty).map(drop))
-    }
-
-    /// Checks the last operands, which stay. An unknown type stays unknown, since it may meet another label of a table.
-    fn check_label(&mut self, types: &[ValType]) -> Read<()> {
-        let kept = types.iter().rev().map(|ty| self.pop_typed(*ty)).collect::<Read<Vec<_>>>()?;
-        kept.into_iter().rev().try_for_each(|(it, _)| self.push_at(it.ty, it.place).map(drop))
-    }
-
-    /// The same, after which the types are known.
+    /// The same, after which they are there, and their types known.
     fn check(&mut self, types: &[ValType]) -> Read<()> {
-        self.check_label(types)?;
-        let first = self.stack.len() - types.len();
-        self.stack[first..].iter_mut().zip(types).for_each(|(operand, ty)| operand.ty = Some(*ty));
+        if self.check_label(types)? {
+            let height = self.block().height;
+            self.operands.truncate(height);
+            return self.push_all(types);
+        }
+        self.operands.know(types);
         Ok(())
     }
 
@@ -343,21 +308,20 @@ impl<'m> Translator<'m, '_> {
         self.push_at(Some(ty), Place::Constant(number)).map(drop)
     }
 
-    /// Copies an operand to its own slot.
-    fn settle(&mut self, height: usize) {
-        let operand = self.stack[height];
-        match operand.place {
-            Place::Own => {}
-            Place::Reference => self.pay(1),
-            _ => self.emit(Op { d: self.own(height), a: self.slot(operand, height), ..Op::new(Code::copy) }),
+    /// Copies operands to their own slots.
+    fn settle(&mut self, operands: Vec<(usize, Place)>) {
+        for (height, place) in operands {
+            match place {
+                Place::Reference => self.pay(1),
+                _ => self.emit(Op { d: self.own(height), a: self.slot(place, height), ..Op::new(Code::copy) }),
+            }
         }
-        self.forget(operand.place);
-        self.stack[height].place = Place::Own;
     }
 
     /// Copies the last operands to their own slots.
     fn settle_last(&mut self, count: usize) {
-        (self.stack.len().saturating_sub(count)..self.stack.len()).for_each(|height| self.settle(height));
+        let operands = self.operands.settle_last(count);
+        self.settle(operands);
     }
 
     /// The same, but a single operand is copied by the jump.
@@ -369,21 +333,15 @@ impl<'m> Translator<'m, '_> {
     fn take_settled(&mut self, types: &[ValType]) -> Read<()> {
         self.check(types)?;
         self.settle_last(types.len());
-        self.pop_all(types)
+        self.operands.truncate(self.operands.len() - types.len());
+        Ok(())
     }
 
     /// Copies the operands that lie in a local, or in any, to their own slots. Returns whether there was one.
     fn settle_locals(&mut self, local: Option<u16>) -> bool {
-        let count = |it: &Self| local.map_or(it.lent, |local| it.uses[usize::from(local)]);
-        let any = count(self) > 0;
-        let mut height = self.stack.len();
-        while count(self) > 0 {
-            height -= 1;
-            match self.stack[height].place {
-                Place::Local(it) if local.is_none_or(|local| local == it) => self.settle(height),
-                _ => {}
-            }
-        }
+        let operands = self.operands.settle_locals(local);
+        let any = !operands.is_empty();
+        self.settle(operands);
         any
     }
 
@@ -391,7 +349,7 @@ impl<'m> Translator<'m, '_> {
 
     fn open(&mut self, kind: Kind, (params, results): (&'m [ValType], &'m [ValType])) -> Read<()> {
         let is_dead = self.blocks.last().is_some_and(|it| it.is_dead);
-        let height = self.stack.len() - params.len();
+        let height = self.operands.len() - params.len();
         let (was_dead, is_open, exits) = (is_dead, false, vec![]);
         self.blocks.push(Block { kind, params, results, height, is_dead, was_dead, is_open, exits });
         let refusal = self.reader.unsupported("a function has too many blocks in each other");
@@ -401,10 +359,7 @@ impl<'m> Translator<'m, '_> {
     /// What follows isn't reached.
     fn end_here(&mut self) {
         let height = self.block().height;
-        while self.stack.len() > height {
-            let place = self.stack.pop().map_or(Place::Own, |it| it.place);
-            self.forget(place);
-        }
+        self.operands.truncate(height);
         (self.block().is_dead, self.block().is_open) = (true, true);
     }
 
@@ -420,13 +375,14 @@ impl<'m> Translator<'m, '_> {
         if self.block().is_dead {
             return;
         }
-        let top = self.stack.len() - count;
-        let a = if count == 1 { self.slot(self.stack[top], top) } else { self.own(top) };
+        let top = self.operands.len() - count;
+        let place = if count == 1 { self.operands.place() } else { Place::Own };
+        let a = self.slot(place, top);
         if index == 0 {
             return self.emit_for(Op { a, ..Op::of(Code::ret, count as u32) }, 1 + price(count));
         }
         let d = self.own(self.blocks[index].height);
-        if count == 1 && a == d && self.stack[top].place == Place::Reference {
+        if a == d && place == Place::Reference {
             self.pay(1);
         }
         match count {
@@ -458,7 +414,7 @@ impl<'m> Translator<'m, '_> {
     fn close(&mut self) -> Read<()> {
         let results = self.block().results;
         self.take_settled(results)?;
-        ensure(self.stack.len() == self.block().height, self.invalid("an operand is left"))
+        ensure(self.operands.len() == self.block().height, self.invalid("an operand is left"))
     }
 
     fn block_type(&mut self) -> Read<(&'m [ValType], &'m [ValType])> {
@@ -510,7 +466,7 @@ impl<'m> Translator<'m, '_> {
             let results = self.block().results;
             self.jump_with(0, results)?;
             self.blocks.pop();
-            return ensure(self.stack.len() == results.len(), self.invalid("an operand is left"));
+            return ensure(self.operands.len() == results.len(), self.invalid("an operand is left"));
         }
         self.close()?;
         let label = self.label();
@@ -552,6 +508,7 @@ impl<'m> Translator<'m, '_> {
     /// A jump for each label, in a row. Where operands are to be copied it goes to the copies first.
     fn branch_table(&mut self) -> Read<()> {
         let mut depths = self.reader.list(Reader::u32)?;
+        ensure(depths.len() <= limits::LABELS, self.reader.unsupported("a table of labels is too long"))?;
         depths.push(self.reader.u32()?);
         let a = self.pop(I32)?;
         let count = self.target(depths[depths.len() - 1])?.1.len();
@@ -600,7 +557,7 @@ impl<'m> Translator<'m, '_> {
         }
         match opcode {
             0x00..=0x05 | 0x0b..=0x0f => self.control(opcode),
-            0x10 | 0x11 => self.call(opcode),
+            0x10..=0x13 => self.call(opcode),
             0x1a => self.pop_any().map(drop),
             0x1b | 0x1c => self.select(opcode),
             0x20..=0x24 => self.variable(opcode),
@@ -612,8 +569,45 @@ impl<'m> Translator<'m, '_> {
             0xfc013..=0xfc016 => self.wide(opcode),
             0xfd00c => self.reader.v128().and_then(|value| self.constant(V128, value.as_u128())),
             0xfd00d => self.shuffle(),
-            _ if instructions::is_of_floats(opcode) => Err(begin.unsupported("an instruction is one on floats")),
-            _ => Err(begin.malformed("an instruction is unknown")),
+            _ => match floats::meaning(opcode) {
+                Some(_) if begin.is_strict => Err(begin.unsupported("an instruction is one on floats")),
+                Some(meaning) => self.of_floats(meaning),
+                None => Err(begin.unknown(proposals::of_instruction(opcode), "an instruction is unknown")),
+            },
+        }
+    }
+
+    fn of_floats(&mut self, meaning: Meaning) -> Read<()> {
+        match meaning {
+            Meaning::Constant(ty) => {
+                let bits = self.reader.float(if ty == F32 { 4 } else { 8 })?;
+                self.constant(ty, bits)
+            }
+            Meaning::Moves(code, form) => self.of_the_library(Op::new(code), form),
+            Meaning::Reinterprets(from, to) => {
+                self.check(&[from])?;
+                self.operands.know(&[to]);
+                Ok(())
+            }
+            Meaning::Sign(code, ty, bits) => {
+                let (a, b) = (self.pop(ty)?, CONSTANTS + self.constant_slot(bits)?);
+                self.result(Op { a, b, ..Op::new(code) }, Some(ty))
+            }
+            Meaning::CopiesSign(and, or, ty, sign) => {
+                let (b, a) = (self.pop(ty)?, self.pop(ty)?);
+                let (rest, sign) = (CONSTANTS + self.constant_slot(sign - 1)?, CONSTANTS + self.constant_slot(sign)?);
+                let (left, right) = (self.own(self.operands.len()), self.own(self.operands.len() + 1));
+                self.emit(Op { d: left, a, b: rest, ..Op::new(and) });
+                self.emit_for(Op { d: right, a: b, b: sign, ..Op::new(and) }, 0);
+                self.emit_for(Op { d: left, a: left, b: right, ..Op::new(or) }, 0);
+                self.push_at(Some(ty), Place::Own).map(drop)
+            }
+            Meaning::Computes(lane, form) => {
+                self.of_the_library(Op { lane, ..Op::of(Code::float, self.at as u32) }, form)?;
+                // What follows isn't reached, but has its operands.
+                self.block().is_dead = true;
+                Ok(())
+            }
         }
     }
 
@@ -642,7 +636,7 @@ impl<'m> Translator<'m, '_> {
     fn call(&mut self, opcode: u32) -> Read<()> {
         let module = self.module;
         let number = self.reader.u32()?;
-        let (ty, op) = if opcode == 0x10 {
+        let (ty, op) = if matches!(opcode, 0x10 | 0x12) {
             let ty = module.functions.get(number as usize).ok_or(self.invalid("a function is unknown"))?;
             (*ty as usize, Op::of(Code::call, number))
         } else {
@@ -652,18 +646,37 @@ impl<'m> Translator<'m, '_> {
             (number as usize, Op { b: self.pop(index)?, lane: table as u16, ..Op::of(Code::call_indirect, same) })
         };
         let ty = &module.types[ty];
+        if opcode >= 0x12 {
+            return self.return_call(op, ty);
+        }
         self.take_settled(ty.params())?;
-        let a = self.own(self.stack.len());
+        let a = self.own(self.operands.len());
         self.emit(Op { a, ..op });
         self.push_all(ty.results())
+    }
+
+    /// A call whose results are those of the function, the frame of which becomes that of the callee.
+    fn return_call(&mut self, op: Op, ty: &FuncType) -> Read<()> {
+        let is_right = ty.results() == self.blocks[0].results;
+        ensure(is_right, self.invalid("a tail call has other results than the function"))?;
+        self.take_settled(ty.params())?;
+        let code = if op.code == Code::call { Code::return_call } else { Code::return_call_indirect };
+        let a = self.own(self.operands.len());
+        self.emit_for(Op { a, code, ..op }, 1 + price(ty.params().len()));
+        // A function of another instance returns to here.
+        if code == Code::return_call_indirect {
+            self.emit_for(Op { a, ..Op::of(Code::ret, ty.results().len() as u32) }, 0);
+        }
+        self.end_here();
+        Ok(())
     }
 
     fn select(&mut self, opcode: u32) -> Read<()> {
         let given = if opcode == 0x1c { self.reader.list(Reader::val_type)? } else { vec![] };
         ensure(opcode == 0x1b || given.len() == 1, self.invalid("a select has another number of types than one"))?;
         let (c, (right, b), (left, a)) = (self.pop(I32)?, self.pop_any()?, self.pop_any()?);
-        let ty = given.first().copied().or(left.ty).or(right.ty);
-        let are_same = [left, right].iter().all(|it| it.ty.is_none() || it.ty == ty);
+        let ty = given.first().copied().or(left).or(right);
+        let are_same = [left, right].iter().all(|it| it.is_none() || *it == ty);
         ensure(are_same, self.invalid("a select has operands of two types"))?;
         let is_named = !given.is_empty() || ty.is_none_or(|it| !it.is_ref());
         ensure(is_named, self.invalid("a select of references doesn't name their type"))?;
@@ -712,8 +725,8 @@ impl<'m> Translator<'m, '_> {
             return self.constant(ty.into(), u32::from(RawRef::null()));
         }
         if opcode == 0xd1 {
-            let (operand, a) = self.pop_any()?;
-            ensure(operand.ty.is_none_or(|it| it.is_ref()), self.invalid("an operand isn't a reference"))?;
+            let (ty, a) = self.pop_any()?;
+            ensure(ty.is_none_or(|it| it.is_ref()), self.invalid("an operand isn't a reference"))?;
             return self.result(Op { a, ..Op::new(Code::is_null) }, Some(I32));
         }
         let function = self.reader.u32()?;
@@ -802,7 +815,7 @@ impl<'m> Translator<'m, '_> {
         let codes = [Code::i64_add128, Code::i64_sub128, Code::i64_mul_wide_s, Code::i64_mul_wide_u];
         let operands = &[I64; 4][..if opcode < 0xfc015 { 4 } else { 2 }];
         self.take_settled(operands)?;
-        let a = self.own(self.stack.len());
+        let a = self.own(self.operands.len());
         self.emit(Op { a, ..Op::new(codes[opcode as usize - 0xfc013]) });
         self.push_all(&[I64, I64])
     }
@@ -855,7 +868,7 @@ impl<'m> Translator<'m, '_> {
         let mut a = self.pop(address)?;
         let imm = u32::try_from(offset).unwrap_or(0);
         if u64::from(imm) != offset {
-            let (d, b) = (self.own(self.stack.len()), CONSTANTS + self.constant_slot(offset.into())?);
+            let (d, b) = (self.own(self.operands.len()), CONSTANTS + self.constant_slot(offset.into())?);
             self.emit(Op { d, a, b, ..Op::new(Code::add_offset) });
             a = d;
         }

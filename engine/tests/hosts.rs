@@ -261,6 +261,7 @@ fn a_host_in_the_table() {
     let value = table.get(&mut store, 3).unwrap();
     let found = Func::from_val(&mut store, value).unwrap();
     assert_eq!(found.typed::<i32, i32>(&store).unwrap().call(&mut store, 1).unwrap(), 12);
+    assert_eq!(provider.get_func(&store, "through_table").unwrap().index(&store), 1);
     assert!(linker.instance(&mut store, "provider", &provider).is_ok());
 }
 

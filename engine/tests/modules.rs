@@ -1,15 +1,20 @@
 //! Modules that are refused, and where; what instances share; memories beyond the first one and beyond 32 bits; fuel that
 //! can't be cheated, and stacks that end.
 
-use engine::library::TrapCode;
-use engine::{Caps, Config, Engine, Error, Instance, Linker, Module, Refusal, RefusalKind, Store, Val};
+use engine::library::{TrapCode, ValType};
+use engine::{
+    Caps, Config, Engine, Error, FloatInstruction, Instance, Linker, Module, Refusal, RefusalKind, Store, Val,
+};
 use std::sync::LazyLock;
 use std::thread;
+use std::time::Duration;
 
 // ---- modules are written, and stores made for them
 
 const I32: u8 = 0x7f;
 const I64: u8 = 0x7e;
+const F32: u8 = 0x7d;
+const F64: u8 = 0x7c;
 const FUNC: u8 = 0x70;
 
 /// The sections of a module, as bytes of their items.
@@ -135,19 +140,141 @@ fn what_is_no_module() {
 }
 
 #[test]
-fn floats_are_refused_with_their_place() {
-    let add = [0x43, 0, 0, 0, 0, 0x43, 0, 0, 0, 0, 0x92, 0x1a];
-    let wasm = Wasm::default().function(&[], &[], &[], &add).function(&[], &[I32], &[], &[0x41, 7]);
-    let bytes = wasm.bytes();
-    let place = bytes.iter().position(|it| *it == 0x43).unwrap();
-    assert_eq!(refused(&bytes), (RefusalKind::Unsupported, place));
-    assert_eq!(refused(&Wasm::default().function(&[0x7d], &[], &[], &[]).bytes()), (RefusalKind::Unsupported, 13));
+fn what_a_proposal_has_is_named() {
+    let reason = |bytes: &[u8]| Module::new(&ENGINE, bytes).map(drop).map_err(|it| (it.kind, it.what)).unwrap_err();
+    let of_code = |code: &[u8]| reason(&Wasm::default().function(&[], &[], &[], code).bytes());
+    let unsupported = |what| (RefusalKind::Unsupported, what);
+    let head = b"\0asm\x01\0\0\0";
+    let section = |id: u8, content: &[u8]| [&head[..], &[id], &sized(content)].concat();
+    for (bytes, what) in [
+        (section(13, &[0]), "exceptions aren't supported"),
+        (section(1, &[1, 0x5e, 0x7f, 0]), "garbage collection isn't supported"),
+        (section(1, &[1, 0x60, 1, 0x64, 0, 0]), "typed references to functions aren't supported"),
+        (section(5, &[1, 3, 1, 1]), "threads aren't supported"),
+        (b"\0asm\x0d\0\x01\0".to_vec(), "components aren't supported"),
+    ] {
+        assert_eq!(reason(&bytes), unsupported(what));
+    }
+    assert_eq!(of_code(&[0x06, 0x40]), unsupported("exceptions aren't supported"));
+    assert_eq!(of_code(&[0xfe, 3, 0]), unsupported("threads aren't supported"));
+    assert_eq!(of_code(&[0xfb, 0x1c]), unsupported("garbage collection isn't supported"));
+    assert_eq!(of_code(&[0x14, 0]), unsupported("typed references to functions aren't supported"));
+    assert_eq!(of_code(&[0xff]), (RefusalKind::Malformed, "an instruction is unknown"));
+    assert_eq!(reason(&section(14, &[0])), (RefusalKind::Malformed, "a section is unknown"));
+}
 
-    let module = Module::new_lenient(&ENGINE, &bytes).unwrap();
-    let mut store = store(1000);
-    let instance = instance(&module, &mut store).unwrap();
-    assert_eq!(call(&instance, &mut store, "f", &[]), Err("a function with floats was called".into()));
-    assert_eq!(call(&instance, &mut store, "g", &[]), Ok(7));
+/// The first result of `f` as bits.
+fn bits_of(wasm: &Wasm, args: &[Val]) -> u64 {
+    let mut store = store(SOME);
+    let instance = instance(&wasm.module().unwrap(), &mut store).unwrap();
+    results(&instance, &mut store, "f", args).unwrap()[0]
+}
+
+/// The results of a call as bits.
+fn results(instance: &Instance, store: &mut Store<()>, name: &str, args: &[Val]) -> Result<Vec<u64>, Error> {
+    let results = instance.get_func(&*store, name).unwrap().call(store, args)?;
+    Ok(results.iter().map(|it| it.raw().into()).collect())
+}
+
+fn float(ty: ValType, bits: u64) -> Val {
+    Val::new(ty, bits.into())
+}
+
+#[test]
+fn an_instruction_that_computes_with_floats_traps_when_it_is_executed() {
+    // f32.add if the argument isn't 0.
+    let add = [0x20, 0, 0x04, F32, 0x43, 0, 0, 0, 0, 0x43, 0, 0, 0, 0, 0x92, 0x05, 0x43, 0, 0, 0x80, 0x3f, 0x0b];
+    let wasm = Wasm::default().function(&[I32], &[F32], &[], &add);
+    let bytes = wasm.bytes();
+    let mut store = store(SOME);
+    let instance = instance(&wasm.module().unwrap(), &mut store).unwrap();
+    assert_eq!(results(&instance, &mut store, "f", &[0.into()]).unwrap(), [0x3f80_0000]);
+    let trap = results(&instance, &mut store, "f", &[1.into()]).unwrap_err();
+    let offset = bytes.iter().position(|it| *it == 0x92).unwrap();
+    assert_eq!(trap.downcast_ref(), Some(&FloatInstruction { name: "f32.add", offset }));
+    assert_eq!(trap.to_string(), format!("f32.add at offset {offset}: there is no arithmetic of floats"));
+
+    let refused =
+        |bytes: &[u8]| Module::new_strict(&ENGINE, bytes).map(drop).map_err(|it| (it.kind, it.offset)).unwrap_err();
+    assert_eq!(refused(&bytes), (RefusalKind::Unsupported, 15));
+    let constant = Wasm::default().function(&[], &[], &[], &[0x43, 0, 0, 0, 0, 0x1a]).bytes();
+    let place = constant.iter().position(|it| *it == 0x43).unwrap();
+    assert_eq!(refused(&constant), (RefusalKind::Unsupported, place));
+    let moved = Wasm::default().function(&[], &[I32], &[], &[0x41, 0, 0x2a, 2, 0, 0xbc]).memory(&[0, 1]).bytes();
+    let place = moved.iter().position(|it| *it == 0x2a).unwrap();
+    assert_eq!(refused(&moved), (RefusalKind::Unsupported, place));
+}
+
+#[test]
+fn operands_of_floats_have_types() {
+    let is_valid = |params: &[u8], results: &[u8], code: &[u8]| {
+        Wasm::default().function(params, results, &[], code).memory(&[0, 1]).module().is_ok()
+    };
+    assert!(is_valid(&[F32], &[F64], &[0x20, 0, 0xbb]));
+    assert!(!is_valid(&[F64], &[F64], &[0x20, 0, 0xbb]));
+    assert!(!is_valid(&[F32], &[F32], &[0x20, 0, 0xbb]));
+    assert!(is_valid(&[I32, F32], &[], &[0x20, 0, 0x20, 1, 0x38, 2, 0]));
+    assert!(!is_valid(&[I32, I32], &[], &[0x20, 0, 0x20, 1, 0x38, 2, 0]));
+    // After an instruction that computes no operand may be missing.
+    assert!(!is_valid(&[F32], &[F32], &[0x20, 0, 0x91, 0x1a]));
+}
+
+#[test]
+fn floats_move_as_bits() {
+    // A signaling NaN of each width, which arithmetic would make quiet.
+    let (short, long) = (0xffa0_1234_u64, 0xfff4_5678_9abc_def0_u64);
+    let get = [0x20, 0];
+    let reply = |ty: u8, arg: Val, code: &[u8]| {
+        bits_of(
+            &Wasm::default().function(&[ty], &[ty], &[(1, ty)], code).memory(&[0, 1]).item(6, float_global(ty)),
+            &[arg],
+        )
+    };
+    for code in [
+        &get[..],
+        &[0x20, 0, 0x21, 1, 0x20, 1],                                        // locals
+        &[0x20, 0, 0xbc, 0xbe],                                              // reinterpreted
+        &[0x41, 8, 0x20, 0, 0x38, 2, 0, 0x41, 0, 0x2a, 2, 8],                // stored and loaded
+        &[0x20, 0, 0x24, 0, 0x23, 0],                                        // a global
+        &[0x20, 0, 0x20, 1, 0x41, 1, 0x1b],                                  // select
+        &[0x20, 0, 0xfd, 0x13, 0xfd, 0x1f, 3],                               // lanes
+        &[0x41, 0, 0xfd, 0x11, 0x20, 0, 0xfd, 0x20, 2, 0xfd, 0x1f, 2],       // lanes
+        &[0x02, F32, 0x20, 0, 0x0b],                                         // a block
+        &[0x20, 0, 0x8c, 0x8c],                                              // negated twice
+        &[0x20, 0, 0x8b, 0x43, 0, 0, 0, 0x80, 0x98],                         // the sign of -0
+        &[0x43, 0x34, 0x12, 0xa0, 0xff, 0x1a, 0x43, 0x34, 0x12, 0xa0, 0xff], // a constant
+    ] {
+        assert_eq!(reply(F32, float(ValType::F32, short), code), short, "{code:x?}");
+    }
+    for code in [
+        &get[..],
+        &[0x20, 0, 0xbd, 0xbf],
+        &[0x41, 8, 0x20, 0, 0x39, 3, 0, 0x41, 0, 0x2b, 3, 8],
+        &[0x20, 0, 0x24, 0, 0x23, 0],
+        &[0x20, 0, 0xfd, 0x14, 0xfd, 0x21, 1],
+        &[0x20, 0, 0xfd, 0x14, 0x20, 1, 0xfd, 0x22, 0, 0xfd, 0x21, 1],
+        &[0x20, 0, 0x9a, 0x9a],
+        &[0x20, 0, 0x99, 0x20, 0, 0xa6],
+    ] {
+        assert_eq!(reply(F64, float(ValType::F64, long), code), long, "{code:x?}");
+    }
+    assert_eq!(reply(F32, float(ValType::F32, short), &[0x20, 0, 0x8b]), short & 0x7fff_ffff);
+    assert_eq!(reply(F64, float(ValType::F64, long), &[0x20, 0, 0x9a]), long ^ 1 << 63);
+    // The lower lanes of vectors whose lanes have their signs taken, and changed.
+    assert_eq!(
+        reply(F32, float(ValType::F32, short), &[0x20, 0, 0xfd, 0x13, 0xfd, 0xe0, 1, 0xfd, 0x1f, 3]),
+        short & 0x7fff_ffff
+    );
+    assert_eq!(
+        reply(F64, float(ValType::F64, long), &[0x20, 0, 0xfd, 0x14, 0xfd, 0xed, 1, 0xfd, 0x21, 1]),
+        long ^ 1 << 63
+    );
+}
+
+/// A mutable global that is 0.
+fn float_global(ty: u8) -> Vec<u8> {
+    let zero: &[u8] = if ty == F32 { &[0x43, 0, 0, 0, 0] } else { &[0x44, 0, 0, 0, 0, 0, 0, 0, 0] };
+    [&[ty, 1], zero, &[0x0b]].concat()
 }
 
 #[test]
@@ -180,24 +307,58 @@ fn limits_of_a_function() {
     assert!(!is_refused(16_000, &all));
 }
 
-/// A module costs about what its bytes are worth: no instruction makes a long list again and again.
+/// The processor time that it takes to read a module, as Linux counts it; elsewhere the time of the clock.
+fn time_of(wasm: &Wasm) -> Duration {
+    let now = || {
+        thread::yield_now();
+        let line = std::fs::read_to_string("/proc/thread-self/schedstat").ok();
+        let nanoseconds = line.and_then(|it| it.split(' ').next()?.parse().ok());
+        nanoseconds.map_or_else(|| std::time::UNIX_EPOCH.elapsed().unwrap(), Duration::from_nanos)
+    };
+    let bytes = wasm.bytes();
+    let begun = now();
+    assert!(Module::new(&ENGINE, &bytes).is_ok());
+    now() - begun
+}
+
+/// Code of about 100 KB takes at most some times as long as plain code: no instruction makes a long list again and again.
+/// In a release it is ten times; tests are built with less optimization.
 #[test]
 fn hostile_functions_are_read_in_time() {
-    let results = sized(&[I32; 1000]);
-    let deep = [0x20, 0].repeat(15_000);
-    for (params, code) in [
-        (&[I32][..], [&deep[..], &[0x20, 0, 0x21, 0].repeat(100_000), &[0x1a].repeat(15_000)].concat()),
-        (&[I32], [&deep[..], &[0x02, 0x40, 0x0b].repeat(100_000), &[0x1a].repeat(15_000)].concat()),
-        (&[I32], [&[0x20, 0][..], &[0x41, 1, 0x0d, 0].repeat(100_000), &[0x1a]].concat()),
+    let many = |code: &[u8]| code.repeat(100_000 / code.len());
+    let (zeros, gets) = ([0x41, 0].repeat(1000), [0x20, 0].repeat(15_000));
+    let (drops, labels) = (|count| [0x1a].repeat(count), [&[0x0e][..], &leb(50_000), &[0; 50_001]].concat());
+    // From 1,000 operands to as many results: types 1, and from nothing 2.
+    let ty = |params: &[u8], results: &[u8]| [vec![0x60], sized(params), sized(results)].concat();
+    let wasm = |params: &[u8], code: &[&[u8]]| {
+        let wasm = Wasm::default().function(params, &[], &[], &code.concat());
+        wasm.item(1, ty(&[I32; 1000], &[I32; 1000])).item(1, ty(&[], &[I32; 1000]))
+    };
+    let in_block = |code: &[&[u8]]| wasm(&[I32], &[&[0x02, 2], &code.concat(), &[0x0b], &drops(1000)]);
+    let each: Vec<u8> = (0..15_000).flat_map(|it| [vec![0x20], leb(it)].concat()).collect();
+    let set: Vec<u8> = (0..15_000).flat_map(|it| [vec![0x41, 0, 0x21], leb(it)].concat()).collect();
+    let plain = time_of(&wasm(&[I32, I32], &[&many(&[0x20, 0, 0x20, 1, 0x6a, 0x21, 1])]));
+    for (name, wasm) in [
+        ("a local set over many operands", wasm(&[I32], &[&gets, &many(&[0x20, 0, 0x21, 0]), &drops(15_000)])),
+        (
+            "each local set below many operands",
+            wasm(&[I32; 0], &[]).function(&[], &[], &[(15_000, I32)], &[&each[..], &set, &drops(15_000)].concat()),
+        ),
+        ("blocks over many operands", wasm(&[I32], &[&gets, &many(&[0x02, 0x40, 0x0b]), &drops(15_000)])),
+        ("blocks with 1,000 operands", wasm(&[], &[&zeros, &many(&[0x02, 1, 0x0b]), &drops(1000)])),
+        ("choices with 1,000 operands", wasm(&[], &[&zeros, &many(&[0x41, 0, 0x04, 1, 0x0b]), &drops(1000)])),
+        ("jumps with 1,000 operands", in_block(&[&zeros, &many(&[0x20, 0, 0x0d, 0])])),
+        ("jumps with 1,000 operands that lie in a local", in_block(&[&gets[..2000], &many(&[0x20, 0, 0x0d, 0])])),
+        (
+            "a table of labels with 1,000 operands",
+            in_block(&[&zeros, &[0x41, 0], &labels, &zeros, &[0x41, 0], &labels]),
+        ),
+        ("jumps with 1,000 operands that aren't reached", in_block(&[&[0x00], &many(&[0x0c, 0])])),
+        ("blocks with 1,000 operands that aren't reached", in_block(&[&[0x00], &many(&[0x02, 1, 0x0b])])),
     ] {
-        assert!(Wasm::default().function(params, &[], &[], &code).module().is_ok());
+        let time = time_of(&wasm);
+        assert!(time < plain * 50 + Duration::from_millis(20), "{name}: {time:?}, and plain code {plain:?}");
     }
-    // Jumps with 1,000 operands that lie elsewhere.
-    let ty = [vec![0x60, 0], results].concat();
-    let branches = [&[0x20, 0].repeat(1001)[..], &[0x20, 0, 0x0d, 0].repeat(2000), &[0x00]].concat();
-    let code = [&[0x02, 1][..], &branches, &[0x0b, 0x00]].concat();
-    let wasm = Wasm::default().function(&[I32], &[], &[], &code).item(1, ty);
-    assert!(wasm.module().is_ok());
 }
 
 #[test]
@@ -302,6 +463,90 @@ fn references_and_indirect_calls() {
 }
 
 #[test]
+fn tail_calls_take_no_stack() {
+    // f(n, sum): n = 0 ? sum : f(n - 1, sum + n), directly or by a table.
+    let next = [0x20, 0, 0x42, 1, 0x7d, 0x20, 1, 0x20, 0, 0x7c];
+    let by = |call: &[u8]| [&[0x20, 0, 0x50, 0x04, 0x40, 0x20, 1, 0x0f, 0x0b][..], &next, call].concat();
+    let element = [&[0, 0x41, 1, 0x0b][..], &[1, 0]].concat();
+    for code in [by(&[0x12, 0]), by(&[0x41, 1, 0x13, 0, 0])] {
+        let wasm = Wasm::default().function(&[I64, I64], &[I64], &[], &code);
+        let wasm = wasm.table(&[0, 2]).item(9, element.clone());
+        assert_eq!(called(&wasm, &mut store(u64::MAX), &[1_000_000_i64.into(), 5_i64.into()]), Ok(500_000_500_005));
+    }
+}
+
+#[test]
+fn a_tail_call_has_operands_and_results_of_its_own() {
+    // f(a) = g(a, 2, 3) with more parameters than f has slots, and g gives three results to the caller of f.
+    let module = |of_callee: &[u8]| {
+        Wasm::default()
+            .function(&[I32], &[I32; 3], &[], &[0x20, 0, 0x41, 2, 0x41, 3, 0x12, 1])
+            .function(&[I32; 3], of_callee, &[(2, I32)], &[0x20, 2, 0x20, 1, 0x20, 0, 0x20, 3, 0x6a])
+            .function(&[], &[I32], &[(1, I32)], &[0x41, 7, 0x21, 0, 0x41, 1, 0x10, 0, 0x6b, 0x6b, 0x20, 0, 0x6a])
+    };
+    let mut store = store(SOME);
+    let instance = instance(&module(&[I32; 3]).module().unwrap(), &mut store).unwrap();
+    assert_eq!(results(&instance, &mut store, "f", &[1.into()]).unwrap(), [3, 2, 1]);
+    // 3 - (2 - 1) and 7, a local of the caller.
+    assert_eq!(call(&instance, &mut store, "h", &[]), Ok(9));
+    assert!(module(&[I32; 2]).module().is_err());
+    // What follows isn't reached; the traps are those of a call.
+    let after = Wasm::default().function(&[], &[I32], &[], &[0x12, 0, 0x6a]);
+    assert!(after.module().is_ok());
+    let indirect = |ty: u8| {
+        Wasm::default()
+            .function(&[I32], &[], &[], &[0x20, 0, 0x13, ty, 0])
+            .function(&[], &[], &[], &[])
+            .table(&[0, 2])
+            .item(9, [&[0, 0x41, 1, 0x0b][..], &[1, 1]].concat())
+    };
+    let reply = |index: i32| called(&indirect(1), &mut self::store(SOME), &[index.into()]);
+    assert_eq!(reply(1), Ok(0));
+    assert_eq!(reply(0), Err(TrapCode::IndirectCallToNull.to_string()));
+    assert_eq!(reply(2), Err(TrapCode::TableOutOfBounds.to_string()));
+    assert!(indirect(0).module().is_err());
+}
+
+/// A module that imports `a.t`, a table of two functions, and exports `f` of this code with its element in the table.
+fn of_a_table(element: u8, locals: &[(u64, u8)], code: &[u8]) -> Module {
+    let import = [sized(b"a"), sized(b"t"), vec![1, FUNC, 0, 2]].concat();
+    let offset = [0, 0x41, element, 0x0b, 1, 0];
+    let wasm = Wasm::default().item(2, import).item(9, offset).function(&[I64], &[I64], locals, code);
+    wasm.module().unwrap()
+}
+
+/// Two instances whose functions call each other through a table of a third one.
+fn linked(store: &mut Store<()>, locals: &[(u64, u8)], code: impl Fn(u8) -> Vec<u8>) -> Instance {
+    let table = Wasm::default().table(&[0, 2]).item(7, [1, b't', 1, 0]).module().unwrap();
+    let mut linker = Linker::new(&ENGINE);
+    let table = linker.instantiate(&mut *store, &table).unwrap();
+    linker.instance(&mut *store, "a", &table).unwrap();
+    let [first, _] = [0, 1].map(|it| {
+        let module = of_a_table(it, locals, &code(1 - it));
+        linker.instantiate(&mut *store, &module).unwrap()
+    });
+    first
+}
+
+#[test]
+fn calls_between_instances_end_by_the_stack() {
+    // f(n) = n = 0 ? 0 : f of the other one (n - 1), as a call and as a tail call. The index of the callee is a local.
+    let by = |code: u8| {
+        move |other: u8| {
+            let begin = [0x41, other, 0x21, 1, 0x20, 0, 0x50, 0x04, 0x40, 0x42, 0, 0x0f, 0x0b];
+            [&begin[..], &[0x20, 0, 0x42, 1, 0x7d, 0x20, 1, code, 0, 0]].concat()
+        }
+    };
+    for code in [0x11, 0x13] {
+        let mut store = store(u64::MAX);
+        let first = linked(&mut store, &[(1, I32)], by(code));
+        assert_eq!(call(&first, &mut store, "f", &[1000_i64.into()]), Ok(0));
+        let deep = call(&first, &mut store, "f", &[10_000_000_i64.into()]);
+        assert_eq!(deep, Err(TrapCode::StackOverflow.to_string()));
+    }
+}
+
+#[test]
 fn wide_arithmetic() {
     // The upper half of -1 times 2, of 2^64 - 1 times 2, and of 2^64 minus 1; each result is checked by its two halves.
     let reply = |code: &[u8], place: u8| {
@@ -334,6 +579,8 @@ fn a_loop_ends_by_fuel() {
     assert_eq!(called(&table, &mut store(SOME), &[]), out_of_fuel());
     let test = Wasm::default().function(&[], &[], &[], &[0x03, 0x40, 0x41, 1, 0x0d, 0, 0x0b]);
     assert_eq!(called(&test, &mut store(SOME), &[]), out_of_fuel());
+    let tail = Wasm::default().function(&[], &[], &[], &[0x12, 0]);
+    assert_eq!(called(&tail, &mut store(SOME), &[]), out_of_fuel());
 }
 
 #[test]

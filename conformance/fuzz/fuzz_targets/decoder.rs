@@ -22,12 +22,12 @@ fuzz_target!(is_kept, changed);
 
 fn is_kept(input: &[u8]) -> bool {
     static ENGINE: LazyLock<Engine> = LazyLock::new(Engine::default);
-    let [strict, lenient] = [Module::new(&ENGINE, input), Module::new_lenient(&ENGINE, input)]
-        .map(|made| made.map_err(|it| it.to_string()));
-    let is_refused = [&strict, &lenient].map(|made| made.as_ref().is_err());
-    let has_text = [&strict, &lenient].map(|made| made.as_ref().is_err_and(|text| !text.is_empty()));
+    let read = [Module::new_strict, Module::new];
+    let [strict, plain] = read.map(|read| read(&ENGINE, input).map_err(|it| it.to_string()));
+    let is_refused = [&strict, &plain].map(|made| made.as_ref().is_err());
+    let has_text = [&strict, &plain].map(|made| made.as_ref().is_err_and(|text| !text.is_empty()));
     agree("decoder", &is_refused, &has_text);
-    let is_taken = lenient.is_ok() != is_planted("decoder");
+    let is_taken = plain.is_ok() != is_planted("decoder");
     agree("decoder", &(is_taken || strict.is_err()), &true);
     true
 }

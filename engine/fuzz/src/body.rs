@@ -26,7 +26,7 @@ pub fn body(shape: &Shape, function: usize, random: &mut Random, instructions: &
     }
     let signature = shape.signature(function);
     let mut locals = signature.params.clone();
-    locals.extend((0..random.below(6)).map(|_| *random.of(&[I32, I32, I64, V128, Func, Extern])));
+    locals.extend((0..random.below(6)).map(|_| *random.of(&[I32, I32, I64, F32, F64, V128, Func, Extern])));
     let first_counter = locals.len();
     let counters: Vec<_> = (first_counter..first_counter + 3).collect();
     locals.extend([I32; 3]);
@@ -38,7 +38,11 @@ pub fn body(shape: &Shape, function: usize, random: &mut Random, instructions: &
     own.iter().for_each(|ty| it.code.extend([1, *ty as u8]));
     it.pay();
     it.statements(4);
-    it.values(&signature.results, 3);
+    if it.random.once_in(3) {
+        it.tail_call(3);
+    } else {
+        it.values(&signature.results, 3);
+    }
     it.code.push(0x0b);
     sized(&mut bytes, &it.code);
     bytes
@@ -164,10 +168,23 @@ impl Body<'_> {
 
     /// Calls a function, directly or by a table, and leaves its results.
     fn call(&mut self, function: usize, depth: usize) {
+        self.call_by([0x10, 0x11], function, depth);
+    }
+
+    /// Calls a function whose results are those of this one, and returns them.
+    fn tail_call(&mut self, depth: usize) {
+        let alike: Vec<_> =
+            (1..self.shape.functions.len()).filter(|it| self.shape.signature(*it).results == self.labels[0]).collect();
+        let function = *self.random.of(&alike);
+        self.call_by([0x12, 0x13], function, depth);
+        self.unreached();
+    }
+
+    fn call_by(&mut self, [direct, by_table]: [u8; 2], function: usize, depth: usize) {
         let signature = self.shape.signature(function).clone();
         self.values(&signature.params, depth.saturating_sub(2));
         let Some(table) = self.table(Some(Func)).filter(|_| self.random.once_in(2)) else {
-            return self.op(&[0x10], function);
+            return self.op(&[direct], function);
         };
         let at = self.random.below(self.shape.tables[table].1.least as usize + 1) as i64;
         if self.random.once_in(2) {
@@ -177,7 +194,7 @@ impl Body<'_> {
             self.op(&[0x26], table);
         }
         self.number(I32, at);
-        self.op(&[0x11], self.shape.functions[function]);
+        self.op(&[by_table], self.shape.functions[function]);
         unsigned(&mut self.code, table as u64);
     }
 
@@ -214,6 +231,8 @@ impl Body<'_> {
                 self.growth(I32, self.shape.tables[table].1.most.is_some());
                 self.op(&[0xfc, 15], table);
             }
+            (I32, 4) => self.reinterpreted(F32, 0xbc, depth),
+            (I64, 4) => self.reinterpreted(F64, 0xbd, depth),
             (I32, _) if self.random.once_in(2) => {
                 let ty = *self.random.of(&[Func, Extern]);
                 self.value(ty, depth - 1);
@@ -228,6 +247,12 @@ impl Body<'_> {
             },
             _ => self.instruction_for(Some(ty), depth),
         }
+    }
+
+    /// The bits of a float.
+    fn reinterpreted(&mut self, ty: Type, code: u8, depth: usize) {
+        self.value(ty, depth - 1);
+        self.code.push(code);
     }
 
     /// How much something grows. Without a maximum it is little, since what memory there is isn't for WebAssembly to say.
@@ -321,7 +346,7 @@ impl Body<'_> {
         if depth == 0 || self.room < 0 {
             return;
         }
-        let ty = *self.random.of(&[I32, I32, I64, V128, Func, Extern]);
+        let ty = *self.random.of(&[I32, I32, I64, F32, F64, V128, Func, Extern]);
         match self.random.below(20) {
             0..=3 => match self.local(ty, true) {
                 Some(local) => {
@@ -353,6 +378,7 @@ impl Body<'_> {
                 self.code.push(0);
                 self.unreached();
             }
+            18 if self.random.once_in(2) => self.tail_call(depth),
             _ => self.dropped(ty, depth),
         }
     }

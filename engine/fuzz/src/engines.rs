@@ -2,10 +2,11 @@
 use std::fs::File;
 use std::process::{Command, Stdio};
 
-/// A module's file and the lines that follow its `module` line.
+/// A module's file and the lines that follow its `module` line, and the file of a module that it imports from.
 pub struct Case {
     pub seed: u64,
     pub file: String,
+    pub provider: Option<String>,
     pub lines: Vec<String>,
 }
 
@@ -15,14 +16,24 @@ pub struct Replies {
     pub has_ended: bool,
 }
 
+/// How many lines come between the first one and that of a module, if it imports from another one.
+const PROVIDED: usize = 3;
+
 /// Runs the cases in one process, and after one in which the engine ended the others in another process.
 pub fn run(command: &str, fuel: u64, cases: &[Case], script: &str) -> Vec<Replies> {
-    replies(command, cases, script, |case| {
-        [format!("fuel {fuel}"), format!("module {}", case.file)]
-            .into_iter()
-            .chain(case.lines.iter().cloned())
-            .collect()
-    })
+    let mut all = replies(command, cases, script, |case| {
+        let provider = case.provider.iter().flat_map(|it| [format!("module {it}"), "register other".into()]);
+        let lines = [format!("module {}", case.file)].into_iter().chain(case.lines.iter().cloned());
+        let begin = case.provider.iter().map(|_| "drop".into());
+        begin.chain([format!("fuel {fuel}")]).chain(provider).chain(lines).collect()
+    });
+    for (_, it) in cases.iter().zip(&mut all).filter(|(case, _)| case.provider.is_some()) {
+        // The replies to the lines before that of the module say nothing, if all is well.
+        if it.lines.iter().take(PROVIDED).all(|it| it.starts_with("ok")) {
+            it.lines.drain(..PROVIDED.min(it.lines.len()));
+        }
+    }
+    all
 }
 
 /// Whether V8 finds the modules valid, without running them: `ok:`, or why not.

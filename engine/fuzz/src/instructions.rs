@@ -22,7 +22,11 @@ pub struct Instruction {
     pub immediate: Immediate,
 }
 
-/// All that have neither floats nor results that an implementation may choose.
+/// What instructions on floats do that move bits.
+const MOVES: [&str; 9] =
+    ["load", "store", "abs", "neg", "copysign", "splat", "extract_lane", "replace_lane", "reinterpret"];
+
+/// All that neither compute with floats nor have results that an implementation may choose.
 pub fn instructions() -> Vec<Instruction> {
     let text = include_str!("../../../conformance/instructions.txt");
     let shuffle = Instruction {
@@ -52,11 +56,16 @@ fn bytes(first: &str, place: usize) -> Vec<u8> {
 
 fn instruction(class: &str, first: &str, place: usize, name: &str) -> Option<Instruction> {
     let (shape, does) = name.split_once('.')?;
-    if ["f32", "f64", "relaxed", "ref."].iter().any(|it| name.contains(it)) {
+    let is_of_floats = ["f32", "f64"].iter().any(|it| name.contains(it));
+    if ["relaxed", "ref."].iter().any(|it| name.contains(it))
+        || is_of_floats && !MOVES.contains(&does.split("_f").next().unwrap_or(does).split("_i").next().unwrap_or(does))
+    {
         return None;
     }
     let (lane, lanes) = match shape {
         "i64" | "i64x2" => (I64, 2),
+        "f32" | "f32x4" => (F32, 4),
+        "f64" | "f64x2" => (F64, 2),
         "i8x16" => (I32, 16),
         "i16x8" => (I32, 8),
         _ => (I32, 4),
@@ -85,7 +94,7 @@ fn width(does: &str, all: u32) -> u32 {
 fn access(shape: &str, does: &str, scalar: Type) -> (Vec<Type>, Option<Type>, Immediate) {
     let (ty, all) = match shape {
         "v128" => (V128, 128),
-        "i64" => (scalar, 64),
+        "i64" | "f64" => (scalar, 64),
         _ => (scalar, 32),
     };
     let immediate = Immediate::Access((width(does, all) / 8).trailing_zeros());
@@ -98,6 +107,10 @@ fn plain(shape: &str, does: &str, lane: Type) -> Option<(Vec<Type>, Option<Type>
     let is = |words: &[&str]| words.contains(&does);
     let starts = |words: &[&str]| words.iter().any(|it| does.starts_with(it));
     let (operands, result) = match does {
+        "reinterpret_f32" => (vec![F32], I32),
+        "reinterpret_f64" => (vec![F64], I64),
+        "reinterpret_i32" => (vec![I32], F32),
+        "reinterpret_i64" => (vec![I64], F64),
         "wrap_i64" => (vec![I64], I32),
         "extend_i32_s" | "extend_i32_u" => (vec![I32], I64),
         "splat" => (vec![lane], V128),

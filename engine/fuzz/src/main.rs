@@ -11,10 +11,11 @@ use instructions::{Instruction, instructions};
 use random::Random;
 use std::path::{Path, PathBuf};
 
-const USAGE: &str = "usage: fuzz ENGINE.. [--v8 ENGINE] [--seed N] [--count N] [--mutants FOLDER] [--found FOLDER] [--expected FILE]
+const USAGE: &str = "usage: fuzz ENGINE.. [--v8 ENGINE] [--seed N] [--count N] [--mutants FOLDER | --linked] [--found FOLDER] [--expected FILE]
 
 Each ENGINE is a command that reads a script as `engine --script` does; the first one is compared with the others. COUNT modules (1,000) are
-made from SEED (1) on. With --mutants they are damaged ones, of these modules and of the guests that FOLDER/list has. V8 has no fuel, and
+made from SEED (1) on. With --linked each imports all that another one
+has, and functions of the host. With --mutants they are damaged ones, of these modules and of the guests that FOLDER/list has. V8 has no fuel, and
 runs a damaged module only if the first engine ended for another reason; but it says of each whether it is valid. Modules on which something differs are written to the folder
 after --found. FILE has the checksums of results and of fuel that the first engine has to give. The status is 1 if something differs.";
 
@@ -29,12 +30,22 @@ struct Options {
     seed: u64,
     count: u64,
     guests: Option<Vec<Guest>>,
+    is_linked: bool,
     found: Option<PathBuf>,
     expected: Option<String>,
 }
 
 fn options() -> Options {
-    let mut it = Options { engines: vec![], v8: None, seed: 1, count: 1000, guests: None, found: None, expected: None };
+    let mut it = Options {
+        engines: vec![],
+        v8: None,
+        seed: 1,
+        count: 1000,
+        guests: None,
+        is_linked: false,
+        found: None,
+        expected: None,
+    };
     let mut words = std::env::args().skip(1);
     while let Some(word) = words.next() {
         let mut next = || words.next().unwrap_or_else(|| stop(&format!("{word} takes a word")));
@@ -44,6 +55,7 @@ fn options() -> Options {
             "--seed" => it.seed = number(next()),
             "--count" => it.count = number(next()),
             "--mutants" => it.guests = Some(guests(&next())),
+            "--linked" => it.is_linked = true,
             "--found" => it.found = Some(next().into()),
             "--expected" => it.expected = Some(next()),
             "--help" => {
@@ -96,7 +108,8 @@ fn guests(folder: &str) -> Vec<Guest> {
 /// The modules of a batch, written to a folder.
 fn batch(options: &Options, instructions: &[Instruction], seeds: std::ops::Range<u64>, folder: &Path) -> Vec<Case> {
     let made = seeds.map(|seed| {
-        let mut case = module::case(seed, instructions);
+        let make = if options.is_linked { module::linked } else { module::case };
+        let mut case = make(seed, instructions);
         if let Some(guests) = &options.guests {
             let random = &mut Random::new(!seed);
             if random.once_in(2) {
@@ -107,9 +120,13 @@ fn batch(options: &Options, instructions: &[Instruction], seeds: std::ops::Range
             let other = random.of(guests);
             case.bytes = random::mutant(&case.bytes, &other.bytes, random);
         }
-        let file = folder.join(format!("{seed}.wasm")).display().to_string();
-        std::fs::write(&file, &case.bytes).unwrap_or_else(|error| stop(&format!("{file}: {error}")));
-        Case { seed, file, lines: case.lines }
+        let written = |name: String, bytes: &[u8]| {
+            let file = folder.join(name).display().to_string();
+            std::fs::write(&file, bytes).unwrap_or_else(|error| stop(&format!("{file}: {error}")));
+            file
+        };
+        let provider = case.provider.map(|bytes| written(format!("{seed}.other.wasm"), &bytes));
+        Case { seed, file: written(format!("{seed}.wasm"), &case.bytes), provider, lines: case.lines }
     });
     made.collect()
 }
@@ -133,16 +150,21 @@ fn difference(case: &Case, one: &Replies, other: &Replies, is_with_v8: bool) -> 
     let pairs = names.take(if is_made { usize::MAX } else { 1 });
     let mut pairs = pairs.map(|name| (name, left.next().map_or("", |it| it), right.next().map_or("", |it| it)));
     // How deep the calls of V8 go is V8's to say, and with it what they have changed until then. It calls no function of vectors, and cuts
-    // an operand to 32 bits that is no number of them.
+    // an operand to 32 bits that is no number of them. An instruction that computes with floats traps in the engine alone.
     let is_same = |name, a, b| (is_with_v8 && name == "left") || compared(a, is_with_v8) == compared(b, is_with_v8);
-    let is_no_operand = |a: &str, b: &str| a.ends_with(" is no I32") || b.starts_with("error: type incompat");
-    let is_last = |a: &str, b: &str| is_with_v8 && (a == EXHAUSTED || b == EXHAUSTED || is_no_operand(a, b));
+    let is_no_operand = |a: &str, b: &str| {
+        [" is no I32", " is no F32", " is no F64"].iter().any(|it| a.ends_with(it))
+            || b.starts_with("error: type incompat")
+    };
+    let is_of_floats = |a: &str| a.starts_with("unsupported:");
+    let is_last =
+        |a: &str, b: &str| is_with_v8 && (a == EXHAUSTED || b == EXHAUSTED || is_no_operand(a, b) || is_of_floats(a));
     let (name, a, b) = pairs.find(|(name, a, b)| is_last(a, b) || !is_same(*name, *a, *b))?;
     (!is_last(a, b)).then(|| format!("{name}: {a} | {b}"))
 }
 
 /// Whether both accept a module, or both refuse it, or one of them lacks what the other has: V8 several memories, tables of 64-bit
-/// addresses and wide arithmetic, the engine floats, exceptions, tail calls and shared memories.
+/// addresses and wide arithmetic, the engine what it names.
 fn is_accepted_alike(reply: &str, of_v8: &str) -> bool {
     let is_accepted = ["ok:", "trap:", "unlinkable:"].iter().any(|it| reply.starts_with(it));
     let has = |text: &str, words: &[&str]| words.iter().any(|it| text.contains(it));
@@ -154,9 +176,7 @@ fn is_accepted_alike(reply: &str, of_v8: &str) -> bool {
             has(of_v8, &["memory count", "table elements limits flags", "invalid numeric opcode: 0xfc1"])
                 || alignment.is_some_and(|it| it >= 64)
         }
-        (false, true) => {
-            has(reply, &["unsupported:", "instruction is unknown", "section is unknown", "flags of limits", "ended:"])
-        }
+        (false, true) => has(reply, &["unsupported:", "ended:"]),
         _ => true,
     }
 }
@@ -204,7 +224,11 @@ fn report(options: &Options, counts: &mut Counts, case: &Case, engine: &str, tex
     println!("{}: {engine}: {text}", case.seed);
     if let Some(folder) = &options.found {
         let written = std::fs::create_dir_all(folder)
-            .and_then(|()| std::fs::copy(&case.file, folder.join(format!("{}.wasm", case.seed))));
+            .and_then(|()| std::fs::copy(&case.file, folder.join(format!("{}.wasm", case.seed))))
+            .and_then(|_| match &case.provider {
+                Some(file) => std::fs::copy(file, folder.join(format!("{}.other.wasm", case.seed))),
+                None => Ok(0),
+            });
         let script = case.lines.iter().map(|it| format!("{it}\n")).collect::<String>();
         written
             .and_then(|_| std::fs::write(folder.join(format!("{}.lines", case.seed)), script))
@@ -271,7 +295,8 @@ fn main() {
     let mut from = options.seed;
     while from < end {
         let cases = batch(&options, &instructions, from..end.min(from + 250), &folder);
-        let files: Vec<_> = cases.iter().map(|it| it.file.clone()).collect();
+        let files: Vec<_> =
+            cases.iter().flat_map(|it| [Some(it.file.clone()), it.provider.clone()]).flatten().collect();
         compare(&options, &mut counts, cases, &script);
         files.iter().for_each(|it| drop(std::fs::remove_file(it)));
         from += 250;

@@ -40,6 +40,20 @@ impl Random {
             _ => self.bits(),
         }
     }
+
+    /// The bits of a float whose fraction has so many bits: often a NaN, quiet or not, an infinity or a zero.
+    pub fn float(&mut self, fraction: u32) -> u64 {
+        let (sign, exponent) = if fraction == 23 { (1 << 31, 0xff << 23) } else { (1 << 63, 0x7ff << 52) };
+        let payload = self.bits() & ((1 << fraction) - 1);
+        let bits = match self.below(6) {
+            0 => exponent,
+            1 => exponent | payload,
+            2 => exponent | payload >> 1 | 1,
+            3 => 0,
+            _ => self.bits() & (exponent | payload),
+        };
+        if self.once_in(2) { bits | sign } else { bits }
+    }
 }
 
 /// A module that is damaged: bytes changed, left out, doubled, taken from another module, or instructions exchanged.
