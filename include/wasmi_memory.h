@@ -24,7 +24,7 @@
    - Between calls, a struct stays with its region: that the bytes and references are those of before is the caller's
      matter.
 
-   Statuses are those of wasmi_core.h and wasmi_machine.h and the four below. After a status other than WASMI_DONE the
+   Statuses are those of wasmi_core.h and wasmi_machine.h and the five below. After a status other than WASMI_DONE the
    structs, the regions and the numbers are as they were, except where a call says otherwise, and except that a quota
    that is on may have another `last` and last_kind where it was asked; both are 0 then if it has nothing to take back.
    No call writes a flag that it reads (is_on, has_maximum, is_64), and none writes a meter or a quota that is off.
@@ -45,7 +45,8 @@ enum {
     WASMI_MEMORY_REGION_TOO_SHORT = 36, /* the region is shorter than the new size */
     WASMI_INVALID_STATE = 96,           /* a struct stands for no memory or table on its region */
     WASMI_ASKS = 97,                    /* of a question: a limiter is asked */
-    WASMI_OTHER_SIZE = 98               /* of a settlement: the limiter was asked about other sizes */
+    WASMI_OTHER_SIZE = 98,              /* of a settlement: the limiter was asked about other sizes */
+    WASMI_NOT_HELD = 99                 /* of an end: the quota holds less than what ends */
 };
 
 /* A linear memory, except its bytes. The caller sets all except size before wasmi_memory_new. Zeros are a memory of pages
@@ -101,6 +102,18 @@ uint8_t wasmi_memory_new(wasmi_memory *memory, uint8_t *region, size_t region_le
    has taken its permission back, and no fuel is taken. */
 uint8_t wasmi_memory_grow(wasmi_memory *memory, uint8_t *region, size_t region_len, uint64_t pages, wasmi_meter *meter,
                           wasmi_quota *quota, uint64_t *number);
+
+/* Ends a memory: the quota gives up its size in bytes, so that others can have it, and the struct stands for no memory
+   from then on. Its size is 0 then, so that no load or store reaches the region, and page_size_log2 is 255, so that
+   each call on it is INVALID_STATE, this one too: nothing is given up twice. The region isn't touched, and is the
+   caller's to free or to use; for a new memory in the struct set page_size_log2 again.
+   Call it before a memory is given up that was made under a quota: the quota doesn't learn of it otherwise, and its
+   caps are used up in the end. held_bytes and held_elements are the library's; the caller has no need to lower them.
+   Refusals in their order: INVALID_STATE; NOT_HELD where the quota holds less, as where the memory was made under
+   another one: nothing is written. Memories that were made and that grew under one quota, and none under another, are
+   never refused so. Where two structs are copies of one memory, end one of them. Under a quota that is off nothing is
+   given up, and the memory ends all the same. */
+uint8_t wasmi_quota_release_memory(wasmi_quota *quota, wasmi_memory *memory, const uint8_t *region, size_t region_len);
 
 /* What a growth asks a limiter: may a memory get from current to desired bytes, or a table to so many elements, where
    its type allows at most maximum (which is 0 where has_maximum is)? A maximum of 2^64 bytes or more is cut at
@@ -211,6 +224,11 @@ uint8_t wasmi_table_new(wasmi_table *table, uint32_t *elements, size_t elements_
    back. */
 uint8_t wasmi_table_grow(wasmi_table *table, uint32_t *elements, size_t elements_len, uint64_t delta,
                          uint32_t reference, wasmi_meter *meter, wasmi_quota *quota, uint64_t *number);
+
+/* Ends a table, as wasmi_quota_release_memory ends a memory: the quota gives up its size in elements. The size is 0
+   then, and type is 0, which no table has. INVALID_STATE; NOT_HELD where the quota holds less. */
+uint8_t wasmi_quota_release_table(wasmi_quota *quota, wasmi_table *table, const uint32_t *elements,
+                                  size_t elements_len);
 
 /* A growth of a table under a limiter of the caller's own: as wasmi_memory_question and wasmi_memory_settle, but in
    elements. TABLE_GROWTH is where there would be as many elements as indices, unasked, or an answer of 0; it is also

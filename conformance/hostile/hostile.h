@@ -123,6 +123,19 @@ static inline void gives_back(wasmi_quota *quota, uint8_t kind) {
     quota->last_kind = 0;
 }
 
+/* Whether a quota gives up so many, which takes the last permission out of reach of a notice. */
+static inline bool releases(wasmi_quota *quota, size_t less, uint8_t kind) {
+    uint64_t *held = kind == 1 ? &quota->held_bytes : &quota->held_elements;
+    if (!quota->is_on)
+        return true;
+    if (*held < less)
+        return false;
+    *held -= less;
+    quota->last = 0;
+    quota->last_kind = 0;
+    return true;
+}
+
 /* The price of a copy. */
 static inline uint64_t price_of(const wasmi_meter *meter, uint64_t bytes) {
     return meter->bytes_copied_per_fuel ? bytes / meter->bytes_copied_per_fuel : UINT64_MAX;

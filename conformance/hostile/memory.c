@@ -64,6 +64,17 @@ static uint8_t new_by_model(state *s, int i) {
     return WASMI_DONE;
 }
 
+static uint8_t release_by_model(state *s, int i) {
+    wasmi_memory *m = &s->memory[i];
+    if (!is_state(m, s->length[i]))
+        return WASMI_INVALID_STATE;
+    if (!releases(&s->quota, m->size, 1))
+        return WASMI_NOT_HELD;
+    m->size = 0;
+    m->page_size_log2 = 255;
+    return WASMI_DONE;
+}
+
 /* A growth under the quota, or under the answers. */
 static uint8_t grow_by_model(state *s, int i, uint64_t pages, bool by_answers) {
     wasmi_memory *m = &s->memory[i];
@@ -385,7 +396,10 @@ static bool call_agrees(state *s, state *model) {
         return wasmi_fuel_consume_copy(&s->meter, amount, &s->number) ==
                consume_by_model(model, price_of(&model->meter, amount));
     }
-    default: return number_agrees(s, model, i);
+    default:
+        if (below(4) == 0)
+            return wasmi_quota_release_memory(&s->quota, m, s->region[i], s->length[i]) == release_by_model(model, i);
+        return number_agrees(s, model, i);
     }
 }
 

@@ -202,6 +202,40 @@ static void totals(void) {
     }
 }
 
+/* Each tenant in a random order: what it had counts no more, the others have what they had, and no later call finds it.
+   A tenant that is added then has the next index. */
+static void removals(void) {
+    size_t order[MOST_TENANTS], added = tenants;
+    for (size_t i = 0; i < tenants; i++)
+        order[i] = i;
+    for (size_t left = tenants; left > 0; left--) {
+        size_t drawn = (size_t)below(left), index = order[drawn];
+        order[drawn] = order[left - 1];
+        wasmi_totals own = wasmi_pool_tenant_totals(&pool, index), before = wasmi_pool_totals(&pool);
+        wasmi_totals kept = wasmi_pool_tenant_totals(&pool, order[0]);
+        if (wasmi_pool_remove(&none, index) != WASMI_NO_POOL || wasmi_pool_remove(&pool, added) != WASMI_NO_TENANT
+            || wasmi_pool_remove(&pool, index) != WASMI_DONE || wasmi_pool_remove(&pool, index) != WASMI_NO_TENANT) {
+            differs("a removal", script);
+        }
+        wasmi_totals all = wasmi_pool_totals(&pool);
+        if (all.bytes.lo + own.bytes.lo != before.bytes.lo || all.elements.lo + own.elements.lo != before.elements.lo) {
+            differs("what is held after a removal", script);
+        }
+        if (wasmi_pool_tenant_totals(&pool, index).status != WASMI_NO_TENANT
+            || (left > 1 && !same_totals(kept, wasmi_pool_tenant_totals(&pool, order[0])))) {
+            differs("the tenants that are left", script);
+        }
+        if (below(2)) {
+            wasmi_limits limits;
+            memset(&limits, 0, sizeof limits);
+            wasmi_reply reply = wasmi_pool_add(&pool, &limits);
+            if (reply.status != WASMI_DONE || reply.number != added++) {
+                differs("an index is given twice", script);
+            }
+        }
+    }
+}
+
 static void one_script(void) {
     printed_len = 0;
     char *at = begin();
@@ -212,6 +246,7 @@ static void one_script(void) {
         at = form < 4 ? lines_of(at, tenant) : form < 6 ? written(at, tenant) : called(at, tenant);
     }
     totals();
+    removals();
     wasmi_pool_drop(&pool);
     wasmi_pool_drop(&none);
     same_whole(at, printed_len);

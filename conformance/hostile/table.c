@@ -126,7 +126,10 @@ static bool call_agrees(state *s, state *model) {
         return wasmi_table_copy_from(t, s->region[i], s->length[i], &s->table[other], s->region[other], s->length[other],
                                      &range, &s->meter, &s->number) == copy_by_model(model, i, other, &range);
     case 5: return init_agrees(s, model, i, &range);
-    case 6: return size_agrees(s, i);
+    case 6:
+        if (below(4) == 0)
+            return wasmi_quota_release_table(&s->quota, t, s->region[i], s->length[i]) == release_by_model(model, i);
+        return size_agrees(s, i);
     default: return growth_agrees(s, model, i);
     }
 }

@@ -72,6 +72,17 @@ static uint8_t failure(state *s, int i, uint64_t desired, uint64_t price) {
     return s->length[i] < desired ? WASMI_TABLE_OUT_OF_MEMORY : WASMI_DONE;
 }
 
+static inline uint8_t release_by_model(state *s, int i) {
+    wasmi_table *t = &s->table[i];
+    if (!is_state(t, s->length[i]))
+        return WASMI_INVALID_STATE;
+    if (!releases(&s->quota, t->size, 2))
+        return WASMI_NOT_HELD;
+    t->size = 0;
+    t->type = 0;
+    return WASMI_DONE;
+}
+
 /* A growth under the quota, or under the answers. */
 static uint8_t grow_by_model(state *s, int i, uint64_t delta, uint32_t reference, bool by_answers) {
     wasmi_table *t = &s->table[i];

@@ -21,6 +21,12 @@ assert!(matches!(replies[0], Reply::Made(0)));
 let replies = pool.run(1, &[Call::NewMemory(ty)])?;
 assert!(matches!(replies[0], Reply::Memory(_)));
 assert_eq!((pool.held_bytes(0), pool.held_bytes(1)), (Some(65_536), Some(0)));
+
+// What the first tenant held is there for others once it is removed.
+drop(pool.remove(0));
+let replies = pool.run(1, &[Call::NewMemory(ty)])?;
+assert!(matches!(replies[0], Reply::Made(0)));
+assert!(pool.machine(0).is_none());
 # Ok::<(), Box<dyn std::error::Error>>(())
 ```
 "#
@@ -104,7 +110,7 @@ assert!(Memory::new_lending(ty, &mut AtMost(131_071)).is_err());
         r#"# Examples
 
 ```
-use wasmi_core_proved::machine::{Memory, MemoryType, Quota};
+use wasmi_core_proved::machine::{Kind, Memory, MemoryType, Quota};
 
 // A page for all memories together, and no tables.
 let mut quota = Quota::new(65_536, 0);
@@ -115,9 +121,11 @@ let memory = Memory::new_lending(ty, &mut quota)?;
 assert_eq!(quota.held_bytes(), 65_536);
 assert!(Memory::new_lending(ty, &mut quota).is_err());
 
-// What was dropped still counts.
+// What was dropped counts until it is released.
 drop(memory);
 assert!(Memory::new_lending(ty, &mut quota).is_err());
+assert!(quota.release(Kind::Bytes, 65_536));
+assert!(Memory::new_lending(ty, &mut quota).is_ok());
 # Ok::<(), wasmi_core_proved::MemoryError>(())
 ```
 "#

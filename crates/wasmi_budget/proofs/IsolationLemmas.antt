@@ -1,11 +1,11 @@
 -- What a tenant is permitted beside others, it is permitted alone.
-use Rattle.std.proofs.Common.{◌≡◌, ◌≢◌, ℕ, ◌+◌, ◌-◌, Bool, Option, Some, None, Ok, true, false, List, [], ◌∷◌, ◌++◌, length, inl, inr, refl, sym, ap, subst, ◌∙◌, arith}
+use Rattle.std.proofs.Common.{◌≡◌, ◌≢◌, ℕ, ◌+◌, ◌-◌, Bool, Option, Some, None, Ok, true, false, List, [], ◌∷◌, ◌++◌, inl, inr, refl, sym, ap, subst, ◌∙◌, arith}
 use Rattle.std.proofs.lemmas.Bool.{cases_lt}
 use Rattle.std.proofs.lemmas.Bool.Decides.{Decides-eqb}
-use Rattle.std.proofs.lemmas.List.{get_or_append_left, get_or-set_other, get_or-set_same, length-append, length-set}
-use Rattle.std.proofs.lemmas.Option.{same_Some, slice_get_read, slice_get_within, get_or_from_slice_get}
+use Rattle.std.proofs.lemmas.List.{get_or_append_left, get_or-set_other, get_or-set_same}
+use Rattle.std.proofs.lemmas.Option.{same_Some}
 use Rattle.std.specs.Bool.{Decides}
-use Rattle.std.specs.Prelude.{All, MatchBool, if◌then◌else◌, nat_eq, slice_get, slice_set}
+use Rattle.std.specs.Prelude.{All, MatchBool, if◌then◌else◌, get_or, nat_eq, slice_set}
 use Rattle.std.specs.Option.{option_map}
 use Rattle.wasmi_meter.specs.declared.limiter.Kind.{Kind}
 use Rattle.wasmi_meter.specs.declared.limiter.Kind.TheVariants.{Bytes, Elements}
@@ -17,8 +17,9 @@ use Rattle.wasmi_machine.specs.declared.calls.Reply.{Reply}
 use Rattle.wasmi_machine.specs.State.{State}
 use Rattle.wasmi_machine.proofs.CarryingLemmas.{Carries, runs_too}
 use Rattle.wasmi_budget.specs.declared.tenant.Tenant.{Tenant}
-use Rattle.wasmi_budget.specs.Pool.{capped_tenant, tenant_rules, without_others, PoolValue, tenant_at, RunsTenantBy, RunsTenant}
-use Rattle.wasmi_budget.specs.Laws.{PoolTurn, Added, Ran, Refused, PoolRun, PermittingRun, own_turns, OthersDontShow, RunsAsAlone, RepliesPermit}
+use Rattle.wasmi_budget.specs.Pool.{capped_tenant, tenant_rules, without_others, PoolValue, machine_of, tenant_at, RunsTenantBy, RunsTenant}
+use Rattle.wasmi_budget.proofs.PoolLemmas.{tenant_inside}
+use Rattle.wasmi_budget.specs.Laws.{PoolTurn, Added, Ran, Removed, Refused, PoolRun, PermittingRun, own_turns, OthersDontShow, RunsAsAlone, RepliesPermit}
 use Rattle.wasmi_machine.specs.Determinism.{permitting, TellsNoDenial}
 use Rattle.wasmi_machine.proofs.RevealingLemmas.{permitted_run}
 
@@ -86,33 +87,25 @@ true_not_false : false ≡ true → ⊥
 true_not_false same = cc
 
 -- a machine is at its index after another one was added
-kept_added : (machines : List State) (index : ℕ) (s added : State) → slice_get machines index ≡ Some s
-    → slice_get (machines ++ added ∷ []) index ≡ Some s
+kept_added : (machines : List (Option State)) (index : ℕ) (s : State) (added : Option State)
+    → get_or machines index None ≡ Some s → get_or (machines ++ added ∷ []) index None ≡ Some s
 kept_added machines index s added found =
-    let inside = slice_get_within machines index s found in
-    slice_get_read (machines ++ added ∷ []) (length machines + 1) index s (sym (length-append machines (added ∷ [])))
-    (omega (arith, inside))
-    (sym (get_or_append_left machines (added ∷ []) s index inside ∙ get_or_from_slice_get machines index s s found))
+    get_or_append_left machines (added ∷ []) None index (tenant_inside machines index s found) ∙ found
 
--- a machine is at its index after the one at another index has become another
-kept_set : (machines : List State) (index i : ℕ) (s t : State) → index ≢ i → slice_get machines index ≡ Some s
-    → slice_get (slice_set machines i t) index ≡ Some s
-kept_set machines index i s t other found =
-    slice_get_read (slice_set machines i t) (length machines) index s (sym (length-set machines i t))
-    (slice_get_within machines index s found)
-    (sym (get_or-set_other machines i index t s other ∙ get_or_from_slice_get machines index s s found))
+-- a machine is at its index after the one at another index has become another, or was removed
+kept_set : (machines : List (Option State)) (index i : ℕ) (s : State) (t : Option State) → index ≢ i
+    → get_or machines index None ≡ Some s → get_or (slice_set machines i t) index None ≡ Some s
+kept_set machines index i s t other found = get_or-set_other machines i index t None other ∙ found
 
 -- the machine that was set at an index
-set_at : (machines : List State) (index : ℕ) (s t : State) → slice_get machines index ≡ Some s
-    → slice_get (slice_set machines index t) index ≡ Some t
+set_at : (machines : List (Option State)) (index : ℕ) (s t : State) → get_or machines index None ≡ Some s
+    → get_or (slice_set machines index (Some t)) index None ≡ Some t
 set_at machines index s t found =
-    let inside = slice_get_within machines index s found in
-    slice_get_read (slice_set machines index t) (length machines) index t (sym (length-set machines index t)) inside
-    (sym (get_or-set_same machines index t t inside))
+    get_or-set_same machines index (Some t) None (tenant_inside machines index s found)
 
 -- a pool of one machine
 abbrev only : Amounts → State → PoolValue
-only caps s = record { caps = caps; machines = s ∷ [] }
+only caps s = record { caps = caps; machines = Some s ∷ [] }
 
 -- a permitted run in a pool of its own
 run_alone : (pool : PoolValue) (index : ℕ) (calls : List Call) (replies : List Reply) (pool' : PoolValue)
@@ -137,19 +130,19 @@ module _ (caps : Amounts) (index : ℕ) (pool' : PoolValue) where
   -- turns alone lead the machine s to the one that the pool ends with
   abbrev EndsAlone : State → List PoolTurn → Type 0
   EndsAlone s turns =
-      (s' : State) × (slice_get pool'.machines index ≡ Some s') × PoolRun (only caps s) turns (only caps s')
+      (s' : State) × (machine_of pool' index ≡ Some s') × PoolRun (only caps s) turns (only caps s')
 
   -- the machine of the index in a pool with these caps
   record IsThere (pool : PoolValue) (s : State) : Type 0 where
     capped : pool.caps ≡ caps
-    found : slice_get pool.machines index ≡ Some s
+    found : machine_of pool index ≡ Some s
 
   -- a machine that has the index in a pool with other machines
-  there_among : (pool : PoolValue) (s t : State) (next : PoolValue) (machines : List State) → IsThere pool s
-      → next ≡ record pool { machines = machines } → slice_get machines index ≡ Some t → IsThere next t
+  there_among : (pool : PoolValue) (s t : State) (next : PoolValue) (machines : List (Option State)) → IsThere pool s
+      → next ≡ record pool { machines = machines } → get_or machines index None ≡ Some t → IsThere next t
   there_among pool s t next machines there is at = record {
     capped = ap PoolValue.caps is ∙ there.capped;
-    found = ap (λ (p : PoolValue). slice_get p.machines index) is ∙ at;
+    found = ap (λ p. machine_of p index) is ∙ at;
   }
 
   module _ (pool : PoolValue) (s : State) (there : IsThere pool s) (calls : List Call) (replies : List Reply)
@@ -162,7 +155,7 @@ module _ (caps : Amounts) (index : ℕ) (pool' : PoolValue) where
         let step = subst (λ c. RunsTenant (only c runs.machine) 0 calls replies (only c runs.machine')) there.capped
         (run_alone pool index calls replies next runs) in (
           runs.machine',
-          there_among pool s runs.machine' next (slice_set pool.machines index runs.machine') there runs.after
+          there_among pool s runs.machine' next (slice_set pool.machines index (Some runs.machine')) there runs.after
               (set_at pool.machines index s runs.machine' there.found),
           subst (λ t. RunsTenant (only caps t) 0 calls replies (only caps runs.machine')) own step,
         )
@@ -170,16 +163,19 @@ module _ (caps : Amounts) (index : ℕ) (pool' : PoolValue) where
     -- a run of another tenant leaves the machine of the index
     other_run : (i : ℕ) → index ≢ i → RunsTenant pool i calls replies next → IsThere next s
     other_run i other runs =
-        there_among pool s s next (slice_set pool.machines i runs.machine') there runs.after
-        (kept_set pool.machines index i s runs.machine' other there.found)
+        there_among pool s s next (slice_set pool.machines i (Some runs.machine')) there runs.after
+        (kept_set pool.machines index i s (Some runs.machine') other there.found)
 
   -- calls by which the tenant of the index is never denied end for its machine as its own turns alone do
   ends_alone : (pool : PoolValue) (s : State) → IsThere pool s → (turns : List PoolTurn)
       → PermittingRun index pool turns pool' → EndsAlone s (own_turns index turns)
-  ends_alone pool s there [] ran = (s, ap (λ (p : PoolValue). slice_get p.machines index) ran ∙ there.found, refl)
+  ends_alone pool s there [] ran = (s, ap (λ p. machine_of p index) ran ∙ there.found, refl)
   ends_alone pool s there (Added a ∷ turns) (next, adds, ran) =
-      ends_alone next s (there_among pool s s next (pool.machines ++ a ∷ []) there adds.added
-      (kept_added pool.machines index s a there.found)) turns ran
+      ends_alone next s (there_among pool s s next (pool.machines ++ Some a ∷ []) there adds.added
+      (kept_added pool.machines index s (Some a) there.found)) turns ran
+  ends_alone pool s there (Removed i a ∷ turns) (next, (other, removes), ran) =
+      ends_alone next s (there_among pool s s next (slice_set pool.machines i None) there removes.removed
+      (kept_set pool.machines index i s None (λ same. other (sym same)) there.found)) turns ran
   ends_alone pool s there (Refused ∷ turns) (next, same, ran) =
       ends_alone next s (there_among pool s s next pool.machines there same there.found) turns ran
   ends_alone pool s there (Ran i calls replies ∷ turns) (next, runs, ran) =

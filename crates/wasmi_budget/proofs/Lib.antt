@@ -1,2 +1,3 @@
+mod TenantsLemmas
 mod PoolLemmas
 mod IsolationLemmas

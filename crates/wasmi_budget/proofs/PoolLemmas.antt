@@ -1,6 +1,8 @@
 -- What stays of a tenant while its machine runs, and what the machines of a pool have together.
-use Rattle.std.proofs.Common.{◌≡◌, Option, Some, List, refl, sym, ◌∙◌, subst, ℕ, ◌+◌, ◌-◌, ◌≤◌, ◌<◌, ◌^◌, None, length, get_or, [], ◌∷◌, ◌++◌, ap, arith}
-use Rattle.std.proofs.lemmas.Option.{same_Some, none-some, slice_get_within, get_or_from_slice_get, slice_get_past, slice_get_read}
+use Rattle.std.proofs.Common.{◌≡◌, Option, Some, List, refl, sym, ◌∙◌, subst, ℕ, ◌+◌, ◌-◌, ◌≤◌, ◌<◌, ◌^◌, None, length, get_or, [], ◌∷◌, ◌++◌, ap, arith, inl, inr}
+use Rattle.std.proofs.lemmas.Bool.{cases_lt}
+use Rattle.std.proofs.lemmas.List.{get_or_append_left, get_or_past, get_or-set_other, get_or-set_same, length-append, length-set}
+use Rattle.std.proofs.lemmas.Option.{same_Some, none-some}
 use Rattle.wasmi_meter.specs.declared.limiter.Kind.{Kind}
 use Rattle.wasmi_meter.specs.Capped.{amount_of, amounts_of, IsWithin, Asked, Noticed, held_together}
 use Rattle.wasmi_meter.specs.Limiter.{Question, Answer, Failure, NoticeAnswer, optional_rules}
@@ -11,16 +13,16 @@ use Rattle.wasmi_machine.specs.Determinism.{IsDeterministic, AcceptsNotices}
 use Rattle.wasmi_machine.proofs.DeterminismLemmas.{capped_unique}
 use Rattle.wasmi_machine.proofs.HoldingLemmas.{run_keeps, totals_are_held}
 use Rattle.wasmi_budget.specs.declared.tenant.Tenant.{Tenant}
-use Rattle.wasmi_budget.specs.Pool.{capped_tenant, tenant_rules, holdings, PoolValue, total_of, IsWithinCaps, IsKept, HasNothing, tenant_at, AddsTenant, RunsTenant}
+use Rattle.wasmi_budget.specs.Pool.{capped_tenant, tenant_rules, holdings, PoolValue, total_of, IsWithinCaps, IsKept, HasNothing, tenant_at, machine_of, total_at, AddsTenant, RemovesTenant, RunsMachine, RunsTenant}
 use Rattle.std.proofs.lemmas.List.Sums.{sum_by-remove, sum_by-set, sum_by_push}
 use Rattle.std.specs.Option.{option_map}
-use Rattle.std.specs.Prelude.{slice_get, slice_set, remove}
+use Rattle.std.specs.Prelude.{slice_set, remove}
 use Rattle.wasmi_meter.specs.declared.limiter.Kind.TheVariants.{Bytes, Elements}
 use Rattle.wasmi_meter.specs.declared.amounts.Amounts.{Amounts}
 use Rattle.wasmi_meter.specs.CappedProofs.{asked_reserves, noticed_gives_back}
 use Rattle.wasmi_machine.specs.declared.calls.Call.{Call}
 use Rattle.wasmi_machine.specs.declared.calls.Reply.{Reply}
-use Rattle.wasmi_budget.specs.Laws.{PoolTurn, Added, Ran, Refused, PoolStep, PoolRun}
+use Rattle.wasmi_budget.specs.Laws.{PoolTurn, Added, Ran, Removed, Refused, PoolStep, PoolRun, RemovalsGiveBack, RemovedStayRemoved}
 
 -- the caps, and what the others hold, are the same with other holdings
 tenant_keeps : KeepsCaps capped_tenant
@@ -74,20 +76,28 @@ tenant_unique = capped_unique capped_tenant
 pub tenant_accepts : AcceptsNotices tenant_rules
 tenant_accepts tenant failure notice_answer tenant' noticed = noticed.accepts
 
-module _ (machines : List State) (index : ℕ) (s : State) (found : slice_get machines index ≡ Some s) (kind : Kind) where
+-- the index of a tenant is one that was given
+pub tenant_inside : (machines : List (Option State)) (index : ℕ) (s : State) → get_or machines index None ≡ Some s
+    → index < length machines
+tenant_inside machines index s found = elim (cases_lt index (length machines)) [
+  | inl inside ↦ inside
+  | inr past ↦ absurd (none-some s (sym (get_or_past machines index None past) ∙ found))
+]
+
+module _ (machines : List (Option State)) (index : ℕ) (s : State) (found : get_or machines index None ≡ Some s)
+    (kind : Kind) where
   -- all is what a machine has, and what the others have
   pub total_split : total_of (remove machines index) kind + total s kind ≡ total_of machines kind
   total_split =
-      ap (λ t. total_of (remove machines index) kind + total t kind)
-      (sym (get_or_from_slice_get machines index s s found))
-      ∙ sum_by-remove (λ t. total t kind) machines index s (slice_get_within machines index s found)
+      ap (λ t. total_of (remove machines index) kind + total_at t kind) (sym found)
+      ∙ sum_by-remove (λ t. total_at t kind) machines index None (tenant_inside machines index s found)
 
-  -- also where the machine has become another one
-  total_replaced : (s' : State)
-      → total_of (slice_set machines index s') kind ≡ total_of (remove machines index) kind + total s' kind
-  total_replaced s' =
-      let set = sum_by-set (λ t. total t kind) machines index s' s (slice_get_within machines index s found) in
-      let own = ap (λ t. total t kind) (get_or_from_slice_get machines index s s found) in
+  -- also where the machine has become another one, or was removed
+  total_replaced : (t : Option State)
+      → total_of (slice_set machines index t) kind ≡ total_of (remove machines index) kind + total_at t kind
+  total_replaced t =
+      let set = sum_by-set (λ t. total_at t kind) machines index t None (tenant_inside machines index s found) in
+      let own = ap (λ t. total_at t kind) found in
       omega (arith, set, own, total_split)
 
 -- the amount of a kind among amounts by kind
@@ -107,7 +117,7 @@ amount_held_total tenant s held Bytes = held.bytes
 amount_held_total tenant s held Elements = held.elements
 
 -- a tenant before its run holds together with the others what all machines have
-tenant_held_together : (pool : PoolValue) (index : ℕ) (s : State) → slice_get pool.machines index ≡ Some s
+tenant_held_together : (pool : PoolValue) (index : ℕ) (s : State) → machine_of pool index ≡ Some s
     → (kind : Kind) → held_together capped_tenant (tenant_at pool index s) kind ≡ total_of pool.machines kind
 tenant_held_together pool index s found Bytes = total_split pool.machines index s found Bytes
 tenant_held_together pool index s found Elements = total_split pool.machines index s found Elements
@@ -120,10 +130,10 @@ mapped f (Some x) y is = (x, refl, sym (same_Some (f x) y is))
 
 module _ (pool : PoolValue) (index : ℕ) where
   module _ (held : Amounts)
-      (is : option_map (λ s. amounts_of (total s)) (slice_get pool.machines index) ≡ Some held) where
+      (is : option_map (λ s. amounts_of (total s)) (machine_of pool index) ≡ Some held) where
     -- there is a machine at the index that has these amounts
-    found : (s : State) × (slice_get pool.machines index ≡ Some s) × (held ≡ amounts_of (total s))
-    found = mapped (λ s. amounts_of (total s)) (slice_get pool.machines index) held is
+    found : (s : State) × (machine_of pool index ≡ Some s) × (held ≡ amounts_of (total s))
+    found = mapped (λ s. amounts_of (total s)) (machine_of pool index) held is
 
     -- these amounts are, with what the others have, what all have
     others_left : (kind : Kind)
@@ -153,7 +163,7 @@ module _ (pool : PoolValue) (index : ℕ) where
     }
 
     -- the limiter of a machine holds what that has, beside what of all is left
-    pub tenant_beside : Some beside ≡ option_map (tenant_at pool index) (slice_get pool.machines index)
+    pub tenant_beside : Some beside ≡ option_map (tenant_at pool index) (machine_of pool index)
     tenant_beside =
         let bytes : total_of pool.machines Bytes - held.bytes ≡ total_of (remove pool.machines index) Bytes =
         let others = others_left Bytes in omega (arith, others) in
@@ -169,7 +179,7 @@ module _ (pool : PoolValue) (index : ℕ) where
 
 -- a machine becomes another under its limiter
 module _ (pool : PoolValue) (within : IsWithinCaps pool) (index : ℕ) (s : State)
-    (found : slice_get pool.machines index ≡ Some s) (s' : State) (tenant' : Tenant) where
+    (found : machine_of pool index ≡ Some s) (s' : State) (tenant' : Tenant) where
   -- before its run the tenant is within the caps
   first_stays : StaysWithin (tenant_at pool index s) (tenant_at pool index s)
   first_stays = record {
@@ -181,15 +191,15 @@ module _ (pool : PoolValue) (within : IsWithinCaps pool) (index : ℕ) (s : Stat
   module _ (stays : StaysWithin (tenant_at pool index s) tenant') (held : HoldsTotals (holdings tenant') s') where
     -- with the other machine, all have what the tenant that holds what it has holds together with the others
     replaced_total : (kind : Kind)
-        → held_together capped_tenant tenant' kind ≡ total_of (slice_set pool.machines index s') kind
+        → held_together capped_tenant tenant' kind ≡ total_of (slice_set pool.machines index (Some s')) kind
     replaced_total kind =
         let own = amount_held_total tenant' s' held kind in
-        let all = total_replaced pool.machines index s found kind s' in
+        let all = total_replaced pool.machines index s found kind (Some s') in
         let others = stays.others kind ∙ amount_of-amounts_of (total_of (remove pool.machines index)) kind in
         omega (arith, own, all, others)
 
     -- the pool is within its caps then, where the tenant stayed within them
-    replaced_within : IsWithinCaps (record pool { machines = slice_set pool.machines index s' })
+    replaced_within : IsWithinCaps (record pool { machines = slice_set pool.machines index (Some s') })
     replaced_within kind =
         let all = replaced_total kind in
         let bound = stays.within kind in
@@ -206,28 +216,23 @@ module _ (pool : PoolValue) (within : IsWithinCaps pool) (index : ℕ) (s : Stat
 
 -- the machine of an index, with the tenant that the pool gives out for it
 pub record IsGiven (pool : PoolValue) (index : ℕ) (w : World Tenant) : Type 0 where
-  pub found : slice_get pool.machines index ≡ Some w.state
+  pub found : machine_of pool index ≡ Some w.state
   pub tenant : w.limiter ≡ tenant_at pool index w.state
 
 -- a tenant that the pool gave out
 module _ (pool now : PoolValue) (same : pool ≡ now) (index : ℕ) (tenant : Tenant)
-    (given : option_map (tenant_at now index) (slice_get now.machines index) ≡ Some tenant) where
+    (given : option_map (tenant_at now index) (machine_of now index) ≡ Some tenant) where
   -- there is a machine at the index, and the tenant is that of it
-  machine_given : (x : State) × (slice_get pool.machines index ≡ Some x) × (tenant ≡ tenant_at pool index x)
+  pub machine_given : (x : State) × (machine_of pool index ≡ Some x) × (tenant ≡ tenant_at pool index x)
   machine_given =
-      mapped (tenant_at pool index) (slice_get pool.machines index) tenant
-      (ap (λ p. option_map (tenant_at p index) (slice_get p.machines index)) same ∙ given)
+      mapped (tenant_at pool index) (machine_of pool index) tenant
+      (ap (λ p. option_map (tenant_at p index) (machine_of p index)) same ∙ given)
 
-  -- the index is one of the pool's
-  pub given_inside : index < length pool.machines
-  given_inside = slice_get_within pool.machines index machine_given.0 machine_given.1
-
-  -- the machine that is read at the index is given with it
-  pub read_given : (s : State) → s ≡ get_or pool.machines index s → IsGiven pool index (world s tenant)
-  read_given s read =
-      let own : machine_given.0 ≡ s =
-      sym (read ∙ get_or_from_slice_get pool.machines index machine_given.0 s machine_given.1) in
-      record { found = machine_given.1 ∙ ap Some own; tenant = machine_given.2 ∙ ap (tenant_at pool index) own }
+  -- the machine that is at the index is given with it
+  pub found_given : (s : State) → machine_of pool index ≡ Some s → IsGiven pool index (world s tenant)
+  found_given s found =
+      let own : machine_given.0 ≡ s = same_Some machine_given.0 s (sym machine_given.1 ∙ found) in
+      record { found = found; tenant = machine_given.2 ∙ ap (tenant_at pool index) own }
 
 -- a machine with its limiter, lent
 abbrev lent : World Tenant → World (Option Tenant)
@@ -251,7 +256,8 @@ module _ (pool : PoolValue) (index : ℕ) (w : World Tenant) (given : IsGiven po
 
     -- an accepted run
     pub given_runs : (replies : List Reply) → IsRunOf (optional_rules tenant_rules) calls (lent w) replies (lent w')
-        → RunsTenant pool index calls replies (record pool { machines = slice_set pool.machines index w'.state })
+        → RunsTenant pool index calls replies
+        (record pool { machines = slice_set pool.machines index (Some w'.state) })
     given_runs replies ran = record {
       machine = w.state;
       found = given.found;
@@ -282,14 +288,51 @@ module _ (pool : PoolValue) (index : ℕ) (w : World Tenant) (given : IsGiven po
     -- the pool is kept with these amounts, where the tenant holds what its machine has
     pub given_kept : HoldsTotals (holdings w'.limiter) w'.state
         → (held' : Amounts) → held' ≡ amounts_of (held_together capped_tenant w'.limiter)
-        → IsKept (record pool { machines = slice_set pool.machines index w'.state }) held'
+        → IsKept (record pool { machines = slice_set pool.machines index (Some w'.state) }) held'
     given_kept holds held' is = record {
       within = replaced_within pool kept.within index w.state given.found w'.state w'.limiter stays holds;
       fits = kept.fits;
       counted = is
-          ∙ amounts_same (held_together capped_tenant w'.limiter) (total_of (slice_set pool.machines index w'.state))
+          ∙ amounts_same (held_together capped_tenant w'.limiter)
+          (total_of (slice_set pool.machines index (Some w'.state)))
           (replaced_total pool kept.within index w.state given.found w'.state w'.limiter stays holds);
     }
+
+-- what `Pool::run` has done with the machine of an index, by the tenant that the pool gave out
+module _ (pool now : PoolValue) (same : pool ≡ now) (index : ℕ) (tenant tenant' : Tenant)
+    (given : option_map (tenant_at now index) (machine_of now index) ≡ Some tenant) (calls : List Call)
+    (replies : List Reply) (machines' : List (Option State))
+    (ran : RunsMachine pool.machines index tenant calls replies machines' tenant') where
+  -- the tenant is that of the machine
+  its_own : IsGiven pool index (world ran.machine tenant)
+  its_own = found_given pool now same index tenant given ran.machine ran.found
+
+  -- the tenant stays within the caps
+  its_own_stays : IsWithinCaps pool → StaysWithin (tenant_at pool index ran.machine) tenant'
+  its_own_stays within =
+      given_stays pool index (world ran.machine tenant) its_own (world ran.machine' tenant') calls within replies ran.ran
+
+  -- what all hold then are numbers of 64 bits
+  pub machine_fits : (held : Amounts) → IsKept pool held
+      → (kind : Kind) → held_together capped_tenant tenant' kind < 2 ^ 64
+  machine_fits held kept =
+      given_fits pool index (world ran.machine tenant) its_own (world ran.machine' tenant') held kept
+      (its_own_stays kept.within)
+
+  -- the pool is kept with what all hold then
+  pub machine_kept : (held held' : Amounts) → IsKept pool held
+      → held' ≡ amounts_of (held_together capped_tenant tenant') → IsKept (record pool { machines = machines' }) held'
+  machine_kept held held' kept is =
+      subst (λ machines. IsKept (record pool { machines = machines }) held') (sym ran.after)
+      (given_kept pool index (world ran.machine tenant) its_own (world ran.machine' tenant') held kept
+      (its_own_stays kept.within) ran.held held' is)
+
+  -- it is an accepted run
+  pub machine_runs : RunsTenant now index calls replies (record pool { machines = machines' })
+  machine_runs =
+      subst (λ p. RunsTenant p index calls replies (record pool { machines = machines' })) same
+      (subst (λ machines. RunsTenant pool index calls replies (record pool { machines = machines })) (sym ran.after)
+      (given_runs pool index (world ran.machine tenant) its_own (world ran.machine' tenant') calls replies ran.ran))
 
 -- a run keeps the pool within its caps
 pub runs_within : (pool : PoolValue) (index : ℕ) (calls : List Call) (replies : List Reply) (pool' : PoolValue)
@@ -311,12 +354,12 @@ pub adds_within : (pool : PoolValue) (s : State) (pool' : PoolValue) → IsWithi
     → IsWithinCaps pool'
 adds_within pool s pool' within adds kind = rw adds.added (pushed kind)
   where
-    pushed : (kind : Kind) → total_of (pool.machines ++ s ∷ []) kind ≤ amount_of pool.caps kind
+    pushed : (kind : Kind) → total_of (pool.machines ++ Some s ∷ []) kind ≤ amount_of pool.caps kind
     pushed Bytes = let bound =
-        within Bytes in omega (arith, bound, adds.empty.bytes, sum_by_push (λ t. total t Bytes) pool.machines s)
+        within Bytes in omega (arith, bound, adds.empty.bytes, sum_by_push (λ t. total_at t Bytes) pool.machines (Some s))
     pushed Elements = let bound =
         within Elements in omega
-        (arith, bound, adds.empty.elements, sum_by_push (λ t. total t Elements) pool.machines s)
+        (arith, bound, adds.empty.elements, sum_by_push (λ t. total_at t Elements) pool.machines (Some s))
 
 -- a machine that was found to have no bytes and no elements
 pub has_nothing : (s : State) (bytes elements : ℕ) → bytes ≡ total s Bytes → bytes ≤ 0 → elements ≡ total s Elements
@@ -326,22 +369,63 @@ has_nothing s bytes elements is_bytes no_bytes is_elements no_elements =
 
 -- a pool is kept with the same amounts where a machine that has nothing is added
 pub kept_added : (pool : PoolValue) (held : Amounts) (s : State) → IsKept pool held → HasNothing s
-    → (machines : List State) → machines ≡ pool.machines ++ s ∷ [] → IsKept (record pool { machines = machines }) held
+    → (machines : List (Option State)) → machines ≡ pool.machines ++ Some s ∷ []
+    → IsKept (record pool { machines = machines }) held
 kept_added pool held s kept empty machines is = record {
   within = adds_within pool s (record pool { machines = machines }) kept.within
-      (record { empty = empty; added = ap (λ (m : List State). record pool { machines = m }) is });
+      (record { empty = empty; added = ap (λ (m : List (Option State)). record pool { machines = m }) is });
   fits = kept.fits;
   counted = kept.counted ∙ amounts_same (total_of pool.machines) (total_of machines) same;
 }
   where
     same : (kind : Kind) → total_of pool.machines kind ≡ total_of machines kind
-    same Bytes = rw is (omega (arith, empty.bytes, sum_by_push (λ t. total t Bytes) pool.machines s))
-    same Elements = rw is (omega (arith, empty.elements, sum_by_push (λ t. total t Elements) pool.machines s))
+    same Bytes = rw is (omega (arith, empty.bytes, sum_by_push (λ t. total_at t Bytes) pool.machines (Some s)))
+    same Elements = rw is (omega (arith, empty.elements, sum_by_push (λ t. total_at t Elements) pool.machines (Some s)))
+
+-- what the machine of a removed tenant has counts no more
+pub removals_give_back : RemovalsGiveBack
+removals_give_back pool index s pool' removes kind =
+    let split = total_split pool.machines index s removes.found kind in
+    let left = total_replaced pool.machines index s removes.found kind None in
+    let all = ap (λ (p : PoolValue). total_of p.machines kind) removes.removed in
+    omega (arith, split, left, all)
+
+-- a pool is within its caps without a tenant
+removes_within : (pool : PoolValue) (index : ℕ) (s : State) (pool' : PoolValue) → IsWithinCaps pool
+    → RemovesTenant pool index s pool' → IsWithinCaps pool'
+removes_within pool index s pool' within removes kind =
+    let less = removals_give_back pool index s pool' removes kind in
+    let bound = within kind in
+    let caps = ap (λ (p : PoolValue). amount_of p.caps kind) removes.removed in
+    omega (arith, less, bound, caps)
+
+-- a pool is kept without a tenant where what that held is taken off
+pub kept_removed : (pool : PoolValue) (all : Amounts) (index : ℕ) (s : State) (pool' : PoolValue) (held : Amounts)
+    → IsKept pool all → RemovesTenant pool index s pool' → held ≡ amounts_of (total s)
+    → IsKept pool' (record { bytes = all.bytes - held.bytes; elements = all.elements - held.elements })
+kept_removed pool all index s pool' held kept removes is = record {
+  within = removes_within pool index s pool' kept.within removes;
+  fits = λ kind.
+      let caps = ap (λ (p : PoolValue). amount_of p.caps kind) removes.removed in
+      let fits = kept.fits kind in
+      omega (arith, caps, fits);
+  counted = λ i. record { bytes = left Bytes (λ a. a.bytes) (λ a. refl) i; elements = left Elements (λ a. a.elements) (λ a. refl) i };
+}
+  where
+    left : (kind : Kind) (of : Amounts → ℕ) → ((a : Amounts) → of a ≡ amount_of a kind)
+        → of all - of held ≡ total_of pool'.machines kind
+    left kind of is_of =
+        let sum = is_of all ∙ ap (λ amounts. amount_of amounts kind) kept.counted
+        ∙ amount_of-amounts_of (total_of pool.machines) kind in
+        let own = is_of held ∙ ap (λ amounts. amount_of amounts kind) is ∙ amount_of-amounts_of (total s) kind in
+        let less = removals_give_back pool index s pool' removes kind in
+        omega (arith, sum, own, less)
 
 -- one call keeps the caps
 caps_stay : (pool : PoolValue) (turn : PoolTurn) (pool' : PoolValue) → PoolStep pool turn pool' → pool'.caps ≡ pool.caps
 caps_stay pool (Added s) pool' adds = ap PoolValue.caps adds.added
 caps_stay pool (Ran index calls replies) pool' runs = ap PoolValue.caps runs.after
+caps_stay pool (Removed index s) pool' removes = ap PoolValue.caps removes.removed
 caps_stay pool Refused pool' same = ap PoolValue.caps same
 
 -- one call keeps the pool within its caps
@@ -349,6 +433,7 @@ step_within : (pool : PoolValue) (turn : PoolTurn) (pool' : PoolValue) → IsWit
     → IsWithinCaps pool'
 step_within pool (Added s) pool' within adds = adds_within pool s pool' within adds
 step_within pool (Ran index calls replies) pool' within runs = runs_within pool index calls replies pool' within runs
+step_within pool (Removed index s) pool' within removes = removes_within pool index s pool' within removes
 step_within pool Refused pool' within same = rw same within
 
 -- calls one after another keep the caps, and the pool within them
@@ -359,11 +444,54 @@ caps_hold pool within (turn ∷ turns) pool' (next, step, ran) =
     let rest = caps_hold next (step_within pool turn next within step) turns pool' ran in
     (rest.0 ∙ caps_stay pool turn next step, rest.1)
 
-module _ (xs machines : List State) (i : ℕ) where
-  -- a machine that is got is that of its index
-  pub got : (s : State) → xs ≡ machines → i < length xs → s ≡ get_or xs i s → slice_get machines i ≡ Some s
-  got s same within at = ap (λ ms. slice_get ms i) (sym same) ∙ slice_get_read xs (length xs) i s refl within at
+-- an index that was given, and has no tenant
+record IsVacant (pool : PoolValue) (index : ℕ) : Type 0 where
+  given : index < length pool.machines
+  vacant : machine_of pool index ≡ None
 
-  -- where there is none to get, the index has none
-  pub not_got : xs ≡ machines → length xs ≤ i → slice_get machines i ≡ None
-  not_got same past = ap (λ ms. slice_get ms i) (sym same) ∙ slice_get_past xs i past
+module _ (pool : PoolValue) (index : ℕ) (vacant : IsVacant pool index) where
+  -- it stays so where other machines lie behind those that are there
+  vacant_added : (t : Option State) (pool' : PoolValue) → pool' ≡ record pool { machines = pool.machines ++ t ∷ [] }
+      → IsVacant pool' index
+  vacant_added t pool' is = rw is (record {
+    given = omega (arith, vacant.given, length-append pool.machines (t ∷ []));
+    vacant = get_or_append_left pool.machines (t ∷ []) None index vacant.given ∙ vacant.vacant;
+  })
+
+  -- and where another index gets another machine or none
+  vacant_set : (i : ℕ) (s : State) (t : Option State) (pool' : PoolValue) → machine_of pool i ≡ Some s
+      → pool' ≡ record pool { machines = slice_set pool.machines i t } → IsVacant pool' index
+  vacant_set i s t pool' found is = rw is (record {
+    given = omega (arith, vacant.given, length-set pool.machines i t);
+    vacant = get_or-set_other pool.machines i index t None
+        (λ same. absurd (none-some s (sym vacant.vacant ∙ ap (machine_of pool) same ∙ found))) ∙ vacant.vacant;
+  })
+
+  -- so after one call
+  vacant_stays : (turn : PoolTurn) (pool' : PoolValue) → PoolStep pool turn pool' → IsVacant pool' index
+  vacant_stays (Added s) pool' adds = vacant_added (Some s) pool' adds.added
+  vacant_stays (Ran i calls replies) pool' runs =
+      vacant_set i runs.machine (Some runs.machine') pool' runs.found runs.after
+  vacant_stays (Removed i s) pool' removes = vacant_set i s None pool' removes.found removes.removed
+  vacant_stays Refused pool' same = rw same vacant
+
+-- and after all of them
+vacant_for_ever : (pool : PoolValue) (index : ℕ) → IsVacant pool index → (turns : List PoolTurn) (pool' : PoolValue)
+    → PoolRun pool turns pool' → IsVacant pool' index
+vacant_for_ever pool index vacant [] pool' ran = rw ran vacant
+vacant_for_ever pool index vacant (turn ∷ turns) pool' (next, step, ran) =
+    vacant_for_ever next index (vacant_stays pool index vacant turn next step) turns pool' ran
+
+-- so no tenant has the index of one that was removed
+pub removed_stay_removed : RemovedStayRemoved
+removed_stay_removed pool index s pool' removes turns later ran =
+    (vacant_for_ever pool' index left turns later ran).vacant
+  where
+    inside : index < length pool.machines
+    inside = tenant_inside pool.machines index s removes.found
+
+    left : IsVacant pool' index
+    left = rw removes.removed (record {
+      given = omega (arith, inside, length-set pool.machines index None);
+      vacant = get_or-set_same pool.machines index None None inside;
+    })

@@ -1,24 +1,28 @@
 -- What holds of all calls on a pool, one after another, and of all runs of a tenant's machine.
-use Rattle.std.specs.Prelude.{◌≡◌, ℕ, List, [], ◌∷◌, nat_eq, if◌then◌else◌, MatchBool, Some, All, slice_get}
+use Rattle.std.specs.Prelude.{◌≡◌, ◌≢◌, ◌+◌, ℕ, List, [], ◌∷◌, nat_eq, if◌then◌else◌, MatchBool, Some, None, All}
 use Rattle.wasmi_machine.specs.declared.calls.Call.{Call}
 use Rattle.wasmi_machine.specs.declared.calls.Reply.{Reply}
-use Rattle.wasmi_machine.specs.State.{State, Turn}
-use Rattle.wasmi_budget.specs.Pool.{PoolValue, AddsTenant, RunsTenant, tenant_rules, without_others, RunsTenantBy, IsWithinCaps}
+use Rattle.wasmi_machine.specs.State.{State, Turn, total}
+use Rattle.wasmi_budget.specs.Pool.{PoolValue, AddsTenant, RunsTenant, RemovesTenant, machine_of, tenant_rules, total_of, without_others, RunsTenantBy, IsWithinCaps}
+use Rattle.wasmi_meter.specs.declared.limiter.Kind.{Kind}
 use Rattle.wasmi_meter.specs.Limiter.{optional_rules}
 use Rattle.wasmi_machine.specs.Determinism.{permitting, TellsNoDenial}
 use Rattle.wasmi_machine.specs.Steps.{Run}
 use Rattle.wasmi_budget.specs.declared.tenant.Tenant.{Tenant}
 
--- one call on a pool: a machine was added, a tenant's machine has run, or the call was refused
+-- one call on a pool: a machine was added, a tenant's machine has run, a tenant was removed, whose machine is this one,
+-- or the call was refused
 pub data PoolTurn : Type 0 where
   Added : State → PoolTurn
   Ran : ℕ → List Call → List Reply → PoolTurn
+  Removed : ℕ → State → PoolTurn
   Refused : PoolTurn
 
 -- a call leads a pool to another
 abbrev pub PoolStep : PoolValue → PoolTurn → PoolValue → Type 0
 PoolStep pool (Added s) pool' = AddsTenant pool s pool'
 PoolStep pool (Ran index calls replies) pool' = RunsTenant pool index calls replies pool'
+PoolStep pool (Removed index s) pool' = RemovesTenant pool index s pool'
 PoolStep pool Refused pool' = pool' ≡ pool
 
 -- calls one after another, each a step of this kind
@@ -30,14 +34,15 @@ RunBy Step pool (turn ∷ turns) pool' = (next : PoolValue) × Step pool turn ne
 abbrev pub PoolRun : PoolValue → List PoolTurn → PoolValue → Type 0
 PoolRun = RunBy PoolStep
 
--- a call on a pool, which permits each question where it is a run of the tenant of an index
+-- a call on a pool, which permits each question where it is a run of the tenant of an index, and doesn't remove that
 abbrev pub PermittingStep : ℕ → PoolValue → PoolTurn → PoolValue → Type 0
 PermittingStep index pool (Ran i calls replies) pool' = MatchBool (nat_eq i index)
     (RunsTenantBy (permitting (optional_rules tenant_rules)) pool i calls replies pool')
     (RunsTenant pool i calls replies pool')
+PermittingStep index pool (Removed i s) pool' = (i ≢ index) × RemovesTenant pool i s pool'
 PermittingStep index pool turn pool' = PoolStep pool turn pool'
 
--- such calls one after another: the tenant of the index is never denied
+-- such calls one after another: the tenant of the index is never denied, and stays
 abbrev pub PermittingRun : ℕ → PoolValue → List PoolTurn → PoolValue → Type 0
 PermittingRun index = RunBy (PermittingStep index)
 
@@ -47,6 +52,7 @@ own_turns index [] = []
 own_turns index (Added s ∷ turns) = own_turns index turns
 own_turns index (Ran i calls replies ∷ turns) =
     if nat_eq i index then Ran 0 calls replies ∷ own_turns index turns else own_turns index turns
+own_turns index (Removed i s ∷ turns) = own_turns index turns
 own_turns index (Refused ∷ turns) = own_turns index turns
 
 -- after all calls the caps are the same, and all machines together are within them
@@ -65,11 +71,11 @@ OthersDontShow = (s s' : State) (tenant tenant' : Tenant) (turns : List Turn)
 
 -- a tenant that is never denied gets, run after run, what it gets alone under the same caps
 abbrev pub RunsAsAlone : Type 0
-RunsAsAlone = (pool : PoolValue) (index : ℕ) (s : State) → slice_get pool.machines index ≡ Some s
+RunsAsAlone = (pool : PoolValue) (index : ℕ) (s : State) → machine_of pool index ≡ Some s
     → (turns : List PoolTurn) (pool' : PoolValue) → PermittingRun index pool turns pool'
-    → (s' : State) × (slice_get pool'.machines index ≡ Some s')
-    × PoolRun (record { caps = pool.caps; machines = s ∷ [] }) (own_turns index turns)
-    (record { caps = pool.caps; machines = s' ∷ [] })
+    → (s' : State) × (machine_of pool' index ≡ Some s')
+    × PoolRun (record { caps = pool.caps; machines = Some s ∷ [] }) (own_turns index turns)
+    (record { caps = pool.caps; machines = Some s' ∷ [] })
 
 -- an accepted run of a tenant in which no reply reports a denial is one in which each question was permitted
 abbrev pub RepliesPermit : Type 0
@@ -77,3 +83,13 @@ RepliesPermit =
     (pool : PoolValue) (index : ℕ) (calls : List Call) (replies : List Reply) (pool' : PoolValue)
     → All TellsNoDenial replies → RunsTenant pool index calls replies pool'
     → RunsTenantBy (permitting (optional_rules tenant_rules)) pool index calls replies pool'
+
+-- what the machine of a removed tenant has, counts no more
+abbrev pub RemovalsGiveBack : Type 0
+RemovalsGiveBack = (pool : PoolValue) (index : ℕ) (s : State) (pool' : PoolValue) → RemovesTenant pool index s pool'
+    → (kind : Kind) → total_of pool'.machines kind + total s kind ≡ total_of pool.machines kind
+
+-- whatever calls follow, no tenant has the index of one that was removed
+abbrev pub RemovedStayRemoved : Type 0
+RemovedStayRemoved = (pool : PoolValue) (index : ℕ) (s : State) (pool' : PoolValue) → RemovesTenant pool index s pool'
+    → (turns : List PoolTurn) (later : PoolValue) → PoolRun pool' turns later → machine_of later index ≡ None

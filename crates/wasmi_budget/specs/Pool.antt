@@ -3,13 +3,13 @@ use Rattle.wasmi_meter.specs.declared.holdings.Holdings.{Holdings}
 use Rattle.wasmi_meter.specs.Capped.{amount_of, nothing, amounts_of, Capped, capped_rules}
 use Rattle.wasmi_meter.specs.Limiter.{Rules, optional_rules}
 use Rattle.wasmi_budget.specs.declared.tenant.Tenant.{Tenant}
-use Rattle.std.specs.Prelude.{◌≡◌, ◌≤◌, ◌<◌, ◌^◌, ◌++◌, ℕ, List, [], ◌∷◌, Option, Some, None, slice_get, slice_set, sum_by, remove, codes}
+use Rattle.std.specs.Prelude.{◌≡◌, ◌≤◌, ◌<◌, ◌^◌, ◌++◌, ℕ, List, [], ◌∷◌, Option, Some, None, slice_index_or, slice_set, sum_by, remove, codes}
 use Rattle.wasmi_meter.specs.declared.limiter.Kind.{Kind}
 use Rattle.wasmi_meter.specs.declared.limiter.Kind.TheVariants.{Bytes, Elements}
 use Rattle.wasmi_meter.specs.declared.amounts.Amounts.{Amounts}
 use Rattle.wasmi_machine.specs.declared.calls.Call.{Call}
 use Rattle.wasmi_machine.specs.declared.calls.Reply.{Reply}
-use Rattle.wasmi_machine.specs.State.{State, total}
+use Rattle.wasmi_machine.specs.State.{State, total, world, HoldsTotals}
 use Rattle.wasmi_machine.specs.Steps.{IsRunOf}
 use Rattle.wasmi_budget.specs.declared.error.AddError.{AddError}
 use Rattle.wasmi_budget.specs.declared.error.AddError.TheVariants.{NotEmpty, NoRoom}
@@ -37,14 +37,23 @@ tenant_rules = capped_rules capped_tenant
 abbrev pub without_others : Tenant → Tenant
 without_others tenant = record tenant { others = nothing }
 
--- a pool: its caps, and the machines of its tenants by their indices
+-- a pool: its caps, and the machines of its tenants at their indices; a tenant that was removed left none at its index
 pub record PoolValue : Type 0 where
   pub caps : Amounts
-  pub machines : List State
+  pub machines : List (Option State)
+
+-- the machine of the tenant of an index, if there is one
+abbrev pub machine_of : PoolValue → ℕ → Option State
+machine_of pool index = slice_index_or pool.machines index None
+
+-- what a machine has of a kind, if there is one
+abbrev pub total_at : Option State → Kind → ℕ
+total_at (Some s) kind = total s kind
+total_at None kind = 0
 
 -- what these machines have of a kind
-abbrev pub total_of : List State → Kind → ℕ
-total_of machines kind = sum_by (λ s. total s kind) machines
+abbrev pub total_of : List (Option State) → Kind → ℕ
+total_of machines kind = sum_by (λ s. total_at s kind) machines
 
 -- all machines together are within the caps
 abbrev pub IsWithinCaps : PoolValue → Type 0
@@ -73,7 +82,7 @@ pub record HasNothing (s : State) : Type 0 where
 -- a machine that has nothing is added as it is
 pub record AddsTenant (pool : PoolValue) (s : State) (pool' : PoolValue) : Type 0 where
   pub empty : HasNothing s
-  pub added : pool' ≡ record pool { machines = pool.machines ++ s ∷ [] }
+  pub added : pool' ≡ record pool { machines = pool.machines ++ Some s ∷ [] }
 
 -- why a machine isn't added
 abbrev pub IsAddRefusal : State → AddError → Type 0
@@ -84,16 +93,32 @@ IsAddRefusal s NoRoom = HasNothing s
 pub record RunsTenantBy (rules : Rules (Option Tenant)) (pool : PoolValue) (index : ℕ) (calls : List Call)
     (replies : List Reply) (pool' : PoolValue) : Type 0 where
   pub machine : State
-  pub found : slice_get pool.machines index ≡ Some machine
+  pub found : machine_of pool index ≡ Some machine
   pub machine' : State
   pub tenant' : Tenant
   pub ran : IsRunOf rules calls (record { state = machine; limiter = Some (tenant_at pool index machine) })
       replies (record { state = machine'; limiter = Some tenant' })
-  pub after : pool' ≡ record pool { machines = slice_set pool.machines index machine' }
+  pub after : pool' ≡ record pool { machines = slice_set pool.machines index (Some machine') }
 
 -- the machine of an index has run these calls under its limiter by a tenant's rules, and all else is the same
 abbrev pub RunsTenant : PoolValue → ℕ → List Call → List Reply → PoolValue → Type 0
 RunsTenant = RunsTenantBy (optional_rules tenant_rules)
+
+-- the machine at an index has run these calls under a tenant, which holds what it has then, and all others are the same
+pub record RunsMachine (machines : List (Option State)) (index : ℕ) (tenant : Tenant) (calls : List Call)
+    (replies : List Reply) (machines' : List (Option State)) (tenant' : Tenant) : Type 0 where
+  pub machine : State
+  pub found : slice_index_or machines index None ≡ Some machine
+  pub machine' : State
+  pub ran : IsRunOf (optional_rules tenant_rules) calls (world machine (Some tenant)) replies
+      (world machine' (Some tenant'))
+  pub after : machines' ≡ slice_set machines index (Some machine')
+  pub held : HoldsTotals (holdings tenant') machine'
+
+-- the machine of a tenant was taken off: its index has none from then on, and all else is the same
+pub record RemovesTenant (pool : PoolValue) (index : ℕ) (s : State) (pool' : PoolValue) : Type 0 where
+  pub found : machine_of pool index ≡ Some s
+  pub removed : pool' ≡ record pool { machines = slice_set pool.machines index None }
 
 -- the text of why a machine isn't added to a pool
 abbrev pub add_error_text : AddError → List ℕ

@@ -6,6 +6,7 @@ mod error;
 pub mod laws;
 mod pool;
 mod tenant;
+mod tenants;
 
 pub use error::{AddError, PoolError};
 pub use pool::Pool;

@@ -1,13 +1,14 @@
 //! The pool.
-ghost use Rattle.std.specs.Prelude.{◌≡◌, ◌≤◌, ◌↔◌, length, [], IsTrue, IfOk, IfErr, OnErr, IsErrOf, slice_get};
+ghost use Rattle.std.specs.Prelude.{◌≡◌, ◌↔◌, length, [], None, IsTrue, IfOk, IfErr, OnErr, IsErrOf, MatchOption};
 ghost use Rattle.std.specs.Option.{option_map, option_copied};
 ghost use Rattle.wasmi_meter.specs.declared.limiter.Kind.TheVariants.{Bytes, Elements};
 ghost use Rattle.wasmi_meter.specs.Capped.{amounts_of};
 ghost use Rattle.wasmi_machine.specs.State.{total};
-ghost use Rattle.wasmi_budget.specs.Pool.{IsWithinCaps, tenant_at, total_of, AddsTenant, IsAddRefusal, RunsTenant};
+ghost use Rattle.wasmi_budget.specs.Pool.{IsWithinCaps, machine_of, tenant_at, total_of, AddsTenant, IsAddRefusal, RemovesTenant, RunsTenant};
 
 use crate::error::{AddError, PoolError};
 use crate::tenant::{CountedMachine, Tenant};
+use crate::tenants::Tenants;
 use std::alloc::Global as Allocator;
 use std::marker::Model;
 use wasmi_machine::{Call, Machine, Reply};
@@ -15,13 +16,13 @@ use wasmi_meter::Amounts;
 
 /// Machines that share a cap on the bytes of their memories, and one on the elements of their
 /// tables: what all of them have, with what they dropped, stays within both. Each machine is a
-/// tenant; the indices of tenants count from 0. No tenant is ever removed, and what it dropped
-/// counts for ever. What is held is kept, so it is read at no cost; it fits a `u64`, as the caps.
+/// tenant; the indices of tenants count from 0. What a tenant dropped counts until it is removed.
+/// What is held is kept, so it is read at no cost; it fits a `u64`, as the caps.
 #[derive(Debug, Drop)]
 pub struct Pool<'r> {
     caps: Amounts,
     held_by_all: Amounts,
-    machines: Vec<CountedMachine<'r>>,
+    tenants: Tenants<'r>,
 }
 
 impl<'r> Model for Pool<'r> {
@@ -29,10 +30,10 @@ impl<'r> Model for Pool<'r> {
 
     ghost Value = { PoolValue };
 
-    ghost view = { λ p. record { caps = p.caps; machines = p.machines.items } };
+    ghost view = { λ p. record { caps = p.caps; machines = p.tenants } };
 
     ghost invariant = { λ p.
-        IsKept (record { caps = p.caps; machines = p.machines.items }) p.held_by_all };
+        IsKept (record { caps = p.caps; machines = p.tenants }) p.held_by_all };
 }
 
 impl<'r> Pool<'r> {
@@ -45,33 +46,35 @@ impl<'r> Pool<'r> {
         Pool {
             caps: Amounts { bytes, elements },
             held_by_all: Amounts::default(),
-            machines: Vec::new(alloc),
+            tenants: Tenants::new(alloc),
         }
     }
 
-    /// How many tenants there are.
+    /// How many tenants were added, which is the index of the next one. Those that were removed
+    /// count too.
     pub fn len(&self) -> usize
         ensures value { result ≡ length self.now.machines }
         ensures within { IsWithinCaps self.now }
     {
-        self.machines.len()
+        self.tenants.len()
     }
 
-    /// Whether there is no tenant.
+    /// Whether no tenant was added.
     pub fn is_empty(&self) -> bool
         ensures { IsTrue result ↔ (self.now.machines ≡ []) }
     {
-        self.machines.is_empty()
+        self.tenants.len() == 0
     }
 
     /// Adds a machine that has nothing yet, and returns its index. It costs what
     /// `Machine::total_bytes` and `total_elements` cost on the added machine, nothing for a new
-    /// one, and a place in a vector.
+    /// one, and a place in two vectors. No index is given twice.
     ///
     /// # Errors
     ///
     /// In the order of the tests: `NotEmpty` if the machine has or had bytes or elements; `NoRoom`
-    /// if memory for one more tenant is refused. The machine is handed back with the error.
+    /// if memory for one more tenant is refused, or each index was given. The machine is handed
+    /// back with the error.
     pub fn add(&mut self, machine: Machine<'r>) -> Result<usize, (AddError, Machine<'r>)>
         ensures added { IfOk result
             (λ index. (index ≡ length self.old.machines)
@@ -81,17 +84,33 @@ impl<'r> Pool<'r> {
             (λ refusal. (refusal.1 ≡ machine.entry) × (self.new ≡ self.old)) }
         ensures within { IsWithinCaps self.new }
     {
-        let index = self.machines.len();
+        let index = self.tenants.len();
         if machine.total_bytes() > 0 || machine.total_elements() > 0 {
             return Err((AddError::NotEmpty, machine));
         }
-        if self.machines.try_reserve(1).is_err() {
-            return Err((AddError::NoRoom, machine));
-        }
         let held = Amounts::default();
-        self.machines
-            .push_reserved(CountedMachine { machine, held });
+        if let Err(refused) = self.tenants.push(CountedMachine { machine, held }) {
+            return Err((AddError::NoRoom, refused.machine));
+        }
         Ok(index)
+    }
+
+    /// Removes a tenant, if there is one, and hands its machine back. What it held, with what it
+    /// dropped, can be held by others from then on. Its index is given to no other, and each later
+    /// call on it finds no tenant. Those that were added after it move in memory. Nothing is kept
+    /// of it but that its index was given, so a pool takes memory for the tenants that it has.
+    pub fn remove(&mut self, index: usize) -> Option<Machine<'r>>
+        ensures removed { MatchOption result
+            ((machine_of self.old index ≡ None) × (self.new ≡ self.old))
+            (λ machine. RemovesTenant self.old index machine self.new) }
+        ensures within { IsWithinCaps self.new }
+    {
+        let CountedMachine { machine, held } = self.tenants.remove(index)?;
+        self.held_by_all = Amounts {
+            bytes: self.held_by_all.bytes - held.bytes,
+            elements: self.held_by_all.elements - held.elements,
+        };
+        Some(machine)
     }
 
     /// Executes calls on the machine of a tenant, under a limiter that permits what keeps all
@@ -105,37 +124,36 @@ impl<'r> Pool<'r> {
     pub fn run(&mut self, index: usize, calls: &[Call]) -> Result<Vec<Reply>, PoolError>
         ensures ran { IfOk result
             (λ replies. RunsTenant self.old index calls.now replies.items self.new) }
-        ensures no_tenant { IsErrOf result PoolError.NoTenant ↔ (length self.old.machines ≤ index) }
+        ensures no_tenant { IsErrOf result PoolError.NoTenant ↔ (machine_of self.old index ≡ None) }
         ensures refused { OnErr result (self.new ≡ self.old) }
         ensures within { IsWithinCaps self.new }
     {
         let Some(mut tenant) = self.tenant(index) else {
             return Err(PoolError::NoTenant);
         };
-        let machine = &mut self.machines[index];
-        let replies = machine.run(calls, &mut tenant)?;
+        let replies = self.tenants.run(index, calls, &mut tenant)?;
         self.held_by_all = tenant.held_by_all();
         Ok(replies)
     }
 
     /// The machine of a tenant, if one has the index.
     pub fn machine(&self, index: usize) -> Option<&Machine<'r>>
-        ensures machine { option_copied result ≡ slice_get self.now.machines index }
+        ensures machine { option_copied result ≡ machine_of self.now index }
         ensures within { IsWithinCaps self.now }
     {
-        Some(&self.machines.get(index)?.machine)
+        Some(&self.tenants.get(index)?.machine)
     }
 
     /// The bytes of a tenant's memories, including those that it dropped.
     pub fn held_bytes(&self, index: usize) -> Option<u64>
-        ensures { result ≡ option_map (λ s. total s Bytes) (slice_get self.now.machines index) }
+        ensures { result ≡ option_map (λ s. total s Bytes) (machine_of self.now index) }
     {
         Some(self.held(index)?.bytes)
     }
 
     /// The elements of a tenant's tables, including those that it dropped.
     pub fn held_elements(&self, index: usize) -> Option<u64>
-        ensures { result ≡ option_map (λ s. total s Elements) (slice_get self.now.machines index) }
+        ensures { result ≡ option_map (λ s. total s Elements) (machine_of self.now index) }
     {
         Some(self.held(index)?.elements)
     }
@@ -151,15 +169,15 @@ impl<'r> Pool<'r> {
     /// What a tenant's machine has.
     fn held(&self, index: usize) -> Option<Amounts>
         ensures { result
-            ≡ option_map (λ s. amounts_of (total s)) (slice_get self.now.machines index) }
+            ≡ option_map (λ s. amounts_of (total s)) (machine_of self.now index) }
     {
-        Some(self.machines.get(index)?.held)
+        Some(self.tenants.get(index)?.held)
     }
 
     /// The limiter under which a tenant's machine runs.
     fn tenant(&self, index: usize) -> Option<Tenant>
         ensures { result
-            ≡ option_map (tenant_at self.now index) (slice_get self.now.machines index) }
+            ≡ option_map (tenant_at self.now index) (machine_of self.now index) }
     {
         let held = self.held(index)?;
         let others = Amounts {

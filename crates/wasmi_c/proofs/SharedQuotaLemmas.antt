@@ -5,6 +5,7 @@ use Rattle.std.proofs.lemmas.List.{length-replicate, length-take-le}
 use Rattle.std.proofs.lemmas.List.Elements.{All-cons, All-nil}
 use Rattle.std.proofs.lemmas.List.Sums.{sum_by-set, sum_by_push}
 use Rattle.std.proofs.lemmas.Option.{get_or_from_slice_get, slice_get_within}
+use Rattle.std.proofs.lemmas.Bool.{cases_lt}
 use Rattle.std.proofs.lemmas.Bool.Decides.{nat_tests}
 use Rattle.wasmi_meter.specs.declared.error.MemoryError.{MemoryError}
 use Rattle.wasmi_meter.specs.declared.error.MemoryError.TheVariants as memory_error
@@ -15,11 +16,11 @@ use Rattle.wasmi_meter.specs.declared.limiter.Kind.TheVariants.{Bytes, Elements}
 use Rattle.wasmi_meter.specs.declared.holdings.Holdings.{Holdings}
 use Rattle.wasmi_meter.specs.declared.quota.Quota.{Quota}
 use Rattle.wasmi_meter.specs.Attempt.{Request, AttemptOutcome, Unasked, Denied, Met, Failed, MayEnd, Follows, answer_of, value_after}
-use Rattle.wasmi_meter.specs.Capped.{Asked, HoldsTheSame, Reserves, amount_held, with_more, without_last, IsWithinCaps, holdings, capped_quota, quota_rules}
+use Rattle.wasmi_meter.specs.Capped.{Asked, HoldsTheSame, Releases, Reserves, amount_held, with_less, with_more, without_last, IsWithinCaps, holdings, capped_quota, quota_rules}
 use Rattle.wasmi_meter.specs.CappedProofs.{asked_reserves}
 use Rattle.wasmi_meter.specs.Limiter.{Question, Answer, IsDenial, kind_of, optional_rules}
 use Rattle.wasmi_meter.specs.Meter.{Meter}
-use Rattle.wasmi_meter.proofs.CappedLemmas.{asked_is_within, noticed_is_within, quota_keeps}
+use Rattle.wasmi_meter.proofs.CappedLemmas.{asked_is_within, noticed_is_within, quota_keeps, released_within}
 use Rattle.wasmi_store.specs.Buffer.{Lent}
 use Rattle.wasmi_store.specs.Growth.{Growth, Grows, Makes, metered_value}
 use Rattle.wasmi_store.specs.Memory.{MemoryValue, creation_of, new_memory, MemoryTypeValue, minimum_bytes, page_bytes}
@@ -27,11 +28,11 @@ use Rattle.wasmi_store.specs.Table.{TableValue, new_table, size_of, TableTypeVal
 use Rattle.wasmi_region.specs.Memory as memory
 use Rattle.wasmi_region.specs.Table as table
 use Rattle.wasmi_region.specs.Table.{MakesTableIn, creation_in}
-use Rattle.wasmi_c.specs.Numbers.{Embedded, KeepsQuota, Placed, limiter_of, quota_of, table_type_of}
-use Rattle.wasmi_c.specs.MemoryCalls.{by_pages, of_memory}
-use Rattle.wasmi_c.specs.Placement.{GrowsBy, LeavesAs, Placement, status_of}
-use Rattle.wasmi_c.specs.TableCalls.{by_elements, of_table}
-use Rattle.wasmi_c.specs.SharedQuota.{UnderQuota, HoldsSums, MakesMemoryUnder, GrowsMemoryUnder, MakesTableUnder, GrowsTableUnder, CallsUnder, OneQuotaHoldsAll, sizes_made}
+use Rattle.wasmi_c.specs.Numbers.{Embedded, KeepsQuota, Placed, ReleasesIf, limiter_of, quota_of, table_type_of}
+use Rattle.wasmi_c.specs.MemoryCalls.{by_pages, ended_memory, of_memory}
+use Rattle.wasmi_c.specs.Placement.{EndsBy, GrowsBy, LeavesAs, Placement, status_of}
+use Rattle.wasmi_c.specs.TableCalls.{by_elements, ended_table, of_table}
+use Rattle.wasmi_c.specs.SharedQuota.{UnderQuota, HoldsSums, MakesMemoryUnder, GrowsMemoryUnder, MakesTableUnder, GrowsTableUnder, EndsMemoryUnder, EndsTableUnder, CallsUnder, OneQuotaHoldsAll, OneQuotaHoldsEach, sizes_made}
 use Rattle.wasmi_c.specs.Status.{memory_status, table_status}
 use Rattle.wasmi_c.specs.declared.status.TheConstants.{DONE}
 use Rattle.wasmi_c.specs.declared.numbers.MemoryNumbers.{MemoryNumbers}
@@ -66,6 +67,20 @@ taken_back : (kind : Kind) (n : ℕ) (h p h' : Holdings) → p ≡ with_more h k
     → (amount_held h' kind ≡ amount_held h kind) × (amount_held h' (other kind) ≡ amount_held h (other kind))
 taken_back Bytes n h p h' more back = rw (back, more) (omega arith, refl)
 taken_back Elements n h p h' more back = rw (back, more) (omega arith, refl)
+
+-- after n of a kind that were given up, so many less are held
+held_less : (kind : Kind) (n : ℕ) (h h' : Holdings) → Releases h kind n true h'
+    → (amount_held h' kind + n ≡ amount_held h kind) × (amount_held h' (other kind) ≡ amount_held h (other kind))
+held_less kind n h h' released =
+    elim (cases_lt (amount_held h kind) n) [
+      | inl short ↦ let refused : true ≡ false = (released.short short).0 in absurd (cc)
+      | inr fits ↦ rw (released.held fits).1 (by_kind kind fits)
+    ]
+  where
+    by_kind : (k : Kind) → n ≤ amount_held h k → (amount_held (with_less h k n) k + n ≡ amount_held h k)
+        × (amount_held (with_less h k n) (other k) ≡ amount_held h (other k))
+    by_kind Bytes fits = (omega (arith, fits), refl)
+    by_kind Elements fits = (omega (arith, fits), refl)
 
 -- a denial keeps what is held
 denied_same : (q : Question) (answer : Answer) (h h' : Holdings) → IsDenial answer → Reserves q answer h h'
@@ -369,13 +384,47 @@ module _ (u u' : UnderQuota) (holds : HoldsSums u) (keeps : KeepsQuota u.quota u
       (λ region x. refl) c.before c.status c.after c.grows c.asked c.left in
       summed Elements _ _ counts (rw c.elements (sum_set u.elements c.index _ _ c.there)) c.bytes
 
+  -- an end by a call counts as the size that is given up, or as nothing where it isn't made
+  module _ {H T V E : Type 0} (p : Placement H T V E) (k : Kind) (ended : H → H)
+      (nothing : (h : H) → p.size (ended h) ≡ 0) where
+    ended_counts : (a : Placed H) (status : ℕ) (h' : H)
+        → EndsBy p k ended a (limiter_of u.quota) status h' (limiter_of u'.quota)
+        → Counts k (p.size a.numbers) (p.size h') q q'
+    ended_counts a status h' (inl refused) =
+        rw refused.2.0 (nothing_counts k (p.size a.numbers) q q' (same_quota refused.2.1))
+    ended_counts a status h' (inr (ty, at, inr less)) =
+        rw less.2 (nothing_counts k (p.size a.numbers) q q' (same_quota less.3))
+    ended_counts a status h' (inr (ty, at, inl done)) =
+        let releases = rw (limiter_on u.quota holds.on, limiter_on u'.quota on) at done.0 in
+        let less = held_less k (p.size a.numbers) (holdings q) (holdings q') releases.0 in
+        let none = ap p.size done.2 ∙ nothing a.numbers in
+        record {
+          held = omega (arith, less.0, none);
+          others = less.1;
+          within = released_within q q' k (p.size a.numbers) true releases.0 releases.1;
+        }
+
+  -- a memory ends
+  memory_ended : EndsMemoryUnder u u' → HoldsSums u'
+  memory_ended c =
+      let counts = ended_counts of_memory Bytes ended_memory (λ h. refl) c.before c.status c.after c.ends in
+      summed Bytes _ _ counts (rw c.bytes (sum_set u.bytes c.index _ _ c.there)) c.elements
+
+  -- a table ends
+  table_ended : EndsTableUnder u u' → HoldsSums u'
+  table_ended c =
+      let counts = ended_counts of_table Elements ended_table (λ h. refl) c.before c.status c.after c.ends in
+      summed Elements _ _ counts (rw c.elements (sum_set u.elements c.index _ _ c.there)) c.bytes
+
 -- so after each call
 after_call : (u u' : UnderQuota) → HoldsSums u → CallsUnder u u' → HoldsSums u'
 after_call u u' holds (keeps, call) = elim call [
   | inl made ↦ memory_made u u' holds keeps made
   | inr (inl grown) ↦ memory_grown u u' holds keeps grown
   | inr (inr (inl made)) ↦ table_made u u' holds keeps made
-  | inr (inr (inr grown)) ↦ table_grown u u' holds keeps grown
+  | inr (inr (inr (inl grown))) ↦ table_grown u u' holds keeps grown
+  | inr (inr (inr (inr (inl ended)))) ↦ memory_ended u u' holds keeps ended
+  | inr (inr (inr (inr (inr ended)))) ↦ table_ended u u' holds keeps ended
 ]
 
 -- and after all of them
@@ -384,3 +433,13 @@ one_quota_holds_all u [] holds calls = All-nil HoldsSums
 one_quota_holds_all u (u' ∷ after) holds calls =
     let held = after_call u u' holds calls.0 in
     All-cons HoldsSums u' after held (one_quota_holds_all u' after held calls.1)
+
+-- a sum is at least each of its parts
+part_of_sum : (sizes : List ℕ) (k size : ℕ) → slice_get sizes k ≡ Some size → size ≤ sum sizes
+part_of_sum sizes k size there = let set = sum_set sizes k size 0 there in omega (arith, set)
+
+pub one_quota_holds_each : OneQuotaHoldsEach
+one_quota_holds_each u holds index size = (
+  λ there. let part = part_of_sum u.bytes index size there in omega (arith, part, holds.bytes),
+  λ there. let part = part_of_sum u.elements index size there in omega (arith, part, holds.elements),
+)

@@ -13,7 +13,8 @@ use Rattle.wasmi_store.specs.Memory.{MemoryValue, MakesMemory, growth_of, pages_
 use Rattle.wasmi_region.specs.Memory.{memory_in, made_in}
 use Rattle.wasmi_c.specs.Host.{memory_growth}
 use Rattle.wasmi_c.specs.Numbers.{settings_of, IsState, MeteredRegion, Placed, placed}
-use Rattle.wasmi_c.specs.Placement.{Placement, AsksAs, ByType, ByTypes, MakesAs, WritesAs}
+use Rattle.wasmi_c.specs.Placement.{Placement, AsksAs, ByType, ByTypes, EndsBy, MakesAs, WritesAs}
+use Rattle.wasmi_meter.specs.declared.limiter.Kind.TheVariants.{Bytes}
 use Rattle.wasmi_c.specs.Status.{memory_status}
 use Rattle.wasmi_c.specs.declared.status.TheConstants.{DONE, MEMORY_GROWTH, MEMORY_ACCESS, INVALID_STATE}
 use Rattle.wasmi_c.specs.declared.host.Question.{Question}
@@ -57,6 +58,14 @@ MakesEmbedded a l status a' l' =
     (IsNoType a.numbers × (status ≡ INVALID_STATE) × (a' ≡ a) × (l' ≡ l))
     ⊎ ((ty : MemoryTypeValue) × (named_type (settings_of a.numbers) ≡ Some ty) × IsValid ty
     × MakesAs of_memory (λ made. MakesMemory (optional_rules quota_rules) (Lent a.region) ty l made l') ty a status a')
+
+-- numbers that stand for no memory on any region: no page has the size 2^255, and there are no bytes
+abbrev pub ended_memory : MemoryNumbers → MemoryNumbers
+ended_memory h = record h { size = 0; page_size_log2 = 255 }
+
+-- a memory ends by a call, and a quota gives up its bytes
+abbrev pub EndsMemory : Placed MemoryNumbers → Option Quota → ℕ → MemoryNumbers → Option Quota → Type 0
+EndsMemory = EndsBy of_memory Bytes ended_memory
 
 -- the size of a memory in pages, by a call
 abbrev pub CountsEmbedded : MemoryNumbers → List ℕ → ℕ → ℕ → ℕ → Type 0

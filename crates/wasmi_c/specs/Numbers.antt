@@ -1,12 +1,12 @@
 -- The numbers that lie with C, as the memories, tables, meters and quotas that they stand for.
-use Rattle.std.specs.Prelude.{◌≡◌, ◌≤◌, ◌⊎◌, ℕ, List, length, drop, Option, Some, None, nat_eq, if◌then◌else◌}
+use Rattle.std.specs.Prelude.{◌≡◌, ◌≤◌, ◌⊎◌, ℕ, List, length, drop, Option, Some, None, Bool, true, nat_eq, if◌then◌else◌}
 use Rattle.std.specs.Option.{unwrap_or}
 use Rattle.wasmi_meter.specs.declared.limiter.Kind.{Kind}
 use Rattle.wasmi_meter.specs.declared.limiter.Kind.TheVariants.{Bytes, Elements}
 use Rattle.wasmi_meter.specs.declared.quota.Quota.{Quota}
 use Rattle.wasmi_meter.specs.Limiter.{Rules, optional_rules}
 use Rattle.wasmi_meter.specs.Meter.{Meter}
-use Rattle.wasmi_meter.specs.Capped.{quota_rules}
+use Rattle.wasmi_meter.specs.Capped.{holdings, quota_rules, Releases}
 use Rattle.wasmi_store.specs.Memory.{MemoryTypeValue, Settings, IsValid, named_type}
 use Rattle.wasmi_store.specs.Memory as memory
 use Rattle.wasmi_store.specs.Table as table
@@ -100,6 +100,13 @@ pub record KeepsQuota (h h' : QuotaNumbers) : Type 0 where
   pub flag : h'.is_on ≡ h.is_on
   pub off : h.is_on ≡ 0 → h' ≡ h
   pub last : (h' ≡ h) ⊎ (last_of h'.last_kind h'.last ≡ None → HasNoLast h')
+
+-- a limiter that may be absent gives up so many of a kind, or not, and has the same caps; an absent one holds nothing
+abbrev pub ReleasesIf : Kind → ℕ → Option Quota → Bool → Option Quota → Type 0
+ReleasesIf kind n (Some l) released (Some l') =
+    Releases (holdings l) kind n released (holdings l') × (l'.caps ≡ l.caps)
+ReleasesIf kind n None released None = released ≡ true
+ReleasesIf kind n l released l' = ⊥
 
 -- the quota of some numbers becomes that of others, by what becomes of a limiter that may be absent
 abbrev pub Becomes : (Option Quota → Option Quota → Type 0) → QuotaNumbers → QuotaNumbers → Type 0

@@ -1,11 +1,13 @@
 -- What the calls on a memory or a table do to what lies with C, whichever of the two it is.
 use Rattle.std.specs.Prelude.{◌≡◌, ◌<◌, ◌⊎◌, ℕ, Bool, true, false, List, take, MatchBool, OnErr, Some, Result, Ok, Err, nat_eq, if◌then◌else◌, Option}
+use Rattle.wasmi_meter.specs.declared.limiter.Kind.{Kind}
+use Rattle.wasmi_meter.specs.declared.quota.Quota.{Quota}
 use Rattle.wasmi_meter.specs.Limiter.{optional_rules, Rules}
 use Rattle.wasmi_meter.specs.Meter.{Meter}
 use Rattle.wasmi_store.specs.Growth.{Growth, Grows, metered_value, Makes}
 use Rattle.wasmi_c.specs.Host.{fresh, host_rules, is_about, plain_question, answer_of, notice_answer_of, memory_growth}
-use Rattle.wasmi_c.specs.Numbers.{meter_of, KeepsMeter, Embedded, MeteredRegion, Placed, SameRest}
-use Rattle.wasmi_c.specs.declared.status.TheConstants.{DONE, INVALID_STATE, ASKS, OTHER_SIZE}
+use Rattle.wasmi_c.specs.Numbers.{meter_of, KeepsMeter, Embedded, MeteredRegion, Placed, ReleasesIf, SameRest}
+use Rattle.wasmi_c.specs.declared.status.TheConstants.{DONE, INVALID_STATE, ASKS, NOT_HELD, OTHER_SIZE}
 use Rattle.wasmi_c.specs.declared.host.HostAnswers.{HostAnswers}
 use Rattle.wasmi_c.specs.declared.host.Question.{Question}
 use Rattle.wasmi_meter.specs.Attempt.{Request}
@@ -99,6 +101,13 @@ module _ {H T V E : Type 0} (p : Placement H T V E) where
       MatchBool (is_about answers (growth s.region (p.value ty s.region (p.size s.numbers))))
       (GrowsAs host_rules growth ty (record s { limiter = Some (fresh answers) }) status s')
       ((status ≡ OTHER_SIZE) × (s' ≡ s)))
+
+  -- what numbers stand for ends by a call: a limiter gives up its size, and the numbers stand for nothing then; where
+  -- less is held, or where they stand for nothing, nothing is written
+  abbrev pub EndsBy : Kind → (H → H) → Placed H → Option Quota → ℕ → H → Option Quota → Type 0
+  EndsBy kind ended a l status h' l' = ByType a.numbers a.region status ((h' ≡ a.numbers) × (l' ≡ l)) (λ ty.
+      (ReleasesIf kind (p.size a.numbers) l true l' × (status ≡ DONE) × (h' ≡ ended a.numbers))
+      ⊎ (ReleasesIf kind (p.size a.numbers) l false l' × (status ≡ NOT_HELD) × (h' ≡ a.numbers) × (l' ≡ l)))
 
   -- what a creation leaves: numbers that stand for the new value, and the region past it; or all as it was
   abbrev pub LeavesAs : T → Placed H → Result ℕ E → Placed H → Type 0

@@ -1,11 +1,11 @@
 -- A pool behind a handle: what its calls do, and what they leave.
-use Rattle.std.specs.Prelude.{◌≡◌, ◌⊎◌, ◌≤◌, ◌<◌, ◌∷◌, [], ⊤, ℕ, List, length, slice_get, Option, Some, None, MatchOption, Vec}
+use Rattle.std.specs.Prelude.{◌≡◌, ◌⊎◌, ◌∷◌, [], ⊤, ℕ, List, length, Option, Some, None, IsSome, MatchOption, Vec}
 use Rattle.std.specs.Global.{Global}
 use Rattle.wasmi_meter.specs.declared.limiter.Kind.TheVariants.{Bytes, Elements}
-use Rattle.wasmi_machine.specs.State.{new_state, total}
+use Rattle.wasmi_machine.specs.State.{State, new_state, total}
 use Rattle.wasmi_machine.specs.declared.calls.Call.{Call}
 use Rattle.wasmi_machine.specs.declared.calls.Reply.{Reply}
-use Rattle.wasmi_budget.specs.Pool.{PoolValue, AddsTenant, IsWithinCaps, RunsTenant, total_of}
+use Rattle.wasmi_budget.specs.Pool.{PoolValue, AddsTenant, IsWithinCaps, RemovesTenant, RunsTenant, machine_of, total_of}
 use Rattle.wasmi_grammar.specs.Lines.{WritesScript}
 use Rattle.wasmi_grammar.specs.declared.script.Script.{Script}
 use Rattle.wasmi_c.specs.Machine.Calls.{ReadsOut, totals_in, RefusesLines, RunsScriptBy, no_header}
@@ -42,8 +42,14 @@ AddsNewTenant limits reply pool pool' = ((reply ≡ only NO_ROOM) × (pool' ≡ 
 
 -- no tenant has the index, or there is one and memory for the replies is refused
 abbrev pub RefusesTenant : ℕ → PoolValue → ReplyStruct → Type 0
-RefusesTenant tenant pool reply = ((length pool.machines ≤ tenant) × (reply ≡ only NO_TENANT))
-    ⊎ ((tenant < length pool.machines) × (reply ≡ only NO_ROOM))
+RefusesTenant tenant pool reply = ((machine_of pool tenant ≡ None) × (reply ≡ only NO_TENANT))
+    ⊎ (IsSome (machine_of pool tenant) × (reply ≡ only NO_ROOM))
+
+-- a tenant is removed with its machine; or there is none, and the pool is the same
+abbrev pub RemovesByStatus : ℕ → ℕ → PoolValue → PoolValue → Type 0
+RemovesByStatus tenant status pool pool' =
+    ((machine_of pool tenant ≡ None) × (status ≡ NO_TENANT) × (pool' ≡ pool))
+    ⊎ ((s : State) × RemovesTenant pool tenant s pool' × (status ≡ DONE))
 
 -- a run of one call on a tenant's machine has a reply, given as a struct; or it is refused, and the pool is the same
 unfoldable pub TenantReplies : ℕ → Call → ReplyStruct → PoolValue → PoolValue → Type 0
@@ -66,7 +72,7 @@ TenantRepliesToCopy tenant call items reply pool pool' = ((reply ≡ only NO_ROO
 -- pool is the same
 abbrev pub TenantReadsOut : ℕ → ℕ → ℕ → List ℕ → ReplyStruct → List ℕ → PoolValue → PoolValue → Type 0
 TenantReadsOut tenant memory offset old reply new pool pool' = (pool' ≡ pool)
-    × MatchOption (slice_get pool.machines tenant)
+    × MatchOption (machine_of pool tenant)
     ((reply ≡ only NO_TENANT) × (new ≡ old))
     (λ machine. ReadsOut memory offset machine old reply new)
 
@@ -84,7 +90,7 @@ RunsTenantLines tenant lines old reply new pool pool' =
 
 -- what a tenant's machine has
 abbrev pub tenant_totals : ℕ → PoolValue → Totals
-tenant_totals tenant pool = elim (slice_get pool.machines tenant) [
+tenant_totals tenant pool = elim (machine_of pool tenant) [
   | None ↦ totals_in NO_TENANT 0 0
   | Some machine ↦ totals_in DONE (total machine Bytes) (total machine Elements)
 ]

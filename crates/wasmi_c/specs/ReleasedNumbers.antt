@@ -109,4 +109,4 @@ statuses =
     (status.METERING_DISABLED, 64) ∷ (status.OUT_OF_FUEL, 65) ∷ (status.GLOBAL_IMMUTABLE, 72) ∷
     (status.GLOBAL_TYPE, 73) ∷ (status.SEGMENT_TOO_MANY_ITEMS, 80) ∷ (status.SEGMENT_OUT_OF_MEMORY, 81) ∷
     (status.MEMORY_REGION_TOO_SHORT, 36) ∷ (status.INVALID_STATE, 96) ∷ (status.ASKS, 97) ∷ (status.OTHER_SIZE, 98) ∷
-    []
+    (status.NOT_HELD, 99) ∷ []

@@ -1,12 +1,12 @@
 -- One quota over many memories and tables that lie with C.
-use Rattle.std.specs.Prelude.{◌≡◌, ◌⊎◌, ℕ, List, [], ◌∷◌, ◌++◌, All, sum, slice_get, slice_set, nat_eq, if◌then◌else◌, Some}
+use Rattle.std.specs.Prelude.{◌≡◌, ◌≤◌, ◌⊎◌, ℕ, List, [], ◌∷◌, ◌++◌, All, sum, slice_get, slice_set, nat_eq, if◌then◌else◌, Some}
 use Rattle.wasmi_meter.specs.Capped.{IsWithinCaps, quota_rules}
 use Rattle.wasmi_meter.specs.declared.quota.Quota.{Quota}
-use Rattle.wasmi_c.specs.MemoryCalls.{MakesEmbedded, by_pages, of_memory}
+use Rattle.wasmi_c.specs.MemoryCalls.{EndsMemory, MakesEmbedded, by_pages, of_memory}
 use Rattle.wasmi_c.specs.Numbers.{Embedded, KeepsQuota, Placed, limiter_of, quota_of}
 use Rattle.wasmi_c.specs.Placement.{GrowsBy}
 use Rattle.wasmi_c.specs.declared.status.TheConstants.{DONE}
-use Rattle.wasmi_c.specs.TableCalls.{MakesTableEmbedded, by_elements, of_table}
+use Rattle.wasmi_c.specs.TableCalls.{EndsTable, MakesTableEmbedded, by_elements, of_table}
 use Rattle.wasmi_c.specs.declared.numbers.MemoryNumbers.{MemoryNumbers}
 use Rattle.wasmi_c.specs.declared.numbers.QuotaNumbers.{QuotaNumbers}
 use Rattle.wasmi_c.specs.declared.numbers.TableNumbers.{TableNumbers}
@@ -76,11 +76,34 @@ pub record GrowsTableUnder (u u' : UnderQuota) : Type 0 where
   pub bytes : u'.bytes ≡ u.bytes
   pub elements : u'.elements ≡ slice_set u.elements index after.numbers.size
 
+-- a memory ends by a call, and its bytes are given up
+pub record EndsMemoryUnder (u u' : UnderQuota) : Type 0 where
+  pub index : ℕ
+  pub before : Placed MemoryNumbers
+  pub status : ℕ
+  pub after : MemoryNumbers
+  pub ends : EndsMemory before (limiter_of u.quota) status after (limiter_of u'.quota)
+  pub there : slice_get u.bytes index ≡ Some before.numbers.size
+  pub bytes : u'.bytes ≡ slice_set u.bytes index after.size
+  pub elements : u'.elements ≡ u.elements
+
+-- a table ends by a call, and its elements are given up
+pub record EndsTableUnder (u u' : UnderQuota) : Type 0 where
+  pub index : ℕ
+  pub before : Placed TableNumbers
+  pub status : ℕ
+  pub after : TableNumbers
+  pub ends : EndsTable before (limiter_of u.quota) status after (limiter_of u'.quota)
+  pub there : slice_get u.elements index ≡ Some before.numbers.size
+  pub bytes : u'.bytes ≡ u.bytes
+  pub elements : u'.elements ≡ slice_set u.elements index after.size
+
 -- a call under a quota, which keeps the quota's flag
 abbrev pub CallsUnder : UnderQuota → UnderQuota → Type 0
 CallsUnder u u' =
     KeepsQuota u.quota u'.quota
-    × (MakesMemoryUnder u u' ⊎ GrowsMemoryUnder u u' ⊎ MakesTableUnder u u' ⊎ GrowsTableUnder u u')
+    × (MakesMemoryUnder u u' ⊎ GrowsMemoryUnder u u' ⊎ MakesTableUnder u u' ⊎ GrowsTableUnder u u'
+    ⊎ EndsMemoryUnder u u' ⊎ EndsTableUnder u u')
 
 -- calls in turn, with what is under the quota after each
 abbrev pub CallsInTurn : UnderQuota → List UnderQuota → Type 0
@@ -91,3 +114,9 @@ CallsInTurn u (u' ∷ after) = CallsUnder u u' × CallsInTurn u' after
 abbrev pub OneQuotaHoldsAll : Type 0
 OneQuotaHoldsAll =
     (u : UnderQuota) (after : List UnderQuota) → HoldsSums u → CallsInTurn u after → All HoldsSums after
+
+-- a quota that holds the sums of the sizes holds each of them, so it gives up what a memory or a table has that ends
+abbrev pub OneQuotaHoldsEach : Type 0
+OneQuotaHoldsEach = (u : UnderQuota) → HoldsSums u → (index size : ℕ)
+    → (slice_get u.bytes index ≡ Some size → size ≤ u.quota.held_bytes)
+    × (slice_get u.elements index ≡ Some size → size ≤ u.quota.held_elements)

@@ -9,7 +9,8 @@ use Rattle.wasmi_store.specs.Growth.{Growth, metered}
 use Rattle.wasmi_store.specs.Table.{TableValue, TableWrite, SetsTableRaw, WritesTable, growth_of, size_of, copy_of, table_of, TableTypeValue, is_indexable}
 use Rattle.wasmi_region.specs.Table.{table_in, made_in, region_growth, MakesTableIn}
 use Rattle.wasmi_c.specs.Numbers.{MeteredRegion, Placed, placed, SameRest, table_type_of, IsTable}
-use Rattle.wasmi_c.specs.Placement.{Placement, AsksAs, ByType, ByTypes, status_of, MakesAs, WritesAs}
+use Rattle.wasmi_c.specs.Placement.{Placement, AsksAs, ByType, ByTypes, EndsBy, status_of, MakesAs, WritesAs}
+use Rattle.wasmi_meter.specs.declared.limiter.Kind.TheVariants.{Elements}
 use Rattle.wasmi_c.specs.Status.{table_status}
 use Rattle.wasmi_c.specs.declared.status.TheConstants.{DONE, NO_ELEMENT, TABLE_GROWTH, INVALID_STATE}
 use Rattle.wasmi_c.specs.declared.host.Question.{Question}
@@ -56,6 +57,14 @@ MakesTableEmbedded reference a l status a' l' = MatchOption (table_type_of a.num
     ((status ≡ INVALID_STATE) × (a' ≡ a) × (l' ≡ l))
     (λ ty. MakesAs of_table
     (λ made. MakesTableIn (optional_rules quota_rules) ty (length a.region) reference l made l') ty a status a')
+
+-- numbers that stand for no table on any region: no type of references has the number 0, and there are no elements
+abbrev pub ended_table : TableNumbers → TableNumbers
+ended_table h = record h { size = 0; ty = 0 }
+
+-- a table ends by a call, and a quota gives up its elements
+abbrev pub EndsTable : Placed TableNumbers → Option Quota → ℕ → TableNumbers → Option Quota → Type 0
+EndsTable = EndsBy of_table Elements ended_table
 
 -- an element is set by a call
 abbrev pub SetsElement : Placed TableNumbers → ℕ → ℕ → ℕ → List ℕ → Type 0

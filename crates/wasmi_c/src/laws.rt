@@ -10,7 +10,7 @@ ghost use Rattle.wasmi_c.specs.declared.instruction.numbers.TheConstants.{BINARY
 ghost use Rattle.wasmi_c.specs.Instruction.{name_of_binary, name_of_load, name_of_store, name_of_unary, names_in};
 ghost use Rattle.wasmi_c.specs.ReleasedNumbers.{binary_names, extract_lane_names, load_lane_names, load_names, replace_lane_names, statuses, store_lane_names, store_names, ternary_names, unary_names};
 ghost use Rattle.wasmi_c.specs.Machine.Calls.{CallsAreRuns, MachineRunsJoin, QuotasAreKept};
-ghost use Rattle.wasmi_c.specs.SharedQuota.{OneQuotaHoldsAll};
+ghost use Rattle.wasmi_c.specs.SharedQuota.{OneQuotaHoldsAll, OneQuotaHoldsEach};
 ghost use Rattle.wasmi_c.specs.Placement.{SettlementsAreGrowths, TableSettlementsAreGrowths, SettlementsAreCreations, TableSettlementsAreCreations};
 
 use wasmi_machine::laws;
@@ -53,11 +53,18 @@ pub fn settlements_are_creations<L: ResourceLimiter>()
 {}
 
 /// One quota that is on serves any number of memories and tables: after each creation and growth
-/// under it, whether done or refused, it holds the sum of the memories' bytes and the sum of the
-/// tables' elements, within its caps. It does so from a quota that holds nothing on.
+/// under it, and each end, whether done or refused, it holds the sum of the memories' bytes and the
+/// sum of the tables' elements, within its caps. It does so from a quota that holds nothing on.
 #[tactic(auto, using(crate::proofs::SharedQuotaLemmas::one_quota_holds_all))]
 pub fn one_quota_holds_all()
     ensures { OneQuotaHoldsAll }
+{}
+
+/// A quota that holds the sums of the sizes holds what each memory and each table has, so no end of
+/// one is refused because less is held.
+#[tactic(auto, using(crate::proofs::SharedQuotaLemmas::one_quota_holds_each))]
+pub fn one_quota_holds_each()
+    ensures { OneQuotaHoldsEach }
 {}
 
 /// Each instruction has the number that was released with its name, and each status its own.

@@ -7,19 +7,22 @@ ghost use Rattle.wasmi_store.specs.Buffer.{Lent};
 ghost use Rattle.wasmi_store.specs.Memory.{IsSized, MakesMemory, MemoryTypeValue, in_bounds, minimum_bytes, named_type, page_bytes};
 ghost use Rattle.wasmi_region.specs.Memory.{made_in, memory_in};
 ghost use Rattle.wasmi_c.specs.Host.{is_about, memory_growth};
-ghost use Rattle.wasmi_c.specs.MemoryCalls.{AsksEmbedded, CopiesBytesEmbedded, CountsEmbedded, IsNoType, MakesEmbedded, ReadsEmbedded, WritesBytesEmbedded, WritesEmbedded, by_pages, copied_range, filled_range, of_memory};
+ghost use Rattle.wasmi_c.specs.MemoryCalls.{AsksEmbedded, CopiesBytesEmbedded, CountsEmbedded, EndsMemory, IsNoType, MakesEmbedded, ReadsEmbedded, WritesBytesEmbedded, WritesEmbedded, by_pages, copied_range, filled_range, of_memory};
 ghost use Rattle.wasmi_c.specs.Placement.{GrowsAs, GrowsBy, IsNone, SettlesBy, status_of, written_number};
 ghost use Rattle.wasmi_c.specs.Numbers.{embedded, limiter_of, metered_region, placed, settings_of, IsState, KeepsQuota};
 
 use crate::host::{HostAnswers, Question};
 use crate::numbers::{MemoryNumbers, MeterNumbers, QuotaNumbers, Range, type_or_return};
 use crate::status::{
-    ASKS, DONE, INVALID_STATE, MEMORY_ACCESS, MEMORY_GROWTH, OTHER_SIZE, memory_refusal,
+    ASKS, DONE, INVALID_STATE, MEMORY_ACCESS, MEMORY_GROWTH, NOT_HELD, OTHER_SIZE, memory_refusal,
     memory_status,
 };
-use wasmi_meter::{MemoryError, ResourceLimiter, ResourceLimiterRef};
+use wasmi_meter::{Kind, MemoryError, ResourceLimiter, ResourceLimiterRef};
 use wasmi_region::memory as region_memory;
 use wasmi_store::MemoryType;
+
+/// The binary logarithm of the size of a page that no memory has.
+const NO_PAGE_SIZE: u8 = 255;
 
 /// Makes a memory of this type under a limiter, as [`wasmi_region::memory::make`] does.
 pub fn make_under<L: ResourceLimiter>(
@@ -111,6 +114,24 @@ pub fn grow(
 {
     type_or_return!(ty, memory, region);
     grow_under(memory, ty, region, pages, meter, quota, number)
+}
+
+/// Ends a memory: the quota gives up its bytes, and the numbers stand for no memory from then on. If
+/// less is held, nothing is written.
+pub fn release(memory: &mut MemoryNumbers, region: &[u8], quota: &mut QuotaNumbers) -> u8
+    ensures ended { EndsMemory (placed memory.old region.now) (limiter_of quota.old) result
+        memory.new (limiter_of quota.new) }
+    ensures quota { KeepsQuota quota.old quota.new }
+    ensures none { result ≡ DONE → IsNoType memory.new }
+    ensures refused { (result ≡ DONE → ⊥) → quota.new ≡ quota.old }
+{
+    type_or_return!(_ty, memory, region);
+    if !quota.release(Kind::Bytes, memory.size as u64) {
+        return NOT_HELD;
+    }
+    memory.size = 0;
+    memory.page_size_log2 = NO_PAGE_SIZE;
+    DONE
 }
 
 /// What a growth by so many pages asks a limiter, with the status `ASKS`; it asks nothing where it

@@ -1,8 +1,8 @@
 //! The plain numbers of memories, tables, meters and quotas that lie with C. They may be any.
-ghost use Rattle.std.specs.Prelude.{◌≡◌, MatchOption, OnSome, Some};
+ghost use Rattle.std.specs.Prelude.{◌≡◌, IsFalse, MatchOption, OnSome, Some};
 ghost use Rattle.wasmi_store.specs.Memory.{MemoryTypeValue, IsValid, named_type};
 ghost use Rattle.wasmi_store.specs.Table.{TableTypeValue};
-ghost use Rattle.wasmi_c.specs.Numbers.{limiter_of, meter_of, quota_numbers_rules, settings_of, table_type_of, with_left, IsState, IsTable, KeepsQuota};
+ghost use Rattle.wasmi_c.specs.Numbers.{limiter_of, meter_of, quota_numbers_rules, settings_of, ReleasesIf, table_type_of, with_left, IsState, IsTable, KeepsQuota};
 
 use crate::types;
 use wasmi_meter::{
@@ -191,6 +191,24 @@ impl QuotaNumbers {
             elements: self.held_elements,
         };
         Some(Quota::resume(caps, Holdings::resume(held, last)))
+    }
+
+    /// Gives up what ended, if so much is held; without a quota nothing is. Returns whether it did
+    /// so: if not, nothing is written.
+    pub fn release(&mut self, kind: Kind, amount: u64) -> bool
+        ensures released { ReleasesIf kind amount (limiter_of self.old) result
+            (limiter_of self.new) }
+        ensures kept { KeepsQuota self.old self.new }
+        ensures refused { IsFalse result → self.new ≡ self.old }
+    {
+        let Some(mut quota) = self.quota() else {
+            return true;
+        };
+        if !quota.release(kind, amount) {
+            return false;
+        }
+        self.store(&quota);
+        true
     }
 
     /// Stores what a quota that is on has become; the flag stays.

@@ -134,7 +134,7 @@ impl Model for TenantPool {
 
 impl TenantPool {
     ghost use Rattle.wasmi_budget.specs.Pool.{IsWithinCaps, RunsTenant};
-    ghost use Rattle.wasmi_c.specs.Pool.{AddsNewTenant, RefusesTenant, RunsTenantLines, TenantReadsOut, TenantReplies, TenantRepliesToCopy, pool_totals, tenant_totals};
+    ghost use Rattle.wasmi_c.specs.Pool.{AddsNewTenant, RefusesTenant, RemovesByStatus, RunsTenantLines, TenantReadsOut, TenantReplies, TenantRepliesToCopy, pool_totals, tenant_totals};
 
     /// Does nothing: its contract says that the pool is within its caps.
     pub fn show_within(&self)
@@ -152,6 +152,17 @@ impl TenantPool {
         match self.pool.add(Machine::new(alloc, limits.fuel())) {
             Ok(index) => ReplyStruct::with_number(DONE, index as u64),
             Err(_) => ReplyStruct::only(NO_ROOM),
+        }
+    }
+
+    /// Removes a tenant and ends its machine, if there is one.
+    pub fn remove(&mut self, tenant: usize) -> u8
+        ensures step { RemovesByStatus tenant result self.old self.new }
+        ensures caps { self.new.caps ≡ self.old.caps }
+    {
+        match self.pool.remove(tenant) {
+            Some(_machine) => DONE,
+            None => NO_TENANT,
         }
     }
 

@@ -98,6 +98,8 @@ pub const INVALID_STATE: u8 = 96;
 pub const ASKS: u8 = 97;
 /// The limiter was asked about another size.
 pub const OTHER_SIZE: u8 = 98;
+/// A quota holds less than what a memory or a table that ends has.
+pub const NOT_HELD: u8 = 99;
 /// No lane has the index.
 pub const NO_LANE: u8 = 253;
 /// The arrays differ in length.

@@ -8,16 +8,20 @@ ghost use Rattle.wasmi_region.specs.Table.{made_in, table_in, items_of, region_g
 ghost use Rattle.wasmi_c.specs.Host.{is_about};
 ghost use Rattle.wasmi_c.specs.Placement.{GrowsAs, GrowsBy, IsNone, SettlesBy, status_of, written_number};
 ghost use Rattle.wasmi_c.specs.Numbers.{embedded, limiter_of, metered_region, placed, table_type_of, IsTable, KeepsQuota, SameRest};
-ghost use Rattle.wasmi_c.specs.TableCalls.{AsksTableEmbedded, CopiesEmbedded, CountsElements, GetsElement, MakesTableEmbedded, SetsElement, WritesTableEmbedded, by_elements, of_table};
+ghost use Rattle.wasmi_c.specs.TableCalls.{AsksTableEmbedded, CopiesEmbedded, CountsElements, EndsTable, GetsElement, MakesTableEmbedded, SetsElement, WritesTableEmbedded, by_elements, of_table};
 
 use crate::host::{HostAnswers, Question};
 use crate::numbers::{MeterNumbers, QuotaNumbers, Range, TableNumbers, type_or_return};
 use crate::status::{
-    ASKS, DONE, INVALID_STATE, NO_ELEMENT, OTHER_SIZE, TABLE_GROWTH, table_refusal, table_status,
+    ASKS, DONE, INVALID_STATE, NO_ELEMENT, NOT_HELD, OTHER_SIZE, TABLE_GROWTH, table_refusal,
+    table_status,
 };
-use wasmi_meter::{ResourceLimiter, ResourceLimiterRef, TableError};
+use wasmi_meter::{Kind, ResourceLimiter, ResourceLimiterRef, TableError};
 use wasmi_region::table as region_table;
 use wasmi_store::TableType;
+
+/// The number of a type that isn't one of references.
+const NO_REFERENCES: u8 = 0;
 
 /// Makes a table of this type under a limiter, as [`wasmi_region::table::make`] does.
 pub fn make_under<L: ResourceLimiter>(
@@ -118,6 +122,24 @@ pub fn grow(
 {
     type_or_return!(ty, table, region);
     grow_under(table, ty, region, delta, reference, meter, quota, number)
+}
+
+/// Ends a table: the quota gives up its elements, and the numbers stand for no table from then on.
+/// If fewer are held, nothing is written.
+pub fn release(table: &mut TableNumbers, region: &[u32], quota: &mut QuotaNumbers) -> u8
+    ensures ended { EndsTable (placed table.old region.now) (limiter_of quota.old) result table.new
+        (limiter_of quota.new) }
+    ensures quota { KeepsQuota quota.old quota.new }
+    ensures none { result ≡ DONE → table_type_of table.new ≡ None }
+    ensures refused { (result ≡ DONE → ⊥) → quota.new ≡ quota.old }
+{
+    type_or_return!(_ty, table, region);
+    if !quota.release(Kind::Elements, table.size as u64) {
+        return NOT_HELD;
+    }
+    table.size = 0;
+    table.ty = NO_REFERENCES;
+    DONE
 }
 
 /// What a growth by so many elements asks a limiter, with the status `ASKS`; it asks nothing where

@@ -4,7 +4,7 @@ ghost use Rattle.wasmi_machine.specs.declared.calls.Call.TheVariants.{GetFuel, G
 ghost use Rattle.wasmi_c.specs.Machine.Calls.{RepliesInStatus, RepliesInWord, item_load, item_store, vector_binary, ActsOnHeld, OnHeld, ReadsOut, RepliesToCopy, RepliesToSegment, RepliesToStruct, PaysFuel, no_totals, totals_of, RunsLines};
 ghost use Rattle.wasmi_c.specs.Machine.NewMachines.{IsNewMachine, MakesMachine, MakesWithAnswers};
 ghost use Rattle.wasmi_c.specs.Machine.Replies.{only};
-ghost use Rattle.wasmi_c.specs.Pool.{AddsNewTenant, KeepsCaps, MakesPool, RunsTenantLines, TenantReadsOut, TenantRepliesToCopy, TenantRepliesToStruct, no_pool_totals, pool_totals, tenant_totals};
+ghost use Rattle.wasmi_c.specs.Pool.{AddsNewTenant, KeepsCaps, MakesPool, RemovesByStatus, RunsTenantLines, TenantReadsOut, TenantRepliesToCopy, TenantRepliesToStruct, no_pool_totals, pool_totals, tenant_totals};
 ghost use Rattle.wasmi_c.specs.declared.status.TheConstants.{NO_MACHINE, NO_POOL};
 ghost use Rattle.wasmi_c.specs.declared.machine.reply_struct.ReplyStruct.{ReplyStruct};
 
@@ -219,6 +219,15 @@ pub extern "C" fn wasmi_pool_add(
     ensures caps { KeepsCaps handle.old.pool.held handle.new.pool.held }
 {
     on_pool!(handle, alloc, pool => pool.add(alloc, limits))
+}
+
+#[unsafe(no_mangle)]
+pub extern "C" fn wasmi_pool_remove(alloc: Global, handle: &mut PoolHandle, tenant: usize) -> u8
+    ensures step { ActsOnHeld NO_POOL handle.old.pool.held result handle.new.pool.held
+        (RemovesByStatus tenant result) }
+    ensures caps { KeepsCaps handle.old.pool.held handle.new.pool.held }
+{
+    on_pool!(handle, alloc, NO_POOL, pool => pool.remove(tenant))
 }
 
 #[unsafe(no_mangle)]

@@ -1,7 +1,8 @@
 //! Memories in regions of the caller's, and fuel meters.
 ghost use Rattle.std.specs.Prelude.{◌≡◌, ◌≤◌, ◌+◌, ◌/◌, ◌^◌, ◌⊎◌, false, Some};
-ghost use Rattle.wasmi_c.specs.MemoryCalls.{AsksEmbedded, CopiesBytesEmbedded, CountsEmbedded, IsNoType, MakesEmbedded, ReadsEmbedded, WritesBytesEmbedded, WritesEmbedded, by_pages, copied_range, filled_range, of_memory};
+ghost use Rattle.wasmi_c.specs.MemoryCalls.{AsksEmbedded, CopiesBytesEmbedded, CountsEmbedded, EndsMemory, IsNoType, MakesEmbedded, ReadsEmbedded, WritesBytesEmbedded, WritesEmbedded, by_pages, copied_range, filled_range, of_memory};
 ghost use Rattle.wasmi_c.specs.Placement.{GrowsBy, IsNone, SettlesBy};
+ghost use Rattle.wasmi_c.specs.declared.status.TheConstants.{DONE};
 ghost use Rattle.wasmi_c.specs.Numbers.{limiter_of, KeepsQuota, embedded, IsState, metered_region, meter_of, placed, settings_of};
 ghost use Rattle.wasmi_meter.specs.Capped.{quota_rules};
 ghost use Rattle.wasmi_store.specs.Memory.{MemoryTypeValue, in_bounds, minimum_bytes, named_type, page_bytes};
@@ -48,6 +49,21 @@ pub extern "C" fn wasmi_memory_grow(
         → quota.new ≡ quota.old }
 {
     on_memory::grow(memory, region, pages, meter, quota, number)
+}
+
+#[unsafe(no_mangle)]
+pub extern "C" fn wasmi_quota_release_memory(
+    quota: &mut QuotaNumbers,
+    memory: &mut MemoryNumbers,
+    region: &[u8],
+) -> u8
+    ensures ended { EndsMemory (placed memory.old region.now) (limiter_of quota.old) result
+        memory.new (limiter_of quota.new) }
+    ensures quota { KeepsQuota quota.old quota.new }
+    ensures none { result ≡ DONE → IsNoType memory.new }
+    ensures refused { (result ≡ DONE → ⊥) → quota.new ≡ quota.old }
+{
+    on_memory::release(memory, region, quota)
 }
 
 #[unsafe(no_mangle)]

@@ -1,8 +1,9 @@
 //! Tables in regions of the caller's.
 ghost use Rattle.std.specs.Prelude.{◌≡◌, None, ◌+◌, ◌⊎◌, false, Some};
 ghost use Rattle.wasmi_c.specs.Numbers.{limiter_of, table_type_of, KeepsQuota, embedded, IsTable, metered_region, placed};
-ghost use Rattle.wasmi_c.specs.TableCalls.{AsksTableEmbedded, CopiesEmbedded, CountsElements, GetsElement, MakesTableEmbedded, SetsElement, WritesTableEmbedded, by_elements, of_table};
+ghost use Rattle.wasmi_c.specs.TableCalls.{AsksTableEmbedded, CopiesEmbedded, CountsElements, EndsTable, GetsElement, MakesTableEmbedded, SetsElement, WritesTableEmbedded, by_elements, of_table};
 ghost use Rattle.wasmi_c.specs.Placement.{GrowsBy, IsNone, SettlesBy};
+ghost use Rattle.wasmi_c.specs.declared.status.TheConstants.{DONE};
 ghost use Rattle.wasmi_meter.specs.Capped.{quota_rules};
 ghost use Rattle.wasmi_store.specs.Table.{TableTypeValue, is_indexable, raw_filling_of, copy_of, initialization_of};
 ghost use Rattle.wasmi_region.specs.Table.{table_in, items_of};
@@ -46,6 +47,21 @@ pub extern "C" fn wasmi_table_grow(
         → quota.new ≡ quota.old }
 {
     on_table::grow(table, region, delta, reference, meter, quota, number)
+}
+
+#[unsafe(no_mangle)]
+pub extern "C" fn wasmi_quota_release_table(
+    quota: &mut QuotaNumbers,
+    table: &mut TableNumbers,
+    region: &[u32],
+) -> u8
+    ensures ended { EndsTable (placed table.old region.now) (limiter_of quota.old) result table.new
+        (limiter_of quota.new) }
+    ensures quota { KeepsQuota quota.old quota.new }
+    ensures none { result ≡ DONE → table_type_of table.new ≡ None }
+    ensures refused { (result ≡ DONE → ⊥) → quota.new ≡ quota.old }
+{
+    on_table::release(table, region, quota)
 }
 
 #[unsafe(no_mangle)]

@@ -1,8 +1,8 @@
 //! A host of plug-ins: a run of a new machine under a quota, and two tenants of a pool.
-ghost use Rattle.std.specs.Prelude.{◌≡◌, ◌≤◌, ◌<◌, [], ◌∷◌, length, IfOk, IsErr, IsErrOf};
+ghost use Rattle.std.specs.Prelude.{◌≡◌, ◌≤◌, ◌⊎◌, [], ◌∷◌, None, IfOk, IsErr, IsErrOf};
 ghost use Rattle.wasmi_meter.specs.declared.limiter.Kind.TheVariants.{Bytes, Elements};
 ghost use Rattle.wasmi_core.specs.State.{total};
-ghost use Rattle.wasmi_budget.specs.Pool.{IsWithinCaps};
+ghost use Rattle.wasmi_budget.specs.Pool.{IsWithinCaps, machine_of};
 ghost use Rattle.wasmi_budget.specs.Laws.{Ran, PoolRun};
 ghost use Rattle.wasmi_example_callers.specs.Host.{RunsUnderQuota};
 
@@ -51,8 +51,9 @@ pub fn run_two_tenants(
 ) -> Result<(Vec<Reply>, Vec<Reply>), PoolError>
     ensures run { IfOk result (λ replies. PoolRun pool.old
         (Ran 0 first.now replies.0.items ∷ Ran 1 second.now replies.1.items ∷ []) pool.new) }
-    ensures no_tenant { IsErrOf result PoolError.NoTenant → length pool.old.machines < 2 }
-    ensures few { length pool.old.machines < 2 → IsErr result }
+    ensures no_tenant { IsErrOf result PoolError.NoTenant
+        → (machine_of pool.old 0 ≡ None) ⊎ (machine_of pool.old 1 ≡ None) }
+    ensures few { (machine_of pool.old 0 ≡ None) ⊎ (machine_of pool.old 1 ≡ None) → IsErr result }
     ensures within { IsWithinCaps pool.new }
     ensures caps { pool.new.caps ≡ pool.old.caps }
 {

@@ -1,5 +1,5 @@
 -- What a quota and a recorder hold after creations and growths, and growths in lent regions.
-use Rattle.std.proofs.Common.{◌≡◌, ◌∙◌, ℕ, ◌+◌, ◌*◌, Option, Some, Result, length, replicate, IfOk, refl, ap, inl, inr, arith, length-append, ◌⊎◌, Ok, Err, List, subst, None, true, false, [], ◌∷◌, ◌++◌}
+use Rattle.std.proofs.Common.{◌≡◌, ◌∙◌, ℕ, ◌+◌, ◌*◌, ◌≤◌, Option, Some, Result, length, replicate, IfOk, refl, sym, ap, inl, inr, arith, length-append, ◌⊎◌, Ok, Err, List, subst, None, true, false, [], ◌∷◌, ◌++◌}
 use Rattle.std.proofs.lemmas.List.{length-replicate}
 use Rattle.wasmi_meter.specs.declared.error.MemoryError.{MemoryError}
 use Rattle.wasmi_meter.specs.declared.limiter.Kind.{Kind}
@@ -22,8 +22,14 @@ use Rattle.std.proofs.lemmas.Option.{same_Some}
 use Rattle.wasmi_machine.specs.Exchange.{Exchange, Nothing, Denial, Permission, Notice, Place, Nowhere, New, At, Passes, GrowsAsAsked, GrowsBy}
 use Rattle.wasmi_law_tests.specs.declared.recorder.Recorder.{Recorder}
 use Rattle.wasmi_meter.proofs.CappedLemmas.{nothing_within}
-use Rattle.wasmi_c.specs.Numbers.{quota_of}
-use Rattle.wasmi_c.specs.SharedQuota.{HoldsSums, sizes_made}
+use Rattle.wasmi_c.specs.Numbers.{KeepsQuota, Placed, limiter_of, quota_of}
+use Rattle.wasmi_c.specs.MemoryCalls.{EndsMemory}
+use Rattle.wasmi_c.specs.declared.numbers.MemoryNumbers.{MemoryNumbers}
+use Rattle.wasmi_c.specs.declared.status.TheConstants.{DONE, NOT_HELD}
+use Rattle.wasmi_meter.specs.declared.holdings.Holdings.{Holdings}
+use Rattle.std.specs.Prelude.{nat_eq}
+use Rattle.std.proofs.lemmas.Bool.Decides.{nat_tests}
+use Rattle.wasmi_c.specs.SharedQuota.{HoldsSums, OneQuotaHoldsEach, sizes_made}
 use Rattle.wasmi_c.specs.declared.numbers.QuotaNumbers.{QuotaNumbers}
 use Rattle.wasmi_store.specs.Memory as memory
 use Rattle.wasmi_law_tests.specs.declared.recorder.Event.TheVariants as event
@@ -165,6 +171,43 @@ nothing_made h on empty = record {
   within = nothing_within (record { bytes = h.cap_bytes; elements = h.cap_elements })
       (record { bytes = h.held_bytes; elements = h.held_elements }) empty;
 }
+
+-- a memory that is all that a quota holds, and ends
+module _ (h h' : QuotaNumbers) (a : Placed MemoryNumbers) (status : ℕ) (m' : MemoryNumbers)
+    (holds : HoldsSums (record { quota = h; bytes = a.numbers.size ∷ []; elements = [] }))
+    (keeps : KeepsQuota h h') (ends : EndsMemory a (limiter_of h) status m' (limiter_of h')) where
+  is_on : (k : QuotaNumbers) → (k.is_on ≡ 0 → ⊥) → limiter_of k ≡ Some (quota_of k)
+  is_on k on = let some : nat_eq k.is_on 0 ≡ false = grind (arith, nat_tests, on) in rw some refl
+
+  before : limiter_of h ≡ Some (quota_of h)
+  before = is_on h holds.on
+
+  after : limiter_of h' ≡ Some (quota_of h')
+  after = is_on h' (λ off. holds.on (sym keeps.flag ∙ off))
+
+  -- its end isn't refused because less is held
+  pub not_short : OneQuotaHoldsEach → status ≡ NOT_HELD → ⊥
+  not_short each short = elim ends [
+    | inl none ↦ let e : 96 ≡ 99 = sym none.1 ∙ short in absurd (omega (arith, e))
+    | inr (ty, at, inl done) ↦ let e : 0 ≡ 99 = sym done.1 ∙ short in absurd (omega (arith, e))
+    | inr (ty, at, inr less) ↦
+        let releases = rw (before, after) at less.0 in
+        let fits = (each _ holds 0 a.numbers.size).0 refl in
+        let no : false ≡ true = (releases.0.held fits).0 in
+        absurd cc
+  ]
+
+  -- nothing is held after it
+  pub nothing_left : status ≡ DONE → h'.held_bytes ≡ 0
+  nothing_left is_done = elim ends [
+    | inl none ↦ let e : 96 ≡ 0 = sym none.1 ∙ is_done in absurd (omega (arith, e))
+    | inr (ty, at, inr less) ↦ let e : 99 ≡ 0 = sym less.1 ∙ is_done in absurd (omega (arith, e))
+    | inr (ty, at, inl done) ↦
+        let releases = rw (before, after) at done.0 in
+        let fits : a.numbers.size ≤ h.held_bytes = omega (arith, holds.bytes) in
+        let left = ap (λ (holdings : Holdings). holdings.held.bytes) (releases.0.held fits).1 in
+        omega (arith, left, holds.bytes)
+  ]
 
 -- what a memory and a table that were made one after the other leave of a quota
 pub both_made : (h : QuotaNumbers) (status size status' size' : ℕ)

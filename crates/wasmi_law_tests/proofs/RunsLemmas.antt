@@ -2,7 +2,7 @@
 use Rattle.std.proofs.Common.{◌≡◌, Option, Some, OnErr, Result, Ok, Err, List, [], ◌∷◌, length, map, refl, sym, ap, subst, ◌∙◌, arith, IfOk, ℕ, true, None, inl, inr}
 use Rattle.std.proofs.lemmas.List.Elements.{All-cons, All-head, All-nil, All-tail}
 use Rattle.std.proofs.lemmas.Option.{same_Some}
-use Rattle.std.specs.Prelude.{All, slice_get, ◌≢◌, nat_eq, slice_set, MatchOption}
+use Rattle.std.specs.Prelude.{All, ◌≢◌, nat_eq, slice_set, MatchOption}
 use Rattle.wasmi_store.specs.Memory.{MemoryTypeValue}
 use Rattle.wasmi_meter.specs.Limiter.{Rules, optional_rules}
 use Rattle.wasmi_machine.specs.declared.calls.Call.{Call}
@@ -22,9 +22,9 @@ use Rattle.wasmi_laws.specs.Places.{IsIndependent, LeavesAlone, MemoryAt, Number
 use Rattle.std.proofs.lemmas.Bool.Decides.{nat_tests}
 use Rattle.wasmi_meter.specs.declared.amounts.Amounts.{Amounts}
 use Rattle.wasmi_budget.specs.declared.tenant.Tenant.{Tenant}
-use Rattle.wasmi_budget.specs.Pool.{tenant_rules, PoolValue, tenant_at, IsWithinCaps as IsPoolWithinCaps, RunsTenantBy, RunsTenant}
+use Rattle.wasmi_budget.specs.Pool.{tenant_rules, PoolValue, machine_of, tenant_at, IsWithinCaps as IsPoolWithinCaps, RunsTenantBy, RunsTenant}
 use Rattle.wasmi_budget.specs.Laws.{CapsHold, OthersDontShow, RunsAsAlone, Ran}
-use Rattle.wasmi_laws.proofs.ListLemmas.{set_other}
+use Rattle.std.proofs.lemmas.List.{get_or-set_other}
 use Rattle.wasmi_c.specs.Machine.CallStructs.{call_of}
 use Rattle.wasmi_c.specs.Machine.Calls.{ActsOnHeld, RepliesInStruct, RepliesToStruct}
 use Rattle.wasmi_c.specs.Machine.Caps.{MachineValue}
@@ -247,7 +247,7 @@ pools_same one once accepts pool p p' index calls a b =
     let machine : first.machine' ≡ second.machine' = ap (λ (w : World (Option Tenant)). w.state) same.1 in (
       same.0,
       first.after
-          ∙ ap (λ s. let q : PoolValue = record pool { machines = slice_set pool.machines index s } in q) machine
+          ∙ ap (λ s. let q : PoolValue = record pool { machines = slice_set pool.machines index (Some s) } in q) machine
           ∙ sym second.after,
     )
 
@@ -291,21 +291,21 @@ both_run alone join call call' machine held' held'' reply reply' one two =
 
 -- a call on a tenant leaves the machine of another index
 other_stays : (tenant other : ℕ) (call : Call) (reply : ReplyStruct) (pool pool' : PoolValue) → tenant ≢ other
-    → TenantReplies tenant call reply pool pool' → slice_get pool'.machines other ≡ slice_get pool.machines other
+    → TenantReplies tenant call reply pool pool' → machine_of pool' other ≡ machine_of pool other
 unfolding TenantReplies
 other_stays tenant other call reply pool pool' apart (inl refused) =
-    ap (λ (p : PoolValue). slice_get p.machines other) refused.1
+    ap (λ p. machine_of p other) refused.1
 other_stays tenant other call reply pool pool' apart (inr (full, run, told)) =
-    ap (λ (p : PoolValue). slice_get p.machines other) run.after
-    ∙ set_other pool.machines tenant other run.machine' apart
+    ap (λ p. machine_of p other) run.after
+    ∙ get_or-set_other pool.machines tenant other (Some run.machine') None (λ same. apart (sym same))
 
 -- so does the call that numbers stand for, if there is one
 numbered_stays : (found : Option Call) (tenant other : ℕ) (reply none : ReplyStruct) (pool pool' : PoolValue)
     → tenant ≢ other
     → MatchOption found ((reply ≡ none) × (pool' ≡ pool)) (λ call. TenantReplies tenant call reply pool pool')
-    → slice_get pool'.machines other ≡ slice_get pool.machines other
+    → machine_of pool' other ≡ machine_of pool other
 numbered_stays None tenant other reply none pool pool' apart same =
-    ap (λ (p : PoolValue). slice_get p.machines other) same.1
+    ap (λ p. machine_of p other) same.1
 numbered_stays (Some call) tenant other reply none pool pool' apart replied =
     other_stays tenant other call reply pool pool' apart replied
 

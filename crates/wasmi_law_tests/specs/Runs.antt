@@ -1,5 +1,5 @@
 -- What a caller says of runs, also on pools and by handles, and of lists of types.
-use Rattle.std.specs.Prelude.{◌≡◌, ◌⊎◌, ◌<◌, ◌≤◌, ◌+◌, ◌*◌, ℕ, true, Option, Some, List, [], ◌∷◌, ◌++◌, length, slice_set, All, slice_get}
+use Rattle.std.specs.Prelude.{◌≡◌, ◌⊎◌, ◌<◌, ◌≤◌, ◌+◌, ◌*◌, ℕ, true, Option, Some, List, [], ◌∷◌, ◌++◌, length, slice_set, All, slice_get, None}
 use Rattle.wasmi_meter.specs.Attempt.{Request, optional_due, covers}
 use Rattle.wasmi_meter.specs.Limiter.{Rules, optional_rules}
 use Rattle.wasmi_meter.specs.Meter.{Meter}
@@ -24,7 +24,7 @@ use Rattle.wasmi_access.specs.LoadStore.{IsSameOutside}
 use Rattle.wasmi_laws.specs.Places.{NumberStore, stored_size}
 use Rattle.wasmi_meter.specs.declared.amounts.Amounts.{Amounts}
 use Rattle.wasmi_budget.specs.declared.tenant.Tenant.{Tenant}
-use Rattle.wasmi_budget.specs.Pool.{tenant_rules, without_others, PoolValue, IsWithinCaps, tenant_at}
+use Rattle.wasmi_budget.specs.Pool.{tenant_rules, without_others, PoolValue, IsWithinCaps, machine_of, tenant_at}
 use Rattle.wasmi_budget.specs.Laws.{PoolTurn, Ran, PoolRun}
 use Rattle.wasmi_c.specs.Machine.Caps.{MachineValue}
 use Rattle.wasmi_c.specs.Machine.Calls.{MachineRuns}
@@ -171,17 +171,22 @@ abbrev pub KeepsCaps : Amounts → PoolValue → Type 0
 KeepsCaps caps pool =
     (turns : List PoolTurn) (later : PoolValue) → PoolRun pool turns later → (later.caps ≡ caps) × IsWithinCaps later
 
+-- whatever calls on a pool follow, no tenant has the index
+abbrev pub StaysVacant : ℕ → PoolValue → Type 0
+StaysVacant index pool =
+    (turns : List PoolTurn) (later : PoolValue) → PoolRun pool turns later → machine_of later index ≡ None
+
 -- the machine of an index ran as that of the only tenant of a pool with the same caps
 abbrev pub RunsAlone : PoolValue → ℕ → List Call → List Reply → PoolValue → Type 0
 RunsAlone pool index calls replies pool' =
-    (s : State) × (s' : State) × (slice_get pool.machines index ≡ Some s) × (slice_get pool'.machines index ≡ Some s')
-    × PoolRun (record { caps = pool.caps; machines = s ∷ [] }) (Ran 0 calls replies ∷ [])
-    (record { caps = pool.caps; machines = s' ∷ [] })
+    (s : State) × (s' : State) × (machine_of pool index ≡ Some s) × (machine_of pool' index ≡ Some s')
+    × PoolRun (record { caps = pool.caps; machines = Some s ∷ [] }) (Ran 0 calls replies ∷ [])
+    (record { caps = pool.caps; machines = Some s' ∷ [] })
 
 -- the machine of an index has run these calls under its limiter as if the others held nothing
 abbrev pub RunsBeside : PoolValue → ℕ → List Call → List Reply → Type 0
 RunsBeside pool index calls replies =
-    (s : State) × (s' : State) × (tenant' : Tenant) × (slice_get pool.machines index ≡ Some s)
+    (s : State) × (s' : State) × (tenant' : Tenant) × (machine_of pool index ≡ Some s)
     × IsRunOf (optional_rules tenant_rules) calls (world s (Some (without_others (tenant_at pool index s)))) replies
     (world s' (Some (without_others tenant')))
 
@@ -194,7 +199,7 @@ RunsBoth call call' machine replies held' = (reply : Reply) × (reply' : Reply) 
 -- a handle holds a pool in which the machine of an index is the same
 abbrev pub KeepsTenant : ℕ → PoolValue → Option PoolValue → Type 0
 KeepsTenant index pool held' = (pool' : PoolValue) × (held' ≡ Some pool')
-    × (slice_get pool'.machines index ≡ slice_get pool.machines index)
+    × (machine_of pool' index ≡ machine_of pool index)
 
 -- Each of the first n items of a list stands in a relation to itself and to each that follows among them.
 abbrev pub RelatesForward : {X : Type 0} → (X → X → Type 0) → List X → ℕ → Type 0

@@ -1,6 +1,6 @@
 //! Callers of the laws of `wasmi_c`: of calls by a handle, of one quota over many, of a limiter that
 //! only a host sees, and of the numbers of instructions.
-ghost use Rattle.std.specs.Prelude.{◌≡◌, ◌≢◌, ℕ, Some, true, Option, length, slice_get};
+ghost use Rattle.std.specs.Prelude.{◌≡◌, ◌≢◌, ℕ, IfSome, Some, true, Option, length, slice_get};
 ghost use Rattle.std.specs.Option.{option_map};
 ghost use Rattle.wasmi_machine.specs.declared.calls.Call.{Call};
 ghost use Rattle.wasmi_c.specs.Instruction.{name_of_binary};
@@ -21,12 +21,13 @@ ghost use Rattle.wasmi_region.specs.Table.{table_in, creation_in, growth_in, Mak
 ghost use Rattle.wasmi_c.specs.Placement.{Limited, Allows, limiter_after, GrowsAs};
 ghost use Rattle.wasmi_c.specs.MemoryCalls.{by_pages, of_memory};
 ghost use Rattle.wasmi_c.specs.TableCalls.{by_elements, of_table};
+ghost use Rattle.wasmi_c.specs.declared.status.TheConstants.{NOT_HELD};
 
 use std::alloc::Global;
 use wasmi_c::instruction::binary::{Binary, binary_numbered};
 use wasmi_c::laws::{
-    calls_are_runs, numbers_are_released, one_quota_holds_all, settlements_are_creations,
-    settlements_are_growths,
+    calls_are_runs, numbers_are_released, one_quota_holds_all, one_quota_holds_each,
+    settlements_are_creations, settlements_are_growths,
 };
 use wasmi_c::machine::call_struct::CallStruct;
 use wasmi_c::machine::handle::Handle;
@@ -89,6 +90,27 @@ pub fn make_both(
     let of_memory = host_memory::make(memory, bytes, quota);
     let of_table = host_table::make(table, elements, 0, quota);
     of_memory == DONE && of_table == DONE
+}
+
+/// Makes a memory under a quota that is on and holds nothing, ends it, if it was made, and returns
+/// the status of its end. That isn't refused because less is held, and after it the quota holds
+/// nothing again.
+pub fn make_and_end(
+    memory: &mut MemoryNumbers,
+    bytes: &mut [u8],
+    quota: &mut QuotaNumbers,
+) -> Option<u8>
+    requires on { quota.old.is_on ≡ 0 → ⊥ }
+    requires empty { (quota.old.held_bytes ≡ 0) × (quota.old.held_elements ≡ 0) }
+    ensures held { IfSome result (λ status. status ≡ DONE → quota.new.held_bytes ≡ 0) }
+    ensures ends { IfSome result (λ status. status ≡ NOT_HELD → ⊥) }
+{
+    one_quota_holds_all();
+    one_quota_holds_each();
+    if host_memory::make(memory, bytes, quota) != DONE {
+        return None;
+    }
+    Some(host_memory::release(memory, bytes, quota))
 }
 
 /// Grows a memory of this type by so many pages by the answers of a limiter of any type. If the

@@ -1,5 +1,5 @@
 //! Callers of the laws over turns and runs, of the meter over runs, and of those over pools.
-ghost use Rattle.std.specs.Prelude.{◌≡◌, ◌++◌, ◌≤◌, [], ◌∷◌, ℕ, Some, IfOk, All, is_some, slice_get};
+ghost use Rattle.std.specs.Prelude.{◌≡◌, ◌++◌, ◌≤◌, [], ◌∷◌, ℕ, ◌+◌, Some, IfOk, IfSome, OnSome, All, is_some, slice_get};
 ghost use Rattle.wasmi_store.specs.Memory.{MemoryTypeValue};
 ghost use Rattle.wasmi_meter.specs.Limiter.{optional_rules};
 ghost use Rattle.wasmi_meter.specs.Meter.{amount_left};
@@ -14,7 +14,7 @@ ghost use Rattle.wasmi_machine.specs.Steps.{IsRunOf};
 ghost use Rattle.wasmi_machine.specs.State.{sizes, total, HoldsTotals, IsValid, IsValidCall, world};
 ghost use Rattle.wasmi_laws.specs.Runs.{HasFuel, IsPlainRefusal, IsWithinCapsOf, NamesNoFuel};
 ghost use Rattle.wasmi_budget.specs.Pool as pools;
-ghost use Rattle.wasmi_law_tests.specs.Runs.{KeepsCaps, RunsAlone, RunsBeside, IsBilled, IsBoundedBy, IsSpentBy, IsExchanged, KeepsWhereRefused, IsMeterKept, StaysValid, IsRunOfBoth, FitsAnyRegions, NeitherIsOutOfMemory, AreSameTurns, HasRegionFor, GrowsInRegions, IsRunInParts, RunsWithMore, StaysWithin};
+ghost use Rattle.wasmi_law_tests.specs.Runs.{KeepsCaps, RunsAlone, RunsBeside, StaysVacant, IsBilled, IsBoundedBy, IsSpentBy, IsExchanged, KeepsWhereRefused, IsMeterKept, StaysValid, IsRunOfBoth, FitsAnyRegions, NeitherIsOutOfMemory, AreSameTurns, HasRegionFor, GrowsInRegions, IsRunInParts, RunsWithMore, StaysWithin};
 
 use std::alloc::AllocError;
 use wasmi_budget::{Pool, PoolError, Tenant, laws as pool_laws};
@@ -279,6 +279,21 @@ pub fn run_within(pool: &mut Pool, index: usize, calls: &[Call]) -> Result<Vec<R
     pool_laws::permitted_runs_as_alone();
     pool_laws::others_do_not_show();
     pool.run(index, calls)
+}
+
+/// Removes a tenant. What its machine has counts no more, all that are left stay within the caps,
+/// and whatever calls on the pool follow, no tenant has its index.
+pub fn remove_for_good<'r>(pool: &mut Pool<'r>, index: usize) -> Option<Machine<'r>>
+    ensures less { IfSome result (λ machine. (kind : Kind)
+        → pools.total_of pool.new.machines kind + total machine kind
+        ≡ pools.total_of pool.old.machines kind) }
+    ensures later { KeepsCaps pool.old.caps pool.new }
+    ensures vacant { OnSome result (StaysVacant index pool.new) }
+{
+    pool_laws::caps_hold();
+    pool_laws::removals_give_back();
+    pool_laws::removed_stay_removed();
+    pool.remove(index)
 }
 
 /// Makes the same calls on a tenant's machine in two equal pools: if no reply is that memory ran

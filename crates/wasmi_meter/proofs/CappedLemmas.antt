@@ -4,9 +4,10 @@ use Rattle.std.proofs.lemmas.Bool.{cases_lt}
 use Rattle.wasmi_meter.specs.declared.holdings.Holdings.{Holdings}
 use Rattle.wasmi_meter.specs.declared.limiter.Kind.{Kind}
 use Rattle.wasmi_meter.specs.declared.limiter.Kind.TheVariants.{Bytes, Elements}
-use Rattle.wasmi_meter.specs.Capped.{Capped, held_together, IsWithin, Asked, Noticed, amount_held, with_more, without_last_of, Takes, capped_quota, IsWithinCaps}
+use Rattle.wasmi_meter.specs.Capped.{Capped, amount_of, held_together, IsWithin, Asked, Noticed, amount_held, with_more, with_less, without_last_of, Takes, Releases, capped_quota, holdings, IsWithinCaps}
 use Rattle.wasmi_meter.specs.Limiter.{Question, Answer, Failure, NoticeAnswer, kind_of}
 use Rattle.wasmi_meter.specs.declared.amounts.Amounts.{Amounts}
+use Rattle.wasmi_meter.specs.declared.quota.Quota.{Quota}
 
 -- what is to be taken leaves no choice of whether it is, nor of what is held after it
 takes_unique : (others cap : ℕ) (h : Holdings) (kind : Kind) (n : ℕ) (taken taken' : Bool) (a b : Holdings)
@@ -108,3 +109,29 @@ pub nothing_within : (caps held : Amounts) → (held.bytes ≡ 0) × (held.eleme
     → IsWithinCaps (record { caps = caps; holdings = record { held = held; last = None } })
 nothing_within caps held none Bytes = omega (arith, none.0)
 nothing_within caps held none Elements = omega (arith, none.1)
+
+-- no more of a kind is held once some of one was given up
+less_left : (back : Kind) (h : Holdings) (n : ℕ) (kind : Kind) → amount_held (with_less h back n) kind ≤ amount_held h kind
+less_left Bytes h n Bytes = omega arith
+less_left Bytes h n Elements = omega arith
+less_left Elements h n Bytes = omega arith
+less_left Elements h n Elements = omega arith
+
+-- nor where that was tried
+released_less : (back : Kind) (h h' : Holdings) (n : ℕ) (released : Bool) → Releases h back n released h'
+    → (kind : Kind) → amount_held h' kind ≤ amount_held h kind
+released_less back h h' n released releases kind =
+    elim (cases_lt (amount_held h back) n) [
+      | inl short ↦ rw (releases.short short).1 (omega arith)
+      | inr fits ↦ rw (releases.held fits).1 (less_left back h n kind)
+    ]
+
+-- what is given up leaves a quota within its caps
+pub released_within : (quota quota' : Quota) (kind : Kind) (n : ℕ) (released : Bool)
+    → Releases (holdings quota) kind n released (holdings quota') → quota'.caps ≡ quota.caps
+    → IsWithinCaps quota → IsWithinCaps quota'
+released_within quota quota' kind n released releases caps within k =
+    let less = released_less kind (holdings quota) (holdings quota') n released releases k in
+    let cap = ap (λ amounts. amount_of amounts k) caps in
+    let bound = within k in
+    omega (arith, less, cap, bound)

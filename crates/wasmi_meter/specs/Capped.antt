@@ -52,6 +52,15 @@ pub record Takes (others cap : ℕ) (h : Holdings) (kind : Kind) (n : ℕ) (take
   pub within : others + amount_held h kind + n ≤ cap → (taken ≡ true) × (h' ≡ with_more h kind n)
   pub above : cap < others + amount_held h kind + n → (taken ≡ false) × (h' ≡ h)
 
+-- n of a kind are given up, and nothing can be taken back after that
+abbrev pub with_less : Holdings → Kind → ℕ → Holdings
+with_less h kind n = record { held = with_amount h.held kind (amount_held h kind - n); last = None }
+
+-- so many of a kind are given up exactly where so many are held, and nothing changes otherwise
+pub record Releases (h : Holdings) (kind : Kind) (n : ℕ) (released : Bool) (h' : Holdings) : Type 0 where
+  pub held : n ≤ amount_held h kind → (released ≡ true) × (h' ≡ with_less h kind n)
+  pub short : amount_held h kind < n → (released ≡ false) × (h' ≡ h)
+
 -- as much is held of each kind
 pub record HoldsTheSame (h h' : Holdings) : Type 0 where
   pub bytes : h'.held.bytes ≡ h.held.bytes

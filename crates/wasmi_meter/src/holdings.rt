@@ -1,6 +1,6 @@
 //! What is held of each kind, with the last difference that was taken.
 ghost use Rattle.std.specs.Prelude.{◌≡◌, None};
-ghost use Rattle.wasmi_meter.specs.Capped.{Takes, without_last};
+ghost use Rattle.wasmi_meter.specs.Capped.{Releases, Takes, without_last};
 
 use crate::amounts::Amounts;
 use crate::limiter::Kind;
@@ -75,5 +75,21 @@ impl Holdings {
             }
             _ => {}
         }
+    }
+
+    /// Gives up `amount` of a kind, if so much is held. Returns whether it was given up; then
+    /// nothing can be given back until more is taken.
+    pub fn release(&mut self, kind: Kind, amount: u64) -> bool
+        ensures { Releases self.old kind amount result self.new }
+    {
+        let Some(left) = self.held.of(kind).checked_sub(amount) else {
+            return false;
+        };
+        match kind {
+            Kind::Bytes => self.held.bytes = left,
+            Kind::Elements => self.held.elements = left,
+        }
+        self.last = None;
+        true
     }
 }

@@ -1,6 +1,6 @@
 //! A limiter with a cap on the bytes of memories and one on the elements of tables.
 ghost use Rattle.std.specs.Prelude.{◌≡◌, None};
-ghost use Rattle.wasmi_meter.specs.Capped.{nothing, holdings, cap_of, capped_quota, IsWithinCaps};
+ghost use Rattle.wasmi_meter.specs.Capped.{nothing, holdings, cap_of, capped_quota, IsWithinCaps, Releases};
 ghost use Rattle.wasmi_meter.specs.declared.limiter.Kind.TheVariants.{Bytes, Elements};
 
 use crate::amounts::Amounts;
@@ -66,6 +66,19 @@ impl Quota {
         ensures { result ≡ (holdings self.now).held.elements }
     {
         self.holdings.held().elements
+    }
+
+    /// Gives up what a memory (its bytes) or a table (its elements) held until it ended, so that
+    /// others can have it. Returns `false`, and changes nothing, where less is held of the kind.
+    /// What ended is released once: the quota can't tell one memory from another. A machine counts
+    /// what it dropped, so that is released where the machine ends.
+    #[tactic(auto, using(crate::proofs::CappedLemmas::released_within))]
+    pub fn release(&mut self, kind: Kind, amount: u64) -> bool
+        ensures released { Releases (holdings self.old) kind amount result (holdings self.new) }
+        ensures caps { self.new.caps ≡ self.old.caps }
+        ensures within { IsWithinCaps self.old → IsWithinCaps self.new }
+    {
+        self.holdings.release(kind, amount)
     }
 }
 

@@ -296,7 +296,7 @@ module _ (once : IsDeterministic tenant_rules) where
       (record { replies = a.replies; after = _; has = a.has; ran = ran.ran })
       (record { replies = b.replies; after = _; has = b.has; ran = again }) in (
         one.0,
-        ran.after ∙ (λ i. record pool { machines = slice_set pool.machines tenant (one.1 i).state }) ∙ sym ran'.after,
+        ran.after ∙ (λ i. record pool { machines = slice_set pool.machines tenant (Some (one.1 i).state) }) ∙ sym ran'.after,
       )
 
   -- two runs of parts that say the same have the same replies and leave the same pool

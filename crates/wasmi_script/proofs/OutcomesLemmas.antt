@@ -1,11 +1,10 @@
 -- Lines that are printed one after the other, and outcomes of what a reader gave.
 use Rattle.std.proofs.Common.{ℕ, ◌+◌, ◌<◌, ◌≡◌, ◌∙◌, ◌++◌, ◌∷◌, List, [], length, take, drop, get_or, ◌≤◌, refl, sym, ap, arith, append_assoc, append-nil, take-append-drop, length-take-le, codes, Option, None, Some, Ok, Err, IfSome, replicate}
-use Rattle.std.specs.List.{flat_map, enumerate_from, slice_get}
+use Rattle.std.specs.List.{flat_map, enumerate_from}
 use Rattle.std.specs.Option.{option_map}
 use Rattle.std.specs.Fmt.{decimal}
 use Rattle.std.proofs.lemmas.List.{take_more, take_all, length-replicate}
 use Rattle.std.proofs.lemmas.List.Concat.{flat_map-append}
-use Rattle.std.proofs.lemmas.Option.{slice_get_within, get_or_from_slice_get}
 use Rattle.wasmi_meter.specs.declared.limiter.Kind.TheVariants.{Bytes, Elements}
 use Rattle.wasmi_machine.specs.declared.calls.Call.{Call}
 use Rattle.wasmi_machine.specs.declared.calls.Reply.{Reply}
@@ -13,7 +12,7 @@ use Rattle.wasmi_machine.specs.State.{State, total}
 use Rattle.wasmi_script.proofs.PrintingLemmas.{texts_more, texts_at}
 use Rattle.wasmi_script.specs.Printing.{line}
 use Rattle.wasmi_script.specs.Texts.{bytes_in, bytes_text, head_text, reply_text}
-use Rattle.wasmi_script.specs.Outcomes.{tenant_text, tenants_text, IsReadError, script_limit, IsOutcomeOf, IsOutcomeOfReader, ReplayOutcome}
+use Rattle.wasmi_script.specs.Outcomes.{tenant_line, tenants_text, IsReadError, script_limit, IsOutcomeOf, IsOutcomeOfReader, ReplayOutcome}
 use Rattle.wasmi_grammar.specs.declared.error.ParseError.{ParseError}
 use Rattle.wasmi_grammar.specs.declared.error.ParseError.TheVariants.{BadCommand, OutOfMemory}
 use Rattle.wasmi_grammar.specs.Lines.{IsParseError}
@@ -29,11 +28,11 @@ enumerate_append n (x ∷ xs) ys =
     ap (λ items. (n, x) ∷ items)
     (enumerate_append (n + 1) xs ys ∙ ap (λ k. enumerate_from (n + 1) xs ++ enumerate_from k ys) same)
 
-abbrev one_text : ℕ × State → List ℕ
-one_text tenant = line (tenant_text tenant.0 tenant.1)
+abbrev one_text : ℕ × Option State → List ℕ
+one_text tenant = tenant_line tenant.0 tenant.1
 
 -- the lines of some tenants, and then of others, whose numbers go on after theirs
-tenants_append : (machines others : List State) → tenants_text (machines ++ others)
+tenants_append : (machines others : List (Option State)) → tenants_text (machines ++ others)
     ≡ tenants_text machines ++ flat_map one_text (enumerate_from (length machines) others)
 tenants_append machines others =
     ap (flat_map one_text) (enumerate_append 0 machines others)
@@ -42,62 +41,60 @@ tenants_append machines others =
     (omega arith)
 
 -- one tenant more
-tenants_more : (machines : List State) (machine : State)
-    → tenants_text (machines ++ machine ∷ []) ≡ tenants_text machines ++ line (tenant_text (length machines) machine)
+tenants_more : (machines : List (Option State)) (machine : Option State)
+    → tenants_text (machines ++ machine ∷ []) ≡ tenants_text machines ++ tenant_line (length machines) machine
 tenants_more machines machine =
     tenants_append machines (machine ∷ [])
-    ∙ ap (λ t. tenants_text machines ++ t) (append-nil (line (tenant_text (length machines) machine)))
+    ∙ ap (λ t. tenants_text machines ++ t) (append-nil (tenant_line (length machines) machine))
 
 -- the tenants up to a place, and later ones
-abbrev pub later_tenants : List State → ℕ → List ℕ
+abbrev pub later_tenants : List (Option State) → ℕ → List ℕ
 later_tenants machines index = flat_map one_text (enumerate_from (length (take index machines)) (drop index machines))
 
 -- the lines of all tenants are those of the tenants up to a place, and then the later ones
-pub tenants_split : (machines : List State) (index : ℕ)
+pub tenants_split : (machines : List (Option State)) (index : ℕ)
     → tenants_text machines ≡ tenants_text (take index machines) ++ later_tenants machines index
 tenants_split machines index =
     ap tenants_text (sym (take-append-drop index machines)) ∙ tenants_append (take index machines) (drop index machines)
 
--- the tenant of an index has so many bytes and elements
-pub record IsHeldAt (machines : List State) (index bytes elements : ℕ) : Type 0 where
-  pub bytes_held : option_map (λ s. total s Bytes) (slice_get machines index) ≡ Some bytes
-  pub elements_held : option_map (λ s. total s Elements) (slice_get machines index) ≡ Some elements
-
 -- the line of the tenant of an index comes after those of the tenants before it
-pub one_tenant : (machines : List State) (index bytes elements : ℕ) → IsHeldAt machines index bytes elements
-    → tenants_text (take (index + 1) machines) ≡ tenants_text (take index machines) ++ line
-    (codes "held " ++ (decimal index ++ (codes " " ++ (decimal bytes ++ (codes " " ++ decimal elements)))))
-one_tenant machines index bytes elements held =
-    at_place (slice_get machines index) refl held.bytes_held held.elements_held where
-      at_place : (found : Option State) → slice_get machines index ≡ found
-          → option_map (λ s. total s Bytes) found ≡ Some bytes
-          → option_map (λ s. total s Elements) found ≡ Some elements → tenants_text (take (index + 1) machines)
-          ≡ tenants_text (take index machines) ++ line
-          (codes "held " ++ (decimal index ++ (codes " " ++ (decimal bytes ++ (codes " " ++ decimal elements)))))
-      at_place None is b e = absurd cc
-      at_place (Some machine) is b e =
-          let within : index < length machines = slice_get_within machines index machine is in
-          let count : length (take index machines) ≡ index = length-take-le index machines (omega arith) in
-          let is_b : total machine Bytes ≡ bytes = cc in
-          let is_e : total machine Elements ≡ elements = cc in
-          ap tenants_text (take_more machines index machine within
-          ∙ ap (λ m. take index machines ++ m ∷ []) (get_or_from_slice_get machines index machine machine is))
-          ∙ tenants_more (take index machines) machine
-          ∙ ap (λ n. tenants_text (take index machines) ++ line (tenant_text n machine)) count
-          ∙ ap (λ n. tenants_text (take index machines) ++ line (codes "held " ++
-          (decimal index ++ (codes " " ++ (decimal n ++ (codes " " ++ decimal (total machine Elements))))))) is_b
-          ∙ ap (λ n. tenants_text (take index machines) ++ line
-          (codes "held " ++ (decimal index ++ (codes " " ++ (decimal bytes ++ (codes " " ++ decimal n)))))) is_e
+pub one_tenant : (machines : List (Option State)) (index : ℕ) → index < length machines
+    → tenants_text (take (index + 1) machines)
+    ≡ tenants_text (take index machines) ++ tenant_line index (get_or machines index None)
+one_tenant machines index within =
+    let count : length (take index machines) ≡ index = length-take-le index machines (omega arith) in
+    ap tenants_text (take_more machines index None within)
+    ∙ tenants_more (take index machines) (get_or machines index None)
+    ∙ ap (λ n. tenants_text (take index machines) ++ tenant_line n (get_or machines index None)) count
 
 -- the lines of all tenants are those up to a place, the line there and the later ones
-pub tenants_whole : (machines : List State) (index bytes elements : ℕ) → IsHeldAt machines index bytes elements
-    → tenants_text machines ≡ tenants_text (take index machines) ++
-    (line (codes "held " ++ (decimal index ++ (codes " " ++ (decimal bytes ++ (codes " " ++ decimal elements)))))
-    ++ later_tenants machines (index + 1))
-tenants_whole machines index bytes elements held =
+pub tenants_whole : (machines : List (Option State)) (index : ℕ) → index < length machines
+    → tenants_text machines ≡ tenants_text (take index machines)
+    ++ (tenant_line index (get_or machines index None) ++ later_tenants machines (index + 1))
+tenants_whole machines index within =
     tenants_split machines (index + 1)
-    ∙ ap (λ t. t ++ later_tenants machines (index + 1)) (one_tenant machines index bytes elements held)
+    ∙ ap (λ t. t ++ later_tenants machines (index + 1)) (one_tenant machines index within)
     ∙ append_assoc (tenants_text (take index machines)) _ (later_tenants machines (index + 1))
+
+-- the line of a tenant that has so many bytes and elements
+pub held_line : (index bytes elements : ℕ) (found : Option State) → option_map (λ s. total s Bytes) found ≡ Some bytes
+    → option_map (λ s. total s Elements) found ≡ Some elements
+    → tenant_line index found ≡ line
+    (codes "held " ++ (decimal index ++ (codes " " ++ (decimal bytes ++ (codes " " ++ decimal elements)))))
+held_line index bytes elements None b e = absurd cc
+held_line index bytes elements (Some machine) b e =
+    let is_b : total machine Bytes ≡ bytes = cc in
+    let is_e : total machine Elements ≡ elements = cc in
+    ap (λ n. line (codes "held " ++
+    (decimal index ++ (codes " " ++ (decimal n ++ (codes " " ++ decimal (total machine Elements))))))) is_b
+    ∙ ap (λ n. line
+    (codes "held " ++ (decimal index ++ (codes " " ++ (decimal bytes ++ (codes " " ++ decimal n)))))) is_e
+
+-- there is no line of a tenant that isn't there
+pub no_line : {A : Type 0} (f : State → A) (index : ℕ) (found : Option State) → option_map f found ≡ None
+    → tenant_line index found ≡ []
+no_line f index None none = refl
+no_line f index (Some machine) none = absurd cc
 
 -- a space and the number of a byte
 abbrev pub byte_text : ℕ → List ℕ

@@ -1,5 +1,5 @@
 -- What a replay prints, why a script isn't run, and how a replay ends.
-use Rattle.std.specs.Prelude.{ℕ, Result, Ok, Err, ◌<◌, ⊤, List, Option, IfSome, length, ◌≡◌, ◌≤◌, ◌⊎◌, [], ◌++◌, codes, flat_map}
+use Rattle.std.specs.Prelude.{ℕ, Result, Ok, Err, ◌<◌, ⊤, List, Option, None, Some, IfSome, length, ◌≡◌, ◌≤◌, ◌⊎◌, [], ◌++◌, codes, flat_map}
 use Rattle.wasmi_script.specs.declared.error.ReplayError.{ReplayError}
 use Rattle.wasmi_script.specs.declared.error.ReplayError.TheVariants.{Parse, TooLong, ReadFault}
 use Rattle.wasmi_script.specs.declared.replaying.Status.{Status}
@@ -60,9 +60,14 @@ tenant_text index machine =
     codes "held " ++
     (decimal index ++ (codes " " ++ (decimal (total machine Bytes) ++ (codes " " ++ decimal (total machine Elements)))))
 
+-- the line of a tenant; none where it was removed
+abbrev pub tenant_line : ℕ → Option State → List ℕ
+tenant_line index (Some machine) = line (tenant_text index machine)
+tenant_line index None = []
+
 -- a line for each tenant
-abbrev pub tenants_text : List State → List ℕ
-tenants_text machines = flat_map (λ tenant. line (tenant_text tenant.0 tenant.1)) (enumerate_from 0 machines)
+abbrev pub tenants_text : List (Option State) → List ℕ
+tenants_text machines = flat_map (λ tenant. tenant_line tenant.0 tenant.1) (enumerate_from 0 machines)
 
 -- what is held after a run
 abbrev pub held_text : Held → List ℕ

@@ -64,7 +64,7 @@ IsReplayOnOne limiter header calls ran = IsReplayUnder limiter (start_of header)
 
 -- a pool of new machines, as many as a line says, under its caps
 abbrev pub new_pool : TenantsLine → State → PoolValue
-new_pool line start = record { caps = line.caps; machines = replicate line.count start }
+new_pool line start = record { caps = line.caps; machines = replicate line.count (Some start) }
 
 -- The parts are run one after another, each in one run of its tenant. The replies are those to the first part, and then
 -- those to the later ones.

@@ -3,7 +3,8 @@ ghost use Rattle.std.specs.Prelude.{◌≡◌, ◌+◌, ◌≤◌, [], length, S
 ghost use Rattle.std.specs.Io.KnownBytes.{Appends};
 ghost use Rattle.wasmi_script.specs.Printing.{AppendsFront, Flushes, IsShort, Prints, PrintsFront, PrintsText, Sends, SendsFront, line};
 ghost use Rattle.wasmi_script.specs.Texts.{reply_text, head_text, bytes_in};
-ghost use Rattle.wasmi_script.specs.Outcomes.{replies_text, tenants_text, held_text, outcome_text};
+ghost use Rattle.wasmi_script.specs.Outcomes.{replies_text, tenants_text, held_text, outcome_text, tenant_line};
+ghost use Rattle.wasmi_budget.specs.Pool.{machine_of};
 
 use crate::error::ReplayError;
 use crate::running::{Held, Ran};
@@ -152,11 +153,27 @@ fn print_tenants<W: io::Write>(printer: &mut Printer<'_, W>, pool: &Pool) -> fmt
         printer.new }
 {
     for index in 0..pool.len() {
-        let bytes = pool.held_bytes(index).unwrap();
-        let elements = pool.held_elements(index).unwrap();
-        printer.print_line(format_args!("held {index} {bytes} {elements}"))?;
+        print_tenant(printer, pool, index)?;
     }
     Ok(())
+}
+
+/// What the tenant of an index holds, if there is one.
+fn print_tenant<W: io::Write>(
+    printer: &mut Printer<'_, W>,
+    pool: &Pool,
+    index: usize,
+) -> fmt::Result
+    ensures { PrintsText W.contents (tenant_line index (machine_of pool.now index)) printer.old
+        result printer.new }
+{
+    let Some(bytes) = pool.held_bytes(index) else {
+        return Ok(());
+    };
+    let Some(elements) = pool.held_elements(index) else {
+        return Ok(());
+    };
+    printer.print_line(format_args!("held {index} {bytes} {elements}"))
 }
 
 /// A call's reply, as the program prints it, without the numbers that follow `bytes`.

@@ -106,8 +106,8 @@ pub mod laws {
     #[inline]
     pub fn others_do_not_show() {}
 
-    /// A tenant that is never denied gets, run after run, what it gets in a pool of its own with the
-    /// same caps, whatever the others do in between.
+    /// A tenant that is never denied gets, run after run until it is removed, what it gets in a pool of
+    /// its own with the same caps, whatever the others do in between.
     ///
     /// # Contract
     ///
@@ -144,28 +144,53 @@ pub mod laws {
     /// Definitions: [`IsDeterministic`](crate::specs::machine::DeterminismSpecs#IsDeterministic), [`tenant_rules`](crate::specs::budget::PoolSpecs#tenant_rules), [`AcceptsNotices`](crate::specs::machine::DeterminismSpecs#AcceptsNotices).
     #[inline]
     pub fn tenants_leave_no_choice() {}
+
+    /// Once a tenant is removed, what its machine has counts no more against the caps.
+    ///
+    /// # Contract
+    ///
+    /// ```text
+    /// ensures: RemovalsGiveBack
+    /// ```
+    ///
+    /// Definitions: [`RemovalsGiveBack`](crate::specs::budget::LawsSpecs#RemovalsGiveBack).
+    #[inline]
+    pub fn removals_give_back() {}
+
+    /// The index of a removed tenant is never another one's: no later call finds a tenant there.
+    ///
+    /// # Contract
+    ///
+    /// ```text
+    /// ensures: RemovedStayRemoved
+    /// ```
+    ///
+    /// Definitions: [`RemovedStayRemoved`](crate::specs::budget::LawsSpecs#RemovedStayRemoved).
+    #[inline]
+    pub fn removed_stay_removed() {}
 }
 mod pool {
     //! The pool.
 
     use crate::proved::budget::error::{AddError, PoolError};
     use crate::proved::budget::tenant::{CountedMachine, Tenant};
+    use crate::proved::budget::tenants::Tenants;
     use crate::proved::machine::{Call, Machine, Reply};
     use crate::proved::meter::Amounts;
     use crate::rattle::Vec;
 
     /// Machines that share a cap on the bytes of their memories, and one on the elements of their
     /// tables: what all of them have, with what they dropped, stays within both. Each machine is a
-    /// tenant; the indices of tenants count from 0. No tenant is ever removed, and what it dropped
-    /// counts for ever. What is held is kept, so it is read at no cost; it fits a `u64`, as the caps.
+    /// tenant; the indices of tenants count from 0. What a tenant dropped counts until it is removed.
+    /// What is held is kept, so it is read at no cost; it fits a `u64`, as the caps.
     ///
     /// # Model
     ///
     /// ```text
     /// Value = PoolValue
-    /// view = λ p. record { caps = p.caps; machines = p.machines.items }
+    /// view = λ p. record { caps = p.caps; machines = p.tenants }
     /// invariant = λ p.
-    ///     IsKept (record { caps = p.caps; machines = p.machines.items }) p.held_by_all
+    ///     IsKept (record { caps = p.caps; machines = p.tenants }) p.held_by_all
     /// ```
     ///
     /// Definitions: [`PoolValue`](crate::specs::budget::PoolSpecs#PoolValue), [`IsKept`](crate::specs::budget::PoolSpecs#IsKept).
@@ -174,7 +199,7 @@ mod pool {
     pub struct Pool<'r> {
         caps: Amounts,
         held_by_all: Amounts,
-        machines: Vec<CountedMachine<'r>>,
+        tenants: Tenants<'r>,
     }
 
     impl<'r> Pool<'r> {
@@ -195,11 +220,12 @@ mod pool {
             Pool {
                 caps: Amounts { bytes, elements },
                 held_by_all: Amounts::default(),
-                machines: Vec::new(),
+                tenants: Tenants::new(),
             }
         }
 
-        /// How many tenants there are.
+        /// How many tenants were added, which is the index of the next one. Those that were removed
+        /// count too.
         ///
         /// # Contract
         ///
@@ -212,10 +238,10 @@ mod pool {
         #[must_use]
         #[inline]
         pub fn len(&self) -> usize {
-            self.machines.len()
+            self.tenants.len()
         }
 
-        /// Whether there is no tenant.
+        /// Whether no tenant was added.
         ///
         /// # Contract
         ///
@@ -225,17 +251,18 @@ mod pool {
         #[must_use]
         #[inline]
         pub fn is_empty(&self) -> bool {
-            self.machines.is_empty()
+            self.tenants.len() == 0
         }
 
         /// Adds a machine that has nothing yet, and returns its index. It costs what
         /// `Machine::total_bytes` and `total_elements` cost on the added machine, nothing for a new
-        /// one, and a place in a vector.
+        /// one, and a place in two vectors. No index is given twice.
         ///
         /// # Errors
         ///
         /// In the order of the tests: [`NotEmpty`](crate::pool::AddError::NotEmpty) if the machine has or had bytes or elements; [`NoRoom`](crate::pool::AddError::NoRoom)
-        /// if memory for one more tenant is refused. The machine is handed back with the error.
+        /// if memory for one more tenant is refused, or each index was given. The machine is handed
+        /// back with the error.
         ///
         /// # Contract
         ///
@@ -252,17 +279,40 @@ mod pool {
         /// Definitions: [`AddsTenant`](crate::specs::budget::PoolSpecs#AddsTenant), [`IsAddRefusal`](crate::specs::budget::PoolSpecs#IsAddRefusal), [`IsWithinCaps`](crate::specs::budget::PoolSpecs#IsWithinCaps).
         #[inline]
         pub fn add(&mut self, machine: Machine<'r>) -> Result<usize, (AddError, Machine<'r>)> {
-            let index = self.machines.len();
+            let index = self.tenants.len();
             if machine.total_bytes() > 0 || machine.total_elements() > 0 {
                 return Err((AddError::NotEmpty, machine));
             }
-            if self.machines.try_reserve(1).is_err() {
-                return Err((AddError::NoRoom, machine));
-            }
             let held = Amounts::default();
-            self.machines
-                .push_reserved(CountedMachine { machine, held });
+            if let Err(refused) = self.tenants.push(CountedMachine { machine, held }) {
+                return Err((AddError::NoRoom, refused.machine));
+            }
             Ok(index)
+        }
+
+        /// Removes a tenant, if there is one, and hands its machine back. What it held, with what it
+        /// dropped, can be held by others from then on. Its index is given to no other, and each later
+        /// call on it finds no tenant. Those that were added after it move in memory. Nothing is kept
+        /// of it but that its index was given, so a pool takes memory for the tenants that it has.
+        ///
+        /// # Contract
+        ///
+        /// ```text
+        /// ensures removed: MatchOption result
+        ///     ((machine_of self.old index ≡ None) × (self.new ≡ self.old))
+        ///     (λ machine. RemovesTenant self.old index machine self.new)
+        /// ensures within: IsWithinCaps self.new
+        /// ```
+        ///
+        /// Definitions: [`machine_of`](crate::specs::budget::PoolSpecs#machine_of), [`RemovesTenant`](crate::specs::budget::PoolSpecs#RemovesTenant), [`IsWithinCaps`](crate::specs::budget::PoolSpecs#IsWithinCaps).
+        #[inline]
+        pub fn remove(&mut self, index: usize) -> Option<Machine<'r>> {
+            let CountedMachine { machine, held } = self.tenants.remove(index)?;
+            self.held_by_all = Amounts {
+                bytes: self.held_by_all.bytes - held.bytes,
+                elements: self.held_by_all.elements - held.elements,
+            };
+            Some(machine)
         }
 
         /// Executes calls on the machine of a tenant, under a limiter that permits what keeps all
@@ -279,19 +329,18 @@ mod pool {
         /// ```text
         /// ensures ran: IfOk result
         ///     (λ replies. RunsTenant self.old index calls.now replies.items self.new)
-        /// ensures no_tenant: IsErrOf result PoolError.NoTenant ↔ (length self.old.machines ≤ index)
+        /// ensures no_tenant: IsErrOf result PoolError.NoTenant ↔ (machine_of self.old index ≡ None)
         /// ensures refused: OnErr result (self.new ≡ self.old)
         /// ensures within: IsWithinCaps self.new
         /// ```
         ///
-        /// Definitions: [`RunsTenant`](crate::specs::budget::PoolSpecs#RunsTenant), [`IsWithinCaps`](crate::specs::budget::PoolSpecs#IsWithinCaps).
+        /// Definitions: [`RunsTenant`](crate::specs::budget::PoolSpecs#RunsTenant), [`machine_of`](crate::specs::budget::PoolSpecs#machine_of), [`IsWithinCaps`](crate::specs::budget::PoolSpecs#IsWithinCaps).
         #[inline]
         pub fn run(&mut self, index: usize, calls: &[Call]) -> Result<Vec<Reply>, PoolError> {
             let Some(mut tenant) = self.tenant(index) else {
                 return Err(PoolError::NoTenant);
             };
-            let machine = &mut self.machines[index];
-            let replies = machine.run(calls, &mut tenant)?;
+            let replies = self.tenants.run(index, calls, &mut tenant)?;
             self.held_by_all = tenant.held_by_all();
             Ok(replies)
         }
@@ -301,15 +350,15 @@ mod pool {
         /// # Contract
         ///
         /// ```text
-        /// ensures machine: option_copied result ≡ slice_get self.now.machines index
+        /// ensures machine: option_copied result ≡ machine_of self.now index
         /// ensures within: IsWithinCaps self.now
         /// ```
         ///
-        /// Definitions: [`IsWithinCaps`](crate::specs::budget::PoolSpecs#IsWithinCaps).
+        /// Definitions: [`machine_of`](crate::specs::budget::PoolSpecs#machine_of), [`IsWithinCaps`](crate::specs::budget::PoolSpecs#IsWithinCaps).
         #[must_use]
         #[inline]
         pub fn machine(&self, index: usize) -> Option<&Machine<'r>> {
-            Some(&self.machines.get(index)?.machine)
+            Some(&self.tenants.get(index)?.machine)
         }
 
         /// The bytes of a tenant's memories, including those that it dropped.
@@ -317,10 +366,10 @@ mod pool {
         /// # Contract
         ///
         /// ```text
-        /// ensures: result ≡ option_map (λ s. total s Bytes) (slice_get self.now.machines index)
+        /// ensures: result ≡ option_map (λ s. total s Bytes) (machine_of self.now index)
         /// ```
         ///
-        /// Definitions: [`total`](crate::specs::machine::StateSpecs#total).
+        /// Definitions: [`total`](crate::specs::machine::StateSpecs#total), [`machine_of`](crate::specs::budget::PoolSpecs#machine_of).
         #[must_use]
         #[inline]
         pub fn held_bytes(&self, index: usize) -> Option<u64> {
@@ -332,10 +381,10 @@ mod pool {
         /// # Contract
         ///
         /// ```text
-        /// ensures: result ≡ option_map (λ s. total s Elements) (slice_get self.now.machines index)
+        /// ensures: result ≡ option_map (λ s. total s Elements) (machine_of self.now index)
         /// ```
         ///
-        /// Definitions: [`total`](crate::specs::machine::StateSpecs#total).
+        /// Definitions: [`total`](crate::specs::machine::StateSpecs#total), [`machine_of`](crate::specs::budget::PoolSpecs#machine_of).
         #[must_use]
         #[inline]
         pub fn held_elements(&self, index: usize) -> Option<u64> {
@@ -364,13 +413,13 @@ mod pool {
         ///
         /// ```text
         /// ensures: result
-        ///     ≡ option_map (λ s. amounts_of (total s)) (slice_get self.now.machines index)
+        ///     ≡ option_map (λ s. amounts_of (total s)) (machine_of self.now index)
         /// ```
         ///
-        /// Definitions: [`amounts_of`](crate::specs::meter::CappedSpecs#amounts_of), [`total`](crate::specs::machine::StateSpecs#total).
+        /// Definitions: [`amounts_of`](crate::specs::meter::CappedSpecs#amounts_of), [`total`](crate::specs::machine::StateSpecs#total), [`machine_of`](crate::specs::budget::PoolSpecs#machine_of).
         #[inline]
         fn held(&self, index: usize) -> Option<Amounts> {
-            Some(self.machines.get(index)?.held)
+            Some(self.tenants.get(index)?.held)
         }
 
         /// The limiter under which a tenant's machine runs.
@@ -379,10 +428,10 @@ mod pool {
         ///
         /// ```text
         /// ensures: result
-        ///     ≡ option_map (tenant_at self.now index) (slice_get self.now.machines index)
+        ///     ≡ option_map (tenant_at self.now index) (machine_of self.now index)
         /// ```
         ///
-        /// Definitions: [`tenant_at`](crate::specs::budget::PoolSpecs#tenant_at).
+        /// Definitions: [`tenant_at`](crate::specs::budget::PoolSpecs#tenant_at), [`machine_of`](crate::specs::budget::PoolSpecs#machine_of).
         #[inline]
         fn tenant(&self, index: usize) -> Option<Tenant> {
             let held = self.held(index)?;
@@ -519,6 +568,168 @@ mod tenant {
         ) -> Result<Vec<Reply>, AllocError> {
             let replies = run_reserving(&mut self.machine, calls, tenant)?;
             self.held = tenant.holdings.held();
+            Ok(replies)
+        }
+    }
+}
+mod tenants {
+    //! The machines of a pool at their indices.
+
+    use crate::proved::budget::error::PoolError;
+    use crate::proved::budget::tenant::{CountedMachine, Tenant};
+    use crate::proved::machine::{Call, Reply};
+    use crate::rattle::Vec;
+
+    /// The place of an index among rising ones, if it is one of them.
+    ///
+    /// # Contract
+    ///
+    /// ```text
+    /// requires rises: Rises indices.now
+    /// ensures: IsPlace indices.now index result
+    /// ```
+    ///
+    /// Definitions: [`Rises`](crate::specs::budget::TenantsSpecs#Rises), [`IsPlace`](crate::specs::budget::TenantsSpecs#IsPlace).
+    #[inline]
+    fn place_of(indices: &[usize], index: usize) -> Option<usize> {
+        indices.binary_search(&index).ok()
+    }
+
+    /// Machines at indices that are given in their order, each once. One that was removed keeps no
+    /// memory.
+    ///
+    /// # Model
+    ///
+    /// ```text
+    /// Value = List (Option State)
+    /// view = λ t. by_index t.next t.indices.items t.machines.items
+    /// invariant = λ t. IsListed t.next t.indices.items t.machines.items
+    /// ```
+    ///
+    /// Definitions: [`State`](crate::specs::machine::StateSpecs#State), [`by_index`](crate::specs::budget::TenantsSpecs#by_index), [`IsListed`](crate::specs::budget::TenantsSpecs#IsListed).
+    #[derive(Debug)]
+    pub(crate) struct Tenants<'r> {
+        /// The next index that is given.
+        next: usize,
+        /// The indices of the machines, which rise.
+        indices: Vec<usize>,
+        machines: Vec<CountedMachine<'r>>,
+    }
+
+    impl<'r> Tenants<'r> {
+        /// No index was given yet. It takes no memory.
+        ///
+        /// # Contract
+        ///
+        /// ```text
+        /// ensures: result ≡ []
+        /// ```
+        #[inline]
+        pub(crate) fn new() -> Self {
+            Tenants {
+                next: 0,
+                indices: Vec::new(),
+                machines: Vec::new(),
+            }
+        }
+
+        /// How many indices were given.
+        ///
+        /// # Contract
+        ///
+        /// ```text
+        /// ensures: result ≡ length self.now
+        /// ```
+        #[inline]
+        pub(crate) fn len(&self) -> usize {
+            self.next
+        }
+
+        /// The machine at an index, if there is one.
+        ///
+        /// # Contract
+        ///
+        /// ```text
+        /// ensures: option_copied result ≡ slice_index_or self.now index None
+        /// ```
+        #[inline]
+        pub(crate) fn get(&self, index: usize) -> Option<&CountedMachine<'r>> {
+            let place = place_of(&self.indices, index)?;
+            Some(&self.machines[place])
+        }
+
+        /// Puts a machine at the next index, or hands it back if memory is refused or no index is left.
+        ///
+        /// # Contract
+        ///
+        /// ```text
+        /// ensures added: OnOk result (self.new ≡ self.old ++ Some machine.entry ∷ [])
+        /// ensures refused: IfErr result
+        ///     (λ back. (back ≡ machine.entry) × (self.new ≡ self.old))
+        /// ```
+        #[inline]
+        pub(crate) fn push(
+            &mut self,
+            machine: CountedMachine<'r>,
+        ) -> Result<(), CountedMachine<'r>> {
+            let index = self.next;
+            let Some(next) = index.checked_add(1) else {
+                return Err(machine);
+            };
+            if self.indices.try_reserve(1).is_err() || self.machines.try_reserve(1).is_err() {
+                return Err(machine);
+            }
+            self.indices.push_reserved(index);
+            self.machines.push_reserved(machine);
+            self.next = next;
+            Ok(())
+        }
+
+        /// Takes the machine at an index out, if there is one.
+        ///
+        /// # Contract
+        ///
+        /// ```text
+        /// ensures: MatchOption result
+        ///     ((slice_index_or self.old index None ≡ None) × (self.new ≡ self.old))
+        ///     (λ machine. (slice_index_or self.old index None ≡ Some machine)
+        ///     × (self.new ≡ slice_set self.old index None))
+        /// ```
+        #[inline]
+        pub(crate) fn remove(&mut self, index: usize) -> Option<CountedMachine<'r>> {
+            let place = place_of(&self.indices, index)?;
+            self.indices.remove(place);
+            Some(self.machines.remove(place))
+        }
+
+        /// Executes calls on the machine at an index, under a tenant that holds what the machine has.
+        ///
+        /// # Contract
+        ///
+        /// ```text
+        /// requires totals: (s : State) → slice_index_or self.old index None ≡ Some s
+        ///     → HoldsTotals (holdings tenant.old) s
+        /// ensures ran: IfOk result
+        ///     (λ replies. RunsMachine self.old index tenant.old calls.now replies.items self.new
+        ///     tenant.new)
+        /// ensures no_tenant: IsErrOf result PoolError.NoTenant
+        ///     ↔ (slice_index_or self.old index None ≡ None)
+        /// ensures refused: OnErr result ((self.new ≡ self.old) × (tenant.new ≡ tenant.old))
+        /// ```
+        ///
+        /// Definitions: [`State`](crate::specs::machine::StateSpecs#State), [`HoldsTotals`](crate::specs::machine::StateSpecs#HoldsTotals), [`holdings`](crate::specs::budget::PoolSpecs#holdings), [`RunsMachine`](crate::specs::budget::PoolSpecs#RunsMachine).
+        #[inline]
+        pub(crate) fn run(
+            &mut self,
+            index: usize,
+            calls: &[Call],
+            tenant: &mut Tenant,
+        ) -> Result<Vec<Reply>, PoolError> {
+            let Some(place) = place_of(&self.indices, index) else {
+                return Err(PoolError::NoTenant);
+            };
+            let machine = &mut self.machines[place];
+            let replies = machine.run(calls, tenant)?;
             Ok(replies)
         }
     }

@@ -1171,6 +1171,29 @@ mod holdings {
                 _ => {}
             }
         }
+
+        /// Gives up `amount` of a kind, if so much is held. Returns whether it was given up; then
+        /// nothing can be given back until more is taken.
+        ///
+        /// # Contract
+        ///
+        /// ```text
+        /// ensures: Releases self.old kind amount result self.new
+        /// ```
+        ///
+        /// Definitions: [`Releases`](crate::specs::meter::CappedSpecs#Releases).
+        #[inline]
+        pub fn release(&mut self, kind: Kind, amount: u64) -> bool {
+            let Some(left) = self.held.of(kind).checked_sub(amount) else {
+                return false;
+            };
+            match kind {
+                Kind::Bytes => self.held.bytes = left,
+                Kind::Elements => self.held.elements = left,
+            }
+            self.last = None;
+            true
+        }
     }
 }
 mod limiter {
@@ -1959,6 +1982,25 @@ mod quota {
         #[inline]
         pub fn held_elements(&self) -> u64 {
             self.holdings.held().elements
+        }
+
+        /// Gives up what a memory (its bytes) or a table (its elements) held until it ended, so that
+        /// others can have it. Returns `false`, and changes nothing, where less is held of the kind.
+        /// What ended is released once: the quota can't tell one memory from another. A machine counts
+        /// what it dropped, so that is released where the machine ends.
+        ///
+        /// # Contract
+        ///
+        /// ```text
+        /// ensures released: Releases (holdings self.old) kind amount result (holdings self.new)
+        /// ensures caps: self.new.caps ≡ self.old.caps
+        /// ensures within: IsWithinCaps self.old → IsWithinCaps self.new
+        /// ```
+        ///
+        /// Definitions: [`Releases`](crate::specs::meter::CappedSpecs#Releases), [`holdings`](crate::specs::meter::CappedSpecs#holdings), [`IsWithinCaps`](crate::specs::meter::CappedSpecs#IsWithinCaps).
+        #[inline]
+        pub fn release(&mut self, kind: Kind, amount: u64) -> bool {
+            self.holdings.release(kind, amount)
         }
     }
 

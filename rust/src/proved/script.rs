@@ -457,11 +457,36 @@ mod printing {
     #[inline]
     fn print_tenants<W: io::Write>(printer: &mut Printer<'_, W>, pool: &Pool) -> fmt::Result {
         for index in 0..pool.len() {
-            let bytes = pool.held_bytes(index).unwrap();
-            let elements = pool.held_elements(index).unwrap();
-            printer.print_line(("held ", &index, " ", &bytes, " ", &elements))?;
+            print_tenant(printer, pool, index)?;
         }
         Ok(())
+    }
+
+    /// What the tenant of an index holds, if there is one.
+    ///
+    /// # Contract
+    ///
+    /// ```text
+    /// ensures: PrintsText W.contents (tenant_line index (machine_of pool.now index)) printer.old
+    ///     result printer.new
+    /// ```
+    ///
+    /// Definitions: [`PrintsText`](crate::specs::script::PrintingSpecs#PrintsText), [`tenant_line`](crate::specs::script::OutcomesSpecs#tenant_line), [`machine_of`](crate::specs::budget::PoolSpecs#machine_of).
+    ///
+    /// `W` is the type of the writer.
+    #[inline]
+    fn print_tenant<W: io::Write>(
+        printer: &mut Printer<'_, W>,
+        pool: &Pool,
+        index: usize,
+    ) -> fmt::Result {
+        let Some(bytes) = pool.held_bytes(index) else {
+            return Ok(());
+        };
+        let Some(elements) = pool.held_elements(index) else {
+            return Ok(());
+        };
+        printer.print_line(("held ", &index, " ", &bytes, " ", &elements))
     }
 
     /// A call's reply, as the program prints it, without the numbers that follow `bytes`.

@@ -2344,15 +2344,15 @@ abbrev pub <b id="amount_held">amount_held</b> : Holdings → Kind → ℕ
 
 -- n more of a kind
 abbrev pub <b id="with_more">with_more</b> : Holdings → Kind → ℕ → Holdings
-<a href="../../meter/CappedSpecs/index.html#with_more">with_more</a> h kind n = record { held = <a href="../../meter/CappedSpecs/index.html#with_amount">with_amount</a> h.held kind (<a href="../../meter/CappedSpecs/index.html#amount_held">amount_held</a> h kind + n); last = Some (kind, n) }
+<a href="../../meter/CappedSpecs/index.html#with_more">with_more</a> h kind n = record { <a href="../../meter/CappedSpecs/index.html#held">held</a> = <a href="../../meter/CappedSpecs/index.html#with_amount">with_amount</a> h.held kind (<a href="../../meter/CappedSpecs/index.html#amount_held">amount_held</a> h kind + n); last = Some (kind, n) }
 
 -- a notice of a kind takes back the last difference of that kind, once; with nothing of that kind to take back, all
 -- stays
 abbrev pub <b id="without_last_of">without_last_of</b> : Kind → Holdings → Option (Kind × ℕ) → Holdings
 <a href="../../meter/CappedSpecs/index.html#without_last_of">without_last_of</a> Bytes h (Some (Bytes, n)) =
-    record { held = <a href="../../meter/CappedSpecs/index.html#with_amount">with_amount</a> h.held Bytes (h.held.<a href="../../meter/CappedSpecs/index.html#bytes">bytes</a> - n); last = None }
+    record { <a href="../../meter/CappedSpecs/index.html#held">held</a> = <a href="../../meter/CappedSpecs/index.html#with_amount">with_amount</a> h.held Bytes (h.held.<a href="../../meter/CappedSpecs/index.html#bytes">bytes</a> - n); last = None }
 <a href="../../meter/CappedSpecs/index.html#without_last_of">without_last_of</a> Elements h (Some (Elements, n)) =
-    record { held = <a href="../../meter/CappedSpecs/index.html#with_amount">with_amount</a> h.held Elements (h.held.<a href="../../meter/CappedSpecs/index.html#elements">elements</a> - n); last = None }
+    record { <a href="../../meter/CappedSpecs/index.html#held">held</a> = <a href="../../meter/CappedSpecs/index.html#with_amount">with_amount</a> h.held Elements (h.held.<a href="../../meter/CappedSpecs/index.html#elements">elements</a> - n); last = None }
 <a href="../../meter/CappedSpecs/index.html#without_last_of">without_last_of</a> kind h last = h
 
 -- what is held after a notice of a kind
@@ -2364,6 +2364,15 @@ abbrev pub <b id="without_last">without_last</b> : Kind → Holdings → Holding
 pub record <b id="Takes">Takes</b> (<a href="../../meter/CappedSpecs/index.html#others">others</a> <a href="../../meter/CappedSpecs/index.html#cap">cap</a> : ℕ) (h : Holdings) (kind : Kind) (n : ℕ) (taken : Bool) (h&#x27; : Holdings) : Type 0 where
   pub <b id="within">within</b> : <a href="../../meter/CappedSpecs/index.html#others">others</a> + <a href="../../meter/CappedSpecs/index.html#amount_held">amount_held</a> h kind + n ≤ <a href="../../meter/CappedSpecs/index.html#cap">cap</a> → (taken ≡ true) × (h&#x27; ≡ <a href="../../meter/CappedSpecs/index.html#with_more">with_more</a> h kind n)
   pub <b id="above">above</b> : <a href="../../meter/CappedSpecs/index.html#cap">cap</a> &lt; <a href="../../meter/CappedSpecs/index.html#others">others</a> + <a href="../../meter/CappedSpecs/index.html#amount_held">amount_held</a> h kind + n → (taken ≡ false) × (h&#x27; ≡ h)
+
+-- n of a kind are given up, and nothing can be taken back after that
+abbrev pub <b id="with_less">with_less</b> : Holdings → Kind → ℕ → Holdings
+<a href="../../meter/CappedSpecs/index.html#with_less">with_less</a> h kind n = record { <a href="../../meter/CappedSpecs/index.html#held">held</a> = <a href="../../meter/CappedSpecs/index.html#with_amount">with_amount</a> h.held kind (<a href="../../meter/CappedSpecs/index.html#amount_held">amount_held</a> h kind - n); last = None }
+
+-- so many of a kind are given up exactly where so many are held, and nothing changes otherwise
+pub record <b id="Releases">Releases</b> (h : Holdings) (kind : Kind) (n : ℕ) (released : Bool) (h&#x27; : Holdings) : Type 0 where
+  pub <b id="held">held</b> : n ≤ <a href="../../meter/CappedSpecs/index.html#amount_held">amount_held</a> h kind → (released ≡ true) × (h&#x27; ≡ <a href="../../meter/CappedSpecs/index.html#with_less">with_less</a> h kind n)
+  pub <b id="short">short</b> : <a href="../../meter/CappedSpecs/index.html#amount_held">amount_held</a> h kind &lt; n → (released ≡ false) × (h&#x27; ≡ h)
 
 -- as much is held of each kind
 pub record <b id="HoldsTheSame">HoldsTheSame</b> (h h&#x27; : Holdings) : Type 0 where
@@ -5477,26 +5486,30 @@ abbrev pub <b id="MoreFuelChangesNothing">MoreFuelChangesNothing</b> : {L : Type
 pub mod budget {
     #[doc = r####"What holds of all calls on a pool, one after another, and of all runs of a tenant's machine.
 
-<pre><code>use Rattle.std.specs.Prelude.{◌≡◌, ℕ, List, [], ◌∷◌, nat_eq, if◌then◌else◌, MatchBool, Some, All, slice_get}
+<pre><code>use Rattle.std.specs.Prelude.{◌≡◌, ◌≢◌, ◌+◌, ℕ, List, [], ◌∷◌, nat_eq, if◌then◌else◌, MatchBool, Some, None, All}
 use Rattle.wasmi_machine.specs.declared.calls.Call.{Call}
 use Rattle.wasmi_machine.specs.declared.calls.Reply.{Reply}
-use Rattle.wasmi_machine.specs.State.{<a href="../../machine/StateSpecs/index.html#State">State</a>, <a href="../../machine/StateSpecs/index.html#Turn">Turn</a>}
-use Rattle.wasmi_budget.specs.Pool.{<a href="../../budget/PoolSpecs/index.html#PoolValue">PoolValue</a>, <a href="../../budget/PoolSpecs/index.html#AddsTenant">AddsTenant</a>, <a href="../../budget/PoolSpecs/index.html#RunsTenant">RunsTenant</a>, <a href="../../budget/PoolSpecs/index.html#tenant_rules">tenant_rules</a>, <a href="../../budget/PoolSpecs/index.html#without_others">without_others</a>, <a href="../../budget/PoolSpecs/index.html#RunsTenantBy">RunsTenantBy</a>, <a href="../../budget/PoolSpecs/index.html#IsWithinCaps">IsWithinCaps</a>}
+use Rattle.wasmi_machine.specs.State.{<a href="../../machine/StateSpecs/index.html#State">State</a>, <a href="../../machine/StateSpecs/index.html#Turn">Turn</a>, <a href="../../machine/StateSpecs/index.html#total">total</a>}
+use Rattle.wasmi_budget.specs.Pool.{<a href="../../budget/PoolSpecs/index.html#PoolValue">PoolValue</a>, <a href="../../budget/PoolSpecs/index.html#AddsTenant">AddsTenant</a>, <a href="../../budget/PoolSpecs/index.html#RunsTenant">RunsTenant</a>, <a href="../../budget/PoolSpecs/index.html#RemovesTenant">RemovesTenant</a>, <a href="../../budget/PoolSpecs/index.html#machine_of">machine_of</a>, <a href="../../budget/PoolSpecs/index.html#tenant_rules">tenant_rules</a>, <a href="../../budget/PoolSpecs/index.html#total_of">total_of</a>, <a href="../../budget/PoolSpecs/index.html#without_others">without_others</a>, <a href="../../budget/PoolSpecs/index.html#RunsTenantBy">RunsTenantBy</a>, <a href="../../budget/PoolSpecs/index.html#IsWithinCaps">IsWithinCaps</a>}
+use Rattle.wasmi_meter.specs.declared.limiter.Kind.{Kind}
 use Rattle.wasmi_meter.specs.Limiter.{<a href="../../meter/LimiterSpecs/index.html#optional_rules">optional_rules</a>}
 use Rattle.wasmi_machine.specs.Determinism.{<a href="../../machine/DeterminismSpecs/index.html#permitting">permitting</a>, <a href="../../machine/DeterminismSpecs/index.html#TellsNoDenial">TellsNoDenial</a>}
 use Rattle.wasmi_machine.specs.Steps.{<a href="../../machine/StepsSpecs/index.html#Run">Run</a>}
 use Rattle.wasmi_budget.specs.declared.tenant.Tenant.{Tenant}
 
--- one call on a pool: a machine was added, a tenant&#x27;s machine has run, or the call was refused
+-- one call on a pool: a machine was added, a tenant&#x27;s machine has run, a tenant was removed, whose machine is this one,
+-- or the call was refused
 pub data <b id="PoolTurn">PoolTurn</b> : Type 0 where
   <b id="Added">Added</b> : <a href="../../machine/StateSpecs/index.html#State">State</a> → <a href="../../budget/LawsSpecs/index.html#PoolTurn">PoolTurn</a>
   <b id="Ran">Ran</b> : ℕ → List Call → List Reply → <a href="../../budget/LawsSpecs/index.html#PoolTurn">PoolTurn</a>
+  <b id="Removed">Removed</b> : ℕ → <a href="../../machine/StateSpecs/index.html#State">State</a> → <a href="../../budget/LawsSpecs/index.html#PoolTurn">PoolTurn</a>
   <b id="Refused">Refused</b> : <a href="../../budget/LawsSpecs/index.html#PoolTurn">PoolTurn</a>
 
 -- a call leads a pool to another
 abbrev pub <b id="PoolStep">PoolStep</b> : <a href="../../budget/PoolSpecs/index.html#PoolValue">PoolValue</a> → <a href="../../budget/LawsSpecs/index.html#PoolTurn">PoolTurn</a> → <a href="../../budget/PoolSpecs/index.html#PoolValue">PoolValue</a> → Type 0
 <a href="../../budget/LawsSpecs/index.html#PoolStep">PoolStep</a> pool (<a href="../../budget/LawsSpecs/index.html#Added">Added</a> s) pool&#x27; = <a href="../../budget/PoolSpecs/index.html#AddsTenant">AddsTenant</a> pool s pool&#x27;
 <a href="../../budget/LawsSpecs/index.html#PoolStep">PoolStep</a> pool (<a href="../../budget/LawsSpecs/index.html#Ran">Ran</a> index calls replies) pool&#x27; = <a href="../../budget/PoolSpecs/index.html#RunsTenant">RunsTenant</a> pool index calls replies pool&#x27;
+<a href="../../budget/LawsSpecs/index.html#PoolStep">PoolStep</a> pool (<a href="../../budget/LawsSpecs/index.html#Removed">Removed</a> index s) pool&#x27; = <a href="../../budget/PoolSpecs/index.html#RemovesTenant">RemovesTenant</a> pool index s pool&#x27;
 <a href="../../budget/LawsSpecs/index.html#PoolStep">PoolStep</a> pool <a href="../../budget/LawsSpecs/index.html#Refused">Refused</a> pool&#x27; = pool&#x27; ≡ pool
 
 -- calls one after another, each a step of this kind
@@ -5508,14 +5521,15 @@ abbrev pub <b id="RunBy">RunBy</b> : (<a href="../../budget/PoolSpecs/index.html
 abbrev pub <b id="PoolRun">PoolRun</b> : <a href="../../budget/PoolSpecs/index.html#PoolValue">PoolValue</a> → List <a href="../../budget/LawsSpecs/index.html#PoolTurn">PoolTurn</a> → <a href="../../budget/PoolSpecs/index.html#PoolValue">PoolValue</a> → Type 0
 <a href="../../budget/LawsSpecs/index.html#PoolRun">PoolRun</a> = <a href="../../budget/LawsSpecs/index.html#RunBy">RunBy</a> <a href="../../budget/LawsSpecs/index.html#PoolStep">PoolStep</a>
 
--- a call on a pool, which permits each question where it is a run of the tenant of an index
+-- a call on a pool, which permits each question where it is a run of the tenant of an index, and doesn&#x27;t remove that
 abbrev pub <b id="PermittingStep">PermittingStep</b> : ℕ → <a href="../../budget/PoolSpecs/index.html#PoolValue">PoolValue</a> → <a href="../../budget/LawsSpecs/index.html#PoolTurn">PoolTurn</a> → <a href="../../budget/PoolSpecs/index.html#PoolValue">PoolValue</a> → Type 0
 <a href="../../budget/LawsSpecs/index.html#PermittingStep">PermittingStep</a> index pool (<a href="../../budget/LawsSpecs/index.html#Ran">Ran</a> i calls replies) pool&#x27; = MatchBool (nat_eq i index)
     (<a href="../../budget/PoolSpecs/index.html#RunsTenantBy">RunsTenantBy</a> (<a href="../../machine/DeterminismSpecs/index.html#permitting">permitting</a> (<a href="../../meter/LimiterSpecs/index.html#optional_rules">optional_rules</a> <a href="../../budget/PoolSpecs/index.html#tenant_rules">tenant_rules</a>)) pool i calls replies pool&#x27;)
     (<a href="../../budget/PoolSpecs/index.html#RunsTenant">RunsTenant</a> pool i calls replies pool&#x27;)
+<a href="../../budget/LawsSpecs/index.html#PermittingStep">PermittingStep</a> index pool (<a href="../../budget/LawsSpecs/index.html#Removed">Removed</a> i s) pool&#x27; = (i ≢ index) × <a href="../../budget/PoolSpecs/index.html#RemovesTenant">RemovesTenant</a> pool i s pool&#x27;
 <a href="../../budget/LawsSpecs/index.html#PermittingStep">PermittingStep</a> index pool turn pool&#x27; = <a href="../../budget/LawsSpecs/index.html#PoolStep">PoolStep</a> pool turn pool&#x27;
 
--- such calls one after another: the tenant of the index is never denied
+-- such calls one after another: the tenant of the index is never denied, and stays
 abbrev pub <b id="PermittingRun">PermittingRun</b> : ℕ → <a href="../../budget/PoolSpecs/index.html#PoolValue">PoolValue</a> → List <a href="../../budget/LawsSpecs/index.html#PoolTurn">PoolTurn</a> → <a href="../../budget/PoolSpecs/index.html#PoolValue">PoolValue</a> → Type 0
 <a href="../../budget/LawsSpecs/index.html#PermittingRun">PermittingRun</a> index = <a href="../../budget/LawsSpecs/index.html#RunBy">RunBy</a> (<a href="../../budget/LawsSpecs/index.html#PermittingStep">PermittingStep</a> index)
 
@@ -5525,6 +5539,7 @@ abbrev pub <b id="own_turns">own_turns</b> : ℕ → List <a href="../../budget/
 <a href="../../budget/LawsSpecs/index.html#own_turns">own_turns</a> index (<a href="../../budget/LawsSpecs/index.html#Added">Added</a> s ∷ turns) = <a href="../../budget/LawsSpecs/index.html#own_turns">own_turns</a> index turns
 <a href="../../budget/LawsSpecs/index.html#own_turns">own_turns</a> index (<a href="../../budget/LawsSpecs/index.html#Ran">Ran</a> i calls replies ∷ turns) =
     if nat_eq i index then <a href="../../budget/LawsSpecs/index.html#Ran">Ran</a> 0 calls replies ∷ <a href="../../budget/LawsSpecs/index.html#own_turns">own_turns</a> index turns else <a href="../../budget/LawsSpecs/index.html#own_turns">own_turns</a> index turns
+<a href="../../budget/LawsSpecs/index.html#own_turns">own_turns</a> index (<a href="../../budget/LawsSpecs/index.html#Removed">Removed</a> i s ∷ turns) = <a href="../../budget/LawsSpecs/index.html#own_turns">own_turns</a> index turns
 <a href="../../budget/LawsSpecs/index.html#own_turns">own_turns</a> index (<a href="../../budget/LawsSpecs/index.html#Refused">Refused</a> ∷ turns) = <a href="../../budget/LawsSpecs/index.html#own_turns">own_turns</a> index turns
 
 -- after all calls the caps are the same, and all machines together are within them
@@ -5543,11 +5558,11 @@ abbrev pub <b id="OthersDontShow">OthersDontShow</b> : Type 0
 
 -- a tenant that is never denied gets, run after run, what it gets alone under the same caps
 abbrev pub <b id="RunsAsAlone">RunsAsAlone</b> : Type 0
-<a href="../../budget/LawsSpecs/index.html#RunsAsAlone">RunsAsAlone</a> = (pool : <a href="../../budget/PoolSpecs/index.html#PoolValue">PoolValue</a>) (index : ℕ) (s : <a href="../../machine/StateSpecs/index.html#State">State</a>) → slice_get pool.machines index ≡ Some s
+<a href="../../budget/LawsSpecs/index.html#RunsAsAlone">RunsAsAlone</a> = (pool : <a href="../../budget/PoolSpecs/index.html#PoolValue">PoolValue</a>) (index : ℕ) (s : <a href="../../machine/StateSpecs/index.html#State">State</a>) → <a href="../../budget/PoolSpecs/index.html#machine_of">machine_of</a> pool index ≡ Some s
     → (turns : List <a href="../../budget/LawsSpecs/index.html#PoolTurn">PoolTurn</a>) (pool&#x27; : <a href="../../budget/PoolSpecs/index.html#PoolValue">PoolValue</a>) → <a href="../../budget/LawsSpecs/index.html#PermittingRun">PermittingRun</a> index pool turns pool&#x27;
-    → (s&#x27; : <a href="../../machine/StateSpecs/index.html#State">State</a>) × (slice_get pool&#x27;.machines index ≡ Some s&#x27;)
-    × <a href="../../budget/LawsSpecs/index.html#PoolRun">PoolRun</a> (record { caps = pool.caps; machines = s ∷ [] }) (<a href="../../budget/LawsSpecs/index.html#own_turns">own_turns</a> index turns)
-    (record { caps = pool.caps; machines = s&#x27; ∷ [] })
+    → (s&#x27; : <a href="../../machine/StateSpecs/index.html#State">State</a>) × (<a href="../../budget/PoolSpecs/index.html#machine_of">machine_of</a> pool&#x27; index ≡ Some s&#x27;)
+    × <a href="../../budget/LawsSpecs/index.html#PoolRun">PoolRun</a> (record { caps = pool.caps; machines = Some s ∷ [] }) (<a href="../../budget/LawsSpecs/index.html#own_turns">own_turns</a> index turns)
+    (record { caps = pool.caps; machines = Some s&#x27; ∷ [] })
 
 -- an accepted run of a tenant in which no reply reports a denial is one in which each question was permitted
 abbrev pub <b id="RepliesPermit">RepliesPermit</b> : Type 0
@@ -5555,6 +5570,16 @@ abbrev pub <b id="RepliesPermit">RepliesPermit</b> : Type 0
     (pool : <a href="../../budget/PoolSpecs/index.html#PoolValue">PoolValue</a>) (index : ℕ) (calls : List Call) (replies : List Reply) (pool&#x27; : <a href="../../budget/PoolSpecs/index.html#PoolValue">PoolValue</a>)
     → All <a href="../../machine/DeterminismSpecs/index.html#TellsNoDenial">TellsNoDenial</a> replies → <a href="../../budget/PoolSpecs/index.html#RunsTenant">RunsTenant</a> pool index calls replies pool&#x27;
     → <a href="../../budget/PoolSpecs/index.html#RunsTenantBy">RunsTenantBy</a> (<a href="../../machine/DeterminismSpecs/index.html#permitting">permitting</a> (<a href="../../meter/LimiterSpecs/index.html#optional_rules">optional_rules</a> <a href="../../budget/PoolSpecs/index.html#tenant_rules">tenant_rules</a>)) pool index calls replies pool&#x27;
+
+-- what the machine of a removed tenant has, counts no more
+abbrev pub <b id="RemovalsGiveBack">RemovalsGiveBack</b> : Type 0
+<a href="../../budget/LawsSpecs/index.html#RemovalsGiveBack">RemovalsGiveBack</a> = (pool : <a href="../../budget/PoolSpecs/index.html#PoolValue">PoolValue</a>) (index : ℕ) (s : <a href="../../machine/StateSpecs/index.html#State">State</a>) (pool&#x27; : <a href="../../budget/PoolSpecs/index.html#PoolValue">PoolValue</a>) → <a href="../../budget/PoolSpecs/index.html#RemovesTenant">RemovesTenant</a> pool index s pool&#x27;
+    → (kind : Kind) → <a href="../../budget/PoolSpecs/index.html#total_of">total_of</a> pool&#x27;.machines kind + <a href="../../machine/StateSpecs/index.html#total">total</a> s kind ≡ <a href="../../budget/PoolSpecs/index.html#total_of">total_of</a> pool.machines kind
+
+-- whatever calls follow, no tenant has the index of one that was removed
+abbrev pub <b id="RemovedStayRemoved">RemovedStayRemoved</b> : Type 0
+<a href="../../budget/LawsSpecs/index.html#RemovedStayRemoved">RemovedStayRemoved</a> = (pool : <a href="../../budget/PoolSpecs/index.html#PoolValue">PoolValue</a>) (index : ℕ) (s : <a href="../../machine/StateSpecs/index.html#State">State</a>) (pool&#x27; : <a href="../../budget/PoolSpecs/index.html#PoolValue">PoolValue</a>) → <a href="../../budget/PoolSpecs/index.html#RemovesTenant">RemovesTenant</a> pool index s pool&#x27;
+    → (turns : List <a href="../../budget/LawsSpecs/index.html#PoolTurn">PoolTurn</a>) (later : <a href="../../budget/PoolSpecs/index.html#PoolValue">PoolValue</a>) → <a href="../../budget/LawsSpecs/index.html#PoolRun">PoolRun</a> pool&#x27; turns later → <a href="../../budget/PoolSpecs/index.html#machine_of">machine_of</a> later index ≡ None
 </code></pre>
 "####]
     pub mod LawsSpecs {}
@@ -5564,13 +5589,13 @@ abbrev pub <b id="RepliesPermit">RepliesPermit</b> : Type 0
 use Rattle.wasmi_meter.specs.Capped.{<a href="../../meter/CappedSpecs/index.html#amount_of">amount_of</a>, <a href="../../meter/CappedSpecs/index.html#nothing">nothing</a>, <a href="../../meter/CappedSpecs/index.html#amounts_of">amounts_of</a>, <a href="../../meter/CappedSpecs/index.html#Capped">Capped</a>, <a href="../../meter/CappedSpecs/index.html#capped_rules">capped_rules</a>}
 use Rattle.wasmi_meter.specs.Limiter.{<a href="../../meter/LimiterSpecs/index.html#Rules">Rules</a>, <a href="../../meter/LimiterSpecs/index.html#optional_rules">optional_rules</a>}
 use Rattle.wasmi_budget.specs.declared.tenant.Tenant.{Tenant}
-use Rattle.std.specs.Prelude.{◌≡◌, ◌≤◌, ◌&lt;◌, ◌^◌, ◌++◌, ℕ, List, [], ◌∷◌, Option, Some, None, slice_get, slice_set, sum_by, remove, codes}
+use Rattle.std.specs.Prelude.{◌≡◌, ◌≤◌, ◌&lt;◌, ◌^◌, ◌++◌, ℕ, List, [], ◌∷◌, Option, Some, None, slice_index_or, slice_set, sum_by, remove, codes}
 use Rattle.wasmi_meter.specs.declared.limiter.Kind.{Kind}
 use Rattle.wasmi_meter.specs.declared.limiter.Kind.TheVariants.{Bytes, Elements}
 use Rattle.wasmi_meter.specs.declared.amounts.Amounts.{Amounts}
 use Rattle.wasmi_machine.specs.declared.calls.Call.{Call}
 use Rattle.wasmi_machine.specs.declared.calls.Reply.{Reply}
-use Rattle.wasmi_machine.specs.State.{<a href="../../machine/StateSpecs/index.html#State">State</a>, <a href="../../machine/StateSpecs/index.html#total">total</a>}
+use Rattle.wasmi_machine.specs.State.{<a href="../../machine/StateSpecs/index.html#State">State</a>, <a href="../../machine/StateSpecs/index.html#total">total</a>, <a href="../../machine/StateSpecs/index.html#world">world</a>, <a href="../../machine/StateSpecs/index.html#HoldsTotals">HoldsTotals</a>}
 use Rattle.wasmi_machine.specs.Steps.{<a href="../../machine/StepsSpecs/index.html#IsRunOf">IsRunOf</a>}
 use Rattle.wasmi_budget.specs.declared.error.AddError.{AddError}
 use Rattle.wasmi_budget.specs.declared.error.AddError.TheVariants.{NotEmpty, NoRoom}
@@ -5598,24 +5623,33 @@ abbrev pub <b id="tenant_rules">tenant_rules</b> : <a href="../../meter/LimiterS
 abbrev pub <b id="without_others">without_others</b> : Tenant → Tenant
 <a href="../../budget/PoolSpecs/index.html#without_others">without_others</a> tenant = record tenant { others = <a href="../../meter/CappedSpecs/index.html#nothing">nothing</a> }
 
--- a pool: its caps, and the machines of its tenants by their indices
+-- a pool: its caps, and the machines of its tenants at their indices; a tenant that was removed left none at its index
 pub record <b id="PoolValue">PoolValue</b> : Type 0 where
   pub <b id="caps">caps</b> : Amounts
-  pub <b id="machines">machines</b> : List <a href="../../machine/StateSpecs/index.html#State">State</a>
+  pub <b id="machines">machines</b> : List (Option <a href="../../machine/StateSpecs/index.html#State">State</a>)
+
+-- the machine of the tenant of an index, if there is one
+abbrev pub <b id="machine_of">machine_of</b> : <a href="../../budget/PoolSpecs/index.html#PoolValue">PoolValue</a> → ℕ → Option <a href="../../machine/StateSpecs/index.html#State">State</a>
+<a href="../../budget/PoolSpecs/index.html#machine_of">machine_of</a> pool index = slice_index_or pool.machines index None
+
+-- what a machine has of a kind, if there is one
+abbrev pub <b id="total_at">total_at</b> : Option <a href="../../machine/StateSpecs/index.html#State">State</a> → Kind → ℕ
+<a href="../../budget/PoolSpecs/index.html#total_at">total_at</a> (Some s) kind = <a href="../../machine/StateSpecs/index.html#total">total</a> s kind
+<a href="../../budget/PoolSpecs/index.html#total_at">total_at</a> None kind = 0
 
 -- what these machines have of a kind
-abbrev pub <b id="total_of">total_of</b> : List <a href="../../machine/StateSpecs/index.html#State">State</a> → Kind → ℕ
-<a href="../../budget/PoolSpecs/index.html#total_of">total_of</a> <a href="../../budget/PoolSpecs/index.html#machines">machines</a> kind = sum_by (λ s. <a href="../../machine/StateSpecs/index.html#total">total</a> s kind) <a href="../../budget/PoolSpecs/index.html#machines">machines</a>
+abbrev pub <b id="total_of">total_of</b> : List (Option <a href="../../machine/StateSpecs/index.html#State">State</a>) → Kind → ℕ
+<a href="../../budget/PoolSpecs/index.html#total_of">total_of</a> <a href="../../budget/PoolSpecs/index.html#machines">machines</a> kind = sum_by (λ s. <a href="../../budget/PoolSpecs/index.html#total_at">total_at</a> s kind) <a href="../../budget/PoolSpecs/index.html#machines">machines</a>
 
 -- all machines together are within the caps
 abbrev pub <b id="IsWithinCaps">IsWithinCaps</b> : <a href="../../budget/PoolSpecs/index.html#PoolValue">PoolValue</a> → Type 0
 <a href="../../budget/PoolSpecs/index.html#IsWithinCaps">IsWithinCaps</a> pool = (kind : Kind) → <a href="../../budget/PoolSpecs/index.html#total_of">total_of</a> pool.machines kind ≤ <a href="../../meter/CappedSpecs/index.html#amount_of">amount_of</a> pool.caps kind
 
 -- all machines together are within the caps, which are numbers of 64 bits, and have these amounts
-pub record <b id="IsKept">IsKept</b> (pool : <a href="../../budget/PoolSpecs/index.html#PoolValue">PoolValue</a>) (held : Amounts) : Type 0 where
+pub record <b id="IsKept">IsKept</b> (pool : <a href="../../budget/PoolSpecs/index.html#PoolValue">PoolValue</a>) (<a href="../../budget/PoolSpecs/index.html#held">held</a> : Amounts) : Type 0 where
   pub <b id="within">within</b> : <a href="../../budget/PoolSpecs/index.html#IsWithinCaps">IsWithinCaps</a> pool
   pub <b id="fits">fits</b> : (kind : Kind) → <a href="../../meter/CappedSpecs/index.html#amount_of">amount_of</a> pool.caps kind &lt; 2 ^ 64
-  pub <b id="counted">counted</b> : held ≡ <a href="../../meter/CappedSpecs/index.html#amounts_of">amounts_of</a> (<a href="../../budget/PoolSpecs/index.html#total_of">total_of</a> pool.machines)
+  pub <b id="counted">counted</b> : <a href="../../budget/PoolSpecs/index.html#held">held</a> ≡ <a href="../../meter/CappedSpecs/index.html#amounts_of">amounts_of</a> (<a href="../../budget/PoolSpecs/index.html#total_of">total_of</a> pool.machines)
 
 -- the limiter of the machine s of an index: it holds what the machine has, beside what the others have
 abbrev pub <b id="tenant_at">tenant_at</b> : <a href="../../budget/PoolSpecs/index.html#PoolValue">PoolValue</a> → ℕ → <a href="../../machine/StateSpecs/index.html#State">State</a> → Tenant
@@ -5623,7 +5657,7 @@ abbrev pub <b id="tenant_at">tenant_at</b> : <a href="../../budget/PoolSpecs/ind
     record {
       <a href="../../budget/PoolSpecs/index.html#caps">caps</a> = pool.caps;
       others = <a href="../../meter/CappedSpecs/index.html#amounts_of">amounts_of</a> (<a href="../../budget/PoolSpecs/index.html#total_of">total_of</a> (remove pool.machines index));
-      <a href="../../budget/PoolSpecs/index.html#holdings">holdings</a> = record { held = <a href="../../meter/CappedSpecs/index.html#amounts_of">amounts_of</a> (<a href="../../machine/StateSpecs/index.html#total">total</a> s); last = None };
+      <a href="../../budget/PoolSpecs/index.html#holdings">holdings</a> = record { <a href="../../budget/PoolSpecs/index.html#held">held</a> = <a href="../../meter/CappedSpecs/index.html#amounts_of">amounts_of</a> (<a href="../../machine/StateSpecs/index.html#total">total</a> s); last = None };
     }
 
 -- the machine has no bytes and no elements, and dropped none
@@ -5634,7 +5668,7 @@ pub record <b id="HasNothing">HasNothing</b> (s : <a href="../../machine/StateSp
 -- a machine that has nothing is added as it is
 pub record <b id="AddsTenant">AddsTenant</b> (pool : <a href="../../budget/PoolSpecs/index.html#PoolValue">PoolValue</a>) (s : <a href="../../machine/StateSpecs/index.html#State">State</a>) (pool&#x27; : <a href="../../budget/PoolSpecs/index.html#PoolValue">PoolValue</a>) : Type 0 where
   pub <b id="empty">empty</b> : <a href="../../budget/PoolSpecs/index.html#HasNothing">HasNothing</a> s
-  pub <b id="added">added</b> : pool&#x27; ≡ record pool { <a href="../../budget/PoolSpecs/index.html#machines">machines</a> = pool.machines ++ s ∷ [] }
+  pub <b id="added">added</b> : pool&#x27; ≡ record pool { <a href="../../budget/PoolSpecs/index.html#machines">machines</a> = pool.machines ++ Some s ∷ [] }
 
 -- why a machine isn&#x27;t added
 abbrev pub <b id="IsAddRefusal">IsAddRefusal</b> : <a href="../../machine/StateSpecs/index.html#State">State</a> → AddError → Type 0
@@ -5645,16 +5679,32 @@ abbrev pub <b id="IsAddRefusal">IsAddRefusal</b> : <a href="../../machine/StateS
 pub record <b id="RunsTenantBy">RunsTenantBy</b> (rules : <a href="../../meter/LimiterSpecs/index.html#Rules">Rules</a> (Option Tenant)) (pool : <a href="../../budget/PoolSpecs/index.html#PoolValue">PoolValue</a>) (index : ℕ) (calls : List Call)
     (replies : List Reply) (pool&#x27; : <a href="../../budget/PoolSpecs/index.html#PoolValue">PoolValue</a>) : Type 0 where
   pub <b id="machine">machine</b> : <a href="../../machine/StateSpecs/index.html#State">State</a>
-  pub <b id="found">found</b> : slice_get pool.machines index ≡ Some <a href="../../budget/PoolSpecs/index.html#machine">machine</a>
+  pub <b id="found">found</b> : <a href="../../budget/PoolSpecs/index.html#machine_of">machine_of</a> pool index ≡ Some <a href="../../budget/PoolSpecs/index.html#machine">machine</a>
   pub <b id="machine&#x27;">machine&#x27;</b> : <a href="../../machine/StateSpecs/index.html#State">State</a>
   pub <b id="tenant&#x27;">tenant&#x27;</b> : Tenant
   pub <b id="ran">ran</b> : <a href="../../machine/StepsSpecs/index.html#IsRunOf">IsRunOf</a> rules calls (record { state = <a href="../../budget/PoolSpecs/index.html#machine">machine</a>; limiter = Some (<a href="../../budget/PoolSpecs/index.html#tenant_at">tenant_at</a> pool index <a href="../../budget/PoolSpecs/index.html#machine">machine</a>) })
       replies (record { state = <a href="../../budget/PoolSpecs/index.html#machine%27">machine&#x27;</a>; limiter = Some <a href="../../budget/PoolSpecs/index.html#tenant%27">tenant&#x27;</a> })
-  pub <b id="after">after</b> : pool&#x27; ≡ record pool { <a href="../../budget/PoolSpecs/index.html#machines">machines</a> = slice_set pool.machines index <a href="../../budget/PoolSpecs/index.html#machine%27">machine&#x27;</a> }
+  pub <b id="after">after</b> : pool&#x27; ≡ record pool { <a href="../../budget/PoolSpecs/index.html#machines">machines</a> = slice_set pool.machines index (Some <a href="../../budget/PoolSpecs/index.html#machine%27">machine&#x27;</a>) }
 
 -- the machine of an index has run these calls under its limiter by a tenant&#x27;s rules, and all else is the same
 abbrev pub <b id="RunsTenant">RunsTenant</b> : <a href="../../budget/PoolSpecs/index.html#PoolValue">PoolValue</a> → ℕ → List Call → List Reply → <a href="../../budget/PoolSpecs/index.html#PoolValue">PoolValue</a> → Type 0
 <a href="../../budget/PoolSpecs/index.html#RunsTenant">RunsTenant</a> = <a href="../../budget/PoolSpecs/index.html#RunsTenantBy">RunsTenantBy</a> (<a href="../../meter/LimiterSpecs/index.html#optional_rules">optional_rules</a> <a href="../../budget/PoolSpecs/index.html#tenant_rules">tenant_rules</a>)
+
+-- the machine at an index has run these calls under a tenant, which holds what it has then, and all others are the same
+pub record <b id="RunsMachine">RunsMachine</b> (<a href="../../budget/PoolSpecs/index.html#machines">machines</a> : List (Option <a href="../../machine/StateSpecs/index.html#State">State</a>)) (index : ℕ) (tenant : Tenant) (calls : List Call)
+    (replies : List Reply) (machines&#x27; : List (Option <a href="../../machine/StateSpecs/index.html#State">State</a>)) (<a href="../../budget/PoolSpecs/index.html#tenant%27">tenant&#x27;</a> : Tenant) : Type 0 where
+  pub <b id="machine">machine</b> : <a href="../../machine/StateSpecs/index.html#State">State</a>
+  pub <b id="found">found</b> : slice_index_or <a href="../../budget/PoolSpecs/index.html#machines">machines</a> index None ≡ Some <a href="../../budget/PoolSpecs/index.html#machine">machine</a>
+  pub <b id="machine&#x27;">machine&#x27;</b> : <a href="../../machine/StateSpecs/index.html#State">State</a>
+  pub <b id="ran">ran</b> : <a href="../../machine/StepsSpecs/index.html#IsRunOf">IsRunOf</a> (<a href="../../meter/LimiterSpecs/index.html#optional_rules">optional_rules</a> <a href="../../budget/PoolSpecs/index.html#tenant_rules">tenant_rules</a>) calls (<a href="../../machine/StateSpecs/index.html#world">world</a> <a href="../../budget/PoolSpecs/index.html#machine">machine</a> (Some tenant)) replies
+      (<a href="../../machine/StateSpecs/index.html#world">world</a> <a href="../../budget/PoolSpecs/index.html#machine%27">machine&#x27;</a> (Some <a href="../../budget/PoolSpecs/index.html#tenant%27">tenant&#x27;</a>))
+  pub <b id="after">after</b> : machines&#x27; ≡ slice_set <a href="../../budget/PoolSpecs/index.html#machines">machines</a> index (Some <a href="../../budget/PoolSpecs/index.html#machine%27">machine&#x27;</a>)
+  pub <b id="held">held</b> : <a href="../../machine/StateSpecs/index.html#HoldsTotals">HoldsTotals</a> (<a href="../../budget/PoolSpecs/index.html#holdings">holdings</a> <a href="../../budget/PoolSpecs/index.html#tenant%27">tenant&#x27;</a>) <a href="../../budget/PoolSpecs/index.html#machine%27">machine&#x27;</a>
+
+-- the machine of a tenant was taken off: its index has none from then on, and all else is the same
+pub record <b id="RemovesTenant">RemovesTenant</b> (pool : <a href="../../budget/PoolSpecs/index.html#PoolValue">PoolValue</a>) (index : ℕ) (s : <a href="../../machine/StateSpecs/index.html#State">State</a>) (pool&#x27; : <a href="../../budget/PoolSpecs/index.html#PoolValue">PoolValue</a>) : Type 0 where
+  pub <b id="found">found</b> : <a href="../../budget/PoolSpecs/index.html#machine_of">machine_of</a> pool index ≡ Some s
+  pub <b id="removed">removed</b> : pool&#x27; ≡ record pool { <a href="../../budget/PoolSpecs/index.html#machines">machines</a> = slice_set pool.machines index None }
 
 -- the text of why a machine isn&#x27;t added to a pool
 abbrev pub <b id="add_error_text">add_error_text</b> : AddError → List ℕ
@@ -5668,6 +5718,38 @@ abbrev pub <b id="pool_error_text">pool_error_text</b> : PoolError → List ℕ
 </code></pre>
 "####]
     pub mod PoolSpecs {}
+    #[doc = r####"Values that lie at their indices, of which each is given once: what was removed leaves its index empty.
+
+<pre><code>use Rattle.std.specs.Prelude.{◌≡◌, ◌≢◌, ◌&lt;◌, ℕ, List, ◌∷◌, Option, Some, None, All, length, map, nat_eq, slice_index_or, if◌then◌else◌}
+use Rattle.std.specs.List.{AllPairs, range_with_len}
+
+-- the place of an index among others, or that it isn&#x27;t one of them
+abbrev pub <b id="IsPlace">IsPlace</b> : List ℕ → ℕ → Option ℕ → Type 0
+<a href="../../budget/TenantsSpecs/index.html#IsPlace">IsPlace</a> indices index (Some place) = (place &lt; length indices) × (slice_index_or indices place 0 ≡ index)
+<a href="../../budget/TenantsSpecs/index.html#IsPlace">IsPlace</a> indices index None = (k : ℕ) → k &lt; length indices → slice_index_or indices k 0 ≢ index
+
+-- each index is below those after it
+abbrev pub <b id="Rises">Rises</b> : List ℕ → Type 0
+<a href="../../budget/TenantsSpecs/index.html#Rises">Rises</a> indices = AllPairs (λ i j. i &lt; j) indices
+
+module _ {X : Type 0} where
+  -- the value of an index, if it is one of these
+  abbrev pub <b id="value_of">value_of</b> : List ℕ → List X → ℕ → Option X
+  <a href="../../budget/TenantsSpecs/index.html#value_of">value_of</a> (i ∷ indices) (x ∷ values) index = if nat_eq i index then Some x else <a href="../../budget/TenantsSpecs/index.html#value_of">value_of</a> indices values index
+  <a href="../../budget/TenantsSpecs/index.html#value_of">value_of</a> indices values index = None
+
+  -- the values at their indices, of which `next` were given
+  abbrev pub <b id="by_index">by_index</b> : ℕ → List ℕ → List X → List (Option X)
+  <a href="../../budget/TenantsSpecs/index.html#by_index">by_index</a> next indices values = map (<a href="../../budget/TenantsSpecs/index.html#value_of">value_of</a> indices values) (range_with_len 0 next)
+
+  -- each of the indices has a value, and they rise below the next one
+  pub record <b id="IsListed">IsListed</b> (next : ℕ) (indices : List ℕ) (values : List X) : Type 0 where
+    pub <b id="same">same</b> : length values ≡ length indices
+    pub <b id="rises">rises</b> : <a href="../../budget/TenantsSpecs/index.html#Rises">Rises</a> indices
+    pub <b id="below">below</b> : All (λ i. i &lt; next) indices
+</code></pre>
+"####]
+    pub mod TenantsSpecs {}
 }
 /// Definitions of `wasmi_region`.
 pub mod region {
@@ -6623,7 +6705,7 @@ abbrev pub <b id="QuietListsDecideReplies">QuietListsDecideReplies</b> : Type 0
     pub mod DecidedSpecs {}
     #[doc = r####"What a replay prints, why a script isn't run, and how a replay ends.
 
-<pre><code>use Rattle.std.specs.Prelude.{ℕ, Result, Ok, Err, ◌&lt;◌, ⊤, List, Option, IfSome, length, ◌≡◌, ◌≤◌, ◌⊎◌, [], ◌++◌, codes, flat_map}
+<pre><code>use Rattle.std.specs.Prelude.{ℕ, Result, Ok, Err, ◌&lt;◌, ⊤, List, Option, None, Some, IfSome, length, ◌≡◌, ◌≤◌, ◌⊎◌, [], ◌++◌, codes, flat_map}
 use Rattle.wasmi_script.specs.declared.error.ReplayError.{ReplayError}
 use Rattle.wasmi_script.specs.declared.error.ReplayError.TheVariants.{Parse, TooLong, ReadFault}
 use Rattle.wasmi_script.specs.declared.replaying.Status.{Status}
@@ -6684,9 +6766,14 @@ abbrev pub <b id="tenant_text">tenant_text</b> : ℕ → <a href="../../machine/
     codes "held " ++
     (decimal index ++ (codes " " ++ (decimal (<a href="../../machine/StateSpecs/index.html#total">total</a> machine Bytes) ++ (codes " " ++ decimal (<a href="../../machine/StateSpecs/index.html#total">total</a> machine Elements)))))
 
+-- the line of a tenant; none where it was removed
+abbrev pub <b id="tenant_line">tenant_line</b> : ℕ → Option <a href="../../machine/StateSpecs/index.html#State">State</a> → List ℕ
+<a href="../../script/OutcomesSpecs/index.html#tenant_line">tenant_line</a> index (Some machine) = <a href="../../script/PrintingSpecs/index.html#line">line</a> (<a href="../../script/OutcomesSpecs/index.html#tenant_text">tenant_text</a> index machine)
+<a href="../../script/OutcomesSpecs/index.html#tenant_line">tenant_line</a> index None = []
+
 -- a line for each tenant
-abbrev pub <b id="tenants_text">tenants_text</b> : List <a href="../../machine/StateSpecs/index.html#State">State</a> → List ℕ
-<a href="../../script/OutcomesSpecs/index.html#tenants_text">tenants_text</a> machines = flat_map (λ tenant. <a href="../../script/PrintingSpecs/index.html#line">line</a> (<a href="../../script/OutcomesSpecs/index.html#tenant_text">tenant_text</a> tenant.0 tenant.1)) (enumerate_from 0 machines)
+abbrev pub <b id="tenants_text">tenants_text</b> : List (Option <a href="../../machine/StateSpecs/index.html#State">State</a>) → List ℕ
+<a href="../../script/OutcomesSpecs/index.html#tenants_text">tenants_text</a> machines = flat_map (λ tenant. <a href="../../script/OutcomesSpecs/index.html#tenant_line">tenant_line</a> tenant.0 tenant.1) (enumerate_from 0 machines)
 
 -- what is held after a run
 abbrev pub <b id="held_text">held_text</b> : Held → List ℕ
@@ -6892,7 +6979,7 @@ abbrev pub <b id="IsReplayOnOne">IsReplayOnOne</b> : Option LimiterLine → Head
 
 -- a pool of new machines, as many as a line says, under its caps
 abbrev pub <b id="new_pool">new_pool</b> : TenantsLine → <a href="../../machine/StateSpecs/index.html#State">State</a> → <a href="../../budget/PoolSpecs/index.html#PoolValue">PoolValue</a>
-<a href="../../script/ScriptRunsSpecs/index.html#new_pool">new_pool</a> line start = record { caps = line.caps; machines = replicate line.count start }
+<a href="../../script/ScriptRunsSpecs/index.html#new_pool">new_pool</a> line start = record { caps = line.caps; machines = replicate line.count (Some start) }
 
 -- The parts are run one after another, each in one run of its tenant. The replies are those to the first part, and then
 -- those to the later ones.

@@ -64,6 +64,11 @@ impl<T> Vec<T> {
         Ok(list)
     }
 
+    /// Takes the item at an index out. The later ones move down.
+    pub(crate) fn remove(&mut self, index: usize) -> T {
+        self.0.remove(index)
+    }
+
     /// Appends the items of a slice, with room for no more. In a long `match` LLVM doesn't inline what `extend_from_slice`
     /// calls, so that both requests stand in one call.
     #[inline]

@@ -3,7 +3,7 @@ use super::{MemoryCall, StaticCall, StaticReply, Step, split, unmetered};
 use wasmi_core_proved::machine::{
     Machine, MemoryError, Quota, Reserving, TableError, run_reserving,
 };
-use wasmi_core_proved::pool::Pool;
+use wasmi_core_proved::pool::{Pool, PoolError};
 
 static PAGE: [Step; 1] = [(StaticCall::NewPages(1, None), StaticReply::Made(0))];
 
@@ -31,6 +31,43 @@ fn a_pool_takes_many_machines() {
     assert_eq!(replies, Ok(expected), "the replies");
     assert_eq!(pool.held_bytes(1023), Some(65536), "the last one's bytes");
     assert_eq!(pool.held_bytes(1024), None, "no bytes more");
+}
+
+#[test]
+fn removed_tenants_give_their_bytes_back() {
+    let (calls, expected) = split(&PAGE).unwrap();
+    let mut pool = Pool::new(10 * 65536, 0);
+    for index in 0..10 {
+        assert_eq!(pool.add(unmetered()).ok(), Some(index), "the tenant");
+        assert_eq!(pool.run(index, &calls).as_ref(), Ok(&expected), "a page");
+    }
+    for index in 10..1000 {
+        let removed = pool.remove(index - 10).map(|machine| machine.total_bytes());
+        assert_eq!(removed, Some(65536), "what it has");
+        assert_eq!(pool.held_by_all().bytes, 9 * 65536, "what all hold");
+        assert_eq!(pool.add(unmetered()).ok(), Some(index), "the index");
+        assert_eq!(pool.run(index, &calls).as_ref(), Ok(&expected), "a page");
+    }
+    assert_eq!(pool.len(), 1000, "the indices");
+    assert!(!pool.is_empty(), "tenants were added");
+}
+
+#[test]
+fn no_call_finds_a_removed_tenant() {
+    let (calls, expected) = split(&PAGE).unwrap();
+    let mut pool = Pool::new(65536, 0);
+    for _ in 0..3 {
+        assert!(pool.add(unmetered()).is_ok(), "a tenant");
+    }
+    assert!(pool.remove(1).is_some(), "the tenant in the middle");
+    assert!(pool.remove(1).is_none(), "no second one");
+    assert!(pool.remove(3).is_none(), "none was added there");
+    assert_eq!(pool.run(1, &calls), Err(PoolError::NoTenant), "no run");
+    assert!(pool.machine(1).is_none(), "no machine");
+    assert_eq!(pool.held_bytes(1), None, "no bytes");
+    assert_eq!(pool.held_elements(1), None, "no elements");
+    assert_eq!(pool.run(2, &calls), Ok(expected), "its index stays");
+    assert_eq!(pool.add(unmetered()).ok(), Some(3), "no index twice");
 }
 
 /// Runs calls under a limiter that holds what the machine has, and compares the replies, and what

@@ -1,7 +1,7 @@
 //! A limiter that remembers, references to limiters, what a lender knows of its limiter afterwards, and quotas.
 use wasmi_core_proved::machine::{
-    Kind, LimiterError, MemoryError, NoLimits, Quota, ResourceLimiter, ResourceLimiterRef,
-    TableError,
+    Kind, LimiterByKind, LimiterError, MemoryError, NoLimits, Quota, ResourceLimiter,
+    ResourceLimiterRef, TableError,
 };
 
 /// What a limiter answers in place of a permission, or to a notice.
@@ -251,4 +251,24 @@ fn quota_gives_back_once() {
     assert_eq!(amounts, expected, "held, and given back once");
     let numbers = [quota.instances(), quota.tables(), quota.memories()];
     assert_eq!(numbers, [usize::MAX; 3], "numbers");
+}
+
+#[test]
+fn a_quota_releases_what_it_holds_once() {
+    let mut quota = Quota::new(10, 3);
+    assert!(quota.growing(Kind::Bytes, 0, 7).unwrap(), "seven bytes");
+    assert!(
+        quota.growing(Kind::Elements, 0, 3).unwrap(),
+        "three elements"
+    );
+    assert!(!quota.release(Kind::Bytes, 8), "more than is held");
+    assert_eq!(held(&quota), (7, 3), "nothing given up");
+    assert!(quota.release(Kind::Elements, 2), "two elements");
+    assert_eq!(held(&quota), (7, 1), "one is left");
+    assert!(quota.grow_failed(Kind::Elements).is_ok(), "a notice");
+    assert_eq!(held(&quota), (7, 1), "nothing to give back");
+    assert!(quota.release(Kind::Bytes, 7), "all bytes");
+    assert!(!quota.release(Kind::Bytes, 7), "not twice");
+    assert!(quota.growing(Kind::Bytes, 0, 10).unwrap(), "the whole cap");
+    assert_eq!(held(&quota), (10, 1), "what is held then");
 }

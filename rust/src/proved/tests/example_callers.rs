@@ -135,8 +135,9 @@ pub mod host {
     /// ```text
     /// ensures run: IfOk result (λ replies. PoolRun pool.old
     ///     (Ran 0 first.now replies.0.items ∷ Ran 1 second.now replies.1.items ∷ []) pool.new)
-    /// ensures no_tenant: IsErrOf result PoolError.NoTenant → length pool.old.machines < 2
-    /// ensures few: length pool.old.machines < 2 → IsErr result
+    /// ensures no_tenant: IsErrOf result PoolError.NoTenant
+    ///     → (machine_of pool.old 0 ≡ None) ⊎ (machine_of pool.old 1 ≡ None)
+    /// ensures few: (machine_of pool.old 0 ≡ None) ⊎ (machine_of pool.old 1 ≡ None) → IsErr result
     /// ensures within: IsWithinCaps pool.new
     /// ensures caps: pool.new.caps ≡ pool.old.caps
     /// ```

@@ -19,7 +19,8 @@ same_lines calls calls' replies replies' held is are = λ i. replies_text (sym i
 pub returns-in_err-print_replies-in-Ok : goal.returns-in_err-print_replies-in-Ok
 returns-in_err-print_replies-in-Ok g c =
     rw c.in-Ok.is (in_part g.W.Write.contents _ _ _ _ (search rules) (prints_first g.W.Write.contents _ _ _ _ _
-    (same_lines _ _ _ _ _ c.calls-calls.ensures c.deref.ensures.value) c.in_err-print_replies-in-Ok.ensures.1))
+    (same_lines _ _ _ _ c.in-Ok.replayed.ran.held c.calls-calls.ensures c.deref.ensures.value)
+    c.in_err-print_replies-in-Ok.ensures.1))
 
 pub returns-in_ok-print_replies-in-Ok : goal.returns-in_ok-print_replies-in-Ok
 returns-in_ok-print_replies-in-Ok g c =

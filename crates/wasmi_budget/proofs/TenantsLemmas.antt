@@ -1,0 +1,296 @@
+-- Values at their indices: what a change of one of them changes.
+use Rattle.std.proofs.Common.{◌≡◌, ◌≢◌, ◌∙◌, ◌<◌, ◌≤◌, ◌+◌, ◌++◌, ◌⊎◌, inl, inr, [], ◌∷◌, List, Ok, Err, Result, Option, Some, None, ap, arith, get_or, length, map, refl, set, sym, suc, zero, ℕ, Bool, true, false}
+use Rattle.std.specs.Prelude.{All, MatchResult, nat_eq, remove, if◌then◌else◌}
+use Rattle.std.specs.List.{range_with_len}
+use Rattle.std.specs.Bool.{Decides}
+use Rattle.std.proofs.lemmas.Bool.Decides.{Decides-eqb}
+use Rattle.std.proofs.lemmas.Bool.{cases_lt}
+use Rattle.std.specs.Result.{result_ok}
+use Rattle.std.proofs.lemmas.List.Sorted.{searched}
+use Rattle.std.specs.List.Sorted.{IsBinarySearchResult}
+use Rattle.std.specs.Ordering.{nat_cmp}
+use Rattle.std.proofs.lemmas.List.Edits.{length-remove, get_or-remove_below, get_or-remove_above}
+use Rattle.std.proofs.lemmas.List.Elements.{All-push}
+use Rattle.std.proofs.lemmas.List.{get_or_past, get_or-set_same, get_or-set_other, set-get_or, length-set, length-append}
+use Rattle.std.proofs.lemmas.List.FromFn.{fill_by_all, get_or-map-range_with_len, length-map-range_with_len, map-range_with_len_more}
+use Rattle.std.proofs.lemmas.List.Quantifiers.{all_pairs_push, all_pairs_remove}
+use Rattle.wasmi_budget.specs.Tenants.{value_of, by_index, IsListed, IsPlace, Rises}
+
+-- a test for one number, at it and at another one
+same_is : (i : ℕ) → nat_eq i i ≡ true
+same_is i = (Decides-eqb i i).1 refl
+
+other_is : (i j : ℕ) → i ≢ j → nat_eq i j ≡ false
+other_is i j other = by (nat_eq i j) (Decides-eqb i j) where
+  by : (b : Bool) → Decides b (i ≡ j) → b ≡ false
+  by true d = absurd (other (d.0 refl))
+  by false d = refl
+
+module _ {X : Type 0} where
+  -- the value of the index at a place
+  pub value_at : (indices : List ℕ) (values : List X) (p j : ℕ) (x : X) → Rises indices
+      → length values ≡ length indices → p < length indices → get_or indices p 0 ≡ j → get_or values p x ≡ x
+      → value_of indices values j ≡ Some x
+  value_at [] values p j x rises same within at is = absurd (omega (arith, within))
+  value_at (i ∷ indices) [] p j x rises same within at is = absurd (omega (arith, same))
+  value_at (i ∷ indices) (y ∷ values) zero j x rises same within at is =
+      rw (at, same_is j) (ap Some is)
+  value_at (i ∷ indices) (y ∷ values) (suc p) j x rises same within at is =
+      let less : i < j = let r = rises 0 (suc p) 0 (omega arith) within in omega (arith, r, at) in
+      rw (other_is i j (λ e. absurd (omega (arith, e, less))))
+      (value_at indices values p j x (λ a b d less in'. rises (suc a) (suc b) d (omega (arith, less)) (omega (arith, in')))
+      (omega (arith, same)) (omega (arith, within)) at is)
+
+  -- an index that isn't among them has none
+  pub value_none : (indices : List ℕ) (values : List X) (j : ℕ) → ((k : ℕ) → k < length indices → get_or indices k 0 ≢ j)
+      → value_of indices values j ≡ None
+  value_none [] values j other = refl
+  value_none (i ∷ indices) [] j other = refl
+  value_none (i ∷ indices) (y ∷ values) j other =
+      rw (other_is i j (other 0 (omega arith)))
+      (value_none indices values j (λ k within. other (suc k) (omega (arith, within))))
+
+  -- another value at a place changes that of its index alone
+  value_set_other : (indices : List ℕ) (values : List X) (p k : ℕ) (x : X) → p < length indices → get_or indices p 0 ≢ k
+      → value_of indices (set values p x) k ≡ value_of indices values k
+  value_set_other [] values p k x within other = absurd (omega (arith, within))
+  value_set_other (i ∷ indices) [] p k x within other = refl
+  value_set_other (i ∷ indices) (y ∷ values) zero k x within other = rw (other_is i k other) refl
+  value_set_other (i ∷ indices) (y ∷ values) (suc p) k x within other =
+      ap (λ rest. if nat_eq i k then Some y else rest)
+      (value_set_other indices values p k x (omega (arith, within)) other)
+
+  -- without a place its index has none
+  value_removed : (indices : List ℕ) (values : List X) (p : ℕ) → Rises indices → p < length indices
+      → value_of (remove indices p) (remove values p) (get_or indices p 0) ≡ None
+  value_removed [] values p rises within = absurd (omega (arith, within))
+  value_removed (i ∷ indices) values zero rises within =
+      value_none indices _ i (λ k inside e.
+      let r = rises 0 (suc k) 0 (omega arith) (omega (arith, inside)) in absurd (omega (arith, r, e)))
+  value_removed (i ∷ indices) [] (suc p) rises within = refl
+  value_removed (i ∷ indices) (y ∷ values) (suc p) rises within =
+      let less : i < get_or indices p 0 = rises 0 (suc p) 0 (omega arith) within in
+      rw (other_is i (get_or indices p 0) (λ e. absurd (omega (arith, e, less))))
+      (value_removed indices values p
+      (λ a b d less in'. rises (suc a) (suc b) d (omega (arith, less)) (omega (arith, in'))) (omega (arith, within)))
+
+  -- and another index has the one that it had
+  value_kept : (indices : List ℕ) (values : List X) (p k : ℕ) → p < length indices → length values ≡ length indices
+      → get_or indices p 0 ≢ k → value_of (remove indices p) (remove values p) k ≡ value_of indices values k
+  value_kept [] values p k within same other = absurd (omega (arith, within))
+  value_kept (i ∷ indices) [] p k within same other = absurd (omega (arith, same))
+  value_kept (i ∷ indices) (y ∷ values) zero k within same other = rw (other_is i k other) refl
+  value_kept (i ∷ indices) (y ∷ values) (suc p) k within same other =
+      ap (λ rest. if nat_eq i k then Some y else rest)
+      (value_kept indices values p k (omega (arith, within)) (omega (arith, same)) other)
+
+  -- one more value is that of one more index
+  value_pushed_other : (indices : List ℕ) (values : List X) (n k : ℕ) (x : X) → length values ≡ length indices → n ≢ k
+      → value_of (indices ++ n ∷ []) (values ++ x ∷ []) k ≡ value_of indices values k
+  value_pushed_other [] [] n k x same other = rw (other_is n k other) refl
+  value_pushed_other [] (y ∷ values) n k x same other = absurd (omega (arith, same))
+  value_pushed_other (i ∷ indices) [] n k x same other = absurd (omega (arith, same))
+  value_pushed_other (i ∷ indices) (y ∷ values) n k x same other =
+      ap (λ rest. if nat_eq i k then Some y else rest)
+      (value_pushed_other indices values n k x (omega (arith, same)) other)
+
+  value_pushed : (indices : List ℕ) (values : List X) (n : ℕ) (x : X) → length values ≡ length indices
+      → All (λ i. i < n) indices → value_of (indices ++ n ∷ []) (values ++ x ∷ []) n ≡ Some x
+  value_pushed [] [] n x same below = rw (same_is n) refl
+  value_pushed [] (y ∷ values) n x same below = absurd (omega (arith, same))
+  value_pushed (i ∷ indices) [] n x same below = absurd (omega (arith, same))
+  value_pushed (i ∷ indices) (y ∷ values) n x same below =
+      let less = below 0 0 (omega arith) in
+      rw (other_is i n (λ e. absurd (omega (arith, e, less))))
+      (value_pushed indices values n x (omega (arith, same)) (λ k d in'. below (suc k) d (omega (arith, in'))))
+
+  module _ (next : ℕ) (indices : List ℕ) (values : List X) where
+    -- there are as many places as indices were given
+    pub length-by_index : length (by_index next indices values) ≡ next
+    length-by_index = length-map-range_with_len (value_of indices values) 0 next
+
+    -- at an index that was given lies its value
+    get_or-by_index : (k : ℕ) → k < next → get_or (by_index next indices values) k None ≡ value_of indices values k
+    get_or-by_index k within = get_or-map-range_with_len (value_of indices values) 0 next k k None within (omega arith)
+
+    module _ (listed : IsListed next indices values) where
+      -- what lies at the index of a place
+      pub found_at : (p j : ℕ) (x : X) → p < length indices → get_or indices p 0 ≡ j → get_or values p x ≡ x
+          → get_or (by_index next indices values) j None ≡ Some x
+      found_at p j x within at is =
+          let below = listed.below p 0 within in
+          get_or-by_index j (omega (arith, below, at))
+          ∙ value_at indices values p j x listed.rises listed.same within at is
+
+      -- nothing lies at an index that isn't among them
+      pub found_none : (j : ℕ) → ((k : ℕ) → k < length indices → get_or indices k 0 ≢ j)
+          → get_or (by_index next indices values) j None ≡ None
+      found_none j other = elim (cases_lt j next) [
+        | inl below ↦ get_or-by_index j below ∙ value_none indices values j other
+        | inr past ↦ get_or_past (by_index next indices values) j None (omega (arith, length-by_index, past))
+      ]
+
+      module _ (p : ℕ) (within : p < length indices) where
+        abbrev index : ℕ
+        index = get_or indices p 0
+
+        index_below : index < next
+        index_below = listed.below p 0 within
+
+        by_kept : (changed : List ℕ) (values' : List X) (v : Option X)
+            → value_of changed values' index ≡ v
+            → ((k : ℕ) → index ≢ k → value_of changed values' k ≡ value_of indices values k)
+            → set (by_index next indices values) index v ≡ by_index next changed values'
+        by_kept changed values' v own others =
+            fill_by_all (value_of changed values') (set (by_index next indices values) index v) next None
+            (length-set (by_index next indices values) index v ∙ length-by_index) at
+          where
+            at : (k : ℕ) → k < next → get_or (set (by_index next indices values) index v) k None
+                ≡ value_of changed values' k
+            at k inside = by (nat_eq k index) (Decides-eqb k index) where
+              by : (b : Bool) → Decides b (k ≡ index) → get_or (set (by_index next indices values) index v) k None
+                  ≡ value_of changed values' k
+              by true d =
+                  let e = d.0 refl in
+                  ap (λ j. get_or (set (by_index next indices values) index v) j None) e
+                  ∙ get_or-set_same (by_index next indices values) index v None
+                  (omega (arith, length-by_index, index_below)) ∙ sym own ∙ ap (value_of changed values') (sym e)
+              by false d =
+                  let other : k ≢ index = λ e. let f : false ≡ true = d.1 e in absurd cc in
+                  get_or-set_other (by_index next indices values) index k v None other
+                  ∙ get_or-by_index k inside ∙ sym (others k (λ e. other (sym e)))
+
+        -- another value at a place
+        pub set_at : (x : X) → set (by_index next indices values) index (Some x) ≡ by_index next indices (set values p x)
+        set_at x = by_kept indices (set values p x) (Some x)
+            (value_at indices (set values p x) p index x listed.rises (length-set values p x ∙ listed.same) within refl
+            (get_or-set_same values p x x (omega (arith, listed.same, within))))
+            (λ k other. value_set_other indices values p k x within other)
+
+        -- no value any more
+        pub removed_at : set (by_index next indices values) index None
+            ≡ by_index next (remove indices p) (remove values p)
+        removed_at = by_kept (remove indices p) (remove values p) None
+            (value_removed indices values p listed.rises within)
+            (λ k other. value_kept indices values p k within listed.same other)
+
+        -- the indices and values without those of a place are listed
+        pub listed_removed : IsListed next (remove indices p) (remove values p)
+        listed_removed = record {
+          same = omega (
+            arith,
+            listed.same,
+            within,
+            length-remove indices p within,
+            length-remove values p (omega (arith, listed.same, within)),
+          );
+          rises = all_pairs_remove (λ i j. i < j) indices p within listed.rises;
+          below = λ k d inside. kept_below k d inside (cases_lt k p);
+        }
+          where
+            kept_below : (k d : ℕ) → k < length (remove indices p) → (k < p) ⊎ (p ≤ k)
+                → get_or (remove indices p) k d < next
+            kept_below k d inside (inl before) =
+                rw (get_or-remove_below indices p d k before within) (listed.below k d (omega (arith, before, within)))
+            kept_below k d inside (inr after) =
+                rw (get_or-remove_above indices p d k after within)
+                (listed.below (k + 1) d (omega (arith, inside, length-remove indices p within)))
+
+        -- and those with another value
+        pub listed_set : (x : X) → IsListed next indices (set values p x)
+        listed_set x = record
+            { same = length-set values p x ∙ listed.same; rises = listed.rises; below = listed.below }
+
+      -- the next index gets a value
+      pub pushed_at : (x : X) → by_index next indices values ++ Some x ∷ []
+          ≡ by_index (next + 1) (indices ++ next ∷ []) (values ++ x ∷ [])
+      pushed_at x =
+          ap (λ front. front ++ Some x ∷ [])
+          (fill_by_all f (by_index next indices values) next None length-by_index
+          (λ k inside. get_or-by_index k inside
+          ∙ sym (value_pushed_other indices values next k x listed.same (λ e. absurd (omega (arith, e, inside))))))
+          ∙ ap (λ last. map f (range_with_len 0 next) ++ last ∷ [])
+          (sym (value_pushed indices values next x listed.same listed.below))
+          ∙ sym (map-range_with_len_more f 0 next next (omega arith))
+        where
+          f : ℕ → Option X
+          f = value_of (indices ++ next ∷ []) (values ++ x ∷ [])
+
+      -- the indices and values with it are listed
+      pub listed_pushed : (x : X) → IsListed (next + 1) (indices ++ next ∷ []) (values ++ x ∷ [])
+      listed_pushed x = record {
+        same = omega (arith, listed.same, length-append indices (next ∷ []), length-append values (x ∷ []));
+        rises = all_pairs_push (λ i j. i < j) indices next listed.rises (λ k d inside. listed.below k d inside);
+        below = All-push (λ i. i < next + 1) indices next
+            (λ k d inside. let less = listed.below k d inside in omega (arith, less)) (omega arith);
+      }
+
+module _ {X : Type 0} (next : ℕ) (indices : List ℕ) (values : List X) (listed : IsListed next indices values)
+    (view : List (Option X)) (is : by_index next indices values ≡ view) where
+  -- as many indices were given as there are places
+  pub given : next ≡ length view
+  given = sym (length-by_index next indices values) ∙ ap length is
+
+  -- one more value lies at the next index
+  pub pushed_value : (next' : ℕ) (indices' : List ℕ) (values' : List X) (x : X) → next' ≡ next + 1
+      → indices' ≡ indices ++ next ∷ [] → values' ≡ values ++ x ∷ []
+      → by_index next' indices' values' ≡ view ++ Some x ∷ []
+  pushed_value next' indices' values' x more index value =
+      (λ i. by_index (more i) (index i) (value i)) ∙ sym (pushed_at next indices values listed x)
+      ∙ ap (λ places. places ++ Some x ∷ []) is
+
+  -- with the value that a place has, all lies as it did
+  pub value_put_back : (p : ℕ) (x x' : X) → x' ≡ x → x ≡ get_or values p x
+      → by_index next indices (set values p x') ≡ view
+  value_put_back p x x' same at =
+      ap (by_index next indices) (ap (set values p) (same ∙ at) ∙ set-get_or values p x) ∙ is
+
+-- what lies at its index, where the place of an index was looked for among what is there
+module _ {X : Type 0} (next : ℕ) (indices : List ℕ) (values : List X) (listed : IsListed next indices values)
+    (view : List (Option X)) (is : by_index next indices values ≡ view) (seen : List ℕ) (sees : seen ≡ indices)
+    (j : ℕ) where
+  -- without a place there is no value
+  pub no_value : IsPlace seen j None → get_or view j None ≡ None
+  no_value none = ap (λ xs. get_or xs j None) (sym is) ∙ found_none next indices values listed j (rw sees at none)
+
+  module _ (p : ℕ) (place : IsPlace seen j (Some p)) where
+    -- the place is one of the indices
+    pub place_within : p < length indices
+    place_within = omega (arith, place.0, ap length sees)
+
+    place_at : get_or indices p 0 ≡ j
+    place_at = ap (λ xs. get_or xs p 0) (sym sees) ∙ place.1
+
+    -- the value at the place is that of the index
+    pub its_value : (x : X) → x ≡ get_or values p x → get_or view j None ≡ Some x
+    its_value x at = ap (λ xs. get_or xs j None) (sym is)
+        ∙ found_at next indices values listed p j x place_within place_at (sym at)
+
+    -- with another value at the place the index has that
+    pub set_value : (x : X) → by_index next indices (set values p x) ≡ set view j (Some x)
+    set_value x = sym (set_at next indices values listed p place_within x)
+        ∙ (λ i. set (is i) (place_at i) (Some x))
+
+    -- without the place the index has none
+    pub removed_value : by_index next (remove indices p) (remove values p) ≡ set view j None
+    removed_value = sym (removed_at next indices values listed p place_within) ∙ (λ i. set (is i) (place_at i) None)
+
+-- a search among rising indices finds the place of an index, or says that it isn't among them
+pub searched_place : (indices : List ℕ) (j : ℕ) (r : Result ℕ ℕ) (place : Option ℕ) → Rises indices
+    → IsBinarySearchResult (λ y. nat_cmp y j) indices r → place ≡ result_ok r → IsPlace indices j place
+searched_place indices j r place rises found is =
+    rw is (by r (searched indices j r found (λ a b le inside. up a b (cases_lt a b) le inside)))
+  where
+    up : (a b : ℕ) → (a < b) ⊎ (b ≤ a) → a ≤ b → b < length indices → get_or indices a 0 ≤ get_or indices b 0
+    up a b (inl less) le inside = let r = rises a b 0 less inside in omega (arith, r)
+    up a b (inr same) le inside = let e : a ≡ b = omega (arith, same, le) in rw e (omega arith)
+
+    by : (r : Result ℕ ℕ) → MatchResult r (λ i. (i < length indices) × (get_or indices i 0 ≡ j))
+        (λ i. (i ≤ length indices) × ((k : ℕ) → k < i → get_or indices k 0 < j)
+        × ((k : ℕ) → i ≤ k → k < length indices → j < get_or indices k 0))
+        → IsPlace indices j (result_ok r)
+    by (Ok p) at = at
+    by (Err i) at = λ k inside e. elim (cases_lt k i) [
+      | inl less ↦ let l = at.1 k less in absurd (omega (arith, l, e))
+      | inr more ↦ let l = at.2 k more inside in absurd (omega (arith, l, e))
+    ]

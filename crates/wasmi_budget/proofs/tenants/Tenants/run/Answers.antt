@@ -1,0 +1,54 @@
+use Rattle.std.proofs.Common.{◌≡◌, ◌∙◌, Err, Ok, Result, refl, rules, sym}
+use Rattle.std.specs.Prelude.{OnErr}
+use Rattle.std.proofs.lemmas.Option.{none-some}
+use Rattle.wasmi_budget.specs.declared.error.PoolError.TheVariants.{OutOfMemory}
+use Rattle.wasmi_budget.proofs.TenantsLemmas.{its_value, no_value, set_value, value_put_back}
+use Rattle.wasmi_budget.proofs.tenants.Tenants.run.Goals as goal
+
+pub returns-in_default-clause-no_tenant : goal.returns-in_default-clause-no_tenant
+returns-in_default-clause-no_tenant c = (
+  λ _. no_value _ _ _ c.self.invariant _ c.self.view_is _ c.deref.ensures.value _ c.in_default.ensures,
+  λ _. refl,
+)
+
+pub run-requires : goal.run-requires
+run-requires c = record {
+  totals = c.requires.totals _ (its_value _ _ _ c.self.invariant _ c.self.view_is _ c.deref.ensures.value _ _
+      c.in-Some.ensures _ c.index_mut-machine.ensures.value);
+}
+
+pub returns-in_err-replies-clause-no_tenant : goal.returns-in_err-replies-clause-no_tenant
+returns-in_err-replies-clause-no_tenant c =
+    let there = its_value _ _ _ c.self.invariant _ c.self.view_is _ c.deref.ensures.value _ _ c.in-Some.ensures _
+    c.index_mut-machine.ensures.value in
+    let refused : c.from_residual.result ≡ Err OutOfMemory = search rules in
+    (λ error. absurd cc, λ none. absurd (none-some _ (sym none ∙ there)))
+
+-- what holds holds after an error
+always_err : {T E P : Type 0} (r : Result T E) → P → OnErr r P
+always_err (Ok x) p = tt
+always_err (Err e) p = p
+
+pub returns-in_err-replies-clause-refused : goal.returns-in_err-replies-clause-refused
+returns-in_err-replies-clause-refused c = always_err c.from_residual.result (
+  value_put_back _ _ _ c.self.invariant _ c.self.view_is _ _ _ c.in_err-replies.ensures.err.0
+      c.index_mut-machine.ensures.value,
+  c.in_err-replies.ensures.err.1,
+)
+
+pub returns-clause-ran : goal.returns-clause-ran
+returns-clause-ran c = record {
+  machine = _;
+  found = its_value _ _ _ c.self.invariant _ c.self.view_is _ c.deref.ensures.value _ _ c.in-Some.ensures _
+      c.index_mut-machine.ensures.value;
+  machine' = c.run.new.self;
+  ran = c.in_ok-replies.ensures.run;
+  after = set_value _ _ _ c.self.invariant _ c.self.view_is _ c.deref.ensures.value _ _ c.in-Some.ensures _;
+  held = c.run.ensures.held;
+}
+
+pub returns-clause-no_tenant : goal.returns-clause-no_tenant
+returns-clause-no_tenant c =
+    let there = its_value _ _ _ c.self.invariant _ c.self.view_is _ c.deref.ensures.value _ _ c.in-Some.ensures _
+    c.index_mut-machine.ensures.value in
+    (λ error. absurd cc, λ none. absurd (none-some _ (sym none ∙ there)))

@@ -1,0 +1,126 @@
+//! The machines of a pool at their indices.
+ghost use Rattle.std.specs.Prelude.{◌≡◌, ◌∷◌, ◌++◌, ◌↔◌, [], length, slice_index_or, slice_set, None, Some, MatchOption, IfOk, IfErr, OnErr, OnOk, IsErrOf};
+ghost use Rattle.std.specs.Option.{option_copied};
+ghost use Rattle.wasmi_machine.specs.State.{State, HoldsTotals};
+ghost use Rattle.wasmi_budget.specs.Pool.{holdings, RunsMachine};
+ghost use Rattle.wasmi_budget.specs.Tenants.{IsPlace, Rises};
+
+use crate::error::PoolError;
+use crate::tenant::{CountedMachine, Tenant};
+use std::alloc::Global as Allocator;
+use std::marker::Model;
+use wasmi_machine::{Call, Reply};
+
+/// The place of an index among rising ones, if it is one of them.
+fn place_of(indices: &[usize], index: usize) -> Option<usize>
+    requires rises { Rises indices.now }
+    ensures { IsPlace indices.now index result }
+{
+    indices.binary_search(&index).ok()
+}
+
+/// Machines at indices that are given in their order, each once. One that was removed keeps no
+/// memory.
+#[derive(Debug, Drop)]
+pub(crate) struct Tenants<'r> {
+    /// The next index that is given.
+    next: usize,
+    /// The indices of the machines, which rise.
+    indices: Vec<usize>,
+    machines: Vec<CountedMachine<'r>>,
+}
+
+impl<'r> Model for Tenants<'r> {
+    ghost use Rattle.std.specs.Prelude.{List, Option};
+    ghost use Rattle.wasmi_machine.specs.State.{State};
+    ghost use Rattle.wasmi_budget.specs.Tenants.{by_index, IsListed};
+
+    ghost Value = { List (Option State) };
+
+    ghost view = { λ t. by_index t.next t.indices.items t.machines.items };
+
+    ghost invariant = { λ t. IsListed t.next t.indices.items t.machines.items };
+}
+
+impl<'r> Tenants<'r> {
+    /// No index was given yet. It takes no memory.
+    pub(crate) fn new(alloc: Allocator) -> Self
+        ensures { result ≡ [] }
+    {
+        Tenants {
+            next: 0,
+            indices: Vec::new(alloc),
+            machines: Vec::new(alloc),
+        }
+    }
+
+    /// How many indices were given.
+    pub(crate) fn len(&self) -> usize
+        ensures { result ≡ length self.now }
+    {
+        self.next
+    }
+
+    /// The machine at an index, if there is one.
+    pub(crate) fn get(&self, index: usize) -> Option<&CountedMachine<'r>>
+        ensures { option_copied result ≡ slice_index_or self.now index None }
+    {
+        let place = place_of(&self.indices, index)?;
+        Some(&self.machines[place])
+    }
+
+    /// Puts a machine at the next index, or hands it back if memory is refused or no index is left.
+    pub(crate) fn push(&mut self, machine: CountedMachine<'r>) -> Result<(), CountedMachine<'r>>
+        ensures added { OnOk result (self.new ≡ self.old ++ Some machine.entry ∷ []) }
+        ensures refused { IfErr result
+            (λ back. (back ≡ machine.entry) × (self.new ≡ self.old)) }
+    {
+        let index = self.next;
+        let Some(next) = index.checked_add(1) else {
+            return Err(machine);
+        };
+        if self.indices.try_reserve(1).is_err() || self.machines.try_reserve(1).is_err() {
+            return Err(machine);
+        }
+        self.indices.push_reserved(index);
+        self.machines.push_reserved(machine);
+        self.next = next;
+        Ok(())
+    }
+
+    /// Takes the machine at an index out, if there is one.
+    pub(crate) fn remove(&mut self, index: usize) -> Option<CountedMachine<'r>>
+        ensures { MatchOption result
+            ((slice_index_or self.old index None ≡ None) × (self.new ≡ self.old))
+            (λ machine. (slice_index_or self.old index None ≡ Some machine)
+            × (self.new ≡ slice_set self.old index None)) }
+    {
+        let place = place_of(&self.indices, index)?;
+        self.indices.remove(place);
+        Some(self.machines.remove(place))
+    }
+
+    /// Executes calls on the machine at an index, under a tenant that holds what the machine has.
+    pub(crate) fn run(
+        &mut self,
+        index: usize,
+        calls: &[Call],
+        tenant: &mut Tenant,
+    ) -> Result<Vec<Reply>, PoolError>
+        requires totals { (s : State) → slice_index_or self.old index None ≡ Some s
+            → HoldsTotals (holdings tenant.old) s }
+        ensures ran { IfOk result
+            (λ replies. RunsMachine self.old index tenant.old calls.now replies.items self.new
+            tenant.new) }
+        ensures no_tenant { IsErrOf result PoolError.NoTenant
+            ↔ (slice_index_or self.old index None ≡ None) }
+        ensures refused { OnErr result ((self.new ≡ self.old) × (tenant.new ≡ tenant.old)) }
+    {
+        let Some(place) = place_of(&self.indices, index) else {
+            return Err(PoolError::NoTenant);
+        };
+        let machine = &mut self.machines[place];
+        let replies = machine.run(calls, tenant)?;
+        Ok(replies)
+    }
+}
