@@ -3023,12 +3023,15 @@ pub mod memory {
         MemoryNumbers, MeterNumbers, QuotaNumbers, Range, type_or_return,
     };
     use crate::generated::c::status::{
-        ASKS, DONE, INVALID_STATE, MEMORY_ACCESS, MEMORY_GROWTH, OTHER_SIZE, memory_refusal,
-        memory_status,
+        ASKS, DONE, INVALID_STATE, MEMORY_ACCESS, MEMORY_GROWTH, NOT_HELD, OTHER_SIZE,
+        memory_refusal, memory_status,
     };
-    use crate::proved::meter::{MemoryError, ResourceLimiter, ResourceLimiterRef};
+    use crate::proved::meter::{Kind, MemoryError, ResourceLimiter, ResourceLimiterRef};
     use crate::proved::region::memory as region_memory;
     use crate::proved::store::MemoryType;
+
+    /// The binary logarithm of the size of a page that no memory has.
+    const NO_PAGE_SIZE: u8 = 255;
 
     /// Makes a memory of this type under a limiter, as [`memory::make`](crate::proved::region::memory::make) does.
     ///
@@ -3150,6 +3153,29 @@ pub mod memory {
     ) -> u8 {
         type_or_return!(ty, memory, region);
         grow_under(memory, ty, region, pages, meter, quota, number)
+    }
+
+    /// Ends a memory: the quota gives up its bytes, and the numbers stand for no memory from then on. If
+    /// less is held, nothing is written.
+    ///
+    /// # Contract
+    ///
+    /// ```text
+    /// ensures ended: EndsMemory (placed memory.old region.now) (limiter_of quota.old) result
+    ///     memory.new (limiter_of quota.new)
+    /// ensures quota: KeepsQuota quota.old quota.new
+    /// ensures none: result ≡ DONE → IsNoType memory.new
+    /// ensures refused: (result ≡ DONE → ⊥) → quota.new ≡ quota.old
+    /// ```
+    #[inline]
+    pub fn release(memory: &mut MemoryNumbers, region: &[u8], quota: &mut QuotaNumbers) -> u8 {
+        type_or_return!(_ty, memory, region);
+        if !quota.release(Kind::Bytes, memory.size as u64) {
+            return NOT_HELD;
+        }
+        memory.size = 0;
+        memory.page_size_log2 = NO_PAGE_SIZE;
+        DONE
     }
 
     /// What a growth by so many pages asks a limiter, with the status `ASKS`; it asks nothing where it
@@ -3643,6 +3669,29 @@ pub mod numbers {
             Some(Quota::resume(caps, Holdings::resume(held, last)))
         }
 
+        /// Gives up what ended, if so much is held; without a quota nothing is. Returns whether it did
+        /// so: if not, nothing is written.
+        ///
+        /// # Contract
+        ///
+        /// ```text
+        /// ensures released: ReleasesIf kind amount (limiter_of self.old) result
+        ///     (limiter_of self.new)
+        /// ensures kept: KeepsQuota self.old self.new
+        /// ensures refused: IsFalse result → self.new ≡ self.old
+        /// ```
+        #[inline]
+        pub fn release(&mut self, kind: Kind, amount: u64) -> bool {
+            let Some(mut quota) = self.quota() else {
+                return true;
+            };
+            if !quota.release(kind, amount) {
+                return false;
+            }
+            self.store(&quota);
+            true
+        }
+
         /// Stores what a quota that is on has become; the flag stays.
         ///
         /// # Contract
@@ -3912,6 +3961,22 @@ pub mod pool {
             match self.pool.add(Machine::new(limits.fuel())) {
                 Ok(index) => ReplyStruct::with_number(DONE, index as u64),
                 Err(_) => ReplyStruct::only(NO_ROOM),
+            }
+        }
+
+        /// Removes a tenant and ends its machine, if there is one.
+        ///
+        /// # Contract
+        ///
+        /// ```text
+        /// ensures step: RemovesByStatus tenant result self.old self.new
+        /// ensures caps: self.new.caps ≡ self.old.caps
+        /// ```
+        #[inline]
+        pub fn remove(&mut self, tenant: usize) -> u8 {
+            match self.pool.remove(tenant) {
+                Some(_machine) => DONE,
+                None => NO_TENANT,
             }
         }
 
@@ -4200,6 +4265,8 @@ pub mod status {
     pub const ASKS: u8 = 97;
     /// The limiter was asked about another size.
     pub const OTHER_SIZE: u8 = 98;
+    /// A quota holds less than what a memory or a table that ends has.
+    pub const NOT_HELD: u8 = 99;
     /// No lane has the index.
     pub const NO_LANE: u8 = 253;
     /// The arrays differ in length.
@@ -4296,12 +4363,15 @@ pub mod table {
         MeterNumbers, QuotaNumbers, Range, TableNumbers, type_or_return,
     };
     use crate::generated::c::status::{
-        ASKS, DONE, INVALID_STATE, NO_ELEMENT, OTHER_SIZE, TABLE_GROWTH, table_refusal,
+        ASKS, DONE, INVALID_STATE, NO_ELEMENT, NOT_HELD, OTHER_SIZE, TABLE_GROWTH, table_refusal,
         table_status,
     };
-    use crate::proved::meter::{ResourceLimiter, ResourceLimiterRef, TableError};
+    use crate::proved::meter::{Kind, ResourceLimiter, ResourceLimiterRef, TableError};
     use crate::proved::region::table as region_table;
     use crate::proved::store::TableType;
+
+    /// The number of a type that isn't one of references.
+    const NO_REFERENCES: u8 = 0;
 
     /// Makes a table of this type under a limiter, as [`table::make`](crate::proved::region::table::make) does.
     ///
@@ -4430,6 +4500,29 @@ pub mod table {
     ) -> u8 {
         type_or_return!(ty, table, region);
         grow_under(table, ty, region, delta, reference, meter, quota, number)
+    }
+
+    /// Ends a table: the quota gives up its elements, and the numbers stand for no table from then on.
+    /// If fewer are held, nothing is written.
+    ///
+    /// # Contract
+    ///
+    /// ```text
+    /// ensures ended: EndsTable (placed table.old region.now) (limiter_of quota.old) result table.new
+    ///     (limiter_of quota.new)
+    /// ensures quota: KeepsQuota quota.old quota.new
+    /// ensures none: result ≡ DONE → table_type_of table.new ≡ None
+    /// ensures refused: (result ≡ DONE → ⊥) → quota.new ≡ quota.old
+    /// ```
+    #[inline]
+    pub fn release(table: &mut TableNumbers, region: &[u32], quota: &mut QuotaNumbers) -> u8 {
+        type_or_return!(_ty, table, region);
+        if !quota.release(Kind::Elements, table.size as u64) {
+            return NOT_HELD;
+        }
+        table.size = 0;
+        table.ty = NO_REFERENCES;
+        DONE
     }
 
     /// What a growth by so many elements asks a limiter, with the status `ASKS`; it asks nothing where

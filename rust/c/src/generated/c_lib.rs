@@ -885,6 +885,18 @@ mod machine {
     /// # Contract
     ///
     /// ```text
+    /// ensures step: ActsOnHeld NO_POOL handle.old.pool.held result handle.new.pool.held
+    ///     (RemovesByStatus tenant result)
+    /// ensures caps: KeepsCaps handle.old.pool.held handle.new.pool.held
+    /// ```
+    #[unsafe(no_mangle)]
+    pub extern "C" fn wasmi_pool_remove(handle: &mut PoolHandle, tenant: usize) -> u8 {
+        on_pool!(handle, NO_POOL, pool => pool.remove(tenant))
+    }
+
+    /// # Contract
+    ///
+    /// ```text
     /// ensures step: ActsOnHeld (only NO_POOL) handle.old.pool.held result handle.new.pool.held
     ///     (TenantRepliesToStruct tenant call.now result)
     /// ensures caps: KeepsCaps handle.old.pool.held handle.new.pool.held
@@ -1047,6 +1059,27 @@ mod memory {
         let region = unsafe { crate::memory::items_mut(region, region_len) };
 
         on_memory::grow(memory, region, pages, meter, quota, number)
+    }
+
+    /// # Contract
+    ///
+    /// ```text
+    /// ensures ended: EndsMemory (placed memory.old region.now) (limiter_of quota.old) result
+    ///     memory.new (limiter_of quota.new)
+    /// ensures quota: KeepsQuota quota.old quota.new
+    /// ensures none: result ≡ DONE → IsNoType memory.new
+    /// ensures refused: (result ≡ DONE → ⊥) → quota.new ≡ quota.old
+    /// ```
+    #[unsafe(no_mangle)]
+    pub unsafe extern "C" fn wasmi_quota_release_memory(
+        quota: &mut QuotaNumbers,
+        memory: &mut MemoryNumbers,
+        region: *const u8,
+        region_len: usize,
+    ) -> u8 {
+        let region = unsafe { crate::memory::items(region, region_len) };
+
+        on_memory::release(memory, region, quota)
     }
 
     /// # Contract
@@ -2362,6 +2395,27 @@ mod table {
         let region = unsafe { crate::memory::items_mut(region, region_len) };
 
         on_table::grow(table, region, delta, reference, meter, quota, number)
+    }
+
+    /// # Contract
+    ///
+    /// ```text
+    /// ensures ended: EndsTable (placed table.old region.now) (limiter_of quota.old) result table.new
+    ///     (limiter_of quota.new)
+    /// ensures quota: KeepsQuota quota.old quota.new
+    /// ensures none: result ≡ DONE → table_type_of table.new ≡ None
+    /// ensures refused: (result ≡ DONE → ⊥) → quota.new ≡ quota.old
+    /// ```
+    #[unsafe(no_mangle)]
+    pub unsafe extern "C" fn wasmi_quota_release_table(
+        quota: &mut QuotaNumbers,
+        table: &mut TableNumbers,
+        region: *const u32,
+        region_len: usize,
+    ) -> u8 {
+        let region = unsafe { crate::memory::items(region, region_len) };
+
+        on_table::release(table, region, quota)
     }
 
     /// # Contract
