@@ -14,7 +14,7 @@ use wasmi_machine::{Call, Reply};
 /// The place of an index among rising ones, if it is one of them.
 fn place_of(indices: &[usize], index: usize) -> Option<usize>
     requires rises { Rises indices.now }
-    ensures { IsPlace indices.now index result }
+    ensures found { IsPlace indices.now index result }
 {
     indices.binary_search(&index).ok()
 }

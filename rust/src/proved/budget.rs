@@ -586,7 +586,7 @@ mod tenants {
     ///
     /// ```text
     /// requires rises: Rises indices.now
-    /// ensures: IsPlace indices.now index result
+    /// ensures found: IsPlace indices.now index result
     /// ```
     ///
     /// Definitions: [`Rises`](crate::specs::budget::TenantsSpecs#Rises), [`IsPlace`](crate::specs::budget::TenantsSpecs#IsPlace).
