@@ -26,10 +26,11 @@ extern "C" {
 
 /* The version of this header and the others beside it: MAJOR counts what breaks a program, and MINOR what is new, such
    as a call or a status. 1.0.0 had this header without a version, 1.1.0 came with wasmi_machine.h and wasmi_memory.h,
-   1.2.0 with wasmi_instructions.h, and 1.3.0 with the pools of wasmi_machine.h. */
-#define WASMI_CORE_VERSION "1.3.0"
+   1.2.0 with wasmi_instructions.h, 1.3.0 with the pools of wasmi_machine.h, and 1.4.0 with its writes over a range of a
+   memory. */
+#define WASMI_CORE_VERSION "1.4.0"
 #define WASMI_CORE_VERSION_MAJOR 1
-#define WASMI_CORE_VERSION_MINOR 3
+#define WASMI_CORE_VERSION_MINOR 4
 #define WASMI_CORE_VERSION_PATCH 0
 
 /* A value: an item of up to 64 bits in lo, or bits 0 to 63 and bits 64 to 127 of a vector. An instruction on 32 bits
