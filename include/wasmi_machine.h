@@ -136,7 +136,10 @@ enum {
     WASMI_CALL_TERNARY = 25,      /* op, a, b, c, dst */
     WASMI_CALL_EXTRACT_LANE = 26, /* op, lane, a -> value */
     WASMI_CALL_REPLACE_LANE = 27, /* op, lane, a, b (the item), dst */
-    WASMI_CALL_SHUFFLE = 28       /* lanes, a, b, dst: byte i of the result is the byte of lane lanes[i] */
+    WASMI_CALL_SHUFFLE = 28,      /* lanes, a, b, dst: byte i of the result is the byte of lane lanes[i] */
+    /* Writes over count bytes of a memory from to on, for fuel: MEMORY_ACCESS, then MEMORY_OUT_OF_FUEL. */
+    WASMI_CALL_FILL_MEMORY = 29,  /* index, to, count, value: its lowest byte */
+    WASMI_CALL_COPY_MEMORY = 30   /* index, to, source (a memory, this one too), from, count */
 };
 
 /* Value types. */

@@ -9,7 +9,7 @@
 #include <pthread.h>
 #include <stdarg.h>
 
-enum { PAGE = 65536, TEXT = 1 << 16, SEQUENCE = 60, THREADS = 4, KINDS = 29, REGISTERS = 5, MOST_LINE = 512 };
+enum { PAGE = 65536, TEXT = 1 << 16, SEQUENCE = 60, THREADS = 4, KINDS = 31, REGISTERS = 5, MOST_LINE = 512 };
 enum { MOST_ANSWERS = 24, FRONT = 1024 };
 
 static _Thread_local long calls;
@@ -138,6 +138,10 @@ static char *memory_line(char *at, const wasmi_call *c) {
             return put(at, " %d %d", c->page_size_log2, c->is_64 ? 64 : 32);
         case WASMI_CALL_GROW_MEMORY: return put(at, "grow %zu" U, c->index, c->count);
         case WASMI_CALL_DROP_MEMORY: return put(at, "drop memory %zu", c->index);
+        case WASMI_CALL_FILL_MEMORY:
+            return put(at, "mfill %zu" U " %d" U, c->index, c->to, (int)(c->value.lo & 255), c->count);
+        case WASMI_CALL_COPY_MEMORY:
+            return put(at, "mcopy %zu" U " %zu" U U, c->index, c->to, c->source, c->from, c->count);
         case WASMI_CALL_LOAD:
             return c->op < FIRST_VECTOR_LOAD
                 ? put(at, "load %s %zu" U U, NAME_OF(LOADS, c->op), c->index, c->ptr, c->offset)
@@ -216,7 +220,8 @@ static char *line_of(char *at, const wasmi_call *c) {
         case WASMI_CALL_SET_REGISTER: return put(at, "set %d" U U, c->dst, c->value.lo, c->value.hi);
         case WASMI_CALL_GET_REGISTER: return put(at, "show %d", c->a);
         default:
-            return c->kind <= WASMI_CALL_STORE_LANE  ? memory_line(at, c)
+            return c->kind == WASMI_CALL_FILL_MEMORY || c->kind == WASMI_CALL_COPY_MEMORY ? memory_line(at, c)
+                 : c->kind <= WASMI_CALL_STORE_LANE  ? memory_line(at, c)
                  : c->kind <= WASMI_CALL_DROP_ITEMS  ? table_line(at, c)
                  : c->kind <= WASMI_CALL_SHUFFLE     ? vector_line(at, c)
                                                      : put(at, "unknown");

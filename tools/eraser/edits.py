@@ -77,7 +77,7 @@ EDITS += [(module, f"pub enum {name} {{", f"#[non_exhaustive]\npub enum {name} {
 # arm of its own, LLVM makes one table of the two. Where all are named, rustc knows that there are no others, and tests nothing.
 GROUPS = {
     "step_memory(call, limiter).unwrap_or(Reply::NoSuch)":
-        "NewMemory(_) NewLentMemory(_) GrowMemory{..} DropMemory(_) Read{..} Write{..} Load{..} Store{..}",
+        "NewMemory(_) NewLentMemory(_) GrowMemory{..} DropMemory(_) Read{..} Write{..} Load{..} Store{..} FillMemory{..} CopyMemory{..}",
     "step_table(call, limiter).unwrap_or(Reply::NoSuch)":
         "NewTable{..} GrowTable{..} DropTable(_) GetElement{..} SetElement{..} InitTable{..} CopyTable{..} FillTable{..}",
 }

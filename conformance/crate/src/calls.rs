@@ -15,6 +15,8 @@ pub enum Call {
     Write { memory: usize, offset: usize, bytes: Vec<u8> },
     Load { op: Load, memory: usize, ptr: u64, offset: u64 },
     Store { op: Store, memory: usize, ptr: u64, offset: u64, value: RawVal },
+    FillMemory { memory: usize, dst: u64, value: u8, len: u64 },
+    CopyMemory { dst_memory: usize, dst: u64, src_memory: usize, src: u64, len: u64 },
     NewTable { ty: TableType, init: TypedRawRef },
     GrowTable { table: usize, delta: u64, init: TypedRawRef },
     DropTable(usize),

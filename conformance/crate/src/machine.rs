@@ -1,7 +1,8 @@
 //! The machine of a run: the crate's own memories, tables, element segments, globals and meter, and sixteen registers.
 use crate::calls::{Call, Reply, Reply::*};
+use std::ops::Range;
 use wasmi_core::{
-    ElementSegment, Fuel, Global, Memory, MemoryError, MemoryType, RawVal, ReadAs, RefType, ResourceLimiter,
+    ElementSegment, Fuel, FuelError, Global, Memory, MemoryError, MemoryType, RawVal, ReadAs, RefType, ResourceLimiter,
     ResourceLimiterRef, Table, V128, simd,
 };
 
@@ -44,6 +45,20 @@ macro_rules! given {
             Err(error) => return error.into(),
         }
     };
+}
+
+/// The places of so many bytes from one on, if they lie within a list of so many.
+fn range_of(from: u64, len: u64, size: usize) -> Option<Range<usize>> {
+    let end = from.checked_add(len).filter(|&end| end <= size as u64)?;
+    Some(from as usize..end as usize)
+}
+
+/// Takes the fuel for so many bytes. A meter that is off takes nothing.
+fn charged(fuel: &mut Fuel, len: u64) -> Result<(), MemoryError> {
+    match fuel.consume_fuel_if(|costs| costs.fuel_for_copying_values::<u8>(len)) {
+        Err(FuelError::OutOfFuel { required_fuel }) => Err(MemoryError::OutOfFuel { required_fuel }),
+        Ok(_) | Err(FuelError::FuelMeteringDisabled) => Ok(()),
+    }
 }
 
 /// What there is of a memory.
@@ -215,6 +230,25 @@ impl Machine {
             }
             Call::Store { op, memory, ptr, offset, value } => {
                 given!(op.store(live!(self.memories.get_mut(memory)).memory.data_mut(), ptr, offset, value));
+                Done
+            }
+            // The crate has no bulk writes of memories: a plain model of the standard's, charged as its writes of tables are.
+            Call::FillMemory { memory, dst, value, len } => {
+                let data = live!(self.memories.get_mut(memory)).memory.data_mut();
+                let Some(range) = range_of(dst, len, data.len()) else { return Memory(MemoryError::OutOfBoundsAccess) };
+                given!(charged(&mut self.fuel, len));
+                data[range].fill(value);
+                Done
+            }
+            Call::CopyMemory { dst_memory, dst, src_memory, src, len } => {
+                let source = live!(self.memories.get(src_memory)).memory.data();
+                let bytes = range_of(src, len, source.len()).map(|range| source[range].to_vec());
+                let data = live!(self.memories.get_mut(dst_memory)).memory.data_mut();
+                let (Some(bytes), Some(range)) = (bytes, range_of(dst, len, data.len())) else {
+                    return Memory(MemoryError::OutOfBoundsAccess);
+                };
+                given!(charged(&mut self.fuel, len));
+                data[range].copy_from_slice(&bytes);
                 Done
             }
             Call::NewTable { ty, init } => {

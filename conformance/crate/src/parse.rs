@@ -89,6 +89,10 @@ fn command(first: &[u8], w: &mut Words<'_>) -> Option<Call> {
         },
         b"read" => Call::Read { memory: w.num()?, offset: w.num()?, len: w.num()? },
         b"write" => Call::Write { memory: w.num()?, offset: w.num()?, bytes: w.nums()? },
+        b"mfill" => Call::FillMemory { memory: w.num()?, dst: w.num()?, value: w.num()?, len: w.num()? },
+        b"mcopy" => {
+            Call::CopyMemory { dst_memory: w.num()?, dst: w.num()?, src_memory: w.num()?, src: w.num()?, len: w.num()? }
+        }
         b"load" => Call::Load { op: w.op(calls::LOAD)?, memory: w.num()?, ptr: w.num()?, offset: w.num()? },
         b"store" => Call::Store {
             op: w.op(calls::STORE)?,

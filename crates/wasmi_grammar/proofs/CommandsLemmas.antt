@@ -72,6 +72,8 @@ forms =
     (codes "fill", elements_form) ∷
     (codes "grow", made (ℕ × ℕ) (λ a. call.GrowMemory a.0 a.1)) ∷
     (codes "read", made (ℕ × ℕ × ℕ) (λ a. call.Read a.0 a.1 a.2)) ∷
+    (codes "mfill", made (ℕ × ℕ × ℕ × ℕ) (λ a. call.FillMemory a.0 a.1 a.2 a.3)) ∷
+    (codes "mcopy", made (ℕ × ℕ × ℕ × ℕ × ℕ) (λ a. call.CopyMemory a.0 a.1 a.2 a.3 a.4)) ∷
     (codes "load", made (LoadOp × ℕ × ℕ × ℕ) (λ a. call.Load a.0 a.1 a.2 a.3)) ∷
     (codes "store", made (StoreOp × ℕ × ℕ × ℕ × RawVal) (λ a. call.Store a.0 a.1 a.2 a.3 a.4)) ∷
     (codes "get", made (ℕ × ℕ) (λ a. call.GetElement a.0 a.1)) ∷
@@ -117,6 +119,8 @@ form words (call.FillTable table dst value len) w =
     ((table, dst, value.ty, value.raw, len), (w.0, w.1, w.2, w.3.0, w.3.1, w.4))
 form words (call.GrowMemory memory pages) w = ((memory, pages), w)
 form words (call.Read memory offset len) w = ((memory, offset, len), w)
+form words (call.FillMemory memory dst value len) w = ((memory, dst, value, len), w)
+form words (call.CopyMemory dst_memory dst src_memory src len) w = ((dst_memory, dst, src_memory, src, len), w)
 form words (call.Load op memory ptr offset) w = ((op, memory, ptr, offset), w)
 form words (call.Store op memory ptr offset value) w = ((op, memory, ptr, offset, value), w)
 form words (call.GetElement table index) w = ((table, index), w)

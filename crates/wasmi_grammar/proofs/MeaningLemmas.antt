@@ -24,7 +24,7 @@ use Rattle.wasmi_ops.specs.LoadStoreOps.{load_name, store_name}
 use Rattle.wasmi_ops.specs.VectorOps.{make_name, unary_name, binary_name, ternary_name, shift_name, test_name, vector_load_name}
 use Rattle.wasmi_ops.specs.LaneOps.{extract_name, extract_op, replace_name, replace_op, load_lane_name, load_lane_op, store_lane_name, store_lane_op}
 use Rattle.wasmi_machine.specs.declared.calls.Call.{Call}
-use Rattle.wasmi_machine.specs.declared.calls.Call.TheVariants.{SetFuel, GetFuel, NewMemory, NewLentMemory, GrowMemory, DropMemory, Read, Write, Load, Store, NewTable, GrowTable, DropTable, GetElement, SetElement, InitTable, CopyTable, FillTable, NewSegment, DropItems, NewGlobal, SetGlobal, GetGlobal, SetRegister, GetRegister, Make, Unary, Binary, Ternary, Shift, Test, Extract, Replace, Shuffle, VectorLoad, LoadLane, VectorStore, StoreLane}
+use Rattle.wasmi_machine.specs.declared.calls.Call.TheVariants.{SetFuel, GetFuel, NewMemory, NewLentMemory, GrowMemory, DropMemory, Read, Write, Load, Store, FillMemory, CopyMemory, NewTable, GrowTable, DropTable, GetElement, SetElement, InitTable, CopyTable, FillTable, NewSegment, DropItems, NewGlobal, SetGlobal, GetGlobal, SetRegister, GetRegister, Make, Unary, Binary, Ternary, Shift, Test, Extract, Replace, Shuffle, VectorLoad, LoadLane, VectorStore, StoreLane}
 use Rattle.wasmi_grammar.specs.declared.script.Line.{Line}
 use Rattle.wasmi_grammar.specs.declared.script.Line.TheVariants.{Meter, Limiter, Region, As, Call as Command}
 use Rattle.wasmi_grammar.specs.Lines.{NamesLine, AddsLine, AddsWords}
@@ -122,6 +122,8 @@ module _ (words : LineWords) where
       (codes "grow", Some (Other (GrowMemory (number 0) (number 1)))) ∷
       (codes "read", Some (Other (Read (number 0) (number 1) (number 2)))) ∷
       (codes "write", Some (WriteMeaning (number 0) (number 1) (numbers_in (drop 2 words)))) ∷
+      (codes "mfill", Some (Other (FillMemory (number 0) (number 1) (number 2) (number 3)))) ∷
+      (codes "mcopy", Some (Other (CopyMemory (number 0) (number 1) (number 2) (number 3) (number 4)))) ∷
       (codes "load", by_name load.enum tt load_name (λ op. Load op (number 1) (number 2) (number 3))) ∷ (
         codes "store",
         by_name store.enum tt store_name (λ op. Store op (number 1) (number 2) (number 3) (raw_of (number 4))),
@@ -194,6 +196,10 @@ module _ (words : LineWords) where
   call_is (Read memory offset len) w = λ i. Some (Other (Read (sym w.1.1 i) (sym w.2.1 i) (sym w.3.1 i)))
   call_is (Write memory offset bytes) w = λ i.
       Some (WriteMeaning (sym w.0.1.1 i) (sym w.0.2.1 i) (numbers_is 8 (drop 2 words) bytes.items w.1 i))
+  call_is (FillMemory memory dst value len) w = λ i.
+      Some (Other (FillMemory (sym w.1.1 i) (sym w.2.1 i) (sym w.3.1 i) (sym w.4.1 i)))
+  call_is (CopyMemory dst_memory dst src_memory src len) w = λ i.
+      Some (Other (CopyMemory (sym w.1.1 i) (sym w.2.1 i) (sym w.3.1 i) (sym w.4.1 i) (sym w.5.1 i)))
   call_is (Load op memory ptr offset) w = λ i.
       option_map (λ op. Other (Load op (sym w.2.1 i) (sym w.3.1 i) (sym w.4.1 i)))
       (named_is load.enum tt load_name refl (word 0) op w.1 i)

@@ -73,6 +73,8 @@ command_word (call.Read memory offset len) = codes "read"
 command_word (call.Write memory offset bytes) = codes "write"
 command_word (call.Load op memory ptr offset) = codes "load"
 command_word (call.Store op memory ptr offset value) = codes "store"
+command_word (call.FillMemory memory dst value len) = codes "mfill"
+command_word (call.CopyMemory dst_memory dst src_memory src len) = codes "mcopy"
 command_word (call.NewTable ty init) = codes "table"
 command_word (call.GrowTable table delta init) = codes "tgrow"
 command_word (call.DropTable table) = codes "drop"
@@ -121,6 +123,12 @@ OperandsWrite count word (call.Load op memory ptr offset) = (count ≡ 4) × IsN
 OperandsWrite count word (call.Store op memory ptr offset value) = (count ≡ 5) × IsName store_name (word 0) op
     × WritesNumber 64 (word 1) memory × WritesNumber 64 (word 2) ptr × WritesNumber 64 (word 3) offset × (lo : ℕ)
     × WritesNumber 64 (word 4) lo × (value ≡ raw_of lo)
+OperandsWrite count word (call.FillMemory memory dst value len) = (count ≡ 4) × WritesNumber 64 (word 0) memory
+    × WritesNumber 64 (word 1) dst × WritesNumber 8 (word 2) value × WritesNumber 64 (word 3) len
+OperandsWrite count word (call.CopyMemory dst_memory dst src_memory src len) =
+    (count ≡ 5) × WritesNumber 64 (word 0) dst_memory
+    × WritesNumber 64 (word 1) dst × WritesNumber 64 (word 2) src_memory × WritesNumber 64 (word 3) src
+    × WritesNumber 64 (word 4) len
 OperandsWrite count word (call.NewTable ty init) =
     (count ≡ 6) × NamesTableType (word 0) (word 1) (word 2) (word 3) ty × WritesReference (word 4) (word 5) init
 OperandsWrite count word (call.GrowTable table delta init) = (count ≡ 4) × WritesNumber 64 (word 0) table
@@ -204,7 +212,7 @@ IsValueWord name = (name ≡ codes "fuel") ⊎ (name ≡ codes "left") ⊎ (name
 
 -- a word that a command of a memory begins with, or one that drops a memory or a table
 abbrev pub IsMemoryWord : List ℕ → Type 0
-IsMemoryWord name = (name ≡ codes "memory") ⊎ (name ≡ codes "lent") ⊎ (name ≡ codes "grow") ⊎ (name ≡ codes "drop") ⊎ (name ≡ codes "read")
+IsMemoryWord name = (name ≡ codes "memory") ⊎ (name ≡ codes "lent") ⊎ (name ≡ codes "grow") ⊎ (name ≡ codes "drop") ⊎ (name ≡ codes "read") ⊎ (name ≡ codes "mfill") ⊎ (name ≡ codes "mcopy")
 
 -- a word that a command begins with which loads or stores
 abbrev pub IsAccessWord : List ℕ → Type 0

@@ -34,7 +34,9 @@ pub(crate) fn command(alloc: Global, name: &str, operands: &[&str]) -> Result<Ca
         "fuel" | "left" | "global" | "gset" | "gget" | "set" | "show" => {
             values_call(name, operands)
         }
-        "memory" | "lent" | "grow" | "drop" | "read" => memory_call(name, operands),
+        "memory" | "lent" | "grow" | "drop" | "read" | "mfill" | "mcopy" => {
+            memory_call(name, operands)
+        }
         "load" | "store" | "vload" | "vloadlane" | "vstore" | "vstorelane" => {
             access_call(name, operands)
         }
@@ -99,6 +101,8 @@ fn memory_call(name: &str, operands: &[&str]) -> Result<Call, LineError>
         "lent" => Ok(Call::NewLentMemory(memory_type(operands)?)),
         "grow" => call!(operands, two => GrowMemory { memory, pages }),
         "read" => call!(operands, three => Read { memory, offset, len }),
+        "mfill" => call!(operands, four => FillMemory { memory, dst, value, len }),
+        "mcopy" => call!(operands, five => CopyMemory { dst_memory, dst, src_memory, src, len }),
         _ => drop_live(operands),
     }
 }

@@ -415,6 +415,7 @@ module _ (s t : State) where
       ap (λ slot. Told (load_reply op (ptr + offset) (option_and_then live_value slot))) same.0
   same_effect (call.GetElement k index) local same =
       ap (λ slot. Told (element_reply index (option_and_then live_value slot))) same.0
+  same_effect (call.CopyMemory k dst j src len) local same = absurd local
   same_effect (call.InitTable k j dst src len) local same = absurd local
   same_effect (call.CopyTable k dst j src len) local same = absurd local
   same_effect (call.GetGlobal k) local same = ap (λ global. Told (global_reply global)) same.0

@@ -3,12 +3,12 @@ use Rattle.std.proofs.Common.{Err, List, None, Ok, Option, Result, Some, [], ap,
 use Rattle.std.proofs.lemmas.List.Elements.{All-head, All-tail}
 use Rattle.std.specs.Prelude.{slice_get}
 use Rattle.wasmi_machine.proofs.EffectLemmas.{both_live, on_live}
-use Rattle.wasmi_machine.proofs.RangeLemmas.{source_range, value_kept}
+use Rattle.wasmi_machine.proofs.RangeLemmas.{byte_range, source_range, value_kept}
 use Rattle.wasmi_machine.specs.Effects.{MeteredSlots, WritesRangeAt, reply_of}
-use Rattle.wasmi_machine.specs.MemoryEffects.{CreatesLent}
+use Rattle.wasmi_machine.specs.MemoryEffects.{ByteSource, CreatesLent, byte_write_of}
 use Rattle.wasmi_machine.specs.RegisterEffects.{StoresVectorAt, SetsAt}
 use Rattle.wasmi_machine.specs.State.{MemoryPart, State, memory_part, with_globals, with_registers, with_segments, byte_count, Turn, World}
-use Rattle.wasmi_machine.specs.Steps.{BytesRead, BytesStored, BytesWritten, Change, Changed, Effect, ElementSet, FuelSet, GlobalMade, GlobalSet, ItemsDropped, LentMemoryMade, MemoryDropped, MemoryGrown, MemoryMade, RangeWritten, RegisterSet, SegmentMade, Step, TableDropped, TableGrown, TableMade, TableWritten, HasChange, HasEffect, Told, effect_of}
+use Rattle.wasmi_machine.specs.Steps.{BytesRead, BytesStored, BytesWritten, Change, Changed, Effect, ElementSet, FuelSet, GlobalMade, GlobalSet, ItemsDropped, LentMemoryMade, MemoryDropped, MemoryGrown, MemoryMade, RangeWritten, RegisterSet, SegmentMade, Step, TableDropped, TableGrown, TableMade, MemoryWritten, TableWritten, HasChange, HasEffect, Told, effect_of}
 use Rattle.wasmi_machine.specs.TableEffects.{Source, write_of}
 use Rattle.wasmi_machine.specs.ValueEffects.{CreatesGlobal, CreatesSegment}
 use Rattle.wasmi_machine.specs.declared.calls.Call.{Call}
@@ -241,6 +241,18 @@ range_parts k source dst len s reply charge s' writes =
     (λ x x' result acts. same_table None k x x'
     (value_kept w h.0 (λ x. (refl, refl)) (with_value s x) result charge (with_value s' x') acts).0) h.1)
 
+-- a range of a memory that is written over
+byte_parts : (k : ℕ) (source : ByteSource) (dst len : ℕ) (s : MeteredSlots MemoryValue) (reply : Reply) (charge : ℕ)
+    (s' : MeteredSlots MemoryValue) → WritesRangeAt replied.Memory k (byte_write_of source dst len) s reply charge s'
+    → EachAfter (λ j. May (Some (MemoryAt k)) None (MemoryAt j)) s.value s'.value
+byte_parts k source dst len s reply charge s' writes =
+    let write = byte_write_of source dst len in
+    on_live write _ _ (both_live write _ _ _ _ (byte_range source dst len) writes)
+    (λ missing. unchanged _ s.value s'.value (ap (λ (t : MeteredSlots MemoryValue). t.value) missing.1.2))
+    (λ w found h. slot_acted _ k (reply_of (λ _. replied.Done) replied.Memory) (WritesCharging w) s s' reply charge
+    (λ x x' result acts. same_memory None k x x'
+    (value_kept w h.0 (λ x. (refl, refl)) (with_value s x) result charge (with_value s' x') acts).0) h.1)
+
 -- the index at which a change may change what is there, and the one at which it drops it
 abbrev pub changed_by : Change → Option Location
 changed_by (BytesWritten k offset bytes) = Some (MemoryAt k)
@@ -266,6 +278,7 @@ changed_in (Changed change) = changed_by change
 changed_in (MemoryGrown k pages) = Some (MemoryAt k)
 changed_in (TableGrown k n init) = Some (TableAt k)
 changed_in (RangeWritten (TableWritten k source dst len)) = Some (TableAt k)
+changed_in (RangeWritten (MemoryWritten k source dst len)) = Some (MemoryAt k)
 changed_in effect = None
 
 -- dropped
@@ -361,6 +374,10 @@ module _ {S : Type 0} (rules : Rules S) (w : World S) (turn : Turn) (w' : World 
   effect_parts (RangeWritten (TableWritten k source dst len)) step = ends_in _ _ _ step.after
       (tables_change _ None w.state step.part step.meter
       (range_parts k source dst len (metered w.state.tables (Some w.state.meter)) turn.reply turn.charge
+      (metered step.part (Some step.meter)) step.effect))
+  effect_parts (RangeWritten (MemoryWritten k source dst len)) step = ends_in _ _ _ step.after
+      (memories_change _ None w.state step.part step.meter w.state.spare
+      (byte_parts k source dst len (metered w.state.memories (Some w.state.meter)) turn.reply turn.charge
       (metered step.part (Some step.meter)) step.effect))
 
   -- so in each turn, as its call names the indices

@@ -9,6 +9,7 @@ use Rattle.wasmi_machine.proofs.StoreLemmas.{acts_too, asks_too, changes_too}
 use Rattle.wasmi_typed.specs.declared.typed_ref.TypedRawRef.{TypedRawRef}
 use Rattle.wasmi_meter.specs.declared.error.TableError.{TableError}
 use Rattle.wasmi_meter.specs.declared.error.TableError.TheVariants as table_error
+use Rattle.wasmi_meter.specs.declared.error.MemoryError.TheVariants as memory_error
 use Rattle.wasmi_meter.specs.declared.fuel.CustomFuelCosts.{CustomFuelCosts}
 use Rattle.wasmi_meter.specs.Attempt.{AttemptOutcome, Unasked, Denied, Met, Failed, Follows, IsFirstCause, MayEnd, MeteredValue, Request, answer_of, covers, error_of_failure, optional_due, outcome_charge, with_value}
 use Rattle.wasmi_meter.specs.Limiter.{Rules, optional_rules}
@@ -26,12 +27,13 @@ use Rattle.wasmi_machine.specs.declared.calls.Reply.TheVariants as replied
 use Rattle.wasmi_machine.specs.declared.slots.Slot.{Slot}
 use Rattle.wasmi_machine.specs.Determinism.{AcceptsNotices}
 use Rattle.wasmi_machine.specs.Effects.{ActsAt, OnLive, WritesRangeAt, reply_of}
-use Rattle.wasmi_machine.specs.Steps.{Run, BytesRead, BytesWritten, Change, Changed, Effect, FuelSet, LentMemoryMade, MemoryGrown, MemoryMade, RangeWritten, Step, TableGrown, TableMade, TableWritten, HasChange, HasEffect, Told, effect_of}
+use Rattle.wasmi_machine.specs.Steps.{Run, BytesRead, BytesWritten, Change, Changed, Effect, FuelSet, LentMemoryMade, MemoryGrown, MemoryMade, RangeWritten, Step, TableGrown, TableMade, MemoryWritten, TableWritten, HasChange, HasEffect, Told, effect_of}
 use Rattle.wasmi_machine.specs.State.{State, live_at, Turn, World}
+use Rattle.wasmi_machine.specs.MemoryEffects.{byte_write_of}
 use Rattle.wasmi_machine.specs.TableEffects.{write_of}
 use Rattle.wasmi_machine.proofs.AccountLemmas.{Growing, after, before, growing, grows_takes}
 use Rattle.wasmi_machine.proofs.EffectLemmas.{both_live, on_live_too, on_test_too}
-use Rattle.wasmi_machine.proofs.RangeLemmas.{IsRange, KeepsTable, source_range}
+use Rattle.wasmi_machine.proofs.RangeLemmas.{IsRange, KeepsMemory, KeepsTable, byte_range, source_range}
 use Rattle.wasmi_laws.specs.Runs.{HasFuel, MoreFuelChangesNothing, NamesNoFuel, meter_with_more, world_with_more}
 
 module _ {V E : Type 0} (refusal : E → Reply) (e : Request V E) where
@@ -354,6 +356,15 @@ module _ (more : ℕ) {S : Type 0} (rules : Rules S) (accepts : AcceptsNotices r
       effect = range_richer more replied.Table KeepsTable _ table_error.OutOfFuel (λ n none. none) k
           (write_of source dst len) (source_range source dst len) w.state.tables w.state.meter turn.reply turn.charge
           step.part step.meter has step.effect;
+      wrote = step.wrote;
+      after = ap richer_world step.after;
+    }
+    effect_richer (RangeWritten (MemoryWritten k source dst len)) keeps step = record {
+      part = step.part;
+      meter = richer more step.meter;
+      effect = range_richer more replied.Memory KeepsMemory _ memory_error.OutOfFuel (λ n none. none) k
+          (byte_write_of source dst len) (byte_range source dst len) w.state.memories w.state.meter turn.reply
+          turn.charge step.part step.meter has step.effect;
       wrote = step.wrote;
       after = ap richer_world step.after;
     }

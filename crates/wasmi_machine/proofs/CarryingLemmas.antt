@@ -2,7 +2,7 @@
 use Rattle.std.proofs.Common.{List, Result, Some, [], ap, inl, inr, ℕ, ◌∷◌}
 use Rattle.wasmi_machine.proofs.EffectLemmas.{on_live_too, on_test_too}
 use Rattle.wasmi_machine.specs.Effects.{ActsAt, ActsMetered, Asks, Creates, reply_of}
-use Rattle.wasmi_machine.specs.Steps.{Run, BytesRead, Effect, LentMemoryMade, MemoryGrown, MemoryMade, RangeWritten, TableGrown, TableMade, TableWritten, HasEffect, Told, effect_of}
+use Rattle.wasmi_machine.specs.Steps.{Run, BytesRead, Effect, LentMemoryMade, MemoryGrown, MemoryMade, RangeWritten, TableGrown, TableMade, MemoryWritten, TableWritten, HasEffect, Told, effect_of}
 use Rattle.wasmi_machine.specs.State.{State, live_at, Turn, World}
 use Rattle.wasmi_machine.specs.declared.calls.Reply.{Reply}
 use Rattle.wasmi_machine.specs.declared.slots.Slot.{Slot}
@@ -163,6 +163,13 @@ module _ {S T : Type 0} (image : S → T) where
           pays_too step (acts_too k (reply_of replied.Number replied.Table) (GrowsTableCharging rules n init)
           (GrowsTableCharging rules' n init) (table_growth_too n init) _ _ turn.reply turn.charge step.effect)
       effect_carried (RangeWritten (TableWritten k source dst len)) step = record {
+        part = step.part;
+        meter = step.meter;
+        effect = step.effect;
+        wrote = step.wrote;
+        after = ap (carried image) step.after;
+      }
+      effect_carried (RangeWritten (MemoryWritten k source dst len)) step = record {
         part = step.part;
         meter = step.meter;
         effect = step.effect;

@@ -8,9 +8,9 @@ use Rattle.wasmi_machine.proofs.EffectLemmas.{Acted, HasOneEnding, HasOneOutcome
 use Rattle.wasmi_machine.proofs.StepsLemmas.{change_facts}
 use Rattle.wasmi_machine.proofs.RangeLemmas.{range_once}
 use Rattle.wasmi_machine.specs.Determinism.{IsNotOutOfMemory, AreNotOutOfMemory, IsDeterministic, IsOtherFailure, never_out_of_memory}
-use Rattle.wasmi_machine.specs.MemoryEffects.{CreatesLent, spare_after}
+use Rattle.wasmi_machine.specs.MemoryEffects.{CreatesLent, spare_after, byte_write_of}
 use Rattle.wasmi_machine.specs.Effects.{ActsMetered, ActsMeteredUnasked, Asks, Changes, Creates, OnlyReplies, reply_of}
-use Rattle.wasmi_machine.specs.Steps.{Run, BytesRead, Changed, Effect, FuelSet, LentMemoryMade, MemoryGrown, MemoryMade, RangeWritten, TableGrown, TableMade, TableWritten, HasEffect, Told, effect_of}
+use Rattle.wasmi_machine.specs.Steps.{Run, BytesRead, Changed, Effect, FuelSet, LentMemoryMade, MemoryGrown, MemoryMade, RangeWritten, TableGrown, TableMade, MemoryWritten, TableWritten, HasEffect, Told, effect_of}
 use Rattle.wasmi_machine.specs.State.{MemoryPart, State, memory_part, Turn, World}
 use Rattle.wasmi_machine.specs.TableEffects.{write_of}
 use Rattle.wasmi_machine.specs.declared.calls.Call.{Call}
@@ -296,6 +296,8 @@ module _ {S : Type 0} (rules : Rules S) (once : IsDeterministic rules) (w : Worl
       (table_growth_same once n init) k (reply_of replied.Number replied.Table) _)
   effect_same (RangeWritten (TableWritten k source dst len)) step step' =
       unasked_unique w t t' v v' step step' (range_once replied.Table k (write_of source dst len) _)
+  effect_same (RangeWritten (MemoryWritten k source dst len)) step step' =
+      unasked_unique w t t' v v' step step' (range_once replied.Memory k (byte_write_of source dst len) _)
 
 module _ {S : Type 0} (rules : Rules S) (once : IsDeterministic rules) where
   -- two runs

@@ -6,26 +6,27 @@ use Rattle.std.proofs.lemmas.Option.{none-some, same_Some, slice_get-map}
 use Rattle.std.specs.Option.{option_and_then, option_map}
 use Rattle.std.specs.Prelude.{MatchBool, MatchOption, if◌then◌else◌, is_none, slice_get, slice_set, ◌&&◌}
 use Rattle.std.specs.Result.{result_map_both}
-use Rattle.wasmi_machine.proofs.EffectLemmas.{both_live}
+use Rattle.wasmi_machine.proofs.EffectLemmas.{both_live, on_test_too}
 use Rattle.wasmi_machine.proofs.StoreLemmas.{acts_too, asks_too, changes_too}
 use Rattle.wasmi_machine.specs.LentMemory.{FitsRegions, FitsRoom, RunInRegions, owned, owned_memory, owned_slot, owned_world, unlent_world}
-use Rattle.wasmi_machine.specs.MemoryEffects.{StoresMemoryAt, WritesMemoryAt, bytes_appended, load_reply}
+use Rattle.wasmi_machine.specs.MemoryEffects.{ByteSource, OfByte, OfBytes, StoresMemoryAt, WritesMemoryAt, byte_write_of, bytes_appended, bytes_in, load_reply}
 use Rattle.wasmi_machine.specs.RegisterEffects.{StoresVectorAt, lane_loaded, vector_at, vector_loaded}
-use Rattle.wasmi_machine.specs.Effects.{ActsAt, AddsEntry, ChangesAt, Creates, DropsAt, OnLive, reply_of}
-use Rattle.wasmi_machine.specs.Steps.{Run, BytesRead, BytesStored, BytesWritten, Change, Changed, Effect, FuelSet, LentMemoryMade, MemoryDropped, MemoryGrown, MemoryMade, RangeWritten, RegisterSet, Step, TableGrown, TableWritten, TableMade, HasChange, HasEffect, Told, effect_of}
+use Rattle.wasmi_machine.specs.Effects.{ActsAt, AddsEntry, ChangesAt, Creates, DropsAt, IsNoSuch, MeteredSlots, OnLive, WritesAt, WritesRangeAt, reply_of}
+use Rattle.wasmi_machine.specs.Steps.{Run, BytesRead, BytesStored, BytesWritten, Change, Changed, Effect, FuelSet, LentMemoryMade, MemoryDropped, MemoryGrown, MemoryMade, RangeWritten, RegisterSet, Step, TableGrown, MemoryWritten, TableWritten, TableMade, HasChange, HasEffect, Told, effect_of}
 use Rattle.wasmi_machine.specs.State.{State, live_at, live_value, byte_count, Turn, World}
 use Rattle.wasmi_machine.specs.declared.calls.Call.{Call}
-use Rattle.wasmi_machine.specs.declared.calls.Call.TheVariants.{Load, LoadLane, NewLentMemory, NewMemory, VectorLoad}
+use Rattle.wasmi_machine.specs.declared.calls.Call.TheVariants.{CopyMemory, Load, LoadLane, NewLentMemory, NewMemory, VectorLoad}
 use Rattle.wasmi_machine.specs.declared.calls.Reply.{Reply}
 use Rattle.wasmi_machine.specs.declared.slots.Slot.{Slot}
 use Rattle.wasmi_machine.specs.declared.slots.Slot.TheVariants.{Gone, Live}
 use Rattle.wasmi_meter.specs.Attempt.{Attempt, Denied, Request, Failed, AttemptOutcome, Follows, IsFirstCause, MayEnd, Met, MeteredValue, Unasked, optional_due, answer_of, covers, outcome_charge, value_after, with_value}
 use Rattle.wasmi_meter.specs.Limiter.{Rules}
-use Rattle.wasmi_meter.specs.Meter.{Meter}
+use Rattle.wasmi_meter.specs.Meter.{Meter, meter_after}
 use Rattle.wasmi_meter.specs.declared.error.MemoryError.{MemoryError}
-use Rattle.wasmi_store.specs.Growth.{IsDenied}
+use Rattle.wasmi_store.specs.Growth.{IsDenied, metered}
+use Rattle.wasmi_store.specs.Write.{Writes, copied, filled, item_price, write_charge}
 use Rattle.wasmi_store.specs.Buffer.{LacksMemory, Lent, Owned, Room, fits_room}
-use Rattle.wasmi_store.specs.Memory.{GrowsMemory, GrowsMemoryCharging, MakesMemory, MemoryValue, WritesMemory, new_memory, pages_of, MemoryTypeValue, in_bounds, minimum_bytes, page_bytes}
+use Rattle.wasmi_store.specs.Memory.{GrowsMemory, GrowsMemoryCharging, MakesMemory, MemoryValue, WritesMemory, bytes_write, new_memory, pages_of, MemoryTypeValue, in_bounds, minimum_bytes, page_bytes}
 use Rattle.wasmi_store.specs.Memory as memory
 use Rattle.wasmi_machine.specs.declared.calls.Reply.TheVariants as replied
 
@@ -267,6 +268,70 @@ growth_owned {S} rules k pages s s' reply charge fits acts =
       put_owned s.value k s'.value (Live h.1.1) h.1.4,
     ))
 
+-- a write over bytes
+bytes_owned : (x : MemoryValue) (m : Option Meter) (result : Result (Unit {0}) MemoryError) (x' : MemoryValue)
+    (m' : Option Meter) (paid : ℕ) (written : Option (List ℕ))
+    → Writes (bytes_write x written paid) (metered x m) result (metered x' m')
+    → Writes (bytes_write (owned_memory x) written paid) (metered (owned_memory x) m) result
+    (metered (owned_memory x') m')
+bytes_owned x m result x' m' paid None writes = (
+  writes.0,
+  ap (λ (s : MeteredValue MemoryValue (Unit {0})). metered (owned_memory s.value) s.meter) writes.1,
+)
+bytes_owned x m result x' m' paid (Some bytes) writes =
+    let due = optional_due m (Some (item_price 1 paid)) in
+    let left = option_map (λ m. meter_after m due) m in
+    let own = λ (s : MeteredValue MemoryValue (Unit {0})). metered (owned_memory s.value) s.meter in
+    on_test_too (covers m due)
+    ((result ≡ Ok tt) × (metered x' m' ≡ metered (record x { bytes = bytes }) left))
+    ((result ≡ Ok tt) × (metered (owned_memory x') m' ≡ metered (record (owned_memory x) { bytes = bytes }) left))
+    ((result ≡ Err (MemoryError.OutOfFuel due)) × (metered x' m' ≡ metered x m))
+    ((result ≡ Err (MemoryError.OutOfFuel due)) × (metered (owned_memory x') m' ≡ metered (owned_memory x) m))
+    (λ h. (h.0, ap own h.1)) (λ h. (h.0, ap own h.1)) writes
+
+-- a write over a range of a memory
+memory_write_owned : (source : ByteSource) (k dst len : ℕ) (s s' : MeteredSlots MemoryValue) (reply : Reply)
+    (charge : ℕ) → WritesRangeAt replied.Memory k (byte_write_of source dst len) s reply charge s'
+    → WritesRangeAt replied.Memory k (byte_write_of source dst len)
+    (with_value s (map owned_slot s.value)) reply charge (with_value s' (map owned_slot s'.value))
+memory_write_owned source k dst len s s' reply charge = by_source source
+  where
+    -- where the index or the source names nothing
+    missing : IsNoSuch s reply charge s'
+        → IsNoSuch (with_value s (map owned_slot s.value)) reply charge (with_value s' (map owned_slot s'.value))
+    missing h = (h.0, h.1, ap (λ (t : MeteredSlots MemoryValue). with_value t (map owned_slot t.value)) h.2)
+
+    -- at an index, by what is written to each memory
+    at_index : (written : List ℕ → Option (List ℕ))
+        → WritesAt replied.Memory k (λ x. bytes_write x (written x.bytes) len) s reply charge s'
+        → WritesAt replied.Memory k (λ x. bytes_write x (written x.bytes) len)
+        (with_value s (map owned_slot s.value)) reply charge (with_value s' (map owned_slot s'.value))
+    at_index written writes = on_owned s.value k _ _ _ _ writes missing (λ x h. (
+      h.0,
+      owned_memory h.1,
+      record {
+        writes = bytes_owned x s.meter h.0 h.1 s'.meter len (written x.bytes) h.2.writes;
+        charged = h.2.charged ∙ same_charge x h.0;
+      },
+      h.3,
+      put_owned s.value k s'.value (Live h.1) h.4,
+    ))
+      where
+        same_charge : (x : MemoryValue) (result : Result (Unit {0}) MemoryError)
+            → write_charge (bytes_write x (written x.bytes) len) (metered x s.meter) result
+            ≡ write_charge (bytes_write (owned_memory x) (written x.bytes) len) (metered (owned_memory x) s.meter)
+            result
+        same_charge x (Ok done) = refl
+        same_charge x (Err error) = refl
+
+    -- by the source
+    by_source : (source : ByteSource) → WritesRangeAt replied.Memory k (byte_write_of source dst len) s reply charge s'
+        → WritesRangeAt replied.Memory k (byte_write_of source dst len)
+        (with_value s (map owned_slot s.value)) reply charge (with_value s' (map owned_slot s'.value))
+    by_source (OfByte value) = at_index (λ bytes. filled bytes dst value len)
+    by_source (OfBytes None src) = missing
+    by_source (OfBytes (Some source) src) = at_index (λ bytes. copied bytes dst source src len)
+
 -- a memory is made in a slot
 appends_owned : (result : Result MemoryValue MemoryError) (slots : List (Slot MemoryValue)) (reply : Reply)
     (slots' : List (Slot MemoryValue)) → AddsEntry Live replied.Memory result slots reply slots'
@@ -305,6 +370,8 @@ effect_fits s call fits = fits
 -- a call has the same effect on both machines
 effect_kept : (s : State) (call : Call) → effect_of s call ≡ effect_of (owned s) call
 effect_kept s (Load op k ptr offset) = ap Told (made_owned s.memories k (load_reply op (ptr + offset)) (λ x. refl))
+effect_kept s (CopyMemory k dst j src len) =
+    ap (λ bytes. RangeWritten (MemoryWritten k (OfBytes bytes src) dst len)) (made_owned s.memories j bytes_in (λ x. refl))
 effect_kept s (VectorLoad op dst k ptr offset) = ap (λ given. Changed (RegisterSet dst given))
     (made_owned s.memories k (vector_loaded op (ptr + offset)) (λ x. refl))
 effect_kept s (LoadLane op dst a k ptr offset) = ap (λ given. Changed (RegisterSet dst given))
@@ -363,6 +430,14 @@ module _ {S : Type 0} (rules : Rules S) (w : World S) (turn : Turn) (w' : World 
     part = step.part;
     meter = step.meter;
     effect = step.effect;
+    wrote = step.wrote;
+    after = ap owned_world step.after;
+  }
+  effect_owned (RangeWritten (MemoryWritten k source dst len)) fits step = record {
+    part = map owned_slot step.part;
+    meter = step.meter;
+    effect = memory_write_owned source k dst len (metered w.state.memories (Some w.state.meter))
+        (metered step.part (Some step.meter)) turn.reply turn.charge step.effect;
     wrote = step.wrote;
     after = ap owned_world step.after;
   }

@@ -209,7 +209,7 @@ module _ (k : ℕ) (slots : List (Slot MemoryValue)) (reply : Reply) (slots' : L
   vector_store_kept (Some stored) stores = store_kept stored stores
 
 -- a memory with another memory's type and as many bytes, and a table likewise
-memory_as_long : (x x' : MemoryValue) → x'.ty ≡ x.ty → byte_count x' ≡ byte_count x → IsValidMemory x → IsValidMemory x'
+pub memory_as_long : (x x' : MemoryValue) → x'.ty ≡ x.ty → byte_count x' ≡ byte_count x → IsValidMemory x → IsValidMemory x'
 memory_as_long x x' same long valid = record {
   type = subst memory.IsValid (sym same) valid.type;
   sized = subst (λ n. memory.IsSized x'.ty n) (sym long)

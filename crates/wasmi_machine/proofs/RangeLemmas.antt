@@ -1,10 +1,14 @@
 -- What holds of each write over a range of one part of the state: it is refused, and nothing has changed, or it is paid for.
-use Rattle.std.proofs.Common.{List, None, Option, Result, Some, ap, inl, inr, refl, replicate, subst, sym, true, false, Bool, ℕ, arith, ◌∙◌, ◌≡◌, ◌≤◌, ◌⊎◌}
+use Rattle.std.proofs.Common.{List, None, Option, Result, Some, ap, inl, inr, refl, replicate, subst, sym, true, false, Bool, ℕ, arith, ◌∙◌, ◌≡◌, ◌≤◌, ◌⊎◌, set, length, ◌<◌, ◌≢◌}
 use Rattle.std.proofs.lemmas.Bool.Decides.{nat_tests}
-use Rattle.std.proofs.lemmas.Option.{none-some, same_Some}
+use Rattle.std.proofs.lemmas.Option.{none-some, same_Some, slice_get-get_or, slice_get_past}
+use Rattle.std.proofs.lemmas.Bool.{cases_Bool}
+use Rattle.std.proofs.lemmas.List.{get_or-set_other, length-set, set-set}
 use Rattle.std.specs.Option.{option_and_then, option_map}
-use Rattle.std.specs.Prelude.{nat_eq, nat_le, slice_set, if◌then◌else◌}
+use Rattle.std.specs.Prelude.{nat_eq, nat_le, slice_set, if◌then◌else◌, nat_lt, slice_get}
 use Rattle.wasmi_types.specs.Access.{at, overwrite}
+use Rattle.wasmi_meter.specs.declared.error.MemoryError.{MemoryError}
+use Rattle.wasmi_meter.specs.declared.error.MemoryError.TheVariants as memory_error
 use Rattle.wasmi_meter.specs.declared.error.TableError.{TableError}
 use Rattle.wasmi_meter.specs.declared.error.TableError.TheVariants.{OutOfFuel}
 use Rattle.wasmi_meter.specs.declared.fuel.CustomFuelCosts.{CustomFuelCosts}
@@ -12,19 +16,21 @@ use Rattle.wasmi_meter.specs.Attempt.{MeteredValue, covers, optional_due, with_v
 use Rattle.wasmi_meter.specs.Meter.{Meter, amount_left, cut_product, meter_after}
 use Rattle.wasmi_store.specs.Growth.{metered}
 use Rattle.wasmi_store.specs.Write.{MeteredWrite, WritesCharging, item_price}
+use Rattle.wasmi_store.specs.Memory.{IsValidMemory, MemoryValue}
 use Rattle.wasmi_store.specs.Table.{IsValidTable, TableValue, element_price, size_of, table_of}
 use Rattle.wasmi_store.proofs.WriteLemmas.{PaidWrite, RefusedWrite, write_ends, writes_once}
 use Rattle.wasmi_machine.specs.declared.calls.Reply.{Reply}
 use Rattle.wasmi_machine.specs.declared.slots.Slot.{Slot}
-use Rattle.wasmi_machine.specs.declared.slots.Slot.TheVariants.{Live}
+use Rattle.wasmi_machine.specs.declared.slots.Slot.TheVariants.{Live, Gone}
 use Rattle.wasmi_machine.specs.Effects.{ActsMeteredUnasked, MeteredSlots, OnLive, WritesAt, WritesFrom, WritesRangeAt, item_bytes, reply_of}
 use Rattle.wasmi_machine.specs.Exchange.{NothingGrows, writing_charge}
-use Rattle.wasmi_machine.specs.State.{IsRefusal, IsValid, State, Turn, World, live_at, sizes, with_tables}
-use Rattle.wasmi_machine.specs.Steps.{HasRangeWrite, RangeWrite, TableWritten}
+use Rattle.wasmi_machine.specs.State.{IsRefusal, IsValid, State, Turn, World, byte_count, live_at, sizes, with_memories, with_tables, live_value}
+use Rattle.wasmi_machine.specs.Steps.{HasRangeWrite, MemoryWritten, RangeWrite, TableWritten}
+use Rattle.wasmi_machine.specs.MemoryEffects.{ByteSource, OfByte, OfBytes, WritesMemoryFrom, byte_write_of, bytes_in, memory_copy_of}
 use Rattle.wasmi_machine.specs.TableEffects.{OfReference, OfSegment, OfTable, Source, write_of}
 use Rattle.wasmi_machine.proofs.EffectLemmas.{HasOneEnding, acts_same, live_valid, on_both, on_live, put_back, put_valid}
-use Rattle.wasmi_machine.proofs.MemoryEffectsLemmas.{overwrite_length}
-use Rattle.wasmi_machine.proofs.StepsLemmas.{KeepsTables, PartOf, the_tables}
+use Rattle.wasmi_machine.proofs.MemoryEffectsLemmas.{memory_as_long, overwrite_length}
+use Rattle.wasmi_machine.proofs.StepsLemmas.{KeepsMemories, KeepsTables, PartOf, the_memories, the_tables}
 use Rattle.wasmi_machine.proofs.TableEffectsLemmas.{table_as_long}
 use Rattle.wasmi_machine.proofs.TotalLemmas.{counts_kept, each_kind}
 use Rattle.wasmi_machine.specs.declared.calls.Reply.TheVariants as replied
@@ -106,6 +112,67 @@ pub range_from : {X Y E : Type 0} (refusal : E → Reply) (source : Option Y) (k
     → WritesRangeAt refusal k (option_map write source) s reply charge s'
 range_from refusal None k write s reply charge s' writes = writes
 range_from refusal (Some y) k write s reply charge s' writes = writes
+
+-- what is copied of a memory is what is copied of its bytes
+pub range_of_bytes : (source : Option MemoryValue) (k dst src len : ℕ) (s : MeteredSlots MemoryValue) (reply : Reply)
+    (charge : ℕ) (s' : MeteredSlots MemoryValue)
+    → WritesMemoryFrom source k (memory_copy_of dst src len) s reply charge s'
+    → WritesRangeAt replied.Memory k (byte_write_of (OfBytes (bytes_in source) src) dst len) s reply charge s'
+range_of_bytes None k dst src len s reply charge s' writes = writes
+range_of_bytes (Some y) k dst src len s reply charge s' writes = writes
+
+-- what is at another index, where one is set
+get_beside : {X : Type 0} (xs : List X) (i j : ℕ) (x : X) → j ≢ i → slice_get (set xs i x) j ≡ slice_get xs j
+get_beside {X} xs i j x other = elim (cases_Bool (nat_lt j (length xs))) [
+  | inl within ↦
+      let h : j < length xs = grind (arith, nat_tests, within) in
+      slice_get-get_or (set xs i x) j x (omega (arith, length-set xs i x, h))
+      ∙ ap Some (get_or-set_other xs i j x x other) ∙ sym (slice_get-get_or xs j x h)
+  | inr past ↦
+      let h : length xs ≤ j = grind (arith, nat_tests, past) in
+      slice_get_past (set xs i x) j (omega (arith, length-set xs i x, h)) ∙ sym (slice_get_past xs j h)
+]
+
+-- a copy from one index to another, where what is at the second was taken out of its slot
+module _ {X E : Type 0} (refusal : E → Reply) (write : X → X → MeteredWrite X E) (slots : List (Slot X))
+    (into from : ℕ) (other : from ≢ into) (m : Option Meter) where
+  -- the slots without it
+  abbrev rest : List (Slot X)
+  rest = slice_set slots into (Gone 0)
+
+  -- what another slot has
+  beside : live_at rest from ≡ live_at slots from
+  beside = ap (option_and_then live_value) (get_beside slots into from (Gone 0) other)
+
+  -- there was nothing
+  pub none_taken : live_at slots into ≡ None
+      → WritesFrom refusal (live_at slots from) into write (metered slots m) replied.NoSuch 0 (metered slots m)
+  none_taken none = by_source (live_at slots from)
+    where
+      by_source : (source : Option X)
+          → WritesFrom refusal source into write (metered slots m) replied.NoSuch 0 (metered slots m)
+      by_source None = (refl, refl, refl)
+      by_source (Some y) = rw none (refl, refl, refl)
+
+  module _ (x : X) (found : live_at slots into ≡ Some x) (x' : X) (slots' : List (Slot X))
+      (put : slots' ≡ slice_set rest into (Live x')) where
+    -- it is put back as it was, where there is no source
+    pub put_without : live_at rest from ≡ None → x' ≡ x
+        → WritesFrom refusal (live_at slots from) into write (metered slots m) replied.NoSuch 0 (metered slots' m)
+    put_without none same = rw (sym beside ∙ none) (
+      refl,
+      refl,
+      ap (λ l. metered l m)
+          (put ∙ set-set slots into (Gone 0) (Live x') ∙ put_back slots into x x' found same),
+    )
+
+    -- it is put back with what was copied
+    pub put_copied : (y : X) → live_at rest from ≡ Some y → (result : Result (Unit {0}) E) (charge : ℕ)
+        (m' : Option Meter) → WritesCharging (write y) (metered x m) result charge (metered x' m')
+        → WritesFrom refusal (live_at slots from) into write (metered slots m)
+        (reply_of (λ _. replied.Done) refusal result) charge (metered slots' m')
+    put_copied y there result charge m' writes = rw (sym beside ∙ there, found)
+        (result, x', writes, refl, put ∙ set-set slots into (Gone 0) (Live x'))
 
 -- ---- a write in a world
 
@@ -339,9 +406,59 @@ source_range (OfSegment (Some y) src) dst len = record {
   unpaid_is = λ x. refl;
 }
 
+-- what a write over a range of a memory keeps
+abbrev pub KeepsMemory : MemoryValue → MemoryValue → Type 0
+KeepsMemory x x' = (x'.ty ≡ x.ty) × (byte_count x' ≡ byte_count x)
+
+-- the memories of a state
+abbrev memory_range : (s : State) → RangeOf s MemoryValue MemoryError
+memory_range s = record {
+  refusal = replied.Memory;
+  refuses = λ error. tt;
+  unpaid = memory_error.OutOfFuel;
+  with_part = with_memories s;
+  slots = s.memories;
+  KeepsPart = KeepsMemories s;
+  part = the_memories s;
+  KeepsValue = KeepsMemory;
+  kept = λ k x x' found keeps. (
+    counts_kept byte_count s.memories k x (Live x') found keeps.1,
+    λ valid. put_valid IsValidMemory s.memories _ k (Live x') refl
+        (memory_as_long x x' keeps.0 keeps.1 (live_valid IsValidMemory s.memories k x found valid)) valid,
+  );
+}
+
+-- what is written over the bytes of a memory keeps the type and the size
+bytes_kept : (x : MemoryValue) (dst : ℕ) (part written : Option (List ℕ)) (x' : MemoryValue)
+    → written ≡ option_and_then (λ ys. overwrite x.bytes dst ys) part
+    → option_map (λ bytes. record x { bytes = bytes }) written ≡ Some x' → KeepsMemory x x'
+bytes_kept x dst None written x' is some = absurd (none-some x' (rw is at some))
+bytes_kept x dst (Some part) None x' is some = absurd (none-some x' some)
+bytes_kept x dst (Some part) (Some bytes) x' is some =
+    let same = same_Some (record x { bytes = bytes }) x' some in (
+      ap (λ (t : MemoryValue). t.ty) (sym same),
+      ap byte_count (sym same) ∙ overwrite_length x.bytes part bytes dst (sym is),
+    )
+
+-- what each source of bytes writes
+pub byte_range : (source : ByteSource) (dst len : ℕ) → OnLive (byte_write_of source dst len) (Unit {0})
+    (IsRange KeepsMemory (Some (item_price 1 len)) memory_error.OutOfFuel)
+byte_range (OfByte value) dst len = record {
+  keeps = λ x x' is. bytes_kept x dst (Some (replicate len value)) _ x' refl is;
+  priced = λ x. refl;
+  unpaid_is = λ x. refl;
+}
+byte_range (OfBytes None src) dst len = tt
+byte_range (OfBytes (Some source) src) dst len = record {
+  keeps = λ x x' is. bytes_kept x dst (at source src len) _ x' refl is;
+  priced = λ x. refl;
+  unpaid_is = λ x. refl;
+}
+
 -- what a write over a range costs, if it costs anything
 abbrev pub range_price : RangeWrite → Option (CustomFuelCosts → ℕ)
 range_price (TableWritten k source dst len) = option_map element_price (paid_from source len)
+range_price (MemoryWritten k source dst len) = Some (item_price 1 len)
 
 module _ {S : Type 0} (w : World S) (write : RangeWrite) (turn : Turn) (w' : World S) where
   -- each write over a range is refused, or it is paid for
@@ -353,6 +470,9 @@ module _ {S : Type 0} (w : World S) (write : RangeWrite) (turn : Turn) (w' : Wor
       by_kind (TableWritten k source dst len) step =
           range_ends w (table_range w.state) (option_map element_price (paid_from source len)) 4 len
           (source_pays source len) turn w' k (write_of source dst len) (source_range source dst len) step
+      by_kind (MemoryWritten k source dst len) step =
+          range_ends w (memory_range w.state) (Some (item_price 1 len)) 1 len (inl refl) turn w' k
+          (byte_write_of source dst len) (byte_range source dst len) step
 
   module _ (step : HasRangeWrite write w turn w') where
     -- a refused one leaves the world

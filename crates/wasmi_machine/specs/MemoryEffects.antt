@@ -1,6 +1,6 @@
 -- The calls on memories: what each does to the list of slots.
 use Rattle.std.specs.Prelude.{◌≡◌, ◌⊎◌, ◌*◌, ℕ, Option, Some, None, Result, List, MatchOption}
-use Rattle.std.specs.Option.{option_map_or}
+use Rattle.std.specs.Option.{option_map, option_map_or}
 use Rattle.wasmi_types.specs.Access.{at}
 use Rattle.wasmi_types.specs.Numbers.{le_bytes}
 use Rattle.wasmi_types.specs.declared.trap.TrapCode.{TrapCode}
@@ -9,7 +9,7 @@ use Rattle.wasmi_meter.specs.declared.error.MemoryError.{MemoryError}
 use Rattle.wasmi_meter.specs.declared.error.MemoryError.TheVariants.{OutOfBoundsAccess}
 use Rattle.wasmi_meter.specs.Limiter.{Rules}
 use Rattle.wasmi_store.specs.Buffer.{Lent}
-use Rattle.wasmi_store.specs.Memory.{MemoryTypeValue, page_bytes, MemoryValue, MakesMemory, WritesMemory}
+use Rattle.wasmi_store.specs.Memory.{MemoryTypeValue, page_bytes, MemoryValue, MakesMemory, MemoryWrite, WritesMemory, byte_copy_of, byte_filling_of}
 use Rattle.wasmi_machine.specs.declared.calls.Reply.{Reply}
 use Rattle.wasmi_machine.specs.declared.calls.Reply.TheVariants.{Done, Value, Number, Bytes, Memory, Trap, NoSuch, NoRegion, NoRoom}
 use Rattle.wasmi_machine.specs.declared.memories.Stored.{Stored}
@@ -18,7 +18,7 @@ use Rattle.wasmi_ops.specs.declared.load_store.LoadOp.{LoadOp}
 use Rattle.wasmi_ops.specs.LoadStoreOps.{loaded_raw, stored_bytes}
 use Rattle.wasmi_ops.specs.VectorOps.{stored_lane}
 use Rattle.wasmi_machine.specs.State.{MemoryPart, live_at}
-use Rattle.wasmi_machine.specs.Effects.{reply_of, OnLive, Creates, ChangesAt}
+use Rattle.wasmi_machine.specs.Effects.{reply_of, OnLive, Creates, ChangesAt, MeteredSlots, WritesAt, WritesFrom}
 use Rattle.wasmi_machine.specs.declared.memories.Stored.TheVariants as stored
 
 -- the bytes that a growth by so many pages has appended, by its reply
@@ -63,6 +63,35 @@ abbrev pub bytes_of_stored : Stored → List ℕ
 bytes_of_stored (stored.Number op value) = stored_bytes op value
 bytes_of_stored (stored.Vector vector) = le_bytes 16 vector
 bytes_of_stored (stored.Lane op vector) = stored_lane op vector
+
+-- what a range of a memory is written over with: a byte, or bytes from a place on, if there are some
+pub data ByteSource : Type 0 where
+  OfByte : ℕ → ByteSource
+  OfBytes : Option (List ℕ) → ℕ → ByteSource
+
+-- the write over so many bytes from a place on, with what a source has, if the source is there
+abbrev pub byte_write_of : ByteSource → ℕ → ℕ → Option (MemoryValue → MemoryWrite)
+byte_write_of (OfByte value) dst len = Some (byte_filling_of dst value len)
+byte_write_of (OfBytes source src) dst len = option_map (byte_copy_of dst src len) source
+
+-- the bytes of a memory, if it is there
+abbrev pub bytes_in : Option MemoryValue → Option (List ℕ)
+bytes_in memory = option_map (λ x. x.bytes) memory
+
+-- a range of the memory of an index is written over, with its charge
+abbrev pub WritesRangeOfMemoryAt : ℕ → (MemoryValue → MemoryWrite) → MeteredSlots MemoryValue → Reply → ℕ
+    → MeteredSlots MemoryValue → Type 0
+WritesRangeOfMemoryAt = WritesAt Memory
+
+-- a range of the memory of an index is written over with what a source has, with its charge; without a source the reply
+-- is `NoSuch`, and nothing has changed
+abbrev pub WritesMemoryFrom : {Y : Type 0} → Option Y → ℕ → (Y → MemoryValue → MemoryWrite)
+    → MeteredSlots MemoryValue → Reply → ℕ → MeteredSlots MemoryValue → Type 0
+WritesMemoryFrom = WritesFrom Memory
+
+-- what is copied over a part of a memory is of another one
+abbrev pub memory_copy_of : ℕ → ℕ → ℕ → MemoryValue → MemoryValue → MemoryWrite
+memory_copy_of dst src len source = byte_copy_of dst src len source.bytes
 
 -- a store: the memory has the bytes at the address, or the store traps and the memory is the same
 abbrev pub StoresMemory : MemoryValue → ℕ → List ℕ → Result (Unit {0}) TrapCode → MemoryValue → Type 0

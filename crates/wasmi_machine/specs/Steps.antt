@@ -18,10 +18,10 @@ use Rattle.wasmi_store.specs.Table.{TableTypeValue, size_of, MakesTable, GrowsTa
 use Rattle.wasmi_machine.specs.declared.calls.Call.{Call}
 use Rattle.wasmi_machine.specs.declared.calls.Reply.{Reply}
 use Rattle.wasmi_machine.specs.State.{World, Turn, world, State, live_at, with_memories, memory_part, with_memory_part, with_tables, with_segments, with_globals, with_registers, byte_count}
-use Rattle.wasmi_machine.specs.Effects.{reply_of, Creates, DropsAt, ActsAt, ChangesPart, OnlyReplies, Changes, Asks, ActsMetered, ActsMeteredUnasked, WritesRangeAt}
+use Rattle.wasmi_machine.specs.Effects.{reply_of, Creates, DropsAt, ActsAt, ChangesPart, OnlyReplies, Changes, Asks, ActsMetered, ActsMeteredUnasked, WritesRangeAt, item_bytes}
 use Rattle.wasmi_ops.specs.LoadStoreOps.{stored_bytes}
 use Rattle.wasmi_machine.specs.ValueEffects.{SetsFuel, get_fuel_reply, CreatesSegment, DropsItemsAt, CreatesGlobal, SetsGlobalAt, global_reply}
-use Rattle.wasmi_machine.specs.MemoryEffects.{bytes_appended, CreatesLent, ReadsMemoryAt, WritesMemoryAt, load_reply}
+use Rattle.wasmi_machine.specs.MemoryEffects.{ByteSource, OfByte, OfBytes, byte_write_of, bytes_in, bytes_appended, CreatesLent, ReadsMemoryAt, WritesMemoryAt, load_reply}
 use Rattle.wasmi_machine.specs.TableEffects.{Source, OfReference, OfTable, OfSegment, element_reply, SetsElementAt, write_of, element_bytes}
 use Rattle.wasmi_machine.specs.RegisterEffects.{SetsRegister, StoresVectorAt, given_vector, of_one, of_two, of_three, vector_loaded, lane_loaded, raw_reply, vector_at}
 use Rattle.wasmi_machine.specs.declared.calls.Call.TheVariants as call
@@ -48,6 +48,8 @@ subject_of (call.Read k offset len) = Memories
 subject_of (call.Write k offset bytes) = Memories
 subject_of (call.Load op k ptr offset) = Memories
 subject_of (call.Store op k ptr offset value) = Memories
+subject_of (call.FillMemory k dst value len) = Memories
+subject_of (call.CopyMemory k dst j src len) = Memories
 subject_of (call.NewTable ty init) = Tables
 subject_of (call.GrowTable k n init) = Tables
 subject_of (call.DropTable k) = Tables
@@ -67,9 +69,11 @@ subject_of (call.VectorStore a k ptr offset) = VectorAccesses
 subject_of (call.StoreLane op a k ptr offset) = VectorAccesses
 subject_of call = RegisterFile
 
--- the calls that are charged for what they write: growths, and those that write over a part of a table
+-- the calls that are charged for what they write: growths, and those that write over a range of a memory or a table
 abbrev pub is_charged : Call → Bool
 is_charged (call.GrowMemory k pages) = true
+is_charged (call.FillMemory k dst value len) = true
+is_charged (call.CopyMemory k dst j src len) = true
 is_charged (call.GrowTable k n init) = true
 is_charged (call.InitTable k j dst src len) = true
 is_charged (call.CopyTable k dst j src len) = true
@@ -92,6 +96,7 @@ pub data Change : Type 0 where
 -- what is written over a range of one part of the state, with a charge, without the limiter
 pub data RangeWrite : Type 0 where
   TableWritten : ℕ → Source → ℕ → ℕ → RangeWrite
+  MemoryWritten : ℕ → ByteSource → ℕ → ℕ → RangeWrite
 
 -- what a call does, once its operands are read: all calls that only reply what is known have one kind of effect, all
 -- that change one part alone another, and all that write over a range of one part a third
@@ -143,6 +148,9 @@ effect_of s (call.Read k offset len) = BytesRead k offset len
 effect_of s (call.Write k offset bytes) = Changed (BytesWritten k offset bytes.items)
 effect_of s (call.Load op k ptr offset) = Told (load_reply op (ptr + offset) (live_at s.memories k))
 effect_of s (call.Store op k ptr offset value) = Changed (BytesStored k (ptr + offset) (Some (stored_bytes op value)))
+effect_of s (call.FillMemory k dst value len) = RangeWritten (MemoryWritten k (OfByte value) dst len)
+effect_of s (call.CopyMemory k dst j src len) =
+    RangeWritten (MemoryWritten k (OfBytes (bytes_in (live_at s.memories j)) src) dst len)
 effect_of s (call.NewTable ty init) = TableMade ty init
 effect_of s (call.GrowTable k n init) = TableGrown k n init
 effect_of s (call.DropTable k) = Changed (TableDropped k)
@@ -200,6 +208,9 @@ abbrev pub HasRangeWrite : {S : Type 0} → RangeWrite → World S → Turn → 
 HasRangeWrite (TableWritten k source dst len) w turn w' =
     ActsMeteredUnasked w turn w' w.state.tables (with_tables w.state)
     (WritesRangeAt reply.Table k (write_of source dst len)) (element_bytes len)
+HasRangeWrite (MemoryWritten k source dst len) w turn w' =
+    ActsMeteredUnasked w turn w' w.state.memories (with_memories w.state)
+    (WritesRangeAt reply.Memory k (byte_write_of source dst len)) (item_bytes 1 len)
 
 -- an effect takes place from one world to the next: a line for each kind
 abbrev pub HasEffect : {S : Type 0} → Rules S → Effect → World S → Turn → World S → Type 0

@@ -76,6 +76,26 @@ pub enum Call {
         offset: u64,
         value: RawVal,
     },
+    /// Fills `len` bytes of a memory with a byte, from `dst` on: `Done`, or `Memory` with
+    /// `OutOfBoundsAccess` if they end past the memory, then `OutOfFuel`, which is tested also for
+    /// no byte.
+    FillMemory {
+        memory: usize,
+        dst: u64,
+        value: u8,
+        len: u64,
+    },
+    /// Copies `len` bytes of a memory, from `src` on, over those of another or of itself from `dst`
+    /// on: `Done`, or `Memory` with `OutOfBoundsAccess` if a range ends past its memory, then
+    /// `OutOfFuel`, which is tested also for no byte. If ranges of one memory overlap, the old
+    /// bytes are copied.
+    CopyMemory {
+        dst_memory: usize,
+        dst: u64,
+        src_memory: usize,
+        src: u64,
+        len: u64,
+    },
     /// Makes a table of one reference: `Made` with its index, `NoRoom` if there is no memory for
     /// its slot, or `Table`.
     NewTable {
@@ -268,7 +288,7 @@ impl Debug for Call {
     fn fmt<W: Write>(&self, f: &mut Formatter<W>) -> fmt::Result {
         f.write_str(name_of!(self:
             SetFuel GetFuel NewMemory NewLentMemory GrowMemory DropMemory Read Write Load Store
-            NewTable GrowTable DropTable GetElement SetElement InitTable CopyTable FillTable
+            FillMemory CopyMemory NewTable GrowTable DropTable GetElement SetElement InitTable CopyTable FillTable
             NewSegment DropItems NewGlobal SetGlobal GetGlobal SetRegister GetRegister Make Unary
             Binary Ternary Shift Test Extract Replace Shuffle VectorLoad LoadLane VectorStore
             StoreLane

@@ -1,17 +1,19 @@
 //! The memories of a machine, by their indices.
-ghost use Rattle.std.specs.Prelude.{◌+◌};
+ghost use Rattle.std.specs.Prelude.{◌≡◌, ◌+◌, Some};
 ghost use Rattle.wasmi_meter.specs.Limiter.{optional_rules, lent_limiter, KeepsLoan};
 ghost use Rattle.wasmi_store.specs.Buffer.{Owned};
-ghost use Rattle.wasmi_store.specs.Memory.{MakesMemory};
-ghost use Rattle.wasmi_machine.specs.Effects.{reply_or_no_such, Creates};
+ghost use Rattle.wasmi_store.specs.Growth.{metered, WithCharge};
+ghost use Rattle.wasmi_store.specs.Memory.{MakesMemory, byte_filling_of};
+ghost use Rattle.wasmi_machine.specs.Effects.{reply_of, reply_or_no_such, Creates};
+ghost use Rattle.wasmi_machine.specs.State.{live_at};
 ghost use Rattle.std.specs.Option.{option_copied_mut};
-ghost use Rattle.wasmi_machine.specs.MemoryEffects.{bytes_of_stored, CreatesLent, ReadsBytes, WritesMemoryAt, StoresMemoryAt, StoresMemory};
+ghost use Rattle.wasmi_machine.specs.MemoryEffects.{bytes_of_stored, memory_copy_of, CreatesLent, WritesMemoryFrom, WritesRangeOfMemoryAt, ReadsBytes, WritesMemoryAt, StoresMemoryAt, StoresMemory};
 ghost use Rattle.wasmi_types.specs.Access.{at};
 
 use crate::calls::{ByteList, Reply};
-use crate::slots::Slots;
+use crate::slots::{Slot, Slots};
 use std::alloc::Global;
-use wasmi_meter::{MemoryError, ResourceLimiter, ResourceLimiterRef};
+use wasmi_meter::{Fuel, MemoryError, ResourceLimiter, ResourceLimiterRef};
 use wasmi_ops::{StoreLaneOp, StoreOp};
 use wasmi_raw::{RawVal, V128};
 use wasmi_store::range::lies_within;
@@ -82,6 +84,69 @@ impl<'r> Slots<Memory<'r>> {
         }
     }
 
+    /// Fills a range of a memory.
+    pub(crate) fn fill(
+        &mut self,
+        index: usize,
+        dst: u64,
+        value: u8,
+        len: u64,
+        fuel: &mut Fuel,
+    ) -> Option<Reply>
+        ensures { WithCharge (WritesRangeOfMemoryAt index (byte_filling_of dst value len))
+            (metered self.old.slots.items (Some fuel.old)) (reply_or_no_such result)
+            (metered self.new.slots.items (Some fuel.new)) }
+    {
+        let memory = self.live_mut(index)?;
+        Some(memory_reply(memory.fill_metered(dst, value, len, fuel)))
+    }
+
+    /// Copies a range of a memory to another one, or within it.
+    pub(crate) fn copy(
+        &mut self,
+        dst_index: usize,
+        dst: u64,
+        src_index: usize,
+        src: u64,
+        len: u64,
+        fuel: &mut Fuel,
+    ) -> Option<Reply>
+        ensures { WithCharge
+            (WritesMemoryFrom (live_at self.old.slots.items src_index) dst_index
+            (memory_copy_of dst src len))
+            (metered self.old.slots.items (Some fuel.old)) (reply_or_no_such result)
+            (metered self.new.slots.items (Some fuel.new)) }
+    {
+        if dst_index == src_index {
+            return self.copy_in_one(dst_index, dst, src, len, fuel);
+        }
+        let mut memory = self.take(dst_index)?;
+        let copied = match self.live(src_index) {
+            Some(source) => Some(memory_reply(memory.copy_metered(dst, source, src, len, fuel))),
+            None => None,
+        };
+        self.slots[dst_index] = Slot::Live(memory);
+        copied
+    }
+
+    /// Copies a range of a memory within it.
+    fn copy_in_one(
+        &mut self,
+        index: usize,
+        dst: u64,
+        src: u64,
+        len: u64,
+        fuel: &mut Fuel,
+    ) -> Option<Reply>
+        ensures { WithCharge
+            (WritesMemoryFrom (live_at self.old.slots.items index) index (memory_copy_of dst src len))
+            (metered self.old.slots.items (Some fuel.old)) (reply_or_no_such result)
+            (metered self.new.slots.items (Some fuel.new)) }
+    {
+        let memory = self.live_mut(index)?;
+        Some(memory_reply(memory.copy_within_metered(dst, src, len, fuel)))
+    }
+
     /// Stores to a memory.
     #[inline(always)]
     pub(crate) fn store(
@@ -98,6 +163,13 @@ impl<'r> Slots<Memory<'r>> {
         let answer = store(memory, ptr, offset, stored);
         Some(answer.map_or_else(Reply::Trap, |()| Reply::Done))
     }
+}
+
+/// The reply to a call on a memory that returns nothing.
+fn memory_reply(answer: Result<(), MemoryError>) -> Reply
+    ensures { result ≡ reply_of (λ _. Reply.Done) Reply.Memory answer }
+{
+    answer.map_or_else(Reply::Memory, |()| Reply::Done)
 }
 
 /// What is stored: a number, a vector, or a lane of a vector.

@@ -1,15 +1,16 @@
 //! Slots: what was made, each at the index of its making.
-ghost use Rattle.std.specs.Prelude.{◌≡◌, ◌<◌, ◌++◌, ℕ, [], ◌∷◌, length, map, sum, IsSome, Some};
+ghost use Rattle.std.specs.Prelude.{◌≡◌, ◌<◌, ◌++◌, ℕ, [], ◌∷◌, length, map, sum, IsSome, IfSome, IfNone, Some, slice_set};
 ghost use Rattle.std.specs.Borrow.{sem, Lends, LendsIf};
 ghost use Rattle.std.specs.Option.{option_copied, option_copied_mut};
 ghost use Rattle.std.specs.Vec.{vec_capacity};
 ghost use Rattle.wasmi_store.specs.Table.{size_of};
 ghost use Rattle.wasmi_machine.specs.Effects.{DropsAt, reply_or_no_such};
 ghost use Rattle.wasmi_machine.specs.State.{live_value, live_at, with_live, slot_count};
-ghost use Rattle.wasmi_machine.specs.declared.slots.Slot.TheVariants.{Live};
+ghost use Rattle.wasmi_machine.specs.declared.slots.Slot.TheVariants.{Gone, Live};
 
 use crate::calls::Reply;
 use std::alloc::Global;
+use std::mem;
 use wasmi_store::{Memory, Table};
 
 /// What counts in a machine's totals: a memory by its bytes, a table by its elements.
@@ -121,6 +122,23 @@ impl<T> Slots<T> {
         ensures value { live_at self.old.slots.items index ≡ Some result.now }
     {
         self.slots[index].value_mut()
+    }
+
+    /// Takes the live value of an index out of its slot, if there is one, so that it can be changed
+    /// while another one is read. The slot counts nothing until a value is put into it.
+    pub(crate) fn take(&mut self, index: usize) -> Option<T>
+        ensures value { result ≡ live_at self.old.slots.items index }
+        ensures taken { IfSome result
+            (λ x. self.new.slots.items ≡ slice_set self.old.slots.items index (Gone 0)) }
+        ensures none { IfNone result (self.new.slots.items ≡ self.old.slots.items) }
+    {
+        if self.live(index).is_none() {
+            return None;
+        }
+        match mem::replace(&mut self.slots[index], Slot::Gone(0)) {
+            Slot::Live(value) => Some(value),
+            Slot::Gone(_) => unreachable!(),
+        }
     }
 
     /// Puts a value into a new slot, and returns its index.

@@ -96,7 +96,9 @@ impl<'r> MachineStore<'r> {
             | Call::Read { .. }
             | Call::Write { .. }
             | Call::Load { .. }
-            | Call::Store { .. } => self.step_memory(call, limiter).unwrap_or(Reply::NoSuch),
+            | Call::Store { .. }
+            | Call::FillMemory { .. }
+            | Call::CopyMemory { .. } => self.step_memory(call, limiter).unwrap_or(Reply::NoSuch),
             Call::NewSegment { ty, items } => {
                 create_segment(&mut self.segments, self.alloc, *ty, items)
             }
@@ -171,6 +173,23 @@ impl<'r> MachineStore<'r> {
             } => self
                 .memories
                 .store(*memory, *ptr, *offset, Stored::Number(*op, *value)),
+            Call::FillMemory {
+                memory,
+                dst,
+                value,
+                len,
+            } => self
+                .memories
+                .fill(*memory, *dst, *value, *len, &mut self.fuel),
+            Call::CopyMemory {
+                dst_memory,
+                dst,
+                src_memory,
+                src,
+                len,
+            } => self
+                .memories
+                .copy(*dst_memory, *dst, *src_memory, *src, *len, &mut self.fuel),
             _ => unreachable!(),
         }
     }

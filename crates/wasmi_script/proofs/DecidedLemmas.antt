@@ -15,7 +15,7 @@ use Rattle.wasmi_machine.specs.declared.calls.Reply.{Reply}
 use Rattle.wasmi_machine.specs.declared.calls.Reply.TheVariants.{Made}
 use Rattle.wasmi_machine.specs.State.{State, new_state, World, Turn}
 use Rattle.wasmi_machine.specs.Effects.{ActsMetered}
-use Rattle.wasmi_machine.specs.Steps.{Effect, Told, BytesRead, FuelSet, Changed, MemoryMade, LentMemoryMade, MemoryGrown, TableMade, TableGrown, RangeWritten, TableWritten, effect_of, HasEffect, Step, Run, IsRunOf}
+use Rattle.wasmi_machine.specs.Steps.{Effect, Told, BytesRead, FuelSet, Changed, MemoryMade, LentMemoryMade, MemoryGrown, TableMade, TableGrown, RangeWritten, MemoryWritten, TableWritten, effect_of, HasEffect, Step, Run, IsRunOf}
 use Rattle.wasmi_machine.specs.Determinism.{IsDeterministic, AcceptsNotices, IsNotOutOfMemory}
 use Rattle.wasmi_machine.proofs.DeterminismLemmas.{unlimited_unique, quota_unique}
 use Rattle.wasmi_machine.proofs.ToldLemmas.{SeenRun, replies_are_one, unlimited_accepts, quota_accepts}
@@ -141,6 +141,8 @@ module _ {S : Type 0} (rules : Rules S) where
   retold_effect w turn w' other (MemoryGrown k pages) step = acts_again w turn w' other step
   retold_effect w turn w' other (TableGrown k n init) step = acts_again w turn w' other step
   retold_effect w turn w' other (RangeWritten (TableWritten k source dst len)) step =
+      record { part = step.part; meter = step.meter; effect = step.effect; wrote = step.wrote; after = step.after }
+  retold_effect w turn w' other (RangeWritten (MemoryWritten k source dst len)) step =
       record { part = step.part; meter = step.meter; effect = step.effect; wrote = step.wrote; after = step.after }
 
   -- a step by a call is one by another call that says the same

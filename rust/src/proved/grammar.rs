@@ -38,7 +38,9 @@ mod command {
             "fuel" | "left" | "global" | "gset" | "gget" | "set" | "show" => {
                 values_call(name, operands)
             }
-            "memory" | "lent" | "grow" | "drop" | "read" => memory_call(name, operands),
+            "memory" | "lent" | "grow" | "drop" | "read" | "mfill" | "mcopy" => {
+                memory_call(name, operands)
+            }
             "load" | "store" | "vload" | "vloadlane" | "vstore" | "vstorelane" => {
                 access_call(name, operands)
             }
@@ -110,6 +112,10 @@ mod command {
             "lent" => Ok(Call::NewLentMemory(memory_type(operands)?)),
             "grow" => call!(operands, two => GrowMemory { memory, pages }),
             "read" => call!(operands, three => Read { memory, offset, len }),
+            "mfill" => call!(operands, four => FillMemory { memory, dst, value, len }),
+            "mcopy" => {
+                call!(operands, five => CopyMemory { dst_memory, dst, src_memory, src, len })
+            }
             _ => drop_live(operands),
         }
     }

@@ -76,6 +76,26 @@ mod calls {
             offset: u64,
             value: RawVal,
         },
+        /// Fills `len` bytes of a memory with a byte, from `dst` on: `Done`, or `Memory` with
+        /// `OutOfBoundsAccess` if they end past the memory, then `OutOfFuel`, which is tested also for
+        /// no byte.
+        FillMemory {
+            memory: usize,
+            dst: u64,
+            value: u8,
+            len: u64,
+        },
+        /// Copies `len` bytes of a memory, from `src` on, over those of another or of itself from `dst`
+        /// on: `Done`, or `Memory` with `OutOfBoundsAccess` if a range ends past its memory, then
+        /// `OutOfFuel`, which is tested also for no byte. If ranges of one memory overlap, the old
+        /// bytes are copied.
+        CopyMemory {
+            dst_memory: usize,
+            dst: u64,
+            src_memory: usize,
+            src: u64,
+            len: u64,
+        },
         /// Makes a table of one reference: `Made` with its index, `NoRoom` if there is no memory for
         /// its slot, or `Table`.
         NewTable { ty: TableType, init: TypedRawRef },
@@ -232,7 +252,7 @@ mod calls {
         fn fmt(&self, f: &mut Formatter<'_>) -> fmt::Result {
             f.write_str(name_of!(self:
             SetFuel GetFuel NewMemory NewLentMemory GrowMemory DropMemory Read Write Load Store
-            NewTable GrowTable DropTable GetElement SetElement InitTable CopyTable FillTable
+            FillMemory CopyMemory NewTable GrowTable DropTable GetElement SetElement InitTable CopyTable FillTable
             NewSegment DropItems NewGlobal SetGlobal GetGlobal SetRegister GetRegister Make Unary
             Binary Ternary Shift Test Extract Replace Shuffle VectorLoad LoadLane VectorStore
             StoreLane
@@ -987,8 +1007,8 @@ mod memories {
     //! The memories of a machine, by their indices.
 
     use crate::proved::machine::calls::{ByteList, Reply};
-    use crate::proved::machine::slots::Slots;
-    use crate::proved::meter::{MemoryError, ResourceLimiter, ResourceLimiterRef};
+    use crate::proved::machine::slots::{Slot, Slots};
+    use crate::proved::meter::{Fuel, MemoryError, ResourceLimiter, ResourceLimiterRef};
     use crate::proved::ops::{StoreLaneOp, StoreOp};
     use crate::proved::raw::{RawVal, V128};
     use crate::proved::store::range::lies_within;
@@ -1084,6 +1104,94 @@ mod memories {
             }
         }
 
+        /// Fills a range of a memory.
+        ///
+        /// # Contract
+        ///
+        /// ```text
+        /// ensures: WithCharge (WritesRangeOfMemoryAt index (byte_filling_of dst value len))
+        ///     (metered self.old.slots.items (Some fuel.old)) (reply_or_no_such result)
+        ///     (metered self.new.slots.items (Some fuel.new))
+        /// ```
+        ///
+        /// Definitions: [`WithCharge`](crate::specs::store::GrowthSpecs#WithCharge), [`WritesRangeOfMemoryAt`](crate::specs::machine::MemoryEffectsSpecs#WritesRangeOfMemoryAt), [`byte_filling_of`](crate::specs::store::MemorySpecs#byte_filling_of), [`metered`](crate::specs::store::GrowthSpecs#metered), [`reply_or_no_such`](crate::specs::machine::EffectsSpecs#reply_or_no_such).
+        #[inline(always)]
+        pub(crate) fn fill(
+            &mut self,
+            index: usize,
+            dst: u64,
+            value: u8,
+            len: u64,
+            fuel: &mut Fuel,
+        ) -> Option<Reply> {
+            let memory = self.live_mut(index)?;
+            Some(memory_reply(memory.fill_metered(dst, value, len, fuel)))
+        }
+
+        /// Copies a range of a memory to another one, or within it.
+        ///
+        /// # Contract
+        ///
+        /// ```text
+        /// ensures: WithCharge
+        ///     (WritesMemoryFrom (live_at self.old.slots.items src_index) dst_index
+        ///     (memory_copy_of dst src len))
+        ///     (metered self.old.slots.items (Some fuel.old)) (reply_or_no_such result)
+        ///     (metered self.new.slots.items (Some fuel.new))
+        /// ```
+        ///
+        /// Definitions: [`WithCharge`](crate::specs::store::GrowthSpecs#WithCharge), [`WritesMemoryFrom`](crate::specs::machine::MemoryEffectsSpecs#WritesMemoryFrom), [`live_at`](crate::specs::machine::StateSpecs#live_at), [`memory_copy_of`](crate::specs::machine::MemoryEffectsSpecs#memory_copy_of), [`metered`](crate::specs::store::GrowthSpecs#metered), [`reply_or_no_such`](crate::specs::machine::EffectsSpecs#reply_or_no_such).
+        #[inline(always)]
+        pub(crate) fn copy(
+            &mut self,
+            dst_index: usize,
+            dst: u64,
+            src_index: usize,
+            src: u64,
+            len: u64,
+            fuel: &mut Fuel,
+        ) -> Option<Reply> {
+            if dst_index == src_index {
+                return self.copy_in_one(dst_index, dst, src, len, fuel);
+            }
+            let mut memory = self.take(dst_index)?;
+            let copied = match self.live(src_index) {
+                Some(source) => Some(memory_reply(
+                    memory.copy_metered(dst, source, src, len, fuel),
+                )),
+                None => None,
+            };
+            self.slots[dst_index] = Slot::Live(memory);
+            copied
+        }
+
+        /// Copies a range of a memory within it.
+        ///
+        /// # Contract
+        ///
+        /// ```text
+        /// ensures: WithCharge
+        ///     (WritesMemoryFrom (live_at self.old.slots.items index) index (memory_copy_of dst src len))
+        ///     (metered self.old.slots.items (Some fuel.old)) (reply_or_no_such result)
+        ///     (metered self.new.slots.items (Some fuel.new))
+        /// ```
+        ///
+        /// Definitions: [`WithCharge`](crate::specs::store::GrowthSpecs#WithCharge), [`WritesMemoryFrom`](crate::specs::machine::MemoryEffectsSpecs#WritesMemoryFrom), [`live_at`](crate::specs::machine::StateSpecs#live_at), [`memory_copy_of`](crate::specs::machine::MemoryEffectsSpecs#memory_copy_of), [`metered`](crate::specs::store::GrowthSpecs#metered), [`reply_or_no_such`](crate::specs::machine::EffectsSpecs#reply_or_no_such).
+        #[inline(always)]
+        fn copy_in_one(
+            &mut self,
+            index: usize,
+            dst: u64,
+            src: u64,
+            len: u64,
+            fuel: &mut Fuel,
+        ) -> Option<Reply> {
+            let memory = self.live_mut(index)?;
+            Some(memory_reply(
+                memory.copy_within_metered(dst, src, len, fuel),
+            ))
+        }
+
         /// Stores to a memory.
         ///
         /// # Contract
@@ -1106,6 +1214,20 @@ mod memories {
             let answer = store(memory, ptr, offset, stored);
             Some(answer.map_or_else(Reply::Trap, |()| Reply::Done))
         }
+    }
+
+    /// The reply to a call on a memory that returns nothing.
+    ///
+    /// # Contract
+    ///
+    /// ```text
+    /// ensures: result ≡ reply_of (λ _. Reply.Done) Reply.Memory answer
+    /// ```
+    ///
+    /// Definitions: [`reply_of`](crate::specs::machine::EffectsSpecs#reply_of).
+    #[inline(always)]
+    fn memory_reply(answer: Result<(), MemoryError>) -> Reply {
+        answer.map_or_else(Reply::Memory, |()| Reply::Done)
     }
 
     /// What is stored: a number, a vector, or a lane of a vector.
@@ -1487,6 +1609,7 @@ mod slots {
     use crate::proved::machine::calls::Reply;
     use crate::proved::store::{Memory, Table};
     use crate::rattle::Vec;
+    use core::mem;
 
     /// What counts in a machine's totals: a memory by its bytes, a table by its elements.
     ///
@@ -1640,6 +1763,30 @@ mod slots {
         #[inline]
         fn value_mut(&mut self, index: usize) -> &mut T {
             self.slots[index].value_mut()
+        }
+
+        /// Takes the live value of an index out of its slot, if there is one, so that it can be changed
+        /// while another one is read. The slot counts nothing until a value is put into it.
+        ///
+        /// # Contract
+        ///
+        /// ```text
+        /// ensures value: result ≡ live_at self.old.slots.items index
+        /// ensures taken: IfSome result
+        ///     (λ x. self.new.slots.items ≡ slice_set self.old.slots.items index (Gone 0))
+        /// ensures none: IfNone result (self.new.slots.items ≡ self.old.slots.items)
+        /// ```
+        ///
+        /// Definitions: [`live_at`](crate::specs::machine::StateSpecs#live_at).
+        #[inline]
+        pub(crate) fn take(&mut self, index: usize) -> Option<T> {
+            if self.live(index).is_none() {
+                return None;
+            }
+            match mem::replace(&mut self.slots[index], Slot::Gone(0)) {
+                Slot::Live(value) => Some(value),
+                Slot::Gone(_) => unreachable!(),
+            }
         }
 
         /// Puts a value into a new slot, and returns its index.
@@ -1808,6 +1955,8 @@ mod store {
                 Call::Write { .. } => self.step_memory(call, limiter).unwrap_or(Reply::NoSuch),
                 Call::Load { .. } => self.step_memory(call, limiter).unwrap_or(Reply::NoSuch),
                 Call::Store { .. } => self.step_memory(call, limiter).unwrap_or(Reply::NoSuch),
+                Call::FillMemory { .. } => self.step_memory(call, limiter).unwrap_or(Reply::NoSuch),
+                Call::CopyMemory { .. } => self.step_memory(call, limiter).unwrap_or(Reply::NoSuch),
 
                 Call::NewSegment { ty, items } => create_segment(&mut self.segments, *ty, items),
                 Call::DropItems(segment) => drop_items(&mut self.segments, *segment),
@@ -1903,6 +2052,23 @@ mod store {
                 } => self
                     .memories
                     .store(*memory, *ptr, *offset, Stored::Number(*op, *value)),
+                Call::FillMemory {
+                    memory,
+                    dst,
+                    value,
+                    len,
+                } => self
+                    .memories
+                    .fill(*memory, *dst, *value, *len, &mut self.fuel),
+                Call::CopyMemory {
+                    dst_memory,
+                    dst,
+                    src_memory,
+                    src,
+                    len,
+                } => self
+                    .memories
+                    .copy(*dst_memory, *dst, *src_memory, *src, *len, &mut self.fuel),
                 _ => unreachable!(),
             }
         }

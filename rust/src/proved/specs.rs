@@ -3874,11 +3874,12 @@ use Rattle.wasmi_meter.specs.Meter.{<a href="../../meter/MeterSpecs/index.html#c
 use Rattle.wasmi_meter.specs.Attempt.{<a href="../../meter/AttemptSpecs/index.html#Request">Request</a>, <a href="../../meter/AttemptSpecs/index.html#optional_due">optional_due</a>}
 use Rattle.wasmi_store.specs.Buffer.{<a href="../../store/BufferSpecs/index.html#Owned">Owned</a>, <a href="../../store/BufferSpecs/index.html#Lent">Lent</a>}
 use Rattle.wasmi_typed.specs.declared.typed_ref.TypedRawRef.{TypedRawRef}
+use Rattle.wasmi_store.specs.Write.{<a href="../../store/WriteSpecs/index.html#item_price">item_price</a>}
 use Rattle.wasmi_store.specs.Memory as memory
 use Rattle.wasmi_store.specs.Table as table
 use Rattle.wasmi_store.specs.Table.{<a href="../../store/TableSpecs/index.html#TableValue">TableValue</a>, <a href="../../store/TableSpecs/index.html#same_type">same_type</a>}
 use Rattle.wasmi_machine.specs.declared.calls.Call.{Call}
-use Rattle.wasmi_machine.specs.declared.calls.Call.TheVariants.{NewMemory, NewLentMemory, GrowMemory, NewTable, GrowTable, InitTable, CopyTable, FillTable}
+use Rattle.wasmi_machine.specs.declared.calls.Call.TheVariants.{NewMemory, NewLentMemory, GrowMemory, FillMemory, CopyMemory, NewTable, GrowTable, InitTable, CopyTable, FillTable}
 use Rattle.wasmi_machine.specs.declared.calls.Reply.{Reply}
 use Rattle.wasmi_machine.specs.declared.calls.Reply.TheVariants.{Done, Memory, Table, NoRoom}
 use Rattle.wasmi_machine.specs.State.{<a href="../../machine/StateSpecs/index.html#State">State</a>, <a href="../../machine/StateSpecs/index.html#live_at">live_at</a>, <a href="../../machine/StateSpecs/index.html#World">World</a>, <a href="../../machine/StateSpecs/index.html#Turn">Turn</a>, <a href="../../machine/StateSpecs/index.html#IsRefusal">IsRefusal</a>, <a href="../../machine/StateSpecs/index.html#sizes">sizes</a>}
@@ -4012,6 +4013,8 @@ abbrev pub <b id="elements_paid">elements_paid</b> : Call → Option ℕ
 
 -- the price of what a call writes over a range, if it has one
 abbrev pub <b id="writing_price">writing_price</b> : Call → Option (CustomFuelCosts → ℕ)
+<a href="../../machine/ExchangeSpecs/index.html#writing_price">writing_price</a> (FillMemory k dst value len) = Some (<a href="../../store/WriteSpecs/index.html#item_price">item_price</a> 1 len)
+<a href="../../machine/ExchangeSpecs/index.html#writing_price">writing_price</a> (CopyMemory k dst j src len) = Some (<a href="../../store/WriteSpecs/index.html#item_price">item_price</a> 1 len)
 <a href="../../machine/ExchangeSpecs/index.html#writing_price">writing_price</a> call = option_map <a href="../../store/TableSpecs/index.html#element_price">table.element_price</a> (<a href="../../machine/ExchangeSpecs/index.html#elements_paid">elements_paid</a> call)
 
 -- what is charged for what is written, by its price and the reply: nothing where it is refused
@@ -4295,7 +4298,7 @@ abbrev pub <b id="RunInRegions">RunInRegions</b> : {S : Type 0} → <a href="../
     #[doc = r####"The calls on memories: what each does to the list of slots.
 
 <pre><code>use Rattle.std.specs.Prelude.{◌≡◌, ◌⊎◌, ◌*◌, ℕ, Option, Some, None, Result, List, MatchOption}
-use Rattle.std.specs.Option.{option_map_or}
+use Rattle.std.specs.Option.{option_map, option_map_or}
 use Rattle.wasmi_types.specs.Access.{<a href="../../types/AccessSpecs/index.html#at">at</a>}
 use Rattle.wasmi_types.specs.Numbers.{<a href="../../types/NumbersSpecs/index.html#le_bytes">le_bytes</a>}
 use Rattle.wasmi_types.specs.declared.trap.TrapCode.{TrapCode}
@@ -4304,7 +4307,7 @@ use Rattle.wasmi_meter.specs.declared.error.MemoryError.{MemoryError}
 use Rattle.wasmi_meter.specs.declared.error.MemoryError.TheVariants.{OutOfBoundsAccess}
 use Rattle.wasmi_meter.specs.Limiter.{<a href="../../meter/LimiterSpecs/index.html#Rules">Rules</a>}
 use Rattle.wasmi_store.specs.Buffer.{<a href="../../store/BufferSpecs/index.html#Lent">Lent</a>}
-use Rattle.wasmi_store.specs.Memory.{<a href="../../store/MemorySpecs/index.html#MemoryTypeValue">MemoryTypeValue</a>, <a href="../../store/MemorySpecs/index.html#page_bytes">page_bytes</a>, <a href="../../store/MemorySpecs/index.html#MemoryValue">MemoryValue</a>, <a href="../../store/MemorySpecs/index.html#MakesMemory">MakesMemory</a>, <a href="../../store/MemorySpecs/index.html#WritesMemory">WritesMemory</a>}
+use Rattle.wasmi_store.specs.Memory.{<a href="../../store/MemorySpecs/index.html#MemoryTypeValue">MemoryTypeValue</a>, <a href="../../store/MemorySpecs/index.html#page_bytes">page_bytes</a>, <a href="../../store/MemorySpecs/index.html#MemoryValue">MemoryValue</a>, <a href="../../store/MemorySpecs/index.html#MakesMemory">MakesMemory</a>, <a href="../../store/MemorySpecs/index.html#MemoryWrite">MemoryWrite</a>, <a href="../../store/MemorySpecs/index.html#WritesMemory">WritesMemory</a>, <a href="../../store/MemorySpecs/index.html#byte_copy_of">byte_copy_of</a>, <a href="../../store/MemorySpecs/index.html#byte_filling_of">byte_filling_of</a>}
 use Rattle.wasmi_machine.specs.declared.calls.Reply.{Reply}
 use Rattle.wasmi_machine.specs.declared.calls.Reply.TheVariants.{Done, Value, Number, Bytes, Memory, Trap, NoSuch, NoRegion, NoRoom}
 use Rattle.wasmi_machine.specs.declared.memories.Stored.{Stored}
@@ -4313,7 +4316,7 @@ use Rattle.wasmi_ops.specs.declared.load_store.LoadOp.{LoadOp}
 use Rattle.wasmi_ops.specs.LoadStoreOps.{<a href="../../ops/LoadStoreOpsSpecs/index.html#loaded_raw">loaded_raw</a>, <a href="../../ops/LoadStoreOpsSpecs/index.html#stored_bytes">stored_bytes</a>}
 use Rattle.wasmi_ops.specs.VectorOps.{<a href="../../ops/VectorOpsSpecs/index.html#stored_lane">stored_lane</a>}
 use Rattle.wasmi_machine.specs.State.{<a href="../../machine/StateSpecs/index.html#MemoryPart">MemoryPart</a>, <a href="../../machine/StateSpecs/index.html#live_at">live_at</a>}
-use Rattle.wasmi_machine.specs.Effects.{<a href="../../machine/EffectsSpecs/index.html#reply_of">reply_of</a>, <a href="../../machine/EffectsSpecs/index.html#OnLive">OnLive</a>, <a href="../../machine/EffectsSpecs/index.html#Creates">Creates</a>, <a href="../../machine/EffectsSpecs/index.html#ChangesAt">ChangesAt</a>}
+use Rattle.wasmi_machine.specs.Effects.{<a href="../../machine/EffectsSpecs/index.html#reply_of">reply_of</a>, <a href="../../machine/EffectsSpecs/index.html#OnLive">OnLive</a>, <a href="../../machine/EffectsSpecs/index.html#Creates">Creates</a>, <a href="../../machine/EffectsSpecs/index.html#ChangesAt">ChangesAt</a>, <a href="../../machine/EffectsSpecs/index.html#MeteredSlots">MeteredSlots</a>, <a href="../../machine/EffectsSpecs/index.html#WritesAt">WritesAt</a>, <a href="../../machine/EffectsSpecs/index.html#WritesFrom">WritesFrom</a>}
 use Rattle.wasmi_machine.specs.declared.memories.Stored.TheVariants as stored
 
 -- the bytes that a growth by so many pages has appended, by its reply
@@ -4358,6 +4361,35 @@ abbrev pub <b id="bytes_of_stored">bytes_of_stored</b> : Stored → List ℕ
 <a href="../../machine/MemoryEffectsSpecs/index.html#bytes_of_stored">bytes_of_stored</a> (stored.Number op value) = <a href="../../ops/LoadStoreOpsSpecs/index.html#stored_bytes">stored_bytes</a> op value
 <a href="../../machine/MemoryEffectsSpecs/index.html#bytes_of_stored">bytes_of_stored</a> (stored.Vector vector) = <a href="../../types/NumbersSpecs/index.html#le_bytes">le_bytes</a> 16 vector
 <a href="../../machine/MemoryEffectsSpecs/index.html#bytes_of_stored">bytes_of_stored</a> (stored.Lane op vector) = <a href="../../ops/VectorOpsSpecs/index.html#stored_lane">stored_lane</a> op vector
+
+-- what a range of a memory is written over with: a byte, or bytes from a place on, if there are some
+pub data <b id="ByteSource">ByteSource</b> : Type 0 where
+  <b id="OfByte">OfByte</b> : ℕ → <a href="../../machine/MemoryEffectsSpecs/index.html#ByteSource">ByteSource</a>
+  <b id="OfBytes">OfBytes</b> : Option (List ℕ) → ℕ → <a href="../../machine/MemoryEffectsSpecs/index.html#ByteSource">ByteSource</a>
+
+-- the write over so many bytes from a place on, with what a source has, if the source is there
+abbrev pub <b id="byte_write_of">byte_write_of</b> : <a href="../../machine/MemoryEffectsSpecs/index.html#ByteSource">ByteSource</a> → ℕ → ℕ → Option (<a href="../../store/MemorySpecs/index.html#MemoryValue">MemoryValue</a> → <a href="../../store/MemorySpecs/index.html#MemoryWrite">MemoryWrite</a>)
+<a href="../../machine/MemoryEffectsSpecs/index.html#byte_write_of">byte_write_of</a> (<a href="../../machine/MemoryEffectsSpecs/index.html#OfByte">OfByte</a> value) dst len = Some (<a href="../../store/MemorySpecs/index.html#byte_filling_of">byte_filling_of</a> dst value len)
+<a href="../../machine/MemoryEffectsSpecs/index.html#byte_write_of">byte_write_of</a> (<a href="../../machine/MemoryEffectsSpecs/index.html#OfBytes">OfBytes</a> source src) dst len = option_map (<a href="../../store/MemorySpecs/index.html#byte_copy_of">byte_copy_of</a> dst src len) source
+
+-- the bytes of a memory, if it is there
+abbrev pub <b id="bytes_in">bytes_in</b> : Option <a href="../../store/MemorySpecs/index.html#MemoryValue">MemoryValue</a> → Option (List ℕ)
+<a href="../../machine/MemoryEffectsSpecs/index.html#bytes_in">bytes_in</a> memory = option_map (λ x. x.bytes) memory
+
+-- a range of the memory of an index is written over, with its charge
+abbrev pub <b id="WritesRangeOfMemoryAt">WritesRangeOfMemoryAt</b> : ℕ → (<a href="../../store/MemorySpecs/index.html#MemoryValue">MemoryValue</a> → <a href="../../store/MemorySpecs/index.html#MemoryWrite">MemoryWrite</a>) → <a href="../../machine/EffectsSpecs/index.html#MeteredSlots">MeteredSlots</a> <a href="../../store/MemorySpecs/index.html#MemoryValue">MemoryValue</a> → Reply → ℕ
+    → <a href="../../machine/EffectsSpecs/index.html#MeteredSlots">MeteredSlots</a> <a href="../../store/MemorySpecs/index.html#MemoryValue">MemoryValue</a> → Type 0
+<a href="../../machine/MemoryEffectsSpecs/index.html#WritesRangeOfMemoryAt">WritesRangeOfMemoryAt</a> = <a href="../../machine/EffectsSpecs/index.html#WritesAt">WritesAt</a> Memory
+
+-- a range of the memory of an index is written over with what a source has, with its charge; without a source the reply
+-- is `NoSuch`, and nothing has changed
+abbrev pub <b id="WritesMemoryFrom">WritesMemoryFrom</b> : {Y : Type 0} → Option Y → ℕ → (Y → <a href="../../store/MemorySpecs/index.html#MemoryValue">MemoryValue</a> → <a href="../../store/MemorySpecs/index.html#MemoryWrite">MemoryWrite</a>)
+    → <a href="../../machine/EffectsSpecs/index.html#MeteredSlots">MeteredSlots</a> <a href="../../store/MemorySpecs/index.html#MemoryValue">MemoryValue</a> → Reply → ℕ → <a href="../../machine/EffectsSpecs/index.html#MeteredSlots">MeteredSlots</a> <a href="../../store/MemorySpecs/index.html#MemoryValue">MemoryValue</a> → Type 0
+<a href="../../machine/MemoryEffectsSpecs/index.html#WritesMemoryFrom">WritesMemoryFrom</a> = <a href="../../machine/EffectsSpecs/index.html#WritesFrom">WritesFrom</a> Memory
+
+-- what is copied over a part of a memory is of another one
+abbrev pub <b id="memory_copy_of">memory_copy_of</b> : ℕ → ℕ → ℕ → <a href="../../store/MemorySpecs/index.html#MemoryValue">MemoryValue</a> → <a href="../../store/MemorySpecs/index.html#MemoryValue">MemoryValue</a> → <a href="../../store/MemorySpecs/index.html#MemoryWrite">MemoryWrite</a>
+<a href="../../machine/MemoryEffectsSpecs/index.html#memory_copy_of">memory_copy_of</a> dst src len source = <a href="../../store/MemorySpecs/index.html#byte_copy_of">byte_copy_of</a> dst src len source.bytes
 
 -- a store: the memory has the bytes at the address, or the store traps and the memory is the same
 abbrev pub <b id="StoresMemory">StoresMemory</b> : <a href="../../store/MemorySpecs/index.html#MemoryValue">MemoryValue</a> → ℕ → List ℕ → Result (Unit {0}) TrapCode → <a href="../../store/MemorySpecs/index.html#MemoryValue">MemoryValue</a> → Type 0
@@ -4642,10 +4674,10 @@ use Rattle.wasmi_store.specs.Table.{<a href="../../store/TableSpecs/index.html#T
 use Rattle.wasmi_machine.specs.declared.calls.Call.{Call}
 use Rattle.wasmi_machine.specs.declared.calls.Reply.{Reply}
 use Rattle.wasmi_machine.specs.State.{<a href="../../machine/StateSpecs/index.html#World">World</a>, <a href="../../machine/StateSpecs/index.html#Turn">Turn</a>, <a href="../../machine/StateSpecs/index.html#world">world</a>, <a href="../../machine/StateSpecs/index.html#State">State</a>, <a href="../../machine/StateSpecs/index.html#live_at">live_at</a>, <a href="../../machine/StateSpecs/index.html#with_memories">with_memories</a>, <a href="../../machine/StateSpecs/index.html#memory_part">memory_part</a>, <a href="../../machine/StateSpecs/index.html#with_memory_part">with_memory_part</a>, <a href="../../machine/StateSpecs/index.html#with_tables">with_tables</a>, <a href="../../machine/StateSpecs/index.html#with_segments">with_segments</a>, <a href="../../machine/StateSpecs/index.html#with_globals">with_globals</a>, <a href="../../machine/StateSpecs/index.html#with_registers">with_registers</a>, <a href="../../machine/StateSpecs/index.html#byte_count">byte_count</a>}
-use Rattle.wasmi_machine.specs.Effects.{<a href="../../machine/EffectsSpecs/index.html#reply_of">reply_of</a>, <a href="../../machine/EffectsSpecs/index.html#Creates">Creates</a>, <a href="../../machine/EffectsSpecs/index.html#DropsAt">DropsAt</a>, <a href="../../machine/EffectsSpecs/index.html#ActsAt">ActsAt</a>, <a href="../../machine/EffectsSpecs/index.html#ChangesPart">ChangesPart</a>, <a href="../../machine/EffectsSpecs/index.html#OnlyReplies">OnlyReplies</a>, <a href="../../machine/EffectsSpecs/index.html#Changes">Changes</a>, <a href="../../machine/EffectsSpecs/index.html#Asks">Asks</a>, <a href="../../machine/EffectsSpecs/index.html#ActsMetered">ActsMetered</a>, <a href="../../machine/EffectsSpecs/index.html#ActsMeteredUnasked">ActsMeteredUnasked</a>, <a href="../../machine/EffectsSpecs/index.html#WritesRangeAt">WritesRangeAt</a>}
+use Rattle.wasmi_machine.specs.Effects.{<a href="../../machine/EffectsSpecs/index.html#reply_of">reply_of</a>, <a href="../../machine/EffectsSpecs/index.html#Creates">Creates</a>, <a href="../../machine/EffectsSpecs/index.html#DropsAt">DropsAt</a>, <a href="../../machine/EffectsSpecs/index.html#ActsAt">ActsAt</a>, <a href="../../machine/EffectsSpecs/index.html#ChangesPart">ChangesPart</a>, <a href="../../machine/EffectsSpecs/index.html#OnlyReplies">OnlyReplies</a>, <a href="../../machine/EffectsSpecs/index.html#Changes">Changes</a>, <a href="../../machine/EffectsSpecs/index.html#Asks">Asks</a>, <a href="../../machine/EffectsSpecs/index.html#ActsMetered">ActsMetered</a>, <a href="../../machine/EffectsSpecs/index.html#ActsMeteredUnasked">ActsMeteredUnasked</a>, <a href="../../machine/EffectsSpecs/index.html#WritesRangeAt">WritesRangeAt</a>, <a href="../../machine/EffectsSpecs/index.html#item_bytes">item_bytes</a>}
 use Rattle.wasmi_ops.specs.LoadStoreOps.{<a href="../../ops/LoadStoreOpsSpecs/index.html#stored_bytes">stored_bytes</a>}
 use Rattle.wasmi_machine.specs.ValueEffects.{<a href="../../machine/ValueEffectsSpecs/index.html#SetsFuel">SetsFuel</a>, <a href="../../machine/ValueEffectsSpecs/index.html#get_fuel_reply">get_fuel_reply</a>, <a href="../../machine/ValueEffectsSpecs/index.html#CreatesSegment">CreatesSegment</a>, <a href="../../machine/ValueEffectsSpecs/index.html#DropsItemsAt">DropsItemsAt</a>, <a href="../../machine/ValueEffectsSpecs/index.html#CreatesGlobal">CreatesGlobal</a>, <a href="../../machine/ValueEffectsSpecs/index.html#SetsGlobalAt">SetsGlobalAt</a>, <a href="../../machine/ValueEffectsSpecs/index.html#global_reply">global_reply</a>}
-use Rattle.wasmi_machine.specs.MemoryEffects.{<a href="../../machine/MemoryEffectsSpecs/index.html#bytes_appended">bytes_appended</a>, <a href="../../machine/MemoryEffectsSpecs/index.html#CreatesLent">CreatesLent</a>, <a href="../../machine/MemoryEffectsSpecs/index.html#ReadsMemoryAt">ReadsMemoryAt</a>, <a href="../../machine/MemoryEffectsSpecs/index.html#WritesMemoryAt">WritesMemoryAt</a>, <a href="../../machine/MemoryEffectsSpecs/index.html#load_reply">load_reply</a>}
+use Rattle.wasmi_machine.specs.MemoryEffects.{<a href="../../machine/MemoryEffectsSpecs/index.html#ByteSource">ByteSource</a>, <a href="../../machine/MemoryEffectsSpecs/index.html#OfByte">OfByte</a>, <a href="../../machine/MemoryEffectsSpecs/index.html#OfBytes">OfBytes</a>, <a href="../../machine/MemoryEffectsSpecs/index.html#byte_write_of">byte_write_of</a>, <a href="../../machine/MemoryEffectsSpecs/index.html#bytes_in">bytes_in</a>, <a href="../../machine/MemoryEffectsSpecs/index.html#bytes_appended">bytes_appended</a>, <a href="../../machine/MemoryEffectsSpecs/index.html#CreatesLent">CreatesLent</a>, <a href="../../machine/MemoryEffectsSpecs/index.html#ReadsMemoryAt">ReadsMemoryAt</a>, <a href="../../machine/MemoryEffectsSpecs/index.html#WritesMemoryAt">WritesMemoryAt</a>, <a href="../../machine/MemoryEffectsSpecs/index.html#load_reply">load_reply</a>}
 use Rattle.wasmi_machine.specs.TableEffects.{<a href="../../machine/TableEffectsSpecs/index.html#Source">Source</a>, <a href="../../machine/TableEffectsSpecs/index.html#OfReference">OfReference</a>, <a href="../../machine/TableEffectsSpecs/index.html#OfTable">OfTable</a>, <a href="../../machine/TableEffectsSpecs/index.html#OfSegment">OfSegment</a>, <a href="../../machine/TableEffectsSpecs/index.html#element_reply">element_reply</a>, <a href="../../machine/TableEffectsSpecs/index.html#SetsElementAt">SetsElementAt</a>, <a href="../../machine/TableEffectsSpecs/index.html#write_of">write_of</a>, <a href="../../machine/TableEffectsSpecs/index.html#element_bytes">element_bytes</a>}
 use Rattle.wasmi_machine.specs.RegisterEffects.{<a href="../../machine/RegisterEffectsSpecs/index.html#SetsRegister">SetsRegister</a>, <a href="../../machine/RegisterEffectsSpecs/index.html#StoresVectorAt">StoresVectorAt</a>, <a href="../../machine/RegisterEffectsSpecs/index.html#given_vector">given_vector</a>, <a href="../../machine/RegisterEffectsSpecs/index.html#of_one">of_one</a>, <a href="../../machine/RegisterEffectsSpecs/index.html#of_two">of_two</a>, <a href="../../machine/RegisterEffectsSpecs/index.html#of_three">of_three</a>, <a href="../../machine/RegisterEffectsSpecs/index.html#vector_loaded">vector_loaded</a>, <a href="../../machine/RegisterEffectsSpecs/index.html#lane_loaded">lane_loaded</a>, <a href="../../machine/RegisterEffectsSpecs/index.html#raw_reply">raw_reply</a>, <a href="../../machine/RegisterEffectsSpecs/index.html#vector_at">vector_at</a>}
 use Rattle.wasmi_machine.specs.declared.calls.Call.TheVariants as call
@@ -4672,6 +4704,8 @@ abbrev pub <b id="subject_of">subject_of</b> : Call → <a href="../../machine/S
 <a href="../../machine/StepsSpecs/index.html#subject_of">subject_of</a> (call.Write k offset bytes) = <a href="../../machine/StepsSpecs/index.html#Memories">Memories</a>
 <a href="../../machine/StepsSpecs/index.html#subject_of">subject_of</a> (call.Load op k ptr offset) = <a href="../../machine/StepsSpecs/index.html#Memories">Memories</a>
 <a href="../../machine/StepsSpecs/index.html#subject_of">subject_of</a> (call.Store op k ptr offset value) = <a href="../../machine/StepsSpecs/index.html#Memories">Memories</a>
+<a href="../../machine/StepsSpecs/index.html#subject_of">subject_of</a> (call.FillMemory k dst value len) = <a href="../../machine/StepsSpecs/index.html#Memories">Memories</a>
+<a href="../../machine/StepsSpecs/index.html#subject_of">subject_of</a> (call.CopyMemory k dst j src len) = <a href="../../machine/StepsSpecs/index.html#Memories">Memories</a>
 <a href="../../machine/StepsSpecs/index.html#subject_of">subject_of</a> (call.NewTable ty init) = <a href="../../machine/StepsSpecs/index.html#Tables">Tables</a>
 <a href="../../machine/StepsSpecs/index.html#subject_of">subject_of</a> (call.GrowTable k n init) = <a href="../../machine/StepsSpecs/index.html#Tables">Tables</a>
 <a href="../../machine/StepsSpecs/index.html#subject_of">subject_of</a> (call.DropTable k) = <a href="../../machine/StepsSpecs/index.html#Tables">Tables</a>
@@ -4691,9 +4725,11 @@ abbrev pub <b id="subject_of">subject_of</b> : Call → <a href="../../machine/S
 <a href="../../machine/StepsSpecs/index.html#subject_of">subject_of</a> (call.StoreLane op a k ptr offset) = <a href="../../machine/StepsSpecs/index.html#VectorAccesses">VectorAccesses</a>
 <a href="../../machine/StepsSpecs/index.html#subject_of">subject_of</a> call = <a href="../../machine/StepsSpecs/index.html#RegisterFile">RegisterFile</a>
 
--- the calls that are charged for what they write: growths, and those that write over a part of a table
+-- the calls that are charged for what they write: growths, and those that write over a range of a memory or a table
 abbrev pub <b id="is_charged">is_charged</b> : Call → Bool
 <a href="../../machine/StepsSpecs/index.html#is_charged">is_charged</a> (call.GrowMemory k pages) = true
+<a href="../../machine/StepsSpecs/index.html#is_charged">is_charged</a> (call.FillMemory k dst value len) = true
+<a href="../../machine/StepsSpecs/index.html#is_charged">is_charged</a> (call.CopyMemory k dst j src len) = true
 <a href="../../machine/StepsSpecs/index.html#is_charged">is_charged</a> (call.GrowTable k n init) = true
 <a href="../../machine/StepsSpecs/index.html#is_charged">is_charged</a> (call.InitTable k j dst src len) = true
 <a href="../../machine/StepsSpecs/index.html#is_charged">is_charged</a> (call.CopyTable k dst j src len) = true
@@ -4716,6 +4752,7 @@ pub data <b id="Change">Change</b> : Type 0 where
 -- what is written over a range of one part of the state, with a charge, without the limiter
 pub data <b id="RangeWrite">RangeWrite</b> : Type 0 where
   <b id="TableWritten">TableWritten</b> : ℕ → <a href="../../machine/TableEffectsSpecs/index.html#Source">Source</a> → ℕ → ℕ → <a href="../../machine/StepsSpecs/index.html#RangeWrite">RangeWrite</a>
+  <b id="MemoryWritten">MemoryWritten</b> : ℕ → <a href="../../machine/MemoryEffectsSpecs/index.html#ByteSource">ByteSource</a> → ℕ → ℕ → <a href="../../machine/StepsSpecs/index.html#RangeWrite">RangeWrite</a>
 
 -- what a call does, once its operands are read: all calls that only reply what is known have one kind of effect, all
 -- that change one part alone another, and all that write over a range of one part a third
@@ -4767,6 +4804,9 @@ abbrev pub <b id="effect_of">effect_of</b> : <a href="../../machine/StateSpecs/i
 <a href="../../machine/StepsSpecs/index.html#effect_of">effect_of</a> s (call.Write k offset bytes) = <a href="../../machine/StepsSpecs/index.html#Changed">Changed</a> (<a href="../../machine/StepsSpecs/index.html#BytesWritten">BytesWritten</a> k offset bytes.items)
 <a href="../../machine/StepsSpecs/index.html#effect_of">effect_of</a> s (call.Load op k ptr offset) = <a href="../../machine/StepsSpecs/index.html#Told">Told</a> (<a href="../../machine/MemoryEffectsSpecs/index.html#load_reply">load_reply</a> op (ptr + offset) (<a href="../../machine/StateSpecs/index.html#live_at">live_at</a> s.memories k))
 <a href="../../machine/StepsSpecs/index.html#effect_of">effect_of</a> s (call.Store op k ptr offset value) = <a href="../../machine/StepsSpecs/index.html#Changed">Changed</a> (<a href="../../machine/StepsSpecs/index.html#BytesStored">BytesStored</a> k (ptr + offset) (Some (<a href="../../ops/LoadStoreOpsSpecs/index.html#stored_bytes">stored_bytes</a> op value)))
+<a href="../../machine/StepsSpecs/index.html#effect_of">effect_of</a> s (call.FillMemory k dst value len) = <a href="../../machine/StepsSpecs/index.html#RangeWritten">RangeWritten</a> (<a href="../../machine/StepsSpecs/index.html#MemoryWritten">MemoryWritten</a> k (<a href="../../machine/MemoryEffectsSpecs/index.html#OfByte">OfByte</a> value) dst len)
+<a href="../../machine/StepsSpecs/index.html#effect_of">effect_of</a> s (call.CopyMemory k dst j src len) =
+    <a href="../../machine/StepsSpecs/index.html#RangeWritten">RangeWritten</a> (<a href="../../machine/StepsSpecs/index.html#MemoryWritten">MemoryWritten</a> k (<a href="../../machine/MemoryEffectsSpecs/index.html#OfBytes">OfBytes</a> (<a href="../../machine/MemoryEffectsSpecs/index.html#bytes_in">bytes_in</a> (<a href="../../machine/StateSpecs/index.html#live_at">live_at</a> s.memories j)) src) dst len)
 <a href="../../machine/StepsSpecs/index.html#effect_of">effect_of</a> s (call.NewTable ty init) = <a href="../../machine/StepsSpecs/index.html#TableMade">TableMade</a> ty init
 <a href="../../machine/StepsSpecs/index.html#effect_of">effect_of</a> s (call.GrowTable k n init) = <a href="../../machine/StepsSpecs/index.html#TableGrown">TableGrown</a> k n init
 <a href="../../machine/StepsSpecs/index.html#effect_of">effect_of</a> s (call.DropTable k) = <a href="../../machine/StepsSpecs/index.html#Changed">Changed</a> (<a href="../../machine/StepsSpecs/index.html#TableDropped">TableDropped</a> k)
@@ -4824,6 +4864,9 @@ abbrev pub <b id="HasRangeWrite">HasRangeWrite</b> : {S : Type 0} → <a href=".
 <a href="../../machine/StepsSpecs/index.html#HasRangeWrite">HasRangeWrite</a> (<a href="../../machine/StepsSpecs/index.html#TableWritten">TableWritten</a> k source dst len) w turn w&#x27; =
     <a href="../../machine/EffectsSpecs/index.html#ActsMeteredUnasked">ActsMeteredUnasked</a> w turn w&#x27; w.state.tables (<a href="../../machine/StateSpecs/index.html#with_tables">with_tables</a> w.state)
     (<a href="../../machine/EffectsSpecs/index.html#WritesRangeAt">WritesRangeAt</a> reply.Table k (<a href="../../machine/TableEffectsSpecs/index.html#write_of">write_of</a> source dst len)) (<a href="../../machine/TableEffectsSpecs/index.html#element_bytes">element_bytes</a> len)
+<a href="../../machine/StepsSpecs/index.html#HasRangeWrite">HasRangeWrite</a> (<a href="../../machine/StepsSpecs/index.html#MemoryWritten">MemoryWritten</a> k source dst len) w turn w&#x27; =
+    <a href="../../machine/EffectsSpecs/index.html#ActsMeteredUnasked">ActsMeteredUnasked</a> w turn w&#x27; w.state.memories (<a href="../../machine/StateSpecs/index.html#with_memories">with_memories</a> w.state)
+    (<a href="../../machine/EffectsSpecs/index.html#WritesRangeAt">WritesRangeAt</a> reply.Memory k (<a href="../../machine/MemoryEffectsSpecs/index.html#byte_write_of">byte_write_of</a> source dst len)) (<a href="../../machine/EffectsSpecs/index.html#item_bytes">item_bytes</a> 1 len)
 
 -- an effect takes place from one world to the next: a line for each kind
 abbrev pub <b id="HasEffect">HasEffect</b> : {S : Type 0} → <a href="../../meter/LimiterSpecs/index.html#Rules">Rules</a> S → <a href="../../machine/StepsSpecs/index.html#Effect">Effect</a> → <a href="../../machine/StateSpecs/index.html#World">World</a> S → <a href="../../machine/StateSpecs/index.html#Turn">Turn</a> → <a href="../../machine/StateSpecs/index.html#World">World</a> S → Type 0
@@ -5066,6 +5109,8 @@ abbrev pub <b id="changed_location">changed_location</b> : Call → Option <a hr
 <a href="../../laws/PlacesSpecs/index.html#changed_location">changed_location</a> (call.DropMemory k) = Some (<a href="../../laws/PlacesSpecs/index.html#MemoryAt">MemoryAt</a> k)
 <a href="../../laws/PlacesSpecs/index.html#changed_location">changed_location</a> (call.Write k <a href="../../laws/PlacesSpecs/index.html#offset">offset</a> bytes) = Some (<a href="../../laws/PlacesSpecs/index.html#MemoryAt">MemoryAt</a> k)
 <a href="../../laws/PlacesSpecs/index.html#changed_location">changed_location</a> (call.Store <a href="../../laws/PlacesSpecs/index.html#op">op</a> k <a href="../../laws/PlacesSpecs/index.html#ptr">ptr</a> <a href="../../laws/PlacesSpecs/index.html#offset">offset</a> <a href="../../laws/PlacesSpecs/index.html#value">value</a>) = Some (<a href="../../laws/PlacesSpecs/index.html#MemoryAt">MemoryAt</a> k)
+<a href="../../laws/PlacesSpecs/index.html#changed_location">changed_location</a> (call.FillMemory k dst <a href="../../laws/PlacesSpecs/index.html#value">value</a> len) = Some (<a href="../../laws/PlacesSpecs/index.html#MemoryAt">MemoryAt</a> k)
+<a href="../../laws/PlacesSpecs/index.html#changed_location">changed_location</a> (call.CopyMemory k dst j src len) = Some (<a href="../../laws/PlacesSpecs/index.html#MemoryAt">MemoryAt</a> k)
 <a href="../../laws/PlacesSpecs/index.html#changed_location">changed_location</a> (call.VectorStore a k <a href="../../laws/PlacesSpecs/index.html#ptr">ptr</a> <a href="../../laws/PlacesSpecs/index.html#offset">offset</a>) = Some (<a href="../../laws/PlacesSpecs/index.html#MemoryAt">MemoryAt</a> k)
 <a href="../../laws/PlacesSpecs/index.html#changed_location">changed_location</a> (call.StoreLane <a href="../../laws/PlacesSpecs/index.html#op">op</a> a k <a href="../../laws/PlacesSpecs/index.html#ptr">ptr</a> <a href="../../laws/PlacesSpecs/index.html#offset">offset</a>) = Some (<a href="../../laws/PlacesSpecs/index.html#MemoryAt">MemoryAt</a> k)
 <a href="../../laws/PlacesSpecs/index.html#changed_location">changed_location</a> (call.GrowTable k n init) = Some (<a href="../../laws/PlacesSpecs/index.html#TableAt">TableAt</a> k)
@@ -5098,6 +5143,7 @@ abbrev pub <b id="dropped_location">dropped_location</b> : Call → Option <a hr
 abbrev pub <b id="read_locations">read_locations</b> : Call → List <a href="../../laws/PlacesSpecs/index.html#Location">Location</a>
 <a href="../../laws/PlacesSpecs/index.html#read_locations">read_locations</a> (call.Read k <a href="../../laws/PlacesSpecs/index.html#offset">offset</a> len) = <a href="../../laws/PlacesSpecs/index.html#MemoryAt">MemoryAt</a> k ∷ []
 <a href="../../laws/PlacesSpecs/index.html#read_locations">read_locations</a> (call.Load <a href="../../laws/PlacesSpecs/index.html#op">op</a> k <a href="../../laws/PlacesSpecs/index.html#ptr">ptr</a> <a href="../../laws/PlacesSpecs/index.html#offset">offset</a>) = <a href="../../laws/PlacesSpecs/index.html#MemoryAt">MemoryAt</a> k ∷ []
+<a href="../../laws/PlacesSpecs/index.html#read_locations">read_locations</a> (call.CopyMemory k dst j src len) = <a href="../../laws/PlacesSpecs/index.html#MemoryAt">MemoryAt</a> j ∷ []
 <a href="../../laws/PlacesSpecs/index.html#read_locations">read_locations</a> (call.GetElement k index) = <a href="../../laws/PlacesSpecs/index.html#TableAt">TableAt</a> k ∷ []
 <a href="../../laws/PlacesSpecs/index.html#read_locations">read_locations</a> (call.InitTable k j dst src len) = <a href="../../laws/PlacesSpecs/index.html#SegmentAt">SegmentAt</a> j ∷ []
 <a href="../../laws/PlacesSpecs/index.html#read_locations">read_locations</a> (call.CopyTable k dst j src len) = <a href="../../laws/PlacesSpecs/index.html#TableAt">TableAt</a> j ∷ []
@@ -5126,6 +5172,8 @@ abbrev pub <b id="IsLocal">IsLocal</b> : Call → Type 0
 <a href="../../laws/PlacesSpecs/index.html#IsLocal">IsLocal</a> (call.NewMemory ty) = ⊥
 <a href="../../laws/PlacesSpecs/index.html#IsLocal">IsLocal</a> (call.NewLentMemory ty) = ⊥
 <a href="../../laws/PlacesSpecs/index.html#IsLocal">IsLocal</a> (call.GrowMemory k pages) = ⊥
+<a href="../../laws/PlacesSpecs/index.html#IsLocal">IsLocal</a> (call.FillMemory k dst <a href="../../laws/PlacesSpecs/index.html#value">value</a> len) = ⊥
+<a href="../../laws/PlacesSpecs/index.html#IsLocal">IsLocal</a> (call.CopyMemory k dst j src len) = ⊥
 <a href="../../laws/PlacesSpecs/index.html#IsLocal">IsLocal</a> (call.NewTable ty init) = ⊥
 <a href="../../laws/PlacesSpecs/index.html#IsLocal">IsLocal</a> (call.GrowTable k n init) = ⊥
 <a href="../../laws/PlacesSpecs/index.html#IsLocal">IsLocal</a> (call.InitTable k j dst src len) = ⊥
@@ -6149,6 +6197,8 @@ abbrev pub <b id="command_word">command_word</b> : Call → List ℕ
 <a href="../../grammar/CommandsSpecs/index.html#command_word">command_word</a> (call.Write memory offset bytes) = codes "write"
 <a href="../../grammar/CommandsSpecs/index.html#command_word">command_word</a> (call.Load op memory ptr offset) = codes "load"
 <a href="../../grammar/CommandsSpecs/index.html#command_word">command_word</a> (call.Store op memory ptr offset value) = codes "store"
+<a href="../../grammar/CommandsSpecs/index.html#command_word">command_word</a> (call.FillMemory memory dst value len) = codes "mfill"
+<a href="../../grammar/CommandsSpecs/index.html#command_word">command_word</a> (call.CopyMemory dst_memory dst src_memory src len) = codes "mcopy"
 <a href="../../grammar/CommandsSpecs/index.html#command_word">command_word</a> (call.NewTable ty init) = codes "table"
 <a href="../../grammar/CommandsSpecs/index.html#command_word">command_word</a> (call.GrowTable table delta init) = codes "tgrow"
 <a href="../../grammar/CommandsSpecs/index.html#command_word">command_word</a> (call.DropTable table) = codes "drop"
@@ -6197,6 +6247,12 @@ abbrev pub <b id="OperandsWrite">OperandsWrite</b> : ℕ → (ℕ → List ℕ) 
 <a href="../../grammar/CommandsSpecs/index.html#OperandsWrite">OperandsWrite</a> count word (call.Store op memory ptr offset value) = (count ≡ 5) × <a href="../../operands/NamesSpecs/index.html#IsName">IsName</a> <a href="../../ops/LoadStoreOpsSpecs/index.html#store_name">store_name</a> (word 0) op
     × <a href="../../operands/LineWordsSpecs/index.html#WritesNumber">WritesNumber</a> 64 (word 1) memory × <a href="../../operands/LineWordsSpecs/index.html#WritesNumber">WritesNumber</a> 64 (word 2) ptr × <a href="../../operands/LineWordsSpecs/index.html#WritesNumber">WritesNumber</a> 64 (word 3) offset × (lo : ℕ)
     × <a href="../../operands/LineWordsSpecs/index.html#WritesNumber">WritesNumber</a> 64 (word 4) lo × (value ≡ <a href="../../raw/RawValSpecs/index.html#raw_of">raw_of</a> lo)
+<a href="../../grammar/CommandsSpecs/index.html#OperandsWrite">OperandsWrite</a> count word (call.FillMemory memory dst value len) = (count ≡ 4) × <a href="../../operands/LineWordsSpecs/index.html#WritesNumber">WritesNumber</a> 64 (word 0) memory
+    × <a href="../../operands/LineWordsSpecs/index.html#WritesNumber">WritesNumber</a> 64 (word 1) dst × <a href="../../operands/LineWordsSpecs/index.html#WritesNumber">WritesNumber</a> 8 (word 2) value × <a href="../../operands/LineWordsSpecs/index.html#WritesNumber">WritesNumber</a> 64 (word 3) len
+<a href="../../grammar/CommandsSpecs/index.html#OperandsWrite">OperandsWrite</a> count word (call.CopyMemory dst_memory dst src_memory src len) =
+    (count ≡ 5) × <a href="../../operands/LineWordsSpecs/index.html#WritesNumber">WritesNumber</a> 64 (word 0) dst_memory
+    × <a href="../../operands/LineWordsSpecs/index.html#WritesNumber">WritesNumber</a> 64 (word 1) dst × <a href="../../operands/LineWordsSpecs/index.html#WritesNumber">WritesNumber</a> 64 (word 2) src_memory × <a href="../../operands/LineWordsSpecs/index.html#WritesNumber">WritesNumber</a> 64 (word 3) src
+    × <a href="../../operands/LineWordsSpecs/index.html#WritesNumber">WritesNumber</a> 64 (word 4) len
 <a href="../../grammar/CommandsSpecs/index.html#OperandsWrite">OperandsWrite</a> count word (call.NewTable ty init) =
     (count ≡ 6) × <a href="../../grammar/CommandsSpecs/index.html#NamesTableType">NamesTableType</a> (word 0) (word 1) (word 2) (word 3) ty × <a href="../../operands/NamesSpecs/index.html#WritesReference">WritesReference</a> (word 4) (word 5) init
 <a href="../../grammar/CommandsSpecs/index.html#OperandsWrite">OperandsWrite</a> count word (call.GrowTable table delta init) = (count ≡ 4) × <a href="../../operands/LineWordsSpecs/index.html#WritesNumber">WritesNumber</a> 64 (word 0) table
@@ -6280,7 +6336,7 @@ abbrev pub <b id="IsValueWord">IsValueWord</b> : List ℕ → Type 0
 
 -- a word that a command of a memory begins with, or one that drops a memory or a table
 abbrev pub <b id="IsMemoryWord">IsMemoryWord</b> : List ℕ → Type 0
-<a href="../../grammar/CommandsSpecs/index.html#IsMemoryWord">IsMemoryWord</a> name = (name ≡ codes "memory") ⊎ (name ≡ codes "lent") ⊎ (name ≡ codes "grow") ⊎ (name ≡ codes "drop") ⊎ (name ≡ codes "read")
+<a href="../../grammar/CommandsSpecs/index.html#IsMemoryWord">IsMemoryWord</a> name = (name ≡ codes "memory") ⊎ (name ≡ codes "lent") ⊎ (name ≡ codes "grow") ⊎ (name ≡ codes "drop") ⊎ (name ≡ codes "read") ⊎ (name ≡ codes "mfill") ⊎ (name ≡ codes "mcopy")
 
 -- a word that a command begins with which loads or stores
 abbrev pub <b id="IsAccessWord">IsAccessWord</b> : List ℕ → Type 0

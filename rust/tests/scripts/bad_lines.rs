@@ -34,7 +34,7 @@ static BAD_LINES: [&[u8]; 26] = [
 ];
 
 /// More of them: numbers that are none or too large, words too many or too few.
-static MORE_BAD_LINES: [&[u8]; 34] = [
+static MORE_BAD_LINES: [&[u8]; 39] = [
     b"fuel 99999999999999999999",
     b"fuel 184467440737095516150",
     b"fuel 0x10",
@@ -47,6 +47,11 @@ static MORE_BAD_LINES: [&[u8]; 34] = [
     b"grow 0 1 2",
     b"grow 18446744073709551616 1",
     b"read 0 0 1 2",
+    b"mfill 0 0 256 1",
+    b"mfill 0 0 1",
+    b"mfill 0 0 1 1 1",
+    b"mcopy 0 0 0 0",
+    b"mcopy 0 0 0 0 18446744073709551616",
     b"write 0 0 -1",
     b"meter off 1",
     b"meter on 1 2",

@@ -404,6 +404,50 @@ fn prints_what_many_tenants_hold() {
     answers(MANY.text, printed.as_str());
 }
 
+/// Ranges that overlap, that end past their memory, that are empty, and that can't be paid.
+static RANGES: [Script; 2] = [
+    script! {
+        "meter on 1",
+        "fuel 7" => "done",
+        "memory 4 none 0 32" => "memory 0",
+        "write 0 0 1 2 3 4" => "done",
+        "mfill 0 1 255 2" => "done",
+        "read 0 0 4" => "bytes 1 255 255 4",
+        "mcopy 0 1 0 0 3" => "done",
+        "read 0 0 4" => "bytes 1 1 255 255",
+        "left" => "value 2",
+        "mfill 0 0 9 3" => "error not enough fuel. required=3",
+        "mcopy 0 1 0 0 3" => "error not enough fuel. required=3",
+        "mfill 0 2 9 3" => "error out of bounds memory access",
+        "read 0 0 4" => "bytes 1 1 255 255",
+        "mfill 0 4 9 0" => "done",
+        "left" => "value 2",
+    },
+    script! {
+        "memory 4 none 0 32" => "memory 0",
+        "memory 2 none 0 64" => "memory 1",
+        "write 0 0 1 2 3 4" => "done",
+        "mcopy 1 0 0 2 2" => "done",
+        "read 1 0 2" => "bytes 3 4",
+        "mcopy 0 0 1 0 2" => "done",
+        "read 0 0 4" => "bytes 3 4 3 4",
+        "mcopy 1 1 0 0 2" => "error out of bounds memory access",
+        "mcopy 1 0 0 3 2" => "error out of bounds memory access",
+        "mcopy 0 5 0 0 0" => "error out of bounds memory access",
+        "mcopy 0 0 0 18446744073709551615 1" => "error out of bounds memory access",
+        "drop memory 1" => "done",
+        "mcopy 1 0 0 0 0" => "no such",
+        "mcopy 0 0 1 0 0" => "no such",
+        "mfill 1 0 0 0" => "no such",
+        "mcopy 2 0 2 0 0" => "no such",
+    },
+];
+
+#[test]
+fn prints_the_replies_of_ranges() {
+    answers_each(&RANGES);
+}
+
 static TABLES: [Script; 5] = [
     script! {
         "segment func 1 2 3 4" => "segment 0",

@@ -127,7 +127,29 @@ impl Generator {
                 let index = self.memory().index;
                 self.command(format!("drop memory {index}"));
             }
+            7 | 8 => self.bulk_step(),
             _ => self.access(),
+        }
+    }
+
+    /// A fill of a memory, or a copy within it or from another one.
+    fn bulk_step(&mut self) {
+        let LiveMemory { index, len: size, .. } = self.memory();
+        if self.random.chance(40) {
+            let (to, len) = self.span(size, size);
+            let value = self.random.below(256);
+            self.aim(len, 1);
+            self.command(format!("mfill {index} {to} {value} {len}"));
+        } else {
+            let LiveMemory { index: source, len: other, .. } = self.memory();
+            let (to, first) = self.span(size, other);
+            let (from, second) = self.span(other, size);
+            let len = self.random.pick(&[first, second]);
+            self.aim(len, 1);
+            self.command(format!("mcopy {index} {to} {source} {from} {len}"));
+        }
+        if self.random.chance(50) {
+            self.command(format!("read {index} 0 {}", size.min(40)));
         }
     }
 }

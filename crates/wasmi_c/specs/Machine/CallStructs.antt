@@ -1,5 +1,5 @@
 -- The call that numbers stand for: a line for each kind.
-use Rattle.std.specs.Prelude.{ℕ, Option, Some, nat_eq, if◌then◌else◌, None}
+use Rattle.std.specs.Prelude.{ℕ, ◌%◌, Option, Some, nat_eq, if◌then◌else◌, None}
 use Rattle.std.specs.Option.{option_map, option_and_then}
 use Rattle.std.specs.Result.{result_ok}
 use Rattle.wasmi_machine.specs.declared.calls.Call.{Call}
@@ -26,6 +26,10 @@ module _ (numbers : CallStruct) where
   -- the reference with its type
   abbrev pub typed_reference_of : Option TypedRawRef
   typed_reference_of = option_map (λ ty. record { raw = numbers.reference; ty = ty }) (reference_type_of numbers.ty)
+
+  -- the lowest byte of the value
+  abbrev pub byte_of : ℕ
+  byte_of = numbers.value.lo % 256
 
   -- whether a global can be written
   abbrev pub mutability_of : Mutability
@@ -175,4 +179,7 @@ call_of numbers = if nat_eq numbers.kind 5 then load_call numbers
     else if nat_eq numbers.kind 4 then Some (call.DropMemory numbers.index)
     else if nat_eq numbers.kind 7 then load_lane_call numbers
     else if nat_eq numbers.kind 8 then store_lane_call numbers
+    else if nat_eq numbers.kind 29 then Some (call.FillMemory numbers.index numbers.to (byte_of numbers) numbers.count)
+    else if nat_eq numbers.kind 30
+    then Some (call.CopyMemory numbers.index numbers.to numbers.source numbers.from numbers.count)
     else table_call numbers

@@ -1,6 +1,6 @@
 //! Calls as structs of plain numbers, and the calls that these stand for.
 ghost use Rattle.std.specs.Prelude.{◌≡◌};
-ghost use Rattle.wasmi_c.specs.Machine.CallStructs.{binary_call, call_of, load_call, mutability_of, store_call, table_call, typed_reference_of, unary_call, value_call};
+ghost use Rattle.wasmi_c.specs.Machine.CallStructs.{binary_call, byte_of, call_of, load_call, mutability_of, store_call, table_call, typed_reference_of, unary_call, value_call};
 ghost use Rattle.wasmi_c.specs.Machine.Calls.{item_load_numbered, item_store_numbered, vector_binary_numbered};
 
 use crate::instruction::binary::{Binary, binary_numbered};
@@ -55,9 +55,9 @@ pub struct CallStruct {
     pub reference: u32,
     /// The memory, table, element segment or global, by its index.
     pub index: usize,
-    /// The table or the element segment that is copied from, by its index.
+    /// The memory, table or element segment that is copied from, by its index.
     pub source: usize,
-    /// Fuel, pages, elements, or a minimum of them.
+    /// Fuel, pages, bytes, elements, or a minimum of them.
     pub count: u64,
     /// The maximum, in pages or elements.
     pub maximum: u64,
@@ -65,9 +65,9 @@ pub struct CallStruct {
     pub ptr: u64,
     /// What is added to `ptr`.
     pub offset: u64,
-    /// The first element that is written, or the element of an index.
+    /// The first byte or element that is written, or the element of an index.
     pub to: u64,
-    /// The first element or item that is copied.
+    /// The first byte, element or item that is copied.
     pub from: u64,
     /// A value.
     pub value: RawVal,
@@ -110,6 +110,19 @@ impl CallStruct {
                 memory: self.index,
                 ptr: self.ptr,
                 offset: self.offset,
+            },
+            29 => Call::FillMemory {
+                memory: self.index,
+                dst: self.to,
+                value: self.byte(),
+                len: count,
+            },
+            30 => Call::CopyMemory {
+                dst_memory: self.index,
+                dst: self.to,
+                src_memory: self.source,
+                src: self.from,
+                len: count,
             },
             _ => return self.table_call(),
         })
@@ -294,6 +307,13 @@ impl CallStruct {
         ensures { result ≡ typed_reference_of self.now }
     {
         Some(TypedRawRef::new(RawRef::from(self.reference), reference_type(self.ty)?))
+    }
+
+    /// The lowest byte of the value.
+    fn byte(&self) -> u8
+        ensures { result ≡ byte_of self.now }
+    {
+        (self.value.lo % 256) as u8
     }
 
     /// Whether a global can be written.

@@ -1576,9 +1576,9 @@ pub mod machine {
             pub reference: u32,
             /// The memory, table, element segment or global, by its index.
             pub index: usize,
-            /// The table or the element segment that is copied from, by its index.
+            /// The memory, table or element segment that is copied from, by its index.
             pub source: usize,
-            /// Fuel, pages, elements, or a minimum of them.
+            /// Fuel, pages, bytes, elements, or a minimum of them.
             pub count: u64,
             /// The maximum, in pages or elements.
             pub maximum: u64,
@@ -1586,9 +1586,9 @@ pub mod machine {
             pub ptr: u64,
             /// What is added to `ptr`.
             pub offset: u64,
-            /// The first element that is written, or the element of an index.
+            /// The first byte or element that is written, or the element of an index.
             pub to: u64,
-            /// The first element or item that is copied.
+            /// The first byte, element or item that is copied.
             pub from: u64,
             /// A value.
             pub value: RawVal,
@@ -1641,6 +1641,19 @@ pub mod machine {
                         memory: self.index,
                         ptr: self.ptr,
                         offset: self.offset,
+                    },
+                    29 => Call::FillMemory {
+                        memory: self.index,
+                        dst: self.to,
+                        value: self.byte(),
+                        len: count,
+                    },
+                    30 => Call::CopyMemory {
+                        dst_memory: self.index,
+                        dst: self.to,
+                        src_memory: self.source,
+                        src: self.from,
+                        len: count,
                     },
                     _ => return self.table_call(),
                 })
@@ -1865,6 +1878,18 @@ pub mod machine {
                     RawRef::from(self.reference),
                     reference_type(self.ty)?,
                 ))
+            }
+
+            /// The lowest byte of the value.
+            ///
+            /// # Contract
+            ///
+            /// ```text
+            /// ensures: result ≡ byte_of self.now
+            /// ```
+            #[inline]
+            fn byte(&self) -> u8 {
+                (self.value.lo % 256) as u8
             }
 
             /// Whether a global can be written.

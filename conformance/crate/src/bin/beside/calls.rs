@@ -75,6 +75,14 @@ pub fn call_of(it: &PlainCall) -> Option<Call> {
         21 => Call::SetRegister { dst: it.dst, value },
         22 => Call::GetRegister(it.a),
         23..=28 => register_call(it)?,
+        29 => Call::FillMemory { memory: it.index, dst: it.to, value: it.value.lo as u8, len: it.count },
+        30 => Call::CopyMemory {
+            dst_memory: it.index,
+            dst: it.to,
+            src_memory: it.source,
+            src: it.from,
+            len: it.count,
+        },
         _ => return None,
     })
 }
@@ -224,7 +232,7 @@ impl<'r> Draw<'r> {
 
     /// A kind of calls: one of those that drop something more seldom than the others, and now and then none.
     fn kind(&mut self) -> u16 {
-        match self.random.below(29) as u16 {
+        match self.random.below(31) as u16 {
             _ if self.random.chance(2) => self.random.edge() as u16,
             4 | 11 | 17 if self.random.chance(80) => self.random.pick(&[2, 9, 10, 14, 15, 16]),
             kind => kind,

@@ -7,3 +7,9 @@ returns-in_err-memory-in-grow c = record { call = refused_named _ (search rules)
 
 pub returns-in_err-memory-in-read : goal.returns-in_err-memory-in-read
 returns-in_err-memory-in-read c = record { call = refused_named _ (search rules) c.in-read.is c.in_err-memory-in-read.ensures }
+
+pub returns-in_err-memory-in-mfill : goal.returns-in_err-memory-in-mfill
+returns-in_err-memory-in-mfill c = record { call = refused_named _ (search rules) c.in-mfill.is c.in_err-memory-in-mfill.ensures }
+
+pub returns-in_err-dst_memory-in-mcopy : goal.returns-in_err-dst_memory-in-mcopy
+returns-in_err-dst_memory-in-mcopy c = record { call = refused_named _ (search rules) c.in-mcopy.is c.in_err-dst_memory-in-mcopy.ensures }

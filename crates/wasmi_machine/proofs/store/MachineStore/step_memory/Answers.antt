@@ -1,5 +1,7 @@
 use Rattle.std.proofs.Common.{refl, rules}
-use Rattle.wasmi_machine.proofs.StoreLemmas.{asks, alters, replies}
+use Rattle.wasmi_machine.specs.State.{live_at}
+use Rattle.wasmi_machine.proofs.RangeLemmas.{range_of_bytes}
+use Rattle.wasmi_machine.proofs.StoreLemmas.{acts_unasked, asks, alters, replies}
 use Rattle.wasmi_machine.proofs.store.MachineStore.step_memory.Goals as goal
 
 pub returns-in-NewMemory-clause-step : goal.returns-in-NewMemory-clause-step
@@ -39,3 +41,16 @@ returns-in_ok-memory-in-Load-clause-step g c = rw (c.in-Load.is, ← c.self-in-L
 
 pub returns-in-Store-clause-step : goal.returns-in-Store-clause-step
 returns-in-Store-clause-step g c = rw (c.in-Store.is, ← c.self-in-Store.view_is) (alters _ c.store.ensures)
+
+pub returns-in-FillMemory-clause-step : goal.returns-in-FillMemory-clause-step
+returns-in-FillMemory-clause-step g c =
+    rw (c.in-FillMemory.is, ← c.self-in-FillMemory.view_is) (acts_unasked _ c.fill.ensures)
+
+pub returns-in-CopyMemory-clause-step : goal.returns-in-CopyMemory-clause-step
+returns-in-CopyMemory-clause-step g c = rw (c.in-CopyMemory.is, ← c.self-in-CopyMemory.view_is)
+    (acts_unasked _ (
+      c.copy.ensures.0,
+      range_of_bytes (live_at c.self-in-CopyMemory.inside.memories.slots.items c.in-CopyMemory.src_memory)
+          c.in-CopyMemory.dst_memory c.in-CopyMemory.dst c.in-CopyMemory.src c.in-CopyMemory.len _ _ _ _
+          c.copy.ensures.1,
+    ))
