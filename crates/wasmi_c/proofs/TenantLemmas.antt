@@ -1,6 +1,5 @@
 -- Runs of a tenant's machine.
-use Rattle.std.proofs.Common.{◌≡◌, ◌∷◌, ◌∙◌, [], ℕ, List, None, Option, Some, ap, inr, refl, subst, sym}
-use Rattle.std.specs.Prelude.{IsSome}
+use Rattle.std.proofs.Common.{◌≡◌, ◌∷◌, ◌∙◌, [], ℕ, List, ap, inr, subst, sym}
 use Rattle.wasmi_machine.specs.Steps.{IsRunOf}
 use Rattle.wasmi_machine.specs.State.{World}
 use Rattle.wasmi_machine.specs.declared.calls.Call.{Call}
@@ -32,8 +31,3 @@ module _ (tenant : ℕ) (call : Call) (pool pool' : PoolValue) (reply : ReplyStr
         subst (λ list. RunsTenant pool tenant (call ∷ []) list pool') found.1 ran,
         told ∙ ap reply_struct (is_first found.0 found.1),
       )
-
--- what isn't absent is there
-pub is_there : {A : Type 0} (o : Option A) → (o ≡ None → ⊥) → IsSome o
-is_there (Some x) there = refl
-is_there None there = absurd (there refl)

@@ -62,7 +62,6 @@ pub fn one_quota_holds_all()
 
 /// A quota that holds the sums of the sizes holds what each memory and each table has, so no end of
 /// one is refused because less is held.
-#[tactic(auto, using(crate::proofs::SharedQuotaLemmas::one_quota_holds_each))]
 pub fn one_quota_holds_each()
     ensures { OneQuotaHoldsEach }
 {}

@@ -2,7 +2,7 @@
 use Rattle.std.proofs.Common.{◌≡◌, Option, Some, OnErr, Result, Ok, Err, List, [], ◌∷◌, length, map, refl, sym, ap, subst, ◌∙◌, arith, IfOk, ℕ, true, None, inl, inr}
 use Rattle.std.proofs.lemmas.List.Elements.{All-cons, All-head, All-nil, All-tail}
 use Rattle.std.proofs.lemmas.Option.{same_Some}
-use Rattle.std.specs.Prelude.{All, ◌≢◌, nat_eq, slice_set, MatchOption}
+use Rattle.std.specs.Prelude.{All, slice_get, ◌≢◌, nat_eq, slice_set, MatchOption}
 use Rattle.wasmi_store.specs.Memory.{MemoryTypeValue}
 use Rattle.wasmi_meter.specs.Limiter.{Rules, optional_rules}
 use Rattle.wasmi_machine.specs.declared.calls.Call.{Call}

@@ -316,8 +316,8 @@ mod pool {
         }
 
         /// Executes calls on the machine of a tenant, under a limiter that permits what keeps all
-        /// tenants together within the caps. It costs memory for the replies, and what the calls cost,
-        /// however many tenants there are and however much they made or dropped before.
+        /// tenants together within the caps. It costs memory for the replies, a search among the indices
+        /// of the tenants, and what the calls cost, however much was made or dropped before.
         ///
         /// # Errors
         ///
