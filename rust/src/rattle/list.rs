@@ -37,6 +37,7 @@ impl<T> Vec<T> {
     /// # Errors
     ///
     /// [`AllocError`] if memory is refused.
+    #[inline]
     pub fn filled(item: T, count: usize) -> Result<Self, AllocError>
     where
         T: Copy,
@@ -44,6 +45,14 @@ impl<T> Vec<T> {
         if count == 0 {
             return Ok(Vec::new());
         }
+        Self::filled_with_some(item, count)
+    }
+
+    #[inline(never)]
+    fn filled_with_some(item: T, count: usize) -> Result<Self, AllocError>
+    where
+        T: Copy,
+    {
         let mut list = Vec::with_capacity(count)?;
         list.0.resize(count, item);
         Ok(list)
@@ -198,7 +207,9 @@ impl<T> Vec<T> {
     where
         T: Copy,
     {
-        self.try_reserve(count.saturating_sub(self.0.len()))?;
+        if let Some(more) = count.checked_sub(self.0.len()) {
+            self.try_reserve(more)?;
+        }
         self.0.resize(count, item);
         Ok(())
     }
