@@ -6,6 +6,9 @@ use crate::rattle::TryClone;
 use core::error::Error;
 use core::fmt::{self, Debug, Display};
 
+/// How many parameters, or results, a function has at most.
+const MOST: usize = 1_000;
+
 /// Why there is no such function type.
 ///
 /// The proved function's third reason, that memory was refused, is a panic of [`FuncType::new`].
@@ -57,7 +60,8 @@ pub struct FuncType {
 impl FuncType {
     /// The type of a function with these parameters and results.
     ///
-    /// Of each iterator at most 1,001 items are read, up to its first `None`; its length isn't asked.
+    /// Of each iterator at most 1,001 items are read, up to its first `None`. Nothing is read if one
+    /// says that it has more than 1,000.
     ///
     /// # Errors
     ///
@@ -80,6 +84,12 @@ impl FuncType {
         <R as IntoIterator>::IntoIter: Iterator<Item = ValType> + ExactSizeIterator,
     {
         let (params, results) = (params.into_iter(), results.into_iter());
+        if is_too_long(&params) {
+            return Err(FuncTypeError::TooManyFunctionParams);
+        }
+        if is_too_long(&results) {
+            return Err(FuncTypeError::TooManyFunctionResults);
+        }
         match Proved::new(params, results) {
             Ok(inner) => Ok(Self { inner }),
             Err(Refusal::TooManyFunctionParams) => Err(FuncTypeError::TooManyFunctionParams),
@@ -122,6 +132,12 @@ impl FuncType {
     pub fn params_results(&self) -> (&[ValType], &[ValType]) {
         self.inner.params_results()
     }
+}
+
+/// Whether an iterator says that it has more types than a function takes.
+#[inline]
+fn is_too_long(types: &impl Iterator) -> bool {
+    types.size_hint().0 > MOST
 }
 
 impl PartialEq for FuncType {
