@@ -6,6 +6,9 @@ use crate::rattle::TryClone;
 use core::error::Error;
 use core::fmt::{self, Debug, Display};
 
+/// How many parameters, or results, a function has at most.
+const MOST: usize = 1_000;
+
 /// Why there is no such function type.
 ///
 /// The proved function's third reason, that memory was refused, is a panic of [`FuncType::new`].
@@ -50,14 +53,13 @@ impl Error for FuncTypeError {}
 #[doc = docs!(types FuncType.contract)]
 #[derive(PartialOrd, Ord, Eq, Hash)]
 #[allow(clippy::derived_hash_with_manual_eq)]
-pub struct FuncType {
-    inner: Proved,
-}
+pub struct FuncType(Proved);
 
 impl FuncType {
     /// The type of a function with these parameters and results.
     ///
-    /// Of each iterator at most 1,001 items are read, up to its first `None`; its length isn't asked.
+    /// Of each iterator at most 1,001 items are read, up to its first `None`. Nothing is read if one
+    /// says that it has more than 1,000.
     ///
     /// # Errors
     ///
@@ -80,48 +82,39 @@ impl FuncType {
         <R as IntoIterator>::IntoIter: Iterator<Item = ValType> + ExactSizeIterator,
     {
         let (params, results) = (params.into_iter(), results.into_iter());
+        if is_too_long(&params) {
+            return Err(FuncTypeError::TooManyFunctionParams);
+        }
+        if is_too_long(&results) {
+            return Err(FuncTypeError::TooManyFunctionResults);
+        }
         match Proved::new(params, results) {
-            Ok(inner) => Ok(Self { inner }),
+            Ok(ty) => Ok(Self(ty)),
             Err(Refusal::TooManyFunctionParams) => Err(FuncTypeError::TooManyFunctionParams),
             Err(Refusal::TooManyFunctionResults) => Err(FuncTypeError::TooManyFunctionResults),
             Err(Refusal::OutOfMemory) => panic!("out of memory for a function type"),
         }
     }
 
-    #[doc = docs!(types FuncType.params)]
-    #[must_use]
-    #[inline]
-    pub fn params(&self) -> &[ValType] {
-        self.inner.params()
+    methods! {
+        types FuncType:
+        #[must_use]
+        fn params(&self) -> &[ValType];
+        #[must_use]
+        fn results(&self) -> &[ValType];
+        #[must_use]
+        fn len_params(&self) -> u16;
+        #[must_use]
+        fn len_results(&self) -> u16;
+        #[must_use]
+        fn params_results(&self) -> (&[ValType], &[ValType]);
     }
+}
 
-    #[doc = docs!(types FuncType.results)]
-    #[must_use]
-    #[inline]
-    pub fn results(&self) -> &[ValType] {
-        self.inner.results()
-    }
-
-    #[doc = docs!(types FuncType.len_params)]
-    #[must_use]
-    #[inline]
-    pub fn len_params(&self) -> u16 {
-        self.inner.len_params()
-    }
-
-    #[doc = docs!(types FuncType.len_results)]
-    #[must_use]
-    #[inline]
-    pub fn len_results(&self) -> u16 {
-        self.inner.len_results()
-    }
-
-    #[doc = docs!(types FuncType.params_results)]
-    #[must_use]
-    #[inline]
-    pub fn params_results(&self) -> (&[ValType], &[ValType]) {
-        self.inner.params_results()
-    }
+/// Whether an iterator says that it has more types than a function takes.
+#[inline]
+fn is_too_long(types: &impl Iterator) -> bool {
+    types.size_hint().0 > MOST
 }
 
 impl PartialEq for FuncType {
@@ -130,24 +123,19 @@ impl PartialEq for FuncType {
         // Most types that differ have other lengths.
         self.len_params() == other.len_params()
             && self.len_results() == other.len_results()
-            && self.inner == other.inner
+            && self.0 == other.0
     }
 }
 
 impl Clone for FuncType {
     #[inline]
     fn clone(&self) -> Self {
-        Self {
-            inner: self
-                .inner
-                .try_clone()
-                .expect("a list is shared, not copied"),
-        }
+        Self(self.0.try_clone().expect("a list is shared, not copied"))
     }
 }
 
 impl Debug for FuncType {
     fn fmt(&self, f: &mut fmt::Formatter<'_>) -> fmt::Result {
-        Debug::fmt(&self.inner, f)
+        Debug::fmt(&self.0, f)
     }
 }

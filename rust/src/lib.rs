@@ -129,11 +129,8 @@ extern crate std;
 mod docs;
 #[macro_use]
 mod examples;
-/// Exports functions of a module of the proved library, by their names and those of the standard.
-macro_rules! instructions {
-    ($part:ident $file:ident: $($name:ident),* $(,)?) => { $( instruction!($part $file $name); )* };
-}
-
+#[macro_use]
+mod methods;
 mod debug;
 mod float;
 mod func_type;

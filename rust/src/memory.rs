@@ -62,56 +62,71 @@ impl Memory {
         with!(limiter => Proved::new_static(ty, limiter, region)).map(Self)
     }
 
-    #[doc = docs!(store LinearMemory.ty)]
-    #[must_use]
-    #[inline]
-    pub fn ty(&self) -> MemoryType {
-        self.0.ty()
+    methods! {
+        store LinearMemory:
+        #[must_use]
+        fn ty(&self) -> MemoryType;
+        #[must_use]
+        fn dynamic_ty(&self) -> MemoryType;
+        #[doc(alias = "memory.size")] #[must_use]
+        fn size(&self) -> u64;
+        ///
+        /// # Differences
+        ///
+        /// `wasmi_core` panics if the maximum has 2^48 pages of 64 KiB, which is cut at 2^64 - 1 bytes here.
+        /// There a growth past a static buffer takes its fuel before it is refused.
+        #[doc(alias = "memory.grow")]
+        fn grow(&mut self, additional: u64, fuel: Option<&mut Fuel>; limiter) -> Result<u64, MemoryError>;
+        #[must_use]
+        fn data(&self) -> &[u8];
+        fn data_mut(&mut self) -> &mut [u8];
+        #[must_use]
+        fn data_size(&self) -> usize;
+        fn read(&self, offset: usize, buffer: &mut [u8]) -> Result<(), MemoryError>;
+        fn write(&mut self, offset: usize, buffer: &[u8]) -> Result<(), MemoryError>;
+        ///
+        /// # Examples
+        ///
+        /// ```
+        /// use wasmi_core_proved::{Memory, MemoryError, MemoryType, ResourceLimiterRef};
+        ///
+        /// let mut builder = MemoryType::builder();
+        /// builder.min(1);
+        /// let ty = builder.build()?;
+        /// let mut memory = Memory::new(ty, &mut ResourceLimiterRef::default())?;
+        ///
+        /// memory.fill(65_530, 7, 6, None)?;
+        /// memory.init(&[1, 2, 3, 4], 0, 1, 3, None)?;
+        /// memory.copy_within(1, 0, 3, None)?;
+        /// assert_eq!(memory.data()[..5], [2, 2, 3, 4, 0]);
+        ///
+        /// let mut other = Memory::new(ty, &mut ResourceLimiterRef::default())?;
+        /// Memory::copy(&mut other, 0, &memory, 65_535, 1, None)?;
+        /// assert_eq!(other.data()[..2], [7, 0]);
+        ///
+        /// let past = Memory::copy(&mut other, 0, &memory, 65_535, 2, None);
+        /// assert!(matches!(past, Err(MemoryError::OutOfBoundsAccess)));
+        /// # Ok::<(), MemoryError>(())
+        /// ```
+        #[doc(alias = "memory.fill")]
+        fn fill(&mut self, dst: u64, value: u8, len: u64, fuel: Option<&mut Fuel>) -> Result<(), MemoryError>;
+        #[doc(alias = "memory.copy")]
+        fn copy_within(&mut self, dst: u64, src: u64, len: u64, fuel: Option<&mut Fuel>) -> Result<(), MemoryError>;
+        #[doc(alias = "memory.init")]
+        fn init(&mut self, segment: &[u8], dst: u64, src: u32, len: u32, fuel: Option<&mut Fuel>) -> Result<(), MemoryError>;
     }
 
-    #[doc = docs!(store LinearMemory.dynamic_ty)]
-    #[must_use]
+    #[doc = docs!(store LinearMemory.copy)]
     #[inline]
-    pub fn dynamic_ty(&self) -> MemoryType {
-        self.0.dynamic_ty()
-    }
-
-    #[doc = docs!(store LinearMemory.size)]
-    #[doc(alias = "memory.size")]
-    #[must_use]
-    #[inline]
-    pub fn size(&self) -> u64 {
-        self.0.size()
-    }
-
-    #[doc = docs!(store LinearMemory.grow)]
-    ///
-    /// # Differences
-    ///
-    /// `wasmi_core` panics if the maximum has 2^48 pages of 64 KiB, which is cut at 2^64 - 1 bytes here.
-    /// There a growth past a static buffer takes its fuel before it is refused.
-    #[doc(alias = "memory.grow")]
-    #[inline]
-    pub fn grow(
-        &mut self,
-        additional: u64,
+    pub fn copy(
+        dst_memory: &mut Self,
+        dst: u64,
+        src_memory: &Self,
+        src: u64,
+        len: u64,
         fuel: Option<&mut Fuel>,
-        limiter: &mut ResourceLimiterRef<'_>,
-    ) -> Result<u64, MemoryError> {
-        with!(limiter => self.0.grow(additional, fuel, limiter))
-    }
-
-    #[doc = docs!(store LinearMemory.data)]
-    #[must_use]
-    #[inline]
-    pub fn data(&self) -> &[u8] {
-        self.0.data()
-    }
-
-    #[doc = docs!(store LinearMemory.data_mut)]
-    #[inline]
-    pub fn data_mut(&mut self) -> &mut [u8] {
-        self.0.data_mut()
+    ) -> Result<(), MemoryError> {
+        Proved::copy(&mut dst_memory.0, dst, &src_memory.0, src, len, fuel)
     }
 
     /// A pointer to the first byte, to be read through until the memory grows or is changed.
@@ -150,101 +165,5 @@ impl Memory {
     #[inline]
     pub fn data_ptr(&self) -> *const u8 {
         self.0.data().as_ptr()
-    }
-
-    #[doc = docs!(store LinearMemory.data_size)]
-    #[must_use]
-    #[inline]
-    pub fn data_size(&self) -> usize {
-        self.0.data_size()
-    }
-
-    #[doc = docs!(store LinearMemory.read)]
-    #[inline]
-    pub fn read(&self, offset: usize, buffer: &mut [u8]) -> Result<(), MemoryError> {
-        self.0.read(offset, buffer)
-    }
-
-    #[doc = docs!(store LinearMemory.write)]
-    #[inline]
-    pub fn write(&mut self, offset: usize, buffer: &[u8]) -> Result<(), MemoryError> {
-        self.0.write(offset, buffer)
-    }
-
-    #[doc = docs!(store LinearMemory.fill)]
-    ///
-    /// # Examples
-    ///
-    /// ```
-    /// use wasmi_core_proved::{Memory, MemoryError, MemoryType, ResourceLimiterRef};
-    ///
-    /// let mut builder = MemoryType::builder();
-    /// builder.min(1);
-    /// let ty = builder.build()?;
-    /// let mut memory = Memory::new(ty, &mut ResourceLimiterRef::default())?;
-    ///
-    /// memory.fill(65_530, 7, 6, None)?;
-    /// memory.init(&[1, 2, 3, 4], 0, 1, 3, None)?;
-    /// memory.copy_within(1, 0, 3, None)?;
-    /// assert_eq!(memory.data()[..5], [2, 2, 3, 4, 0]);
-    ///
-    /// let mut other = Memory::new(ty, &mut ResourceLimiterRef::default())?;
-    /// Memory::copy(&mut other, 0, &memory, 65_535, 1, None)?;
-    /// assert_eq!(other.data()[..2], [7, 0]);
-    ///
-    /// let past = Memory::copy(&mut other, 0, &memory, 65_535, 2, None);
-    /// assert!(matches!(past, Err(MemoryError::OutOfBoundsAccess)));
-    /// # Ok::<(), MemoryError>(())
-    /// ```
-    #[doc(alias = "memory.fill")]
-    #[inline]
-    pub fn fill(
-        &mut self,
-        dst: u64,
-        value: u8,
-        len: u64,
-        fuel: Option<&mut Fuel>,
-    ) -> Result<(), MemoryError> {
-        self.0.fill(dst, value, len, fuel)
-    }
-
-    #[doc = docs!(store LinearMemory.copy_within)]
-    #[doc(alias = "memory.copy")]
-    #[inline]
-    pub fn copy_within(
-        &mut self,
-        dst: u64,
-        src: u64,
-        len: u64,
-        fuel: Option<&mut Fuel>,
-    ) -> Result<(), MemoryError> {
-        self.0.copy_within(dst, src, len, fuel)
-    }
-
-    #[doc = docs!(store LinearMemory.copy)]
-    #[inline]
-    pub fn copy(
-        dst_memory: &mut Self,
-        dst: u64,
-        src_memory: &Self,
-        src: u64,
-        len: u64,
-        fuel: Option<&mut Fuel>,
-    ) -> Result<(), MemoryError> {
-        Proved::copy(&mut dst_memory.0, dst, &src_memory.0, src, len, fuel)
-    }
-
-    #[doc = docs!(store LinearMemory.init)]
-    #[doc(alias = "memory.init")]
-    #[inline]
-    pub fn init(
-        &mut self,
-        segment: &[u8],
-        dst: u64,
-        src: u32,
-        len: u32,
-        fuel: Option<&mut Fuel>,
-    ) -> Result<(), MemoryError> {
-        self.0.init(segment, dst, src, len, fuel)
     }
 }

@@ -14,10 +14,10 @@ pub mod simd_arrays;
 #[cfg(not(all(feature = "sse2", target_feature = "sse2")))]
 pub use simd_arrays as simd;
 
+#[cfg(test)]
+pub(crate) use crate::tests::texts::*;
 use alloc::AllocError;
 pub use list::Vec;
-#[cfg(test)]
-pub(crate) use texts::*;
 
 pub mod alloc {
     //! Allocators and what they refuse.
@@ -127,38 +127,5 @@ impl<T: Copy, const N: usize> ArrayExt<T, N> for [T; N] {
             items[i] = Some(f(self[i])?);
         }
         Ok(items.map(|item| item.expect("each was set")))
-    }
-}
-
-/// What only tests use: texts whose memory can be refused.
-#[cfg(test)]
-#[cfg_attr(not(feature = "std"), allow(dead_code))]
-mod texts {
-    use super::alloc::AllocError;
-    use std::string::String;
-
-    pub trait TextExt {
-        fn try_of(text: &str) -> Result<String, AllocError>;
-    }
-
-    impl TextExt for String {
-        fn try_of(text: &str) -> Result<String, AllocError> {
-            Ok(String::from(text))
-        }
-    }
-
-    pub trait StrExt {
-        fn try_repeat(&self, times: usize) -> Result<String, AllocError>;
-    }
-
-    impl StrExt for str {
-        fn try_repeat(&self, times: usize) -> Result<String, AllocError> {
-            Ok(self.repeat(times))
-        }
-    }
-
-    /// The text of some arguments.
-    pub fn text(arguments: core::fmt::Arguments<'_>) -> Result<String, AllocError> {
-        Ok(std::fmt::format(arguments))
     }
 }

@@ -51,86 +51,28 @@ impl Table {
         with!(limiter => Proved::new(ty, init, limiter)).map(Self)
     }
 
-    #[doc = docs!(store Table.ty)]
-    #[must_use]
-    #[inline]
-    pub fn ty(&self) -> TableType {
-        self.0.ty()
-    }
-
-    #[doc = docs!(store Table.dynamic_ty)]
-    #[must_use]
-    #[inline]
-    pub fn dynamic_ty(&self) -> TableType {
-        self.0.dynamic_ty()
-    }
-
-    #[doc = docs!(store Table.size)]
-    #[doc(alias = "table.size")]
-    #[must_use]
-    #[inline]
-    pub fn size(&self) -> u64 {
-        self.0.size()
-    }
-
-    #[doc = docs!(store Table.grow)]
-    #[doc(alias = "table.grow")]
-    #[inline]
-    pub fn grow(
-        &mut self,
-        delta: u64,
-        init: TypedRawRef,
-        fuel: Option<&mut Fuel>,
-        limiter: &mut ResourceLimiterRef<'_>,
-    ) -> Result<u64, TableError> {
-        with!(limiter => self.0.grow(delta, init, fuel, limiter))
-    }
-
-    #[doc = docs!(store Table.grow_raw)]
-    #[inline]
-    pub fn grow_raw(
-        &mut self,
-        delta: u64,
-        init: RawRef,
-        fuel: Option<&mut Fuel>,
-        limiter: &mut ResourceLimiterRef<'_>,
-    ) -> Result<u64, TableError> {
-        with!(limiter => self.0.grow_raw(delta, init, fuel, limiter))
-    }
-
-    #[doc = docs!(store Table.get)]
-    #[doc(alias = "table.get")]
-    #[must_use]
-    #[inline]
-    pub fn get(&self, index: u64) -> Option<TypedRawRef> {
-        self.0.get(index)
-    }
-
-    #[doc = docs!(store Table.set)]
-    #[doc(alias = "table.set")]
-    #[inline]
-    pub fn set(&mut self, index: u64, value: TypedRawRef) -> Result<(), TableError> {
-        self.0.set(index, value)
-    }
-
-    #[doc = docs!(store Table.set_raw)]
-    #[inline]
-    pub fn set_raw(&mut self, index: u64, value: RawRef) -> Result<(), TableError> {
-        self.0.set_raw(index, value)
-    }
-
-    #[doc = docs!(store Table.init)]
-    #[doc(alias = "table.init")]
-    #[inline]
-    pub fn init(
-        &mut self,
-        element: ElementSegmentRef<'_>,
-        dst: u64,
-        src: u32,
-        len: u32,
-        fuel: Option<&mut Fuel>,
-    ) -> Result<(), TableError> {
-        self.0.init(element, dst, src, len, fuel)
+    methods! {
+        store Table:
+        #[must_use]
+        fn ty(&self) -> TableType;
+        #[must_use]
+        fn dynamic_ty(&self) -> TableType;
+        #[doc(alias = "table.size")] #[must_use]
+        fn size(&self) -> u64;
+        #[doc(alias = "table.grow")]
+        fn grow(&mut self, delta: u64, init: TypedRawRef, fuel: Option<&mut Fuel>; limiter) -> Result<u64, TableError>;
+        fn grow_raw(&mut self, delta: u64, init: RawRef, fuel: Option<&mut Fuel>; limiter) -> Result<u64, TableError>;
+        #[doc(alias = "table.get")] #[must_use]
+        fn get(&self, index: u64) -> Option<TypedRawRef>;
+        #[doc(alias = "table.set")]
+        fn set(&mut self, index: u64, value: TypedRawRef) -> Result<(), TableError>;
+        fn set_raw(&mut self, index: u64, value: RawRef) -> Result<(), TableError>;
+        #[doc(alias = "table.init")]
+        fn init(&mut self, element: ElementSegmentRef<'_>, dst: u64, src: u32, len: u32, fuel: Option<&mut Fuel>) -> Result<(), TableError>;
+        fn copy_within(&mut self, dst: u64, src: u64, len: u64, fuel: Option<&mut Fuel>) -> Result<(), TableError>;
+        #[doc(alias = "table.fill")]
+        fn fill(&mut self, dst: u64, val: TypedRawRef, len: u64, fuel: Option<&mut Fuel>) -> Result<(), TableError>;
+        fn fill_raw(&mut self, dst: u64, val: RawRef, len: u64, fuel: Option<&mut Fuel>) -> Result<(), TableError>;
     }
 
     #[doc = docs!(store Table.copy)]
@@ -145,43 +87,6 @@ impl Table {
         fuel: Option<&mut Fuel>,
     ) -> Result<(), TableError> {
         Proved::copy(&mut dst_table.0, dst, &src_table.0, src, len, fuel)
-    }
-
-    #[doc = docs!(store Table.copy_within)]
-    #[inline]
-    pub fn copy_within(
-        &mut self,
-        dst: u64,
-        src: u64,
-        len: u64,
-        fuel: Option<&mut Fuel>,
-    ) -> Result<(), TableError> {
-        self.0.copy_within(dst, src, len, fuel)
-    }
-
-    #[doc = docs!(store Table.fill)]
-    #[doc(alias = "table.fill")]
-    #[inline]
-    pub fn fill(
-        &mut self,
-        dst: u64,
-        val: TypedRawRef,
-        len: u64,
-        fuel: Option<&mut Fuel>,
-    ) -> Result<(), TableError> {
-        self.0.fill(dst, val, len, fuel)
-    }
-
-    #[doc = docs!(store Table.fill_raw)]
-    #[inline]
-    pub fn fill_raw(
-        &mut self,
-        dst: u64,
-        val: RawRef,
-        len: u64,
-        fuel: Option<&mut Fuel>,
-    ) -> Result<(), TableError> {
-        self.0.fill_raw(dst, val, len, fuel)
     }
 }
 
@@ -220,40 +125,18 @@ impl ElementSegment {
         Self(ProvedSegment { ty, items: list })
     }
 
-    #[doc = docs!(store ElementSegment.as_ref)]
-    #[must_use]
-    #[allow(clippy::should_implement_trait)]
-    #[inline]
-    pub fn as_ref(&self) -> ElementSegmentRef<'_> {
-        self.0.as_ref()
-    }
-
-    #[doc = docs!(store ElementSegment.ty)]
-    #[must_use]
-    #[inline]
-    pub fn ty(&self) -> RefType {
-        self.0.ty()
-    }
-
-    #[doc = docs!(store ElementSegment.items)]
-    #[must_use]
-    #[inline]
-    pub fn items(&self) -> &[RawRef] {
-        self.0.items()
-    }
-
-    #[doc = docs!(store ElementSegment.size)]
-    #[must_use]
-    #[inline]
-    pub fn size(&self) -> u32 {
-        self.0.size()
-    }
-
-    #[doc = docs!(store ElementSegment.drop_items)]
-    #[doc(alias = "elem.drop")]
-    #[inline]
-    pub fn drop_items(&mut self) {
-        self.0.drop_items();
+    methods! {
+        store ElementSegment:
+        #[allow(clippy::should_implement_trait)] #[must_use]
+        fn as_ref(&self) -> ElementSegmentRef<'_>;
+        #[must_use]
+        fn ty(&self) -> RefType;
+        #[must_use]
+        fn items(&self) -> &[RawRef];
+        #[must_use]
+        fn size(&self) -> u32;
+        #[doc(alias = "elem.drop")]
+        fn drop_items(&mut self);
     }
 }
 

@@ -9,9 +9,12 @@ macro_rules! answers {
 
 mod interpreter;
 mod lanes;
+mod list;
 mod registers;
 #[cfg(feature = "std")]
 mod shim;
+#[cfg_attr(not(feature = "std"), allow(dead_code))]
+pub(crate) mod texts;
 
 use crate::TrapCode;
 use crate::proved::accesses::access::{

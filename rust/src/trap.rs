@@ -161,18 +161,12 @@ impl Trap {
         Self(Box::new(Proved::i32_exit(status)))
     }
 
-    #[doc = docs!(types Trap.i32_exit_status)]
-    #[must_use]
-    #[inline]
-    pub fn i32_exit_status(&self) -> Option<i32> {
-        self.0.i32_exit_status()
-    }
-
-    #[doc = docs!(types Trap.trap_code)]
-    #[must_use]
-    #[inline]
-    pub fn trap_code(&self) -> Option<TrapCode> {
-        self.0.trap_code()
+    methods! {
+        types Trap:
+        #[must_use]
+        fn i32_exit_status(&self) -> Option<i32>;
+        #[must_use]
+        fn trap_code(&self) -> Option<TrapCode>;
     }
 }
 

@@ -147,22 +147,20 @@ impl Global {
     }
 }
 
-impl Debug for RawVal {
-    fn fmt(&self, f: &mut Formatter<'_>) -> Result {
-        f.debug_struct("RawVal")
-            .field("lo64", &self.lo)
-            .field("hi64", &self.hi)
-            .finish()
-    }
+macro_rules! printed {
+    ($($ty:ident |$it:ident| $($name:literal: $value:expr),*;)*) => { $(impl Debug for $ty {
+        fn fmt(&self, f: &mut Formatter<'_>) -> Result {
+            let $it = self;
+            f.debug_struct(stringify!($ty))$(.field($name, &$value))*.finish()
+        }
+    })* };
 }
-
-impl Debug for TypedRawVal {
-    fn fmt(&self, f: &mut Formatter<'_>) -> Result {
-        f.debug_struct("TypedRawVal")
-            .field("ty", &self.ty)
-            .field("value", &self.raw)
-            .finish()
-    }
+printed! {
+    RawVal |it| "lo64": it.lo, "hi64": it.hi;
+    TypedRawVal |it| "ty": it.ty, "value": it.raw;
+    FuelCostsProvider |it| "bytes_copied_per_fuel": it.costs().bytes_copied_per_fuel,
+        "fuel_per_bytes_translated": it.costs().fuel_per_bytes_translated,
+        "fuel_per_bytes_validated": it.costs().fuel_per_bytes_validated;
 }
 
 impl Debug for V128 {
@@ -177,20 +175,6 @@ impl Debug for ShiftAmount {
     fn fmt(&self, f: &mut Formatter<'_>) -> Result {
         f.debug_tuple("ShiftAmount")
             .field(&u8::from(*self))
-            .finish()
-    }
-}
-
-impl Debug for FuelCostsProvider {
-    fn fmt(&self, f: &mut Formatter<'_>) -> Result {
-        let costs = self.costs();
-        f.debug_struct("FuelCostsProvider")
-            .field("bytes_copied_per_fuel", &costs.bytes_copied_per_fuel)
-            .field(
-                "fuel_per_bytes_translated",
-                &costs.fuel_per_bytes_translated,
-            )
-            .field("fuel_per_bytes_validated", &costs.fuel_per_bytes_validated)
             .finish()
     }
 }

@@ -13,10 +13,12 @@ WORD = re.compile(rf"(\w+\.)?({NAME})")
 USE = re.compile(r"(?:ghost |pub )?use Rattle\.(\w+)\.specs\.?([\w.]*?)(?:\.?\{(.*)\}|\s+as\s+(\w+))?;?", re.S)
 DECLARED = re.compile(rf"^(?: *(?:(?:abbrev|unfoldable|opaque|pub|record|data) )+| +(?=[A-Z]\w* : ))({NAME})(?= |$)", re.M)
 NAMED = re.compile(r"docs!\((\w+) ([\w.]+)\)")
-# A macro of rust/src that documents each of its rows by its name, and the rows of a call.
-# A list of instructions that rust/src exports.
-LISTED = re.compile(r"instructions! \{\s*\w+ \w+:([^}]*)\}")
-PATTERN, ROWS = re.compile(r"docs!\(\$\w+ \$\w+\)"), re.compile(r"^ +(\w+);\n((?:    [#\w].*\n)+)", re.M)
+# The rows of methods in rust/src that get the docs of the proved ones.
+METHODS, METHOD = re.compile(r"methods! \{\n +(\w+) (\w+):\n(.*?)\n    \}\n", re.S), re.compile(r"^ +fn (\w+)\(", re.M)
+# The instructions of a module that rust/src exports, and the functions of a module's text with their attributes, parameters and results.
+EXPORTED = re.compile(r"^instructions!\((\w+) (\w+)\);", re.M)
+INSTRUCTION = re.compile(r"^    #\[(?:must_use|inline.*)\]\n(?:    #\[.*\]\n)*    pub fn (\w+)\(([^)]*)\) -> (.*) \{$", re.M)
+
 
 
 class Links:
@@ -89,7 +91,7 @@ class Specs:
 
 
 def docs_of(text, path):
-    """The docs of an item of a crate's generated text, named as ITEM, TYPE.FUNCTION or TYPE.contract, and the line of the item."""
+    """The docs of an item of a crate's generated text, named as ITEM, TYPE.FUNCTION or TYPE.contract."""
     owner, _, name = path.removesuffix(".contract").partition(".")
     lines = text.split("\n")
     heads = rf" *(?:pub )?(?:const )?(?:fn|struct|enum|trait) {owner}\b"
@@ -107,44 +109,61 @@ def docs_of(text, path):
             if path.endswith(".contract"):
                 docs = docs[next((k for k, line in enumerate(docs) if line in ("# Contract", "# Model")), len(docs)):]
             if docs:
-                return "\n".join(docs), "\n".join(lines[n:])
+                return "\n".join(docs)
     raise Unknown(f"no docs of {path}, which rust/src includes")
-
-
-def parameters(head):
-    """The names of the parameters of a function whose text begins here."""
-    return re.findall(r"[(,]\s*(?:mut )?(\w+): ", re.match(r"[^{};]*", head)[0])
 
 
 def included(crates, api):
     """The text of docs.rs: an arm of the macro `docs` for each item that the files of the API name."""
     arms = {}
-    for path in sorted(api.glob("*.rs")):
-        text = path.read_text()
-        named = [(place, name, text[at.end():]) for at in NAMED.finditer(text) for place, name in [at.groups()]]
-        for place, rows in ROWS.findall(text) if PATTERN.search(text) else ():
-            named += [(place, row.strip().partition("(")[0], row) for row in re.findall(r"^ +\w.*", rows, re.M)]
-        for place, name, head in named:
-            docs, item = docs_of(crates[place], name)
-            arms[place, name] = f'    ({place} {name}) => {{ r####"{docs}\n"#### }};\n'
+    over_lanes = [(part, name) for part, _, functions in instructions(crates, api) for name, given, _ in functions if "ImmLaneIdx" in given]
+    for text in (path.read_text() for path in sorted(api.glob("*.rs"))):
+        named = NAMED.findall(text)
+        named += [(place, f"{item}.{method}") for place, item, rows in METHODS.findall(text) for method in METHOD.findall(rows)]
+        for place, name in named + over_lanes:
+            arms[place, name] = f'    ({place} {name}) => {{ r####"{docs_of(crates[place], name)}\n"#### }};\n'
     return f"//! The docs of proved items, by the module and the item.\nmacro_rules! docs {{\n{''.join(arms[it] for it in sorted(arms))}}}\n"
 
 
-def aliases(api, standard):
-    """The text of a macro that exports a function of a module, with its name in the standard if that has it: rustdoc's search finds it by that.
+def over_lanes(part, file, name, given, result):
+    """The text of an instruction over the crate's own indices of lanes."""
+    passed = []
+    for parameter in filter(str.strip, given.split(",")):
+        its, ty = map(str.strip, parameter.split(":"))
+        index = re.search(r"ImmLaneIdx\d+", ty)
+        passed.append(f"{its}.map({index[0]}::proved)" if index and ty.startswith("[") else f"{its}.proved()" if index else its)
+    mark = "" if result.startswith("Result<") else "        #[must_use]\n"
+    return f"""\
+        #[doc = docs!({part} {name})]
+{mark}        #[inline]
+        pub fn {name}({" ".join(given.split())}) -> {result} {{
+            crate::proved::{part}::{file}::{name}({", ".join(passed)})
+        }}
+"""
 
-    It stands at the export, since rustdoc 1.95 leaves out the names that stand at a function which is exported elsewhere."""
-    names = {name for path in api.glob("*.rs") for listed in LISTED.findall(path.read_text()) for name in re.findall(r"\w+", listed)}
-    arms = "".join(f"""    ($part:ident $file:ident {name}) => {{
-        #[doc(alias = "{standard_name(name)}")]
-        pub use crate::proved::$part::$file::{name};
-    }};
-""" for name in sorted(names) if standard_name(name) in standard)
+
+def instructions(crates, api):
+    """Of each module of instructions that the files of the API export, its functions, with their parameters and results."""
+    for part, file in sorted(it for path in api.glob("*.rs") for it in EXPORTED.findall(path.read_text())):
+        text = re.search(rf"^pub mod {file} \{{\n(.*?)^\}}", crates[part], re.S | re.M)[1]
+        yield part, file, INSTRUCTION.findall(text)
+
+
+def exports(crates, api, standard):
+    """The text of a macro that exports the instructions of a module, with their names in the standard: rustdoc's search finds them by these.
+
+    They stand at the export, since rustdoc 1.95 leaves out the names that stand at a function which is exported elsewhere."""
+    lines = []
+    for part, file, functions in instructions(crates, api):
+        lines.append(f"    ({part} {file}) => {{\n")
+        for name, given, result in functions:
+            if standard_name(name) in standard:
+                lines.append(f'        #[doc(alias = "{standard_name(name)}")]\n')
+            is_over_lanes = "ImmLaneIdx" in given
+            lines.append(over_lanes(part, file, name, given, result) if is_over_lanes else f"        pub use crate::proved::{part}::{file}::{name};\n")
+        lines.append("    };\n")
     return f"""
-/// Exports a function.
-macro_rules! instruction {{
-{arms}    ($part:ident $file:ident $name:ident) => {{
-        pub use crate::proved::$part::$file::$name;
-    }};
-}}
+/// Exports the instructions of a module. Those with the index of a lane are functions over the crate's own indices.
+macro_rules! instructions {{
+{"".join(lines)}}}
 """

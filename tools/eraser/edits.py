@@ -207,6 +207,25 @@ EDITS += [
             return from_bytes(u8x16::from_array(bytes_of(s).to_array().map(chosen)));
         }
         // An index above 15 becomes 128 or more,""", 1),
+    # The signs of numbers of 8 bits are made in both words at once.
+    ("widening", "let tops = u16x8::splat(0x80);", """if AS_ARRAYS {
+                let words = u64x2::from_le_bytes(bytes.to_le_bytes());
+                let tops = words & u64x2::splat(0x0080_0080_0080_0080);
+                return u16x8::from_le_bytes((words | (tops << 9) - (tops << 1)).to_le_bytes());
+            }
+            let tops = u16x8::splat(0x80);""", 1),
+    # A comparison whose result is inverted becomes two masks of 64 bits.
+    ("lanewise", "v128_not(less_u::<T>(rhs, lhs))", "ones_unless_less::<T>(T::lanes_of(rhs), T::lanes_of(lhs))", 1),
+    ("lanewise", "v128_not(less_s::<T>(rhs, lhs))", "ones_unless_less::<T>(T::biased(T::lanes_of(rhs)), T::biased(T::lanes_of(lhs)))", 1),
+    ("lanewise", "T::vector_of(T::choose_if_less(T::biased(b), T::biased(a), a, b))", """T::vector_of(T::choose_if_less(T::biased(b), T::biased(a), a, b))
+        }
+
+        /// All ones where the lane of `a` isn't less than that of `b`, else all zeros.
+        #[inline(always)]
+        fn ones_unless_less<T: SimdLane>(a: T::Vector, b: T::Vector) -> V128 {
+            let ones = T::lanes_of(V128::from_word_pair(u64::MAX, u64::MAX));
+            let zeros = T::lanes_of(V128::from_word_pair(0, 0));
+            T::vector_of(T::choose_if_less(a, b, zeros, ones))""", 1),
 ]
 
 # The printer's texts, piece by piece: Rattle makes code of each piece, and rustc a call of `core::fmt`.

@@ -1040,1029 +1040,908 @@ Definitions: [`IsStore`](crate::specs::accesses::LoadStoreSpecs#IsStore), [`le_b
 "#### };
 }
 
-/// Exports a function.
-macro_rules! instruction {
-    ($part:ident $file:ident i16x8_abs) => {
-        #[doc(alias = "i16x8.abs")]
-        pub use crate::proved::$part::$file::i16x8_abs;
-    };
-    ($part:ident $file:ident i16x8_add) => {
-        #[doc(alias = "i16x8.add")]
-        pub use crate::proved::$part::$file::i16x8_add;
-    };
-    ($part:ident $file:ident i16x8_add_sat_s) => {
-        #[doc(alias = "i16x8.add_sat_s")]
-        pub use crate::proved::$part::$file::i16x8_add_sat_s;
-    };
-    ($part:ident $file:ident i16x8_add_sat_u) => {
-        #[doc(alias = "i16x8.add_sat_u")]
-        pub use crate::proved::$part::$file::i16x8_add_sat_u;
-    };
-    ($part:ident $file:ident i16x8_all_true) => {
-        #[doc(alias = "i16x8.all_true")]
-        pub use crate::proved::$part::$file::i16x8_all_true;
-    };
-    ($part:ident $file:ident i16x8_avgr_u) => {
-        #[doc(alias = "i16x8.avgr_u")]
-        pub use crate::proved::$part::$file::i16x8_avgr_u;
-    };
-    ($part:ident $file:ident i16x8_bitmask) => {
-        #[doc(alias = "i16x8.bitmask")]
-        pub use crate::proved::$part::$file::i16x8_bitmask;
-    };
-    ($part:ident $file:ident i16x8_eq) => {
-        #[doc(alias = "i16x8.eq")]
-        pub use crate::proved::$part::$file::i16x8_eq;
-    };
-    ($part:ident $file:ident i16x8_extadd_pairwise_i8x16_s) => {
-        #[doc(alias = "i16x8.extadd_pairwise_i8x16_s")]
-        pub use crate::proved::$part::$file::i16x8_extadd_pairwise_i8x16_s;
-    };
-    ($part:ident $file:ident i16x8_extadd_pairwise_i8x16_u) => {
-        #[doc(alias = "i16x8.extadd_pairwise_i8x16_u")]
-        pub use crate::proved::$part::$file::i16x8_extadd_pairwise_i8x16_u;
-    };
-    ($part:ident $file:ident i16x8_extend_high_i8x16_s) => {
-        #[doc(alias = "i16x8.extend_high_i8x16_s")]
-        pub use crate::proved::$part::$file::i16x8_extend_high_i8x16_s;
-    };
-    ($part:ident $file:ident i16x8_extend_high_i8x16_u) => {
-        #[doc(alias = "i16x8.extend_high_i8x16_u")]
-        pub use crate::proved::$part::$file::i16x8_extend_high_i8x16_u;
-    };
-    ($part:ident $file:ident i16x8_extend_low_i8x16_s) => {
-        #[doc(alias = "i16x8.extend_low_i8x16_s")]
-        pub use crate::proved::$part::$file::i16x8_extend_low_i8x16_s;
-    };
-    ($part:ident $file:ident i16x8_extend_low_i8x16_u) => {
-        #[doc(alias = "i16x8.extend_low_i8x16_u")]
-        pub use crate::proved::$part::$file::i16x8_extend_low_i8x16_u;
-    };
-    ($part:ident $file:ident i16x8_extmul_high_i8x16_s) => {
-        #[doc(alias = "i16x8.extmul_high_i8x16_s")]
-        pub use crate::proved::$part::$file::i16x8_extmul_high_i8x16_s;
-    };
-    ($part:ident $file:ident i16x8_extmul_high_i8x16_u) => {
-        #[doc(alias = "i16x8.extmul_high_i8x16_u")]
-        pub use crate::proved::$part::$file::i16x8_extmul_high_i8x16_u;
-    };
-    ($part:ident $file:ident i16x8_extmul_low_i8x16_s) => {
-        #[doc(alias = "i16x8.extmul_low_i8x16_s")]
-        pub use crate::proved::$part::$file::i16x8_extmul_low_i8x16_s;
-    };
-    ($part:ident $file:ident i16x8_extmul_low_i8x16_u) => {
-        #[doc(alias = "i16x8.extmul_low_i8x16_u")]
-        pub use crate::proved::$part::$file::i16x8_extmul_low_i8x16_u;
-    };
-    ($part:ident $file:ident i16x8_ge_s) => {
-        #[doc(alias = "i16x8.ge_s")]
-        pub use crate::proved::$part::$file::i16x8_ge_s;
-    };
-    ($part:ident $file:ident i16x8_ge_u) => {
-        #[doc(alias = "i16x8.ge_u")]
-        pub use crate::proved::$part::$file::i16x8_ge_u;
-    };
-    ($part:ident $file:ident i16x8_gt_s) => {
-        #[doc(alias = "i16x8.gt_s")]
-        pub use crate::proved::$part::$file::i16x8_gt_s;
-    };
-    ($part:ident $file:ident i16x8_gt_u) => {
-        #[doc(alias = "i16x8.gt_u")]
-        pub use crate::proved::$part::$file::i16x8_gt_u;
-    };
-    ($part:ident $file:ident i16x8_le_s) => {
-        #[doc(alias = "i16x8.le_s")]
-        pub use crate::proved::$part::$file::i16x8_le_s;
-    };
-    ($part:ident $file:ident i16x8_le_u) => {
-        #[doc(alias = "i16x8.le_u")]
-        pub use crate::proved::$part::$file::i16x8_le_u;
-    };
-    ($part:ident $file:ident i16x8_lt_s) => {
-        #[doc(alias = "i16x8.lt_s")]
-        pub use crate::proved::$part::$file::i16x8_lt_s;
-    };
-    ($part:ident $file:ident i16x8_lt_u) => {
-        #[doc(alias = "i16x8.lt_u")]
-        pub use crate::proved::$part::$file::i16x8_lt_u;
-    };
-    ($part:ident $file:ident i16x8_max_s) => {
-        #[doc(alias = "i16x8.max_s")]
-        pub use crate::proved::$part::$file::i16x8_max_s;
-    };
-    ($part:ident $file:ident i16x8_max_u) => {
-        #[doc(alias = "i16x8.max_u")]
-        pub use crate::proved::$part::$file::i16x8_max_u;
-    };
-    ($part:ident $file:ident i16x8_min_s) => {
-        #[doc(alias = "i16x8.min_s")]
-        pub use crate::proved::$part::$file::i16x8_min_s;
-    };
-    ($part:ident $file:ident i16x8_min_u) => {
-        #[doc(alias = "i16x8.min_u")]
-        pub use crate::proved::$part::$file::i16x8_min_u;
-    };
-    ($part:ident $file:ident i16x8_mul) => {
-        #[doc(alias = "i16x8.mul")]
-        pub use crate::proved::$part::$file::i16x8_mul;
-    };
-    ($part:ident $file:ident i16x8_narrow_i32x4_s) => {
-        #[doc(alias = "i16x8.narrow_i32x4_s")]
-        pub use crate::proved::$part::$file::i16x8_narrow_i32x4_s;
-    };
-    ($part:ident $file:ident i16x8_narrow_i32x4_u) => {
-        #[doc(alias = "i16x8.narrow_i32x4_u")]
-        pub use crate::proved::$part::$file::i16x8_narrow_i32x4_u;
-    };
-    ($part:ident $file:ident i16x8_ne) => {
-        #[doc(alias = "i16x8.ne")]
-        pub use crate::proved::$part::$file::i16x8_ne;
-    };
-    ($part:ident $file:ident i16x8_neg) => {
-        #[doc(alias = "i16x8.neg")]
-        pub use crate::proved::$part::$file::i16x8_neg;
-    };
-    ($part:ident $file:ident i16x8_q15mulr_sat_s) => {
-        #[doc(alias = "i16x8.q15mulr_sat_s")]
-        pub use crate::proved::$part::$file::i16x8_q15mulr_sat_s;
-    };
-    ($part:ident $file:ident i16x8_relaxed_dot_i8x16_i7x16_s) => {
-        #[doc(alias = "i16x8.relaxed_dot_i8x16_i7x16_s")]
-        pub use crate::proved::$part::$file::i16x8_relaxed_dot_i8x16_i7x16_s;
-    };
-    ($part:ident $file:ident i16x8_relaxed_laneselect) => {
-        #[doc(alias = "i16x8.relaxed_laneselect")]
-        pub use crate::proved::$part::$file::i16x8_relaxed_laneselect;
-    };
-    ($part:ident $file:ident i16x8_relaxed_q15mulr_s) => {
-        #[doc(alias = "i16x8.relaxed_q15mulr_s")]
-        pub use crate::proved::$part::$file::i16x8_relaxed_q15mulr_s;
-    };
-    ($part:ident $file:ident i16x8_shl) => {
-        #[doc(alias = "i16x8.shl")]
-        pub use crate::proved::$part::$file::i16x8_shl;
-    };
-    ($part:ident $file:ident i16x8_shr_s) => {
-        #[doc(alias = "i16x8.shr_s")]
-        pub use crate::proved::$part::$file::i16x8_shr_s;
-    };
-    ($part:ident $file:ident i16x8_shr_u) => {
-        #[doc(alias = "i16x8.shr_u")]
-        pub use crate::proved::$part::$file::i16x8_shr_u;
-    };
-    ($part:ident $file:ident i16x8_splat) => {
-        #[doc(alias = "i16x8.splat")]
-        pub use crate::proved::$part::$file::i16x8_splat;
-    };
-    ($part:ident $file:ident i16x8_sub) => {
-        #[doc(alias = "i16x8.sub")]
-        pub use crate::proved::$part::$file::i16x8_sub;
-    };
-    ($part:ident $file:ident i16x8_sub_sat_s) => {
-        #[doc(alias = "i16x8.sub_sat_s")]
-        pub use crate::proved::$part::$file::i16x8_sub_sat_s;
-    };
-    ($part:ident $file:ident i16x8_sub_sat_u) => {
-        #[doc(alias = "i16x8.sub_sat_u")]
-        pub use crate::proved::$part::$file::i16x8_sub_sat_u;
-    };
-    ($part:ident $file:ident i32_add) => {
-        #[doc(alias = "i32.add")]
-        pub use crate::proved::$part::$file::i32_add;
-    };
-    ($part:ident $file:ident i32_bitand) => {
-        #[doc(alias = "i32.and")]
-        pub use crate::proved::$part::$file::i32_bitand;
-    };
-    ($part:ident $file:ident i32_bitor) => {
-        #[doc(alias = "i32.or")]
-        pub use crate::proved::$part::$file::i32_bitor;
-    };
-    ($part:ident $file:ident i32_bitxor) => {
-        #[doc(alias = "i32.xor")]
-        pub use crate::proved::$part::$file::i32_bitxor;
-    };
-    ($part:ident $file:ident i32_clz) => {
-        #[doc(alias = "i32.clz")]
-        pub use crate::proved::$part::$file::i32_clz;
-    };
-    ($part:ident $file:ident i32_ctz) => {
-        #[doc(alias = "i32.ctz")]
-        pub use crate::proved::$part::$file::i32_ctz;
-    };
-    ($part:ident $file:ident i32_div_s) => {
-        #[doc(alias = "i32.div_s")]
-        pub use crate::proved::$part::$file::i32_div_s;
-    };
-    ($part:ident $file:ident i32_div_u) => {
-        #[doc(alias = "i32.div_u")]
-        pub use crate::proved::$part::$file::i32_div_u;
-    };
-    ($part:ident $file:ident i32_eq) => {
-        #[doc(alias = "i32.eq")]
-        pub use crate::proved::$part::$file::i32_eq;
-    };
-    ($part:ident $file:ident i32_eqz) => {
-        #[doc(alias = "i32.eqz")]
-        pub use crate::proved::$part::$file::i32_eqz;
-    };
-    ($part:ident $file:ident i32_extend16_s) => {
-        #[doc(alias = "i32.extend16_s")]
-        pub use crate::proved::$part::$file::i32_extend16_s;
-    };
-    ($part:ident $file:ident i32_extend8_s) => {
-        #[doc(alias = "i32.extend8_s")]
-        pub use crate::proved::$part::$file::i32_extend8_s;
-    };
-    ($part:ident $file:ident i32_ge_s) => {
-        #[doc(alias = "i32.ge_s")]
-        pub use crate::proved::$part::$file::i32_ge_s;
-    };
-    ($part:ident $file:ident i32_ge_u) => {
-        #[doc(alias = "i32.ge_u")]
-        pub use crate::proved::$part::$file::i32_ge_u;
-    };
-    ($part:ident $file:ident i32_gt_s) => {
-        #[doc(alias = "i32.gt_s")]
-        pub use crate::proved::$part::$file::i32_gt_s;
-    };
-    ($part:ident $file:ident i32_gt_u) => {
-        #[doc(alias = "i32.gt_u")]
-        pub use crate::proved::$part::$file::i32_gt_u;
-    };
-    ($part:ident $file:ident i32_le_s) => {
-        #[doc(alias = "i32.le_s")]
-        pub use crate::proved::$part::$file::i32_le_s;
-    };
-    ($part:ident $file:ident i32_le_u) => {
-        #[doc(alias = "i32.le_u")]
-        pub use crate::proved::$part::$file::i32_le_u;
-    };
-    ($part:ident $file:ident i32_load16_s) => {
-        #[doc(alias = "i32.load16_s")]
-        pub use crate::proved::$part::$file::i32_load16_s;
-    };
-    ($part:ident $file:ident i32_load16_u) => {
-        #[doc(alias = "i32.load16_u")]
-        pub use crate::proved::$part::$file::i32_load16_u;
-    };
-    ($part:ident $file:ident i32_load8_s) => {
+/// Exports the instructions of a module. Those with the index of a lane are functions over the crate's own indices.
+macro_rules! instructions {
+    (accesses wasm) => {
         #[doc(alias = "i32.load8_s")]
-        pub use crate::proved::$part::$file::i32_load8_s;
-    };
-    ($part:ident $file:ident i32_load8_u) => {
+        pub use crate::proved::accesses::wasm::i32_load8_s;
+        pub use crate::proved::accesses::wasm::i32_load8_s_at;
         #[doc(alias = "i32.load8_u")]
-        pub use crate::proved::$part::$file::i32_load8_u;
-    };
-    ($part:ident $file:ident i32_lt_s) => {
-        #[doc(alias = "i32.lt_s")]
-        pub use crate::proved::$part::$file::i32_lt_s;
-    };
-    ($part:ident $file:ident i32_lt_u) => {
-        #[doc(alias = "i32.lt_u")]
-        pub use crate::proved::$part::$file::i32_lt_u;
-    };
-    ($part:ident $file:ident i32_mul) => {
-        #[doc(alias = "i32.mul")]
-        pub use crate::proved::$part::$file::i32_mul;
-    };
-    ($part:ident $file:ident i32_ne) => {
-        #[doc(alias = "i32.ne")]
-        pub use crate::proved::$part::$file::i32_ne;
-    };
-    ($part:ident $file:ident i32_popcnt) => {
-        #[doc(alias = "i32.popcnt")]
-        pub use crate::proved::$part::$file::i32_popcnt;
-    };
-    ($part:ident $file:ident i32_rem_s) => {
-        #[doc(alias = "i32.rem_s")]
-        pub use crate::proved::$part::$file::i32_rem_s;
-    };
-    ($part:ident $file:ident i32_rem_u) => {
-        #[doc(alias = "i32.rem_u")]
-        pub use crate::proved::$part::$file::i32_rem_u;
-    };
-    ($part:ident $file:ident i32_rotl) => {
-        #[doc(alias = "i32.rotl")]
-        pub use crate::proved::$part::$file::i32_rotl;
-    };
-    ($part:ident $file:ident i32_rotr) => {
-        #[doc(alias = "i32.rotr")]
-        pub use crate::proved::$part::$file::i32_rotr;
-    };
-    ($part:ident $file:ident i32_shl) => {
-        #[doc(alias = "i32.shl")]
-        pub use crate::proved::$part::$file::i32_shl;
-    };
-    ($part:ident $file:ident i32_shr_s) => {
-        #[doc(alias = "i32.shr_s")]
-        pub use crate::proved::$part::$file::i32_shr_s;
-    };
-    ($part:ident $file:ident i32_shr_u) => {
-        #[doc(alias = "i32.shr_u")]
-        pub use crate::proved::$part::$file::i32_shr_u;
-    };
-    ($part:ident $file:ident i32_store16) => {
-        #[doc(alias = "i32.store16")]
-        pub use crate::proved::$part::$file::i32_store16;
-    };
-    ($part:ident $file:ident i32_store8) => {
+        pub use crate::proved::accesses::wasm::i32_load8_u;
+        pub use crate::proved::accesses::wasm::i32_load8_u_at;
+        #[doc(alias = "i32.load16_s")]
+        pub use crate::proved::accesses::wasm::i32_load16_s;
+        pub use crate::proved::accesses::wasm::i32_load16_s_at;
+        #[doc(alias = "i32.load16_u")]
+        pub use crate::proved::accesses::wasm::i32_load16_u;
+        pub use crate::proved::accesses::wasm::i32_load16_u_at;
         #[doc(alias = "i32.store8")]
-        pub use crate::proved::$part::$file::i32_store8;
-    };
-    ($part:ident $file:ident i32_sub) => {
-        #[doc(alias = "i32.sub")]
-        pub use crate::proved::$part::$file::i32_sub;
-    };
-    ($part:ident $file:ident i32_wrap_i64) => {
-        #[doc(alias = "i32.wrap_i64")]
-        pub use crate::proved::$part::$file::i32_wrap_i64;
-    };
-    ($part:ident $file:ident i32x4_abs) => {
-        #[doc(alias = "i32x4.abs")]
-        pub use crate::proved::$part::$file::i32x4_abs;
-    };
-    ($part:ident $file:ident i32x4_add) => {
-        #[doc(alias = "i32x4.add")]
-        pub use crate::proved::$part::$file::i32x4_add;
-    };
-    ($part:ident $file:ident i32x4_all_true) => {
-        #[doc(alias = "i32x4.all_true")]
-        pub use crate::proved::$part::$file::i32x4_all_true;
-    };
-    ($part:ident $file:ident i32x4_bitmask) => {
-        #[doc(alias = "i32x4.bitmask")]
-        pub use crate::proved::$part::$file::i32x4_bitmask;
-    };
-    ($part:ident $file:ident i32x4_dot_i16x8_s) => {
-        #[doc(alias = "i32x4.dot_i16x8_s")]
-        pub use crate::proved::$part::$file::i32x4_dot_i16x8_s;
-    };
-    ($part:ident $file:ident i32x4_eq) => {
-        #[doc(alias = "i32x4.eq")]
-        pub use crate::proved::$part::$file::i32x4_eq;
-    };
-    ($part:ident $file:ident i32x4_extadd_pairwise_i16x8_s) => {
-        #[doc(alias = "i32x4.extadd_pairwise_i16x8_s")]
-        pub use crate::proved::$part::$file::i32x4_extadd_pairwise_i16x8_s;
-    };
-    ($part:ident $file:ident i32x4_extadd_pairwise_i16x8_u) => {
-        #[doc(alias = "i32x4.extadd_pairwise_i16x8_u")]
-        pub use crate::proved::$part::$file::i32x4_extadd_pairwise_i16x8_u;
-    };
-    ($part:ident $file:ident i32x4_extend_high_i16x8_s) => {
-        #[doc(alias = "i32x4.extend_high_i16x8_s")]
-        pub use crate::proved::$part::$file::i32x4_extend_high_i16x8_s;
-    };
-    ($part:ident $file:ident i32x4_extend_high_i16x8_u) => {
-        #[doc(alias = "i32x4.extend_high_i16x8_u")]
-        pub use crate::proved::$part::$file::i32x4_extend_high_i16x8_u;
-    };
-    ($part:ident $file:ident i32x4_extend_low_i16x8_s) => {
-        #[doc(alias = "i32x4.extend_low_i16x8_s")]
-        pub use crate::proved::$part::$file::i32x4_extend_low_i16x8_s;
-    };
-    ($part:ident $file:ident i32x4_extend_low_i16x8_u) => {
-        #[doc(alias = "i32x4.extend_low_i16x8_u")]
-        pub use crate::proved::$part::$file::i32x4_extend_low_i16x8_u;
-    };
-    ($part:ident $file:ident i32x4_extmul_high_i16x8_s) => {
-        #[doc(alias = "i32x4.extmul_high_i16x8_s")]
-        pub use crate::proved::$part::$file::i32x4_extmul_high_i16x8_s;
-    };
-    ($part:ident $file:ident i32x4_extmul_high_i16x8_u) => {
-        #[doc(alias = "i32x4.extmul_high_i16x8_u")]
-        pub use crate::proved::$part::$file::i32x4_extmul_high_i16x8_u;
-    };
-    ($part:ident $file:ident i32x4_extmul_low_i16x8_s) => {
-        #[doc(alias = "i32x4.extmul_low_i16x8_s")]
-        pub use crate::proved::$part::$file::i32x4_extmul_low_i16x8_s;
-    };
-    ($part:ident $file:ident i32x4_extmul_low_i16x8_u) => {
-        #[doc(alias = "i32x4.extmul_low_i16x8_u")]
-        pub use crate::proved::$part::$file::i32x4_extmul_low_i16x8_u;
-    };
-    ($part:ident $file:ident i32x4_ge_s) => {
-        #[doc(alias = "i32x4.ge_s")]
-        pub use crate::proved::$part::$file::i32x4_ge_s;
-    };
-    ($part:ident $file:ident i32x4_ge_u) => {
-        #[doc(alias = "i32x4.ge_u")]
-        pub use crate::proved::$part::$file::i32x4_ge_u;
-    };
-    ($part:ident $file:ident i32x4_gt_s) => {
-        #[doc(alias = "i32x4.gt_s")]
-        pub use crate::proved::$part::$file::i32x4_gt_s;
-    };
-    ($part:ident $file:ident i32x4_gt_u) => {
-        #[doc(alias = "i32x4.gt_u")]
-        pub use crate::proved::$part::$file::i32x4_gt_u;
-    };
-    ($part:ident $file:ident i32x4_le_s) => {
-        #[doc(alias = "i32x4.le_s")]
-        pub use crate::proved::$part::$file::i32x4_le_s;
-    };
-    ($part:ident $file:ident i32x4_le_u) => {
-        #[doc(alias = "i32x4.le_u")]
-        pub use crate::proved::$part::$file::i32x4_le_u;
-    };
-    ($part:ident $file:ident i32x4_lt_s) => {
-        #[doc(alias = "i32x4.lt_s")]
-        pub use crate::proved::$part::$file::i32x4_lt_s;
-    };
-    ($part:ident $file:ident i32x4_lt_u) => {
-        #[doc(alias = "i32x4.lt_u")]
-        pub use crate::proved::$part::$file::i32x4_lt_u;
-    };
-    ($part:ident $file:ident i32x4_max_s) => {
-        #[doc(alias = "i32x4.max_s")]
-        pub use crate::proved::$part::$file::i32x4_max_s;
-    };
-    ($part:ident $file:ident i32x4_max_u) => {
-        #[doc(alias = "i32x4.max_u")]
-        pub use crate::proved::$part::$file::i32x4_max_u;
-    };
-    ($part:ident $file:ident i32x4_min_s) => {
-        #[doc(alias = "i32x4.min_s")]
-        pub use crate::proved::$part::$file::i32x4_min_s;
-    };
-    ($part:ident $file:ident i32x4_min_u) => {
-        #[doc(alias = "i32x4.min_u")]
-        pub use crate::proved::$part::$file::i32x4_min_u;
-    };
-    ($part:ident $file:ident i32x4_mul) => {
-        #[doc(alias = "i32x4.mul")]
-        pub use crate::proved::$part::$file::i32x4_mul;
-    };
-    ($part:ident $file:ident i32x4_ne) => {
-        #[doc(alias = "i32x4.ne")]
-        pub use crate::proved::$part::$file::i32x4_ne;
-    };
-    ($part:ident $file:ident i32x4_neg) => {
-        #[doc(alias = "i32x4.neg")]
-        pub use crate::proved::$part::$file::i32x4_neg;
-    };
-    ($part:ident $file:ident i32x4_relaxed_dot_i8x16_i7x16_add_s) => {
-        #[doc(alias = "i32x4.relaxed_dot_i8x16_i7x16_add_s")]
-        pub use crate::proved::$part::$file::i32x4_relaxed_dot_i8x16_i7x16_add_s;
-    };
-    ($part:ident $file:ident i32x4_relaxed_laneselect) => {
-        #[doc(alias = "i32x4.relaxed_laneselect")]
-        pub use crate::proved::$part::$file::i32x4_relaxed_laneselect;
-    };
-    ($part:ident $file:ident i32x4_shl) => {
-        #[doc(alias = "i32x4.shl")]
-        pub use crate::proved::$part::$file::i32x4_shl;
-    };
-    ($part:ident $file:ident i32x4_shr_s) => {
-        #[doc(alias = "i32x4.shr_s")]
-        pub use crate::proved::$part::$file::i32x4_shr_s;
-    };
-    ($part:ident $file:ident i32x4_shr_u) => {
-        #[doc(alias = "i32x4.shr_u")]
-        pub use crate::proved::$part::$file::i32x4_shr_u;
-    };
-    ($part:ident $file:ident i32x4_splat) => {
-        #[doc(alias = "i32x4.splat")]
-        pub use crate::proved::$part::$file::i32x4_splat;
-    };
-    ($part:ident $file:ident i32x4_sub) => {
-        #[doc(alias = "i32x4.sub")]
-        pub use crate::proved::$part::$file::i32x4_sub;
-    };
-    ($part:ident $file:ident i64_add) => {
-        #[doc(alias = "i64.add")]
-        pub use crate::proved::$part::$file::i64_add;
-    };
-    ($part:ident $file:ident i64_add128) => {
-        #[doc(alias = "i64.add128")]
-        pub use crate::proved::$part::$file::i64_add128;
-    };
-    ($part:ident $file:ident i64_bitand) => {
-        #[doc(alias = "i64.and")]
-        pub use crate::proved::$part::$file::i64_bitand;
-    };
-    ($part:ident $file:ident i64_bitor) => {
-        #[doc(alias = "i64.or")]
-        pub use crate::proved::$part::$file::i64_bitor;
-    };
-    ($part:ident $file:ident i64_bitxor) => {
-        #[doc(alias = "i64.xor")]
-        pub use crate::proved::$part::$file::i64_bitxor;
-    };
-    ($part:ident $file:ident i64_clz) => {
-        #[doc(alias = "i64.clz")]
-        pub use crate::proved::$part::$file::i64_clz;
-    };
-    ($part:ident $file:ident i64_ctz) => {
-        #[doc(alias = "i64.ctz")]
-        pub use crate::proved::$part::$file::i64_ctz;
-    };
-    ($part:ident $file:ident i64_div_s) => {
-        #[doc(alias = "i64.div_s")]
-        pub use crate::proved::$part::$file::i64_div_s;
-    };
-    ($part:ident $file:ident i64_div_u) => {
-        #[doc(alias = "i64.div_u")]
-        pub use crate::proved::$part::$file::i64_div_u;
-    };
-    ($part:ident $file:ident i64_eq) => {
-        #[doc(alias = "i64.eq")]
-        pub use crate::proved::$part::$file::i64_eq;
-    };
-    ($part:ident $file:ident i64_eqz) => {
-        #[doc(alias = "i64.eqz")]
-        pub use crate::proved::$part::$file::i64_eqz;
-    };
-    ($part:ident $file:ident i64_extend16_s) => {
-        #[doc(alias = "i64.extend16_s")]
-        pub use crate::proved::$part::$file::i64_extend16_s;
-    };
-    ($part:ident $file:ident i64_extend32_s) => {
-        #[doc(alias = "i64.extend32_s")]
-        pub use crate::proved::$part::$file::i64_extend32_s;
-    };
-    ($part:ident $file:ident i64_extend8_s) => {
-        #[doc(alias = "i64.extend8_s")]
-        pub use crate::proved::$part::$file::i64_extend8_s;
-    };
-    ($part:ident $file:ident i64_extend_i32_s) => {
-        #[doc(alias = "i64.extend_i32_s")]
-        pub use crate::proved::$part::$file::i64_extend_i32_s;
-    };
-    ($part:ident $file:ident i64_extend_i32_u) => {
-        #[doc(alias = "i64.extend_i32_u")]
-        pub use crate::proved::$part::$file::i64_extend_i32_u;
-    };
-    ($part:ident $file:ident i64_ge_s) => {
-        #[doc(alias = "i64.ge_s")]
-        pub use crate::proved::$part::$file::i64_ge_s;
-    };
-    ($part:ident $file:ident i64_ge_u) => {
-        #[doc(alias = "i64.ge_u")]
-        pub use crate::proved::$part::$file::i64_ge_u;
-    };
-    ($part:ident $file:ident i64_gt_s) => {
-        #[doc(alias = "i64.gt_s")]
-        pub use crate::proved::$part::$file::i64_gt_s;
-    };
-    ($part:ident $file:ident i64_gt_u) => {
-        #[doc(alias = "i64.gt_u")]
-        pub use crate::proved::$part::$file::i64_gt_u;
-    };
-    ($part:ident $file:ident i64_le_s) => {
-        #[doc(alias = "i64.le_s")]
-        pub use crate::proved::$part::$file::i64_le_s;
-    };
-    ($part:ident $file:ident i64_le_u) => {
-        #[doc(alias = "i64.le_u")]
-        pub use crate::proved::$part::$file::i64_le_u;
-    };
-    ($part:ident $file:ident i64_load16_s) => {
-        #[doc(alias = "i64.load16_s")]
-        pub use crate::proved::$part::$file::i64_load16_s;
-    };
-    ($part:ident $file:ident i64_load16_u) => {
-        #[doc(alias = "i64.load16_u")]
-        pub use crate::proved::$part::$file::i64_load16_u;
-    };
-    ($part:ident $file:ident i64_load32_s) => {
-        #[doc(alias = "i64.load32_s")]
-        pub use crate::proved::$part::$file::i64_load32_s;
-    };
-    ($part:ident $file:ident i64_load32_u) => {
-        #[doc(alias = "i64.load32_u")]
-        pub use crate::proved::$part::$file::i64_load32_u;
-    };
-    ($part:ident $file:ident i64_load8_s) => {
+        pub use crate::proved::accesses::wasm::i32_store8;
+        pub use crate::proved::accesses::wasm::i32_store8_at;
+        #[doc(alias = "i32.store16")]
+        pub use crate::proved::accesses::wasm::i32_store16;
+        pub use crate::proved::accesses::wasm::i32_store16_at;
         #[doc(alias = "i64.load8_s")]
-        pub use crate::proved::$part::$file::i64_load8_s;
-    };
-    ($part:ident $file:ident i64_load8_u) => {
+        pub use crate::proved::accesses::wasm::i64_load8_s;
+        pub use crate::proved::accesses::wasm::i64_load8_s_at;
         #[doc(alias = "i64.load8_u")]
-        pub use crate::proved::$part::$file::i64_load8_u;
-    };
-    ($part:ident $file:ident i64_lt_s) => {
-        #[doc(alias = "i64.lt_s")]
-        pub use crate::proved::$part::$file::i64_lt_s;
-    };
-    ($part:ident $file:ident i64_lt_u) => {
-        #[doc(alias = "i64.lt_u")]
-        pub use crate::proved::$part::$file::i64_lt_u;
-    };
-    ($part:ident $file:ident i64_mul) => {
-        #[doc(alias = "i64.mul")]
-        pub use crate::proved::$part::$file::i64_mul;
-    };
-    ($part:ident $file:ident i64_mul_wide_s) => {
-        #[doc(alias = "i64.mul_wide_s")]
-        pub use crate::proved::$part::$file::i64_mul_wide_s;
-    };
-    ($part:ident $file:ident i64_mul_wide_u) => {
-        #[doc(alias = "i64.mul_wide_u")]
-        pub use crate::proved::$part::$file::i64_mul_wide_u;
-    };
-    ($part:ident $file:ident i64_ne) => {
-        #[doc(alias = "i64.ne")]
-        pub use crate::proved::$part::$file::i64_ne;
-    };
-    ($part:ident $file:ident i64_popcnt) => {
-        #[doc(alias = "i64.popcnt")]
-        pub use crate::proved::$part::$file::i64_popcnt;
-    };
-    ($part:ident $file:ident i64_rem_s) => {
-        #[doc(alias = "i64.rem_s")]
-        pub use crate::proved::$part::$file::i64_rem_s;
-    };
-    ($part:ident $file:ident i64_rem_u) => {
-        #[doc(alias = "i64.rem_u")]
-        pub use crate::proved::$part::$file::i64_rem_u;
-    };
-    ($part:ident $file:ident i64_rotl) => {
-        #[doc(alias = "i64.rotl")]
-        pub use crate::proved::$part::$file::i64_rotl;
-    };
-    ($part:ident $file:ident i64_rotr) => {
-        #[doc(alias = "i64.rotr")]
-        pub use crate::proved::$part::$file::i64_rotr;
-    };
-    ($part:ident $file:ident i64_shl) => {
-        #[doc(alias = "i64.shl")]
-        pub use crate::proved::$part::$file::i64_shl;
-    };
-    ($part:ident $file:ident i64_shr_s) => {
-        #[doc(alias = "i64.shr_s")]
-        pub use crate::proved::$part::$file::i64_shr_s;
-    };
-    ($part:ident $file:ident i64_shr_u) => {
-        #[doc(alias = "i64.shr_u")]
-        pub use crate::proved::$part::$file::i64_shr_u;
-    };
-    ($part:ident $file:ident i64_store16) => {
-        #[doc(alias = "i64.store16")]
-        pub use crate::proved::$part::$file::i64_store16;
-    };
-    ($part:ident $file:ident i64_store32) => {
-        #[doc(alias = "i64.store32")]
-        pub use crate::proved::$part::$file::i64_store32;
-    };
-    ($part:ident $file:ident i64_store8) => {
+        pub use crate::proved::accesses::wasm::i64_load8_u;
+        pub use crate::proved::accesses::wasm::i64_load8_u_at;
+        #[doc(alias = "i64.load16_s")]
+        pub use crate::proved::accesses::wasm::i64_load16_s;
+        pub use crate::proved::accesses::wasm::i64_load16_s_at;
+        #[doc(alias = "i64.load16_u")]
+        pub use crate::proved::accesses::wasm::i64_load16_u;
+        pub use crate::proved::accesses::wasm::i64_load16_u_at;
+        #[doc(alias = "i64.load32_s")]
+        pub use crate::proved::accesses::wasm::i64_load32_s;
+        pub use crate::proved::accesses::wasm::i64_load32_s_at;
+        #[doc(alias = "i64.load32_u")]
+        pub use crate::proved::accesses::wasm::i64_load32_u;
+        pub use crate::proved::accesses::wasm::i64_load32_u_at;
         #[doc(alias = "i64.store8")]
-        pub use crate::proved::$part::$file::i64_store8;
-    };
-    ($part:ident $file:ident i64_sub) => {
-        #[doc(alias = "i64.sub")]
-        pub use crate::proved::$part::$file::i64_sub;
-    };
-    ($part:ident $file:ident i64_sub128) => {
-        #[doc(alias = "i64.sub128")]
-        pub use crate::proved::$part::$file::i64_sub128;
-    };
-    ($part:ident $file:ident i64x2_abs) => {
-        #[doc(alias = "i64x2.abs")]
-        pub use crate::proved::$part::$file::i64x2_abs;
-    };
-    ($part:ident $file:ident i64x2_add) => {
-        #[doc(alias = "i64x2.add")]
-        pub use crate::proved::$part::$file::i64x2_add;
-    };
-    ($part:ident $file:ident i64x2_all_true) => {
-        #[doc(alias = "i64x2.all_true")]
-        pub use crate::proved::$part::$file::i64x2_all_true;
-    };
-    ($part:ident $file:ident i64x2_bitmask) => {
-        #[doc(alias = "i64x2.bitmask")]
-        pub use crate::proved::$part::$file::i64x2_bitmask;
-    };
-    ($part:ident $file:ident i64x2_eq) => {
-        #[doc(alias = "i64x2.eq")]
-        pub use crate::proved::$part::$file::i64x2_eq;
-    };
-    ($part:ident $file:ident i64x2_extend_high_i32x4_s) => {
-        #[doc(alias = "i64x2.extend_high_i32x4_s")]
-        pub use crate::proved::$part::$file::i64x2_extend_high_i32x4_s;
-    };
-    ($part:ident $file:ident i64x2_extend_high_i32x4_u) => {
-        #[doc(alias = "i64x2.extend_high_i32x4_u")]
-        pub use crate::proved::$part::$file::i64x2_extend_high_i32x4_u;
-    };
-    ($part:ident $file:ident i64x2_extend_low_i32x4_s) => {
-        #[doc(alias = "i64x2.extend_low_i32x4_s")]
-        pub use crate::proved::$part::$file::i64x2_extend_low_i32x4_s;
-    };
-    ($part:ident $file:ident i64x2_extend_low_i32x4_u) => {
-        #[doc(alias = "i64x2.extend_low_i32x4_u")]
-        pub use crate::proved::$part::$file::i64x2_extend_low_i32x4_u;
-    };
-    ($part:ident $file:ident i64x2_extmul_high_i32x4_s) => {
-        #[doc(alias = "i64x2.extmul_high_i32x4_s")]
-        pub use crate::proved::$part::$file::i64x2_extmul_high_i32x4_s;
-    };
-    ($part:ident $file:ident i64x2_extmul_high_i32x4_u) => {
-        #[doc(alias = "i64x2.extmul_high_i32x4_u")]
-        pub use crate::proved::$part::$file::i64x2_extmul_high_i32x4_u;
-    };
-    ($part:ident $file:ident i64x2_extmul_low_i32x4_s) => {
-        #[doc(alias = "i64x2.extmul_low_i32x4_s")]
-        pub use crate::proved::$part::$file::i64x2_extmul_low_i32x4_s;
-    };
-    ($part:ident $file:ident i64x2_extmul_low_i32x4_u) => {
-        #[doc(alias = "i64x2.extmul_low_i32x4_u")]
-        pub use crate::proved::$part::$file::i64x2_extmul_low_i32x4_u;
-    };
-    ($part:ident $file:ident i64x2_ge_s) => {
-        #[doc(alias = "i64x2.ge_s")]
-        pub use crate::proved::$part::$file::i64x2_ge_s;
-    };
-    ($part:ident $file:ident i64x2_gt_s) => {
-        #[doc(alias = "i64x2.gt_s")]
-        pub use crate::proved::$part::$file::i64x2_gt_s;
-    };
-    ($part:ident $file:ident i64x2_le_s) => {
-        #[doc(alias = "i64x2.le_s")]
-        pub use crate::proved::$part::$file::i64x2_le_s;
-    };
-    ($part:ident $file:ident i64x2_lt_s) => {
-        #[doc(alias = "i64x2.lt_s")]
-        pub use crate::proved::$part::$file::i64x2_lt_s;
-    };
-    ($part:ident $file:ident i64x2_mul) => {
-        #[doc(alias = "i64x2.mul")]
-        pub use crate::proved::$part::$file::i64x2_mul;
-    };
-    ($part:ident $file:ident i64x2_ne) => {
-        #[doc(alias = "i64x2.ne")]
-        pub use crate::proved::$part::$file::i64x2_ne;
-    };
-    ($part:ident $file:ident i64x2_neg) => {
-        #[doc(alias = "i64x2.neg")]
-        pub use crate::proved::$part::$file::i64x2_neg;
-    };
-    ($part:ident $file:ident i64x2_relaxed_laneselect) => {
-        #[doc(alias = "i64x2.relaxed_laneselect")]
-        pub use crate::proved::$part::$file::i64x2_relaxed_laneselect;
-    };
-    ($part:ident $file:ident i64x2_shl) => {
-        #[doc(alias = "i64x2.shl")]
-        pub use crate::proved::$part::$file::i64x2_shl;
-    };
-    ($part:ident $file:ident i64x2_shr_s) => {
-        #[doc(alias = "i64x2.shr_s")]
-        pub use crate::proved::$part::$file::i64x2_shr_s;
-    };
-    ($part:ident $file:ident i64x2_shr_u) => {
-        #[doc(alias = "i64x2.shr_u")]
-        pub use crate::proved::$part::$file::i64x2_shr_u;
-    };
-    ($part:ident $file:ident i64x2_splat) => {
-        #[doc(alias = "i64x2.splat")]
-        pub use crate::proved::$part::$file::i64x2_splat;
-    };
-    ($part:ident $file:ident i64x2_sub) => {
-        #[doc(alias = "i64x2.sub")]
-        pub use crate::proved::$part::$file::i64x2_sub;
-    };
-    ($part:ident $file:ident i8x16_abs) => {
-        #[doc(alias = "i8x16.abs")]
-        pub use crate::proved::$part::$file::i8x16_abs;
-    };
-    ($part:ident $file:ident i8x16_add) => {
-        #[doc(alias = "i8x16.add")]
-        pub use crate::proved::$part::$file::i8x16_add;
-    };
-    ($part:ident $file:ident i8x16_add_sat_s) => {
-        #[doc(alias = "i8x16.add_sat_s")]
-        pub use crate::proved::$part::$file::i8x16_add_sat_s;
-    };
-    ($part:ident $file:ident i8x16_add_sat_u) => {
-        #[doc(alias = "i8x16.add_sat_u")]
-        pub use crate::proved::$part::$file::i8x16_add_sat_u;
-    };
-    ($part:ident $file:ident i8x16_all_true) => {
-        #[doc(alias = "i8x16.all_true")]
-        pub use crate::proved::$part::$file::i8x16_all_true;
-    };
-    ($part:ident $file:ident i8x16_avgr_u) => {
-        #[doc(alias = "i8x16.avgr_u")]
-        pub use crate::proved::$part::$file::i8x16_avgr_u;
-    };
-    ($part:ident $file:ident i8x16_bitmask) => {
-        #[doc(alias = "i8x16.bitmask")]
-        pub use crate::proved::$part::$file::i8x16_bitmask;
-    };
-    ($part:ident $file:ident i8x16_eq) => {
-        #[doc(alias = "i8x16.eq")]
-        pub use crate::proved::$part::$file::i8x16_eq;
-    };
-    ($part:ident $file:ident i8x16_ge_s) => {
-        #[doc(alias = "i8x16.ge_s")]
-        pub use crate::proved::$part::$file::i8x16_ge_s;
-    };
-    ($part:ident $file:ident i8x16_ge_u) => {
-        #[doc(alias = "i8x16.ge_u")]
-        pub use crate::proved::$part::$file::i8x16_ge_u;
-    };
-    ($part:ident $file:ident i8x16_gt_s) => {
-        #[doc(alias = "i8x16.gt_s")]
-        pub use crate::proved::$part::$file::i8x16_gt_s;
-    };
-    ($part:ident $file:ident i8x16_gt_u) => {
-        #[doc(alias = "i8x16.gt_u")]
-        pub use crate::proved::$part::$file::i8x16_gt_u;
-    };
-    ($part:ident $file:ident i8x16_le_s) => {
-        #[doc(alias = "i8x16.le_s")]
-        pub use crate::proved::$part::$file::i8x16_le_s;
-    };
-    ($part:ident $file:ident i8x16_le_u) => {
-        #[doc(alias = "i8x16.le_u")]
-        pub use crate::proved::$part::$file::i8x16_le_u;
-    };
-    ($part:ident $file:ident i8x16_lt_s) => {
-        #[doc(alias = "i8x16.lt_s")]
-        pub use crate::proved::$part::$file::i8x16_lt_s;
-    };
-    ($part:ident $file:ident i8x16_lt_u) => {
-        #[doc(alias = "i8x16.lt_u")]
-        pub use crate::proved::$part::$file::i8x16_lt_u;
-    };
-    ($part:ident $file:ident i8x16_max_s) => {
-        #[doc(alias = "i8x16.max_s")]
-        pub use crate::proved::$part::$file::i8x16_max_s;
-    };
-    ($part:ident $file:ident i8x16_max_u) => {
-        #[doc(alias = "i8x16.max_u")]
-        pub use crate::proved::$part::$file::i8x16_max_u;
-    };
-    ($part:ident $file:ident i8x16_min_s) => {
-        #[doc(alias = "i8x16.min_s")]
-        pub use crate::proved::$part::$file::i8x16_min_s;
-    };
-    ($part:ident $file:ident i8x16_min_u) => {
-        #[doc(alias = "i8x16.min_u")]
-        pub use crate::proved::$part::$file::i8x16_min_u;
-    };
-    ($part:ident $file:ident i8x16_narrow_i16x8_s) => {
-        #[doc(alias = "i8x16.narrow_i16x8_s")]
-        pub use crate::proved::$part::$file::i8x16_narrow_i16x8_s;
-    };
-    ($part:ident $file:ident i8x16_narrow_i16x8_u) => {
-        #[doc(alias = "i8x16.narrow_i16x8_u")]
-        pub use crate::proved::$part::$file::i8x16_narrow_i16x8_u;
-    };
-    ($part:ident $file:ident i8x16_ne) => {
-        #[doc(alias = "i8x16.ne")]
-        pub use crate::proved::$part::$file::i8x16_ne;
-    };
-    ($part:ident $file:ident i8x16_neg) => {
-        #[doc(alias = "i8x16.neg")]
-        pub use crate::proved::$part::$file::i8x16_neg;
-    };
-    ($part:ident $file:ident i8x16_popcnt) => {
-        #[doc(alias = "i8x16.popcnt")]
-        pub use crate::proved::$part::$file::i8x16_popcnt;
-    };
-    ($part:ident $file:ident i8x16_relaxed_laneselect) => {
-        #[doc(alias = "i8x16.relaxed_laneselect")]
-        pub use crate::proved::$part::$file::i8x16_relaxed_laneselect;
-    };
-    ($part:ident $file:ident i8x16_relaxed_swizzle) => {
-        #[doc(alias = "i8x16.relaxed_swizzle")]
-        pub use crate::proved::$part::$file::i8x16_relaxed_swizzle;
-    };
-    ($part:ident $file:ident i8x16_shl) => {
-        #[doc(alias = "i8x16.shl")]
-        pub use crate::proved::$part::$file::i8x16_shl;
-    };
-    ($part:ident $file:ident i8x16_shr_s) => {
-        #[doc(alias = "i8x16.shr_s")]
-        pub use crate::proved::$part::$file::i8x16_shr_s;
-    };
-    ($part:ident $file:ident i8x16_shr_u) => {
-        #[doc(alias = "i8x16.shr_u")]
-        pub use crate::proved::$part::$file::i8x16_shr_u;
-    };
-    ($part:ident $file:ident i8x16_splat) => {
-        #[doc(alias = "i8x16.splat")]
-        pub use crate::proved::$part::$file::i8x16_splat;
-    };
-    ($part:ident $file:ident i8x16_sub) => {
-        #[doc(alias = "i8x16.sub")]
-        pub use crate::proved::$part::$file::i8x16_sub;
-    };
-    ($part:ident $file:ident i8x16_sub_sat_s) => {
-        #[doc(alias = "i8x16.sub_sat_s")]
-        pub use crate::proved::$part::$file::i8x16_sub_sat_s;
-    };
-    ($part:ident $file:ident i8x16_sub_sat_u) => {
-        #[doc(alias = "i8x16.sub_sat_u")]
-        pub use crate::proved::$part::$file::i8x16_sub_sat_u;
-    };
-    ($part:ident $file:ident i8x16_swizzle) => {
-        #[doc(alias = "i8x16.swizzle")]
-        pub use crate::proved::$part::$file::i8x16_swizzle;
-    };
-    ($part:ident $file:ident load_u32) => {
+        pub use crate::proved::accesses::wasm::i64_store8;
+        pub use crate::proved::accesses::wasm::i64_store8_at;
+        #[doc(alias = "i64.store16")]
+        pub use crate::proved::accesses::wasm::i64_store16;
+        pub use crate::proved::accesses::wasm::i64_store16_at;
+        #[doc(alias = "i64.store32")]
+        pub use crate::proved::accesses::wasm::i64_store32;
+        pub use crate::proved::accesses::wasm::i64_store32_at;
         #[doc(alias = "i32.load")]
-        pub use crate::proved::$part::$file::load_u32;
-    };
-    ($part:ident $file:ident load_u64) => {
+        pub use crate::proved::accesses::wasm::load_u32;
+        pub use crate::proved::accesses::wasm::load_u32_at;
         #[doc(alias = "i64.load")]
-        pub use crate::proved::$part::$file::load_u64;
-    };
-    ($part:ident $file:ident store32) => {
+        pub use crate::proved::accesses::wasm::load_u64;
+        pub use crate::proved::accesses::wasm::load_u64_at;
         #[doc(alias = "i32.store")]
-        pub use crate::proved::$part::$file::store32;
-    };
-    ($part:ident $file:ident store64) => {
+        pub use crate::proved::accesses::wasm::store32;
+        pub use crate::proved::accesses::wasm::store32_at;
         #[doc(alias = "i64.store")]
-        pub use crate::proved::$part::$file::store64;
+        pub use crate::proved::accesses::wasm::store64;
+        pub use crate::proved::accesses::wasm::store64_at;
     };
-    ($part:ident $file:ident v128_and) => {
+    (lanewise simd) => {
+        #[doc(alias = "i8x16.abs")]
+        pub use crate::proved::lanewise::simd::i8x16_abs;
+        #[doc(alias = "i8x16.add")]
+        pub use crate::proved::lanewise::simd::i8x16_add;
+        #[doc(alias = "i8x16.add_sat_s")]
+        pub use crate::proved::lanewise::simd::i8x16_add_sat_s;
+        #[doc(alias = "i8x16.add_sat_u")]
+        pub use crate::proved::lanewise::simd::i8x16_add_sat_u;
+        #[doc(alias = "i8x16.avgr_u")]
+        pub use crate::proved::lanewise::simd::i8x16_avgr_u;
+        #[doc(alias = "i8x16.eq")]
+        pub use crate::proved::lanewise::simd::i8x16_eq;
+        #[doc(alias = "i8x16.ge_s")]
+        pub use crate::proved::lanewise::simd::i8x16_ge_s;
+        #[doc(alias = "i8x16.ge_u")]
+        pub use crate::proved::lanewise::simd::i8x16_ge_u;
+        #[doc(alias = "i8x16.gt_s")]
+        pub use crate::proved::lanewise::simd::i8x16_gt_s;
+        #[doc(alias = "i8x16.gt_u")]
+        pub use crate::proved::lanewise::simd::i8x16_gt_u;
+        #[doc(alias = "i8x16.le_s")]
+        pub use crate::proved::lanewise::simd::i8x16_le_s;
+        #[doc(alias = "i8x16.le_u")]
+        pub use crate::proved::lanewise::simd::i8x16_le_u;
+        #[doc(alias = "i8x16.lt_s")]
+        pub use crate::proved::lanewise::simd::i8x16_lt_s;
+        #[doc(alias = "i8x16.lt_u")]
+        pub use crate::proved::lanewise::simd::i8x16_lt_u;
+        #[doc(alias = "i8x16.max_s")]
+        pub use crate::proved::lanewise::simd::i8x16_max_s;
+        #[doc(alias = "i8x16.max_u")]
+        pub use crate::proved::lanewise::simd::i8x16_max_u;
+        #[doc(alias = "i8x16.min_s")]
+        pub use crate::proved::lanewise::simd::i8x16_min_s;
+        #[doc(alias = "i8x16.min_u")]
+        pub use crate::proved::lanewise::simd::i8x16_min_u;
+        pub use crate::proved::lanewise::simd::i8x16_mul;
+        #[doc(alias = "i8x16.ne")]
+        pub use crate::proved::lanewise::simd::i8x16_ne;
+        #[doc(alias = "i8x16.neg")]
+        pub use crate::proved::lanewise::simd::i8x16_neg;
+        #[doc(alias = "i8x16.popcnt")]
+        pub use crate::proved::lanewise::simd::i8x16_popcnt;
+        #[doc(alias = "i8x16.splat")]
+        pub use crate::proved::lanewise::simd::i8x16_splat;
+        #[doc(alias = "i8x16.sub")]
+        pub use crate::proved::lanewise::simd::i8x16_sub;
+        #[doc(alias = "i8x16.sub_sat_s")]
+        pub use crate::proved::lanewise::simd::i8x16_sub_sat_s;
+        #[doc(alias = "i8x16.sub_sat_u")]
+        pub use crate::proved::lanewise::simd::i8x16_sub_sat_u;
+        #[doc(alias = "i16x8.abs")]
+        pub use crate::proved::lanewise::simd::i16x8_abs;
+        #[doc(alias = "i16x8.add")]
+        pub use crate::proved::lanewise::simd::i16x8_add;
+        #[doc(alias = "i16x8.add_sat_s")]
+        pub use crate::proved::lanewise::simd::i16x8_add_sat_s;
+        #[doc(alias = "i16x8.add_sat_u")]
+        pub use crate::proved::lanewise::simd::i16x8_add_sat_u;
+        #[doc(alias = "i16x8.avgr_u")]
+        pub use crate::proved::lanewise::simd::i16x8_avgr_u;
+        #[doc(alias = "i16x8.eq")]
+        pub use crate::proved::lanewise::simd::i16x8_eq;
+        #[doc(alias = "i16x8.ge_s")]
+        pub use crate::proved::lanewise::simd::i16x8_ge_s;
+        #[doc(alias = "i16x8.ge_u")]
+        pub use crate::proved::lanewise::simd::i16x8_ge_u;
+        #[doc(alias = "i16x8.gt_s")]
+        pub use crate::proved::lanewise::simd::i16x8_gt_s;
+        #[doc(alias = "i16x8.gt_u")]
+        pub use crate::proved::lanewise::simd::i16x8_gt_u;
+        #[doc(alias = "i16x8.le_s")]
+        pub use crate::proved::lanewise::simd::i16x8_le_s;
+        #[doc(alias = "i16x8.le_u")]
+        pub use crate::proved::lanewise::simd::i16x8_le_u;
+        #[doc(alias = "i16x8.lt_s")]
+        pub use crate::proved::lanewise::simd::i16x8_lt_s;
+        #[doc(alias = "i16x8.lt_u")]
+        pub use crate::proved::lanewise::simd::i16x8_lt_u;
+        #[doc(alias = "i16x8.max_s")]
+        pub use crate::proved::lanewise::simd::i16x8_max_s;
+        #[doc(alias = "i16x8.max_u")]
+        pub use crate::proved::lanewise::simd::i16x8_max_u;
+        #[doc(alias = "i16x8.min_s")]
+        pub use crate::proved::lanewise::simd::i16x8_min_s;
+        #[doc(alias = "i16x8.min_u")]
+        pub use crate::proved::lanewise::simd::i16x8_min_u;
+        #[doc(alias = "i16x8.mul")]
+        pub use crate::proved::lanewise::simd::i16x8_mul;
+        #[doc(alias = "i16x8.ne")]
+        pub use crate::proved::lanewise::simd::i16x8_ne;
+        #[doc(alias = "i16x8.neg")]
+        pub use crate::proved::lanewise::simd::i16x8_neg;
+        #[doc(alias = "i16x8.q15mulr_sat_s")]
+        pub use crate::proved::lanewise::simd::i16x8_q15mulr_sat_s;
+        #[doc(alias = "i16x8.splat")]
+        pub use crate::proved::lanewise::simd::i16x8_splat;
+        #[doc(alias = "i16x8.sub")]
+        pub use crate::proved::lanewise::simd::i16x8_sub;
+        #[doc(alias = "i16x8.sub_sat_s")]
+        pub use crate::proved::lanewise::simd::i16x8_sub_sat_s;
+        #[doc(alias = "i16x8.sub_sat_u")]
+        pub use crate::proved::lanewise::simd::i16x8_sub_sat_u;
+        #[doc(alias = "i32x4.abs")]
+        pub use crate::proved::lanewise::simd::i32x4_abs;
+        #[doc(alias = "i32x4.add")]
+        pub use crate::proved::lanewise::simd::i32x4_add;
+        #[doc(alias = "i32x4.eq")]
+        pub use crate::proved::lanewise::simd::i32x4_eq;
+        #[doc(alias = "i32x4.ge_s")]
+        pub use crate::proved::lanewise::simd::i32x4_ge_s;
+        #[doc(alias = "i32x4.ge_u")]
+        pub use crate::proved::lanewise::simd::i32x4_ge_u;
+        #[doc(alias = "i32x4.gt_s")]
+        pub use crate::proved::lanewise::simd::i32x4_gt_s;
+        #[doc(alias = "i32x4.gt_u")]
+        pub use crate::proved::lanewise::simd::i32x4_gt_u;
+        #[doc(alias = "i32x4.le_s")]
+        pub use crate::proved::lanewise::simd::i32x4_le_s;
+        #[doc(alias = "i32x4.le_u")]
+        pub use crate::proved::lanewise::simd::i32x4_le_u;
+        #[doc(alias = "i32x4.lt_s")]
+        pub use crate::proved::lanewise::simd::i32x4_lt_s;
+        #[doc(alias = "i32x4.lt_u")]
+        pub use crate::proved::lanewise::simd::i32x4_lt_u;
+        #[doc(alias = "i32x4.max_s")]
+        pub use crate::proved::lanewise::simd::i32x4_max_s;
+        #[doc(alias = "i32x4.max_u")]
+        pub use crate::proved::lanewise::simd::i32x4_max_u;
+        #[doc(alias = "i32x4.min_s")]
+        pub use crate::proved::lanewise::simd::i32x4_min_s;
+        #[doc(alias = "i32x4.min_u")]
+        pub use crate::proved::lanewise::simd::i32x4_min_u;
+        #[doc(alias = "i32x4.mul")]
+        pub use crate::proved::lanewise::simd::i32x4_mul;
+        #[doc(alias = "i32x4.ne")]
+        pub use crate::proved::lanewise::simd::i32x4_ne;
+        #[doc(alias = "i32x4.neg")]
+        pub use crate::proved::lanewise::simd::i32x4_neg;
+        #[doc(alias = "i32x4.splat")]
+        pub use crate::proved::lanewise::simd::i32x4_splat;
+        #[doc(alias = "i32x4.sub")]
+        pub use crate::proved::lanewise::simd::i32x4_sub;
+        #[doc(alias = "i64x2.abs")]
+        pub use crate::proved::lanewise::simd::i64x2_abs;
+        #[doc(alias = "i64x2.add")]
+        pub use crate::proved::lanewise::simd::i64x2_add;
+        #[doc(alias = "i64x2.eq")]
+        pub use crate::proved::lanewise::simd::i64x2_eq;
+        #[doc(alias = "i64x2.ge_s")]
+        pub use crate::proved::lanewise::simd::i64x2_ge_s;
+        #[doc(alias = "i64x2.gt_s")]
+        pub use crate::proved::lanewise::simd::i64x2_gt_s;
+        #[doc(alias = "i64x2.le_s")]
+        pub use crate::proved::lanewise::simd::i64x2_le_s;
+        #[doc(alias = "i64x2.lt_s")]
+        pub use crate::proved::lanewise::simd::i64x2_lt_s;
+        #[doc(alias = "i64x2.mul")]
+        pub use crate::proved::lanewise::simd::i64x2_mul;
+        #[doc(alias = "i64x2.ne")]
+        pub use crate::proved::lanewise::simd::i64x2_ne;
+        #[doc(alias = "i64x2.neg")]
+        pub use crate::proved::lanewise::simd::i64x2_neg;
+        #[doc(alias = "i64x2.splat")]
+        pub use crate::proved::lanewise::simd::i64x2_splat;
+        #[doc(alias = "i64x2.sub")]
+        pub use crate::proved::lanewise::simd::i64x2_sub;
         #[doc(alias = "v128.and")]
-        pub use crate::proved::$part::$file::v128_and;
-    };
-    ($part:ident $file:ident v128_andnot) => {
+        pub use crate::proved::lanewise::simd::v128_and;
         #[doc(alias = "v128.andnot")]
-        pub use crate::proved::$part::$file::v128_andnot;
-    };
-    ($part:ident $file:ident v128_any_true) => {
-        #[doc(alias = "v128.any_true")]
-        pub use crate::proved::$part::$file::v128_any_true;
-    };
-    ($part:ident $file:ident v128_bitselect) => {
+        pub use crate::proved::lanewise::simd::v128_andnot;
         #[doc(alias = "v128.bitselect")]
-        pub use crate::proved::$part::$file::v128_bitselect;
-    };
-    ($part:ident $file:ident v128_load) => {
-        #[doc(alias = "v128.load")]
-        pub use crate::proved::$part::$file::v128_load;
-    };
-    ($part:ident $file:ident v128_load16_splat) => {
-        #[doc(alias = "v128.load16_splat")]
-        pub use crate::proved::$part::$file::v128_load16_splat;
-    };
-    ($part:ident $file:ident v128_load16x4_s) => {
-        #[doc(alias = "v128.load16x4_s")]
-        pub use crate::proved::$part::$file::v128_load16x4_s;
-    };
-    ($part:ident $file:ident v128_load16x4_u) => {
-        #[doc(alias = "v128.load16x4_u")]
-        pub use crate::proved::$part::$file::v128_load16x4_u;
-    };
-    ($part:ident $file:ident v128_load32_splat) => {
-        #[doc(alias = "v128.load32_splat")]
-        pub use crate::proved::$part::$file::v128_load32_splat;
-    };
-    ($part:ident $file:ident v128_load32_zero) => {
-        #[doc(alias = "v128.load32_zero")]
-        pub use crate::proved::$part::$file::v128_load32_zero;
-    };
-    ($part:ident $file:ident v128_load32x2_s) => {
-        #[doc(alias = "v128.load32x2_s")]
-        pub use crate::proved::$part::$file::v128_load32x2_s;
-    };
-    ($part:ident $file:ident v128_load32x2_u) => {
-        #[doc(alias = "v128.load32x2_u")]
-        pub use crate::proved::$part::$file::v128_load32x2_u;
-    };
-    ($part:ident $file:ident v128_load64_splat) => {
-        #[doc(alias = "v128.load64_splat")]
-        pub use crate::proved::$part::$file::v128_load64_splat;
-    };
-    ($part:ident $file:ident v128_load64_zero) => {
-        #[doc(alias = "v128.load64_zero")]
-        pub use crate::proved::$part::$file::v128_load64_zero;
-    };
-    ($part:ident $file:ident v128_load8_splat) => {
-        #[doc(alias = "v128.load8_splat")]
-        pub use crate::proved::$part::$file::v128_load8_splat;
-    };
-    ($part:ident $file:ident v128_load8x8_s) => {
-        #[doc(alias = "v128.load8x8_s")]
-        pub use crate::proved::$part::$file::v128_load8x8_s;
-    };
-    ($part:ident $file:ident v128_load8x8_u) => {
-        #[doc(alias = "v128.load8x8_u")]
-        pub use crate::proved::$part::$file::v128_load8x8_u;
-    };
-    ($part:ident $file:ident v128_not) => {
+        pub use crate::proved::lanewise::simd::v128_bitselect;
         #[doc(alias = "v128.not")]
-        pub use crate::proved::$part::$file::v128_not;
-    };
-    ($part:ident $file:ident v128_or) => {
+        pub use crate::proved::lanewise::simd::v128_not;
         #[doc(alias = "v128.or")]
-        pub use crate::proved::$part::$file::v128_or;
-    };
-    ($part:ident $file:ident v128_store) => {
-        #[doc(alias = "v128.store")]
-        pub use crate::proved::$part::$file::v128_store;
-    };
-    ($part:ident $file:ident v128_xor) => {
+        pub use crate::proved::lanewise::simd::v128_or;
         #[doc(alias = "v128.xor")]
-        pub use crate::proved::$part::$file::v128_xor;
+        pub use crate::proved::lanewise::simd::v128_xor;
+        #[doc(alias = "i8x16.extract_lane_s")]
+        #[doc = docs!(lanewise i8x16_extract_lane_s)]
+        #[must_use]
+        #[inline]
+        pub fn i8x16_extract_lane_s(v: V128, lane: ImmLaneIdx16) -> i32 {
+            crate::proved::lanewise::simd::i8x16_extract_lane_s(v, lane.proved())
+        }
+        #[doc(alias = "i8x16.extract_lane_u")]
+        #[doc = docs!(lanewise i8x16_extract_lane_u)]
+        #[must_use]
+        #[inline]
+        pub fn i8x16_extract_lane_u(v: V128, lane: ImmLaneIdx16) -> u32 {
+            crate::proved::lanewise::simd::i8x16_extract_lane_u(v, lane.proved())
+        }
+        #[doc(alias = "i16x8.extract_lane_s")]
+        #[doc = docs!(lanewise i16x8_extract_lane_s)]
+        #[must_use]
+        #[inline]
+        pub fn i16x8_extract_lane_s(v: V128, lane: ImmLaneIdx8) -> i32 {
+            crate::proved::lanewise::simd::i16x8_extract_lane_s(v, lane.proved())
+        }
+        #[doc(alias = "i16x8.extract_lane_u")]
+        #[doc = docs!(lanewise i16x8_extract_lane_u)]
+        #[must_use]
+        #[inline]
+        pub fn i16x8_extract_lane_u(v: V128, lane: ImmLaneIdx8) -> u32 {
+            crate::proved::lanewise::simd::i16x8_extract_lane_u(v, lane.proved())
+        }
+        #[doc(alias = "i32x4.extract_lane")]
+        #[doc = docs!(lanewise i32x4_extract_lane)]
+        #[must_use]
+        #[inline]
+        pub fn i32x4_extract_lane(v: V128, lane: ImmLaneIdx4) -> i32 {
+            crate::proved::lanewise::simd::i32x4_extract_lane(v, lane.proved())
+        }
+        #[doc(alias = "i64x2.extract_lane")]
+        #[doc = docs!(lanewise i64x2_extract_lane)]
+        #[must_use]
+        #[inline]
+        pub fn i64x2_extract_lane(v: V128, lane: ImmLaneIdx2) -> i64 {
+            crate::proved::lanewise::simd::i64x2_extract_lane(v, lane.proved())
+        }
+        #[doc(alias = "i8x16.replace_lane")]
+        #[doc = docs!(lanewise i8x16_replace_lane)]
+        #[must_use]
+        #[inline]
+        pub fn i8x16_replace_lane(v: V128, lane: ImmLaneIdx16, item: i8) -> V128 {
+            crate::proved::lanewise::simd::i8x16_replace_lane(v, lane.proved(), item)
+        }
+        #[doc(alias = "i16x8.replace_lane")]
+        #[doc = docs!(lanewise i16x8_replace_lane)]
+        #[must_use]
+        #[inline]
+        pub fn i16x8_replace_lane(v: V128, lane: ImmLaneIdx8, item: i16) -> V128 {
+            crate::proved::lanewise::simd::i16x8_replace_lane(v, lane.proved(), item)
+        }
+        #[doc(alias = "i32x4.replace_lane")]
+        #[doc = docs!(lanewise i32x4_replace_lane)]
+        #[must_use]
+        #[inline]
+        pub fn i32x4_replace_lane(v: V128, lane: ImmLaneIdx4, item: i32) -> V128 {
+            crate::proved::lanewise::simd::i32x4_replace_lane(v, lane.proved(), item)
+        }
+        #[doc(alias = "i64x2.replace_lane")]
+        #[doc = docs!(lanewise i64x2_replace_lane)]
+        #[must_use]
+        #[inline]
+        pub fn i64x2_replace_lane(v: V128, lane: ImmLaneIdx2, item: i64) -> V128 {
+            crate::proved::lanewise::simd::i64x2_replace_lane(v, lane.proved(), item)
+        }
+        #[doc = docs!(lanewise i8x16_shuffle)]
+        #[must_use]
+        #[inline]
+        pub fn i8x16_shuffle(a: V128, b: V128, s: [ImmLaneIdx32; 16]) -> V128 {
+            crate::proved::lanewise::simd::i8x16_shuffle(a, b, s.map(ImmLaneIdx32::proved))
+        }
+        #[doc(alias = "i8x16.swizzle")]
+        pub use crate::proved::lanewise::simd::i8x16_swizzle;
     };
-    ($part:ident $file:ident $name:ident) => {
-        pub use crate::proved::$part::$file::$name;
+    (scalar wasm) => {
+        #[doc(alias = "i32.add")]
+        pub use crate::proved::scalar::wasm::i32_add;
+        #[doc(alias = "i32.and")]
+        pub use crate::proved::scalar::wasm::i32_bitand;
+        #[doc(alias = "i32.or")]
+        pub use crate::proved::scalar::wasm::i32_bitor;
+        #[doc(alias = "i32.xor")]
+        pub use crate::proved::scalar::wasm::i32_bitxor;
+        #[doc(alias = "i32.clz")]
+        pub use crate::proved::scalar::wasm::i32_clz;
+        #[doc(alias = "i32.ctz")]
+        pub use crate::proved::scalar::wasm::i32_ctz;
+        #[doc(alias = "i32.div_s")]
+        pub use crate::proved::scalar::wasm::i32_div_s;
+        #[doc(alias = "i32.div_u")]
+        pub use crate::proved::scalar::wasm::i32_div_u;
+        #[doc(alias = "i32.eq")]
+        pub use crate::proved::scalar::wasm::i32_eq;
+        #[doc(alias = "i32.eqz")]
+        pub use crate::proved::scalar::wasm::i32_eqz;
+        #[doc(alias = "i32.extend8_s")]
+        pub use crate::proved::scalar::wasm::i32_extend8_s;
+        #[doc(alias = "i32.extend16_s")]
+        pub use crate::proved::scalar::wasm::i32_extend16_s;
+        #[doc(alias = "i32.ge_s")]
+        pub use crate::proved::scalar::wasm::i32_ge_s;
+        #[doc(alias = "i32.ge_u")]
+        pub use crate::proved::scalar::wasm::i32_ge_u;
+        #[doc(alias = "i32.gt_s")]
+        pub use crate::proved::scalar::wasm::i32_gt_s;
+        #[doc(alias = "i32.gt_u")]
+        pub use crate::proved::scalar::wasm::i32_gt_u;
+        #[doc(alias = "i32.le_s")]
+        pub use crate::proved::scalar::wasm::i32_le_s;
+        #[doc(alias = "i32.le_u")]
+        pub use crate::proved::scalar::wasm::i32_le_u;
+        #[doc(alias = "i32.lt_s")]
+        pub use crate::proved::scalar::wasm::i32_lt_s;
+        #[doc(alias = "i32.lt_u")]
+        pub use crate::proved::scalar::wasm::i32_lt_u;
+        #[doc(alias = "i32.mul")]
+        pub use crate::proved::scalar::wasm::i32_mul;
+        #[doc(alias = "i32.ne")]
+        pub use crate::proved::scalar::wasm::i32_ne;
+        #[doc(alias = "i32.popcnt")]
+        pub use crate::proved::scalar::wasm::i32_popcnt;
+        #[doc(alias = "i32.rem_s")]
+        pub use crate::proved::scalar::wasm::i32_rem_s;
+        #[doc(alias = "i32.rem_u")]
+        pub use crate::proved::scalar::wasm::i32_rem_u;
+        #[doc(alias = "i32.rotl")]
+        pub use crate::proved::scalar::wasm::i32_rotl;
+        #[doc(alias = "i32.rotr")]
+        pub use crate::proved::scalar::wasm::i32_rotr;
+        #[doc(alias = "i32.shl")]
+        pub use crate::proved::scalar::wasm::i32_shl;
+        #[doc(alias = "i32.shr_s")]
+        pub use crate::proved::scalar::wasm::i32_shr_s;
+        #[doc(alias = "i32.shr_u")]
+        pub use crate::proved::scalar::wasm::i32_shr_u;
+        #[doc(alias = "i32.sub")]
+        pub use crate::proved::scalar::wasm::i32_sub;
+        #[doc(alias = "i32.wrap_i64")]
+        pub use crate::proved::scalar::wasm::i32_wrap_i64;
+        #[doc(alias = "i64.add")]
+        pub use crate::proved::scalar::wasm::i64_add;
+        #[doc(alias = "i64.add128")]
+        pub use crate::proved::scalar::wasm::i64_add128;
+        #[doc(alias = "i64.and")]
+        pub use crate::proved::scalar::wasm::i64_bitand;
+        #[doc(alias = "i64.or")]
+        pub use crate::proved::scalar::wasm::i64_bitor;
+        #[doc(alias = "i64.xor")]
+        pub use crate::proved::scalar::wasm::i64_bitxor;
+        #[doc(alias = "i64.clz")]
+        pub use crate::proved::scalar::wasm::i64_clz;
+        #[doc(alias = "i64.ctz")]
+        pub use crate::proved::scalar::wasm::i64_ctz;
+        #[doc(alias = "i64.div_s")]
+        pub use crate::proved::scalar::wasm::i64_div_s;
+        #[doc(alias = "i64.div_u")]
+        pub use crate::proved::scalar::wasm::i64_div_u;
+        #[doc(alias = "i64.eq")]
+        pub use crate::proved::scalar::wasm::i64_eq;
+        #[doc(alias = "i64.eqz")]
+        pub use crate::proved::scalar::wasm::i64_eqz;
+        #[doc(alias = "i64.extend_i32_s")]
+        pub use crate::proved::scalar::wasm::i64_extend_i32_s;
+        #[doc(alias = "i64.extend_i32_u")]
+        pub use crate::proved::scalar::wasm::i64_extend_i32_u;
+        #[doc(alias = "i64.extend8_s")]
+        pub use crate::proved::scalar::wasm::i64_extend8_s;
+        #[doc(alias = "i64.extend16_s")]
+        pub use crate::proved::scalar::wasm::i64_extend16_s;
+        #[doc(alias = "i64.extend32_s")]
+        pub use crate::proved::scalar::wasm::i64_extend32_s;
+        #[doc(alias = "i64.ge_s")]
+        pub use crate::proved::scalar::wasm::i64_ge_s;
+        #[doc(alias = "i64.ge_u")]
+        pub use crate::proved::scalar::wasm::i64_ge_u;
+        #[doc(alias = "i64.gt_s")]
+        pub use crate::proved::scalar::wasm::i64_gt_s;
+        #[doc(alias = "i64.gt_u")]
+        pub use crate::proved::scalar::wasm::i64_gt_u;
+        #[doc(alias = "i64.le_s")]
+        pub use crate::proved::scalar::wasm::i64_le_s;
+        #[doc(alias = "i64.le_u")]
+        pub use crate::proved::scalar::wasm::i64_le_u;
+        #[doc(alias = "i64.lt_s")]
+        pub use crate::proved::scalar::wasm::i64_lt_s;
+        #[doc(alias = "i64.lt_u")]
+        pub use crate::proved::scalar::wasm::i64_lt_u;
+        #[doc(alias = "i64.mul")]
+        pub use crate::proved::scalar::wasm::i64_mul;
+        #[doc(alias = "i64.mul_wide_s")]
+        pub use crate::proved::scalar::wasm::i64_mul_wide_s;
+        #[doc(alias = "i64.mul_wide_u")]
+        pub use crate::proved::scalar::wasm::i64_mul_wide_u;
+        #[doc(alias = "i64.ne")]
+        pub use crate::proved::scalar::wasm::i64_ne;
+        #[doc(alias = "i64.popcnt")]
+        pub use crate::proved::scalar::wasm::i64_popcnt;
+        #[doc(alias = "i64.rem_s")]
+        pub use crate::proved::scalar::wasm::i64_rem_s;
+        #[doc(alias = "i64.rem_u")]
+        pub use crate::proved::scalar::wasm::i64_rem_u;
+        #[doc(alias = "i64.rotl")]
+        pub use crate::proved::scalar::wasm::i64_rotl;
+        #[doc(alias = "i64.rotr")]
+        pub use crate::proved::scalar::wasm::i64_rotr;
+        #[doc(alias = "i64.shl")]
+        pub use crate::proved::scalar::wasm::i64_shl;
+        #[doc(alias = "i64.shr_s")]
+        pub use crate::proved::scalar::wasm::i64_shr_s;
+        #[doc(alias = "i64.shr_u")]
+        pub use crate::proved::scalar::wasm::i64_shr_u;
+        #[doc(alias = "i64.sub")]
+        pub use crate::proved::scalar::wasm::i64_sub;
+        #[doc(alias = "i64.sub128")]
+        pub use crate::proved::scalar::wasm::i64_sub128;
+    };
+    (vector_access simd) => {
+        #[doc(alias = "v128.load")]
+        pub use crate::proved::vector_access::simd::v128_load;
+        pub use crate::proved::vector_access::simd::v128_load_at;
+        #[doc(alias = "v128.load8_splat")]
+        pub use crate::proved::vector_access::simd::v128_load8_splat;
+        pub use crate::proved::vector_access::simd::v128_load8_splat_at;
+        #[doc(alias = "v128.load8x8_s")]
+        pub use crate::proved::vector_access::simd::v128_load8x8_s;
+        pub use crate::proved::vector_access::simd::v128_load8x8_s_at;
+        #[doc(alias = "v128.load8x8_u")]
+        pub use crate::proved::vector_access::simd::v128_load8x8_u;
+        pub use crate::proved::vector_access::simd::v128_load8x8_u_at;
+        #[doc(alias = "v128.load16_splat")]
+        pub use crate::proved::vector_access::simd::v128_load16_splat;
+        pub use crate::proved::vector_access::simd::v128_load16_splat_at;
+        #[doc(alias = "v128.load16x4_s")]
+        pub use crate::proved::vector_access::simd::v128_load16x4_s;
+        pub use crate::proved::vector_access::simd::v128_load16x4_s_at;
+        #[doc(alias = "v128.load16x4_u")]
+        pub use crate::proved::vector_access::simd::v128_load16x4_u;
+        pub use crate::proved::vector_access::simd::v128_load16x4_u_at;
+        #[doc(alias = "v128.load32_splat")]
+        pub use crate::proved::vector_access::simd::v128_load32_splat;
+        pub use crate::proved::vector_access::simd::v128_load32_splat_at;
+        #[doc(alias = "v128.load32_zero")]
+        pub use crate::proved::vector_access::simd::v128_load32_zero;
+        pub use crate::proved::vector_access::simd::v128_load32_zero_at;
+        #[doc(alias = "v128.load32x2_s")]
+        pub use crate::proved::vector_access::simd::v128_load32x2_s;
+        pub use crate::proved::vector_access::simd::v128_load32x2_s_at;
+        #[doc(alias = "v128.load32x2_u")]
+        pub use crate::proved::vector_access::simd::v128_load32x2_u;
+        pub use crate::proved::vector_access::simd::v128_load32x2_u_at;
+        #[doc(alias = "v128.load64_splat")]
+        pub use crate::proved::vector_access::simd::v128_load64_splat;
+        pub use crate::proved::vector_access::simd::v128_load64_splat_at;
+        #[doc(alias = "v128.load64_zero")]
+        pub use crate::proved::vector_access::simd::v128_load64_zero;
+        pub use crate::proved::vector_access::simd::v128_load64_zero_at;
+        #[doc(alias = "v128.store")]
+        pub use crate::proved::vector_access::simd::v128_store;
+        pub use crate::proved::vector_access::simd::v128_store_at;
+        #[doc(alias = "v128.load8_lane")]
+        #[doc = docs!(vector_access v128_load8_lane)]
+        #[inline]
+        pub fn v128_load8_lane(
+            memory: &[u8],
+            ptr: u64,
+            offset: u64,
+            v: V128,
+            lane: ImmLaneIdx16,
+        ) -> Result<V128, TrapCode> {
+            crate::proved::vector_access::simd::v128_load8_lane(
+                memory,
+                ptr,
+                offset,
+                v,
+                lane.proved(),
+            )
+        }
+        #[doc = docs!(vector_access v128_load8_lane_at)]
+        #[inline]
+        pub fn v128_load8_lane_at(
+            memory: &[u8],
+            address: usize,
+            v: V128,
+            lane: ImmLaneIdx16,
+        ) -> Result<V128, TrapCode> {
+            crate::proved::vector_access::simd::v128_load8_lane_at(
+                memory,
+                address,
+                v,
+                lane.proved(),
+            )
+        }
+        #[doc(alias = "v128.load16_lane")]
+        #[doc = docs!(vector_access v128_load16_lane)]
+        #[inline]
+        pub fn v128_load16_lane(
+            memory: &[u8],
+            ptr: u64,
+            offset: u64,
+            v: V128,
+            lane: ImmLaneIdx8,
+        ) -> Result<V128, TrapCode> {
+            crate::proved::vector_access::simd::v128_load16_lane(
+                memory,
+                ptr,
+                offset,
+                v,
+                lane.proved(),
+            )
+        }
+        #[doc = docs!(vector_access v128_load16_lane_at)]
+        #[inline]
+        pub fn v128_load16_lane_at(
+            memory: &[u8],
+            address: usize,
+            v: V128,
+            lane: ImmLaneIdx8,
+        ) -> Result<V128, TrapCode> {
+            crate::proved::vector_access::simd::v128_load16_lane_at(
+                memory,
+                address,
+                v,
+                lane.proved(),
+            )
+        }
+        #[doc(alias = "v128.load32_lane")]
+        #[doc = docs!(vector_access v128_load32_lane)]
+        #[inline]
+        pub fn v128_load32_lane(
+            memory: &[u8],
+            ptr: u64,
+            offset: u64,
+            v: V128,
+            lane: ImmLaneIdx4,
+        ) -> Result<V128, TrapCode> {
+            crate::proved::vector_access::simd::v128_load32_lane(
+                memory,
+                ptr,
+                offset,
+                v,
+                lane.proved(),
+            )
+        }
+        #[doc = docs!(vector_access v128_load32_lane_at)]
+        #[inline]
+        pub fn v128_load32_lane_at(
+            memory: &[u8],
+            address: usize,
+            v: V128,
+            lane: ImmLaneIdx4,
+        ) -> Result<V128, TrapCode> {
+            crate::proved::vector_access::simd::v128_load32_lane_at(
+                memory,
+                address,
+                v,
+                lane.proved(),
+            )
+        }
+        #[doc(alias = "v128.load64_lane")]
+        #[doc = docs!(vector_access v128_load64_lane)]
+        #[inline]
+        pub fn v128_load64_lane(
+            memory: &[u8],
+            ptr: u64,
+            offset: u64,
+            v: V128,
+            lane: ImmLaneIdx2,
+        ) -> Result<V128, TrapCode> {
+            crate::proved::vector_access::simd::v128_load64_lane(
+                memory,
+                ptr,
+                offset,
+                v,
+                lane.proved(),
+            )
+        }
+        #[doc = docs!(vector_access v128_load64_lane_at)]
+        #[inline]
+        pub fn v128_load64_lane_at(
+            memory: &[u8],
+            address: usize,
+            v: V128,
+            lane: ImmLaneIdx2,
+        ) -> Result<V128, TrapCode> {
+            crate::proved::vector_access::simd::v128_load64_lane_at(
+                memory,
+                address,
+                v,
+                lane.proved(),
+            )
+        }
+        #[doc(alias = "v128.store8_lane")]
+        #[doc = docs!(vector_access v128_store8_lane)]
+        #[inline]
+        pub fn v128_store8_lane(
+            memory: &mut [u8],
+            ptr: u64,
+            offset: u64,
+            v: V128,
+            lane: ImmLaneIdx16,
+        ) -> Result<(), TrapCode> {
+            crate::proved::vector_access::simd::v128_store8_lane(
+                memory,
+                ptr,
+                offset,
+                v,
+                lane.proved(),
+            )
+        }
+        #[doc = docs!(vector_access v128_store8_lane_at)]
+        #[inline]
+        pub fn v128_store8_lane_at(
+            memory: &mut [u8],
+            address: usize,
+            v: V128,
+            lane: ImmLaneIdx16,
+        ) -> Result<(), TrapCode> {
+            crate::proved::vector_access::simd::v128_store8_lane_at(
+                memory,
+                address,
+                v,
+                lane.proved(),
+            )
+        }
+        #[doc(alias = "v128.store16_lane")]
+        #[doc = docs!(vector_access v128_store16_lane)]
+        #[inline]
+        pub fn v128_store16_lane(
+            memory: &mut [u8],
+            ptr: u64,
+            offset: u64,
+            v: V128,
+            lane: ImmLaneIdx8,
+        ) -> Result<(), TrapCode> {
+            crate::proved::vector_access::simd::v128_store16_lane(
+                memory,
+                ptr,
+                offset,
+                v,
+                lane.proved(),
+            )
+        }
+        #[doc = docs!(vector_access v128_store16_lane_at)]
+        #[inline]
+        pub fn v128_store16_lane_at(
+            memory: &mut [u8],
+            address: usize,
+            v: V128,
+            lane: ImmLaneIdx8,
+        ) -> Result<(), TrapCode> {
+            crate::proved::vector_access::simd::v128_store16_lane_at(
+                memory,
+                address,
+                v,
+                lane.proved(),
+            )
+        }
+        #[doc(alias = "v128.store32_lane")]
+        #[doc = docs!(vector_access v128_store32_lane)]
+        #[inline]
+        pub fn v128_store32_lane(
+            memory: &mut [u8],
+            ptr: u64,
+            offset: u64,
+            v: V128,
+            lane: ImmLaneIdx4,
+        ) -> Result<(), TrapCode> {
+            crate::proved::vector_access::simd::v128_store32_lane(
+                memory,
+                ptr,
+                offset,
+                v,
+                lane.proved(),
+            )
+        }
+        #[doc = docs!(vector_access v128_store32_lane_at)]
+        #[inline]
+        pub fn v128_store32_lane_at(
+            memory: &mut [u8],
+            address: usize,
+            v: V128,
+            lane: ImmLaneIdx4,
+        ) -> Result<(), TrapCode> {
+            crate::proved::vector_access::simd::v128_store32_lane_at(
+                memory,
+                address,
+                v,
+                lane.proved(),
+            )
+        }
+        #[doc(alias = "v128.store64_lane")]
+        #[doc = docs!(vector_access v128_store64_lane)]
+        #[inline]
+        pub fn v128_store64_lane(
+            memory: &mut [u8],
+            ptr: u64,
+            offset: u64,
+            v: V128,
+            lane: ImmLaneIdx2,
+        ) -> Result<(), TrapCode> {
+            crate::proved::vector_access::simd::v128_store64_lane(
+                memory,
+                ptr,
+                offset,
+                v,
+                lane.proved(),
+            )
+        }
+        #[doc = docs!(vector_access v128_store64_lane_at)]
+        #[inline]
+        pub fn v128_store64_lane_at(
+            memory: &mut [u8],
+            address: usize,
+            v: V128,
+            lane: ImmLaneIdx2,
+        ) -> Result<(), TrapCode> {
+            crate::proved::vector_access::simd::v128_store64_lane_at(
+                memory,
+                address,
+                v,
+                lane.proved(),
+            )
+        }
+    };
+    (widening simd) => {
+        #[doc(alias = "i8x16.all_true")]
+        pub use crate::proved::widening::simd::i8x16_all_true;
+        #[doc(alias = "i8x16.bitmask")]
+        pub use crate::proved::widening::simd::i8x16_bitmask;
+        #[doc(alias = "i8x16.narrow_i16x8_s")]
+        pub use crate::proved::widening::simd::i8x16_narrow_i16x8_s;
+        #[doc(alias = "i8x16.narrow_i16x8_u")]
+        pub use crate::proved::widening::simd::i8x16_narrow_i16x8_u;
+        #[doc(alias = "i8x16.relaxed_laneselect")]
+        pub use crate::proved::widening::simd::i8x16_relaxed_laneselect;
+        #[doc(alias = "i8x16.relaxed_swizzle")]
+        pub use crate::proved::widening::simd::i8x16_relaxed_swizzle;
+        #[doc(alias = "i8x16.shl")]
+        pub use crate::proved::widening::simd::i8x16_shl;
+        #[doc(alias = "i8x16.shr_s")]
+        pub use crate::proved::widening::simd::i8x16_shr_s;
+        #[doc(alias = "i8x16.shr_u")]
+        pub use crate::proved::widening::simd::i8x16_shr_u;
+        #[doc(alias = "i16x8.all_true")]
+        pub use crate::proved::widening::simd::i16x8_all_true;
+        #[doc(alias = "i16x8.bitmask")]
+        pub use crate::proved::widening::simd::i16x8_bitmask;
+        #[doc(alias = "i16x8.extadd_pairwise_i8x16_s")]
+        pub use crate::proved::widening::simd::i16x8_extadd_pairwise_i8x16_s;
+        #[doc(alias = "i16x8.extadd_pairwise_i8x16_u")]
+        pub use crate::proved::widening::simd::i16x8_extadd_pairwise_i8x16_u;
+        #[doc(alias = "i16x8.extend_high_i8x16_s")]
+        pub use crate::proved::widening::simd::i16x8_extend_high_i8x16_s;
+        #[doc(alias = "i16x8.extend_high_i8x16_u")]
+        pub use crate::proved::widening::simd::i16x8_extend_high_i8x16_u;
+        #[doc(alias = "i16x8.extend_low_i8x16_s")]
+        pub use crate::proved::widening::simd::i16x8_extend_low_i8x16_s;
+        #[doc(alias = "i16x8.extend_low_i8x16_u")]
+        pub use crate::proved::widening::simd::i16x8_extend_low_i8x16_u;
+        #[doc(alias = "i16x8.extmul_high_i8x16_s")]
+        pub use crate::proved::widening::simd::i16x8_extmul_high_i8x16_s;
+        #[doc(alias = "i16x8.extmul_high_i8x16_u")]
+        pub use crate::proved::widening::simd::i16x8_extmul_high_i8x16_u;
+        #[doc(alias = "i16x8.extmul_low_i8x16_s")]
+        pub use crate::proved::widening::simd::i16x8_extmul_low_i8x16_s;
+        #[doc(alias = "i16x8.extmul_low_i8x16_u")]
+        pub use crate::proved::widening::simd::i16x8_extmul_low_i8x16_u;
+        #[doc(alias = "i16x8.narrow_i32x4_s")]
+        pub use crate::proved::widening::simd::i16x8_narrow_i32x4_s;
+        #[doc(alias = "i16x8.narrow_i32x4_u")]
+        pub use crate::proved::widening::simd::i16x8_narrow_i32x4_u;
+        #[doc(alias = "i16x8.relaxed_dot_i8x16_i7x16_s")]
+        pub use crate::proved::widening::simd::i16x8_relaxed_dot_i8x16_i7x16_s;
+        #[doc(alias = "i16x8.relaxed_laneselect")]
+        pub use crate::proved::widening::simd::i16x8_relaxed_laneselect;
+        #[doc(alias = "i16x8.relaxed_q15mulr_s")]
+        pub use crate::proved::widening::simd::i16x8_relaxed_q15mulr_s;
+        #[doc(alias = "i16x8.shl")]
+        pub use crate::proved::widening::simd::i16x8_shl;
+        #[doc(alias = "i16x8.shr_s")]
+        pub use crate::proved::widening::simd::i16x8_shr_s;
+        #[doc(alias = "i16x8.shr_u")]
+        pub use crate::proved::widening::simd::i16x8_shr_u;
+        #[doc(alias = "i32x4.all_true")]
+        pub use crate::proved::widening::simd::i32x4_all_true;
+        #[doc(alias = "i32x4.bitmask")]
+        pub use crate::proved::widening::simd::i32x4_bitmask;
+        #[doc(alias = "i32x4.dot_i16x8_s")]
+        pub use crate::proved::widening::simd::i32x4_dot_i16x8_s;
+        #[doc(alias = "i32x4.extadd_pairwise_i16x8_s")]
+        pub use crate::proved::widening::simd::i32x4_extadd_pairwise_i16x8_s;
+        #[doc(alias = "i32x4.extadd_pairwise_i16x8_u")]
+        pub use crate::proved::widening::simd::i32x4_extadd_pairwise_i16x8_u;
+        #[doc(alias = "i32x4.extend_high_i16x8_s")]
+        pub use crate::proved::widening::simd::i32x4_extend_high_i16x8_s;
+        #[doc(alias = "i32x4.extend_high_i16x8_u")]
+        pub use crate::proved::widening::simd::i32x4_extend_high_i16x8_u;
+        #[doc(alias = "i32x4.extend_low_i16x8_s")]
+        pub use crate::proved::widening::simd::i32x4_extend_low_i16x8_s;
+        #[doc(alias = "i32x4.extend_low_i16x8_u")]
+        pub use crate::proved::widening::simd::i32x4_extend_low_i16x8_u;
+        #[doc(alias = "i32x4.extmul_high_i16x8_s")]
+        pub use crate::proved::widening::simd::i32x4_extmul_high_i16x8_s;
+        #[doc(alias = "i32x4.extmul_high_i16x8_u")]
+        pub use crate::proved::widening::simd::i32x4_extmul_high_i16x8_u;
+        #[doc(alias = "i32x4.extmul_low_i16x8_s")]
+        pub use crate::proved::widening::simd::i32x4_extmul_low_i16x8_s;
+        #[doc(alias = "i32x4.extmul_low_i16x8_u")]
+        pub use crate::proved::widening::simd::i32x4_extmul_low_i16x8_u;
+        #[doc(alias = "i32x4.relaxed_dot_i8x16_i7x16_add_s")]
+        pub use crate::proved::widening::simd::i32x4_relaxed_dot_i8x16_i7x16_add_s;
+        #[doc(alias = "i32x4.relaxed_laneselect")]
+        pub use crate::proved::widening::simd::i32x4_relaxed_laneselect;
+        #[doc(alias = "i32x4.shl")]
+        pub use crate::proved::widening::simd::i32x4_shl;
+        #[doc(alias = "i32x4.shr_s")]
+        pub use crate::proved::widening::simd::i32x4_shr_s;
+        #[doc(alias = "i32x4.shr_u")]
+        pub use crate::proved::widening::simd::i32x4_shr_u;
+        #[doc(alias = "i64x2.all_true")]
+        pub use crate::proved::widening::simd::i64x2_all_true;
+        #[doc(alias = "i64x2.bitmask")]
+        pub use crate::proved::widening::simd::i64x2_bitmask;
+        #[doc(alias = "i64x2.extend_high_i32x4_s")]
+        pub use crate::proved::widening::simd::i64x2_extend_high_i32x4_s;
+        #[doc(alias = "i64x2.extend_high_i32x4_u")]
+        pub use crate::proved::widening::simd::i64x2_extend_high_i32x4_u;
+        #[doc(alias = "i64x2.extend_low_i32x4_s")]
+        pub use crate::proved::widening::simd::i64x2_extend_low_i32x4_s;
+        #[doc(alias = "i64x2.extend_low_i32x4_u")]
+        pub use crate::proved::widening::simd::i64x2_extend_low_i32x4_u;
+        #[doc(alias = "i64x2.extmul_high_i32x4_s")]
+        pub use crate::proved::widening::simd::i64x2_extmul_high_i32x4_s;
+        #[doc(alias = "i64x2.extmul_high_i32x4_u")]
+        pub use crate::proved::widening::simd::i64x2_extmul_high_i32x4_u;
+        #[doc(alias = "i64x2.extmul_low_i32x4_s")]
+        pub use crate::proved::widening::simd::i64x2_extmul_low_i32x4_s;
+        #[doc(alias = "i64x2.extmul_low_i32x4_u")]
+        pub use crate::proved::widening::simd::i64x2_extmul_low_i32x4_u;
+        #[doc(alias = "i64x2.relaxed_laneselect")]
+        pub use crate::proved::widening::simd::i64x2_relaxed_laneselect;
+        #[doc(alias = "i64x2.shl")]
+        pub use crate::proved::widening::simd::i64x2_shl;
+        #[doc(alias = "i64x2.shr_s")]
+        pub use crate::proved::widening::simd::i64x2_shr_s;
+        #[doc(alias = "i64x2.shr_u")]
+        pub use crate::proved::widening::simd::i64x2_shr_u;
+        #[doc(alias = "v128.any_true")]
+        pub use crate::proved::widening::simd::v128_any_true;
+        pub use crate::proved::widening::simd::v128_low32_zero;
+        pub use crate::proved::widening::simd::v128_low64_zero;
+        pub use crate::proved::widening::simd::v128_widen8x8_s;
+        pub use crate::proved::widening::simd::v128_widen8x8_u;
+        pub use crate::proved::widening::simd::v128_widen16x4_s;
+        pub use crate::proved::widening::simd::v128_widen16x4_u;
+        pub use crate::proved::widening::simd::v128_widen32x2_s;
+        pub use crate::proved::widening::simd::v128_widen32x2_u;
     };
 }

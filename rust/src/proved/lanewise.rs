@@ -181,7 +181,7 @@ pub mod simd {
         /// `T` is a type with the trait `SimdLane`.
         #[inline(always)]
         pub(super) fn at_most_u<T: SimdLane>(lhs: V128, rhs: V128) -> V128 {
-            v128_not(less_u::<T>(rhs, lhs))
+            ones_unless_less::<T>(T::lanes_of(rhs), T::lanes_of(lhs))
         }
 
         /// All ones where the lane of `lhs` is less than that of `rhs`, read signed, else all zeros.
@@ -213,7 +213,7 @@ pub mod simd {
         /// `T` is a type with the trait `SimdLane`.
         #[inline(always)]
         pub(super) fn at_most_s<T: SimdLane>(lhs: V128, rhs: V128) -> V128 {
-            v128_not(less_s::<T>(rhs, lhs))
+            ones_unless_less::<T>(T::biased(T::lanes_of(rhs)), T::biased(T::lanes_of(lhs)))
         }
 
         /// The smaller ones of the lanes, read unsigned.
@@ -282,6 +282,14 @@ pub mod simd {
         pub(super) fn larger_s<T: SimdLane>(lhs: V128, rhs: V128) -> V128 {
             let (a, b) = (T::lanes_of(lhs), T::lanes_of(rhs));
             T::vector_of(T::choose_if_less(T::biased(b), T::biased(a), a, b))
+        }
+
+        /// All ones where the lane of `a` isn't less than that of `b`, else all zeros.
+        #[inline(always)]
+        fn ones_unless_less<T: SimdLane>(a: T::Vector, b: T::Vector) -> V128 {
+            let ones = T::lanes_of(V128::from_word_pair(u64::MAX, u64::MAX));
+            let zeros = T::lanes_of(V128::from_word_pair(0, 0));
+            T::vector_of(T::choose_if_less(a, b, zeros, ones))
         }
 
         /// # Contract

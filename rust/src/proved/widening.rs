@@ -468,6 +468,11 @@ pub mod simd {
         /// ```
         #[inline(always)]
         fn sign_copied(bytes: u16x8) -> u16x8 {
+            if AS_ARRAYS {
+                let words = u64x2::from_le_bytes(bytes.to_le_bytes());
+                let tops = words & u64x2::splat(0x0080_0080_0080_0080);
+                return u16x8::from_le_bytes((words | (tops << 9) - (tops << 1)).to_le_bytes());
+            }
             let tops = u16x8::splat(0x80);
             (bytes ^ tops) - tops
         }

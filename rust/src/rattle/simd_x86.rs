@@ -85,6 +85,17 @@ impl<V, const START: usize> Half<V, START> {
 #[derive(Clone, Copy)]
 pub struct Mask<V>(V);
 
+// Operators that are one instruction.
+macro_rules! operators {
+    ($($name:ident: $($op:ident $function:ident $by:ident),*;)*) => { $($(impl $op for $name {
+        type Output = Self;
+        #[inline(always)]
+        fn $function(self, other: Self) -> Self {
+            Self($by(self.0, other.0))
+        }
+    })*)* };
+}
+
 macro_rules! vectors {
     ($($name:ident $lane:ident $count:literal $add:ident $sub:ident;)*) => { $(
         /// Lanes of an integer.
@@ -163,44 +174,8 @@ macro_rules! vectors {
             }
         }
 
-        impl Add for $name {
-            type Output = Self;
-            #[inline(always)]
-            fn add(self, other: Self) -> Self {
-                Self($add(self.0, other.0))
-            }
-        }
-
-        impl Sub for $name {
-            type Output = Self;
-            #[inline(always)]
-            fn sub(self, other: Self) -> Self {
-                Self($sub(self.0, other.0))
-            }
-        }
-
-        impl BitAnd for $name {
-            type Output = Self;
-            #[inline(always)]
-            fn bitand(self, other: Self) -> Self {
-                Self(_mm_and_si128(self.0, other.0))
-            }
-        }
-
-        impl BitOr for $name {
-            type Output = Self;
-            #[inline(always)]
-            fn bitor(self, other: Self) -> Self {
-                Self(_mm_or_si128(self.0, other.0))
-            }
-        }
-
-        impl BitXor for $name {
-            type Output = Self;
-            #[inline(always)]
-            fn bitxor(self, other: Self) -> Self {
-                Self(_mm_xor_si128(self.0, other.0))
-            }
+        operators! {
+            $name: Add add $add, Sub sub $sub, BitAnd bitand _mm_and_si128, BitOr bitor _mm_or_si128, BitXor bitxor _mm_xor_si128;
         }
 
         impl Not for $name {
@@ -320,13 +295,7 @@ impl u8x16 {
     }
 }
 
-impl Mul for u16x8 {
-    type Output = Self;
-    #[inline(always)]
-    fn mul(self, other: Self) -> Self {
-        Self(_mm_mullo_epi16(self.0, other.0))
-    }
-}
+operators! { u16x8: Mul mul _mm_mullo_epi16; }
 
 impl Mul for u32x4 {
     type Output = Self;

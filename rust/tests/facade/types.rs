@@ -77,6 +77,46 @@ fn errors_of_function_types() {
     ));
 }
 
+/// An iterator that says how many types it has, and has another number of them, or must not be read.
+struct Claims {
+    said: usize,
+    has: Option<usize>,
+}
+
+impl Iterator for Claims {
+    type Item = ValType;
+
+    fn next(&mut self) -> Option<ValType> {
+        let has = self.has.as_mut().expect("what says too much isn't read");
+        *has = has.checked_sub(1)?;
+        Some(ValType::I64)
+    }
+
+    fn size_hint(&self) -> (usize, Option<usize>) {
+        (self.said, Some(self.said))
+    }
+}
+
+impl ExactSizeIterator for Claims {}
+
+#[test]
+fn a_length_is_believed_above_1000_alone() {
+    let made = |params: (usize, Option<usize>), results: (usize, Option<usize>)| {
+        let [params, results] = [params, results].map(|(said, has)| Claims { said, has });
+        FuncType::new(params, results)
+            .map(|ty| (ty.len_params(), ty.len_results()))
+            .map_err(|error| error.to_string().ends_with("parameters"))
+    };
+    assert_eq!(made((1001, None), (1001, None)), Err(true));
+    assert_eq!(made((1000, None), (1001, None)), Err(false));
+    for said in [0, 3, 1000] {
+        assert_eq!(made((said, Some(1000)), (said, Some(0))), Ok((1000, 0)));
+        assert_eq!(made((said, Some(1001)), (said, None)), Err(true));
+        assert_eq!(made((said, Some(2)), (said, Some(1000))), Ok((2, 1000)));
+        assert_eq!(made((said, Some(1000)), (said, Some(1001))), Err(false));
+    }
+}
+
 /// An error of the host.
 #[derive(Debug, PartialEq)]
 struct Mine(u8);
