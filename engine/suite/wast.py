@@ -83,13 +83,13 @@ def integer(word, width):
 
 
 def real(word, width):
-    """The bits of a float literal. None stands for a NaN of any payload."""
+    """The bits of a float literal, or the name of a class of NaNs."""
     word = word.replace("_", "")
     sign, plain = (1, word[1:]) if word[0] == "-" else (0, word.lstrip("+"))
     fraction, exponent = (23, 8) if width == 32 else (52, 11)
     top = sign << width - 1
     if plain in ("nan:canonical", "nan:arithmetic"):
-        return None
+        return plain
     if plain.startswith("nan"):
         payload = int(plain[4:], 0) if ":" in plain else 1 << fraction - 1
         return top | ((1 << exponent) - 1) << fraction | payload
@@ -104,7 +104,7 @@ def real(word, width):
 
 
 def vector(shape, words):
-    """A v128 of lanes. binaryen 108 writes eight 16-bit lanes under i32x4: the number of words decides then."""
+    """A v128 of lanes, or these if one is a class of NaNs. binaryen 108 writes eight 16-bit lanes under i32x4: the number of words decides then."""
     if shape in SHAPES:
         width, count = SHAPES[shape]
         if len(words) != count:
@@ -113,15 +113,15 @@ def vector(shape, words):
     else:
         width, count = {"f32x4": (32, 4), "f64x2": (64, 2)}[shape]
         lanes = [real(word, width) for word in words]
-        if None in lanes:
-            raise Unreadable("a NaN pattern in a vector")
+        if any(isinstance(lane, str) for lane in lanes):
+            return lanes
     if len(lanes) != count or count not in (2, 4, 8, 16):
         raise Unreadable(f"{shape} of {len(words)} words")
     return sum(lane << width * i for i, lane in enumerate(lanes))
 
 
 def value(node):
-    """A constant as (type, bits); references are 0 for null and N + 1 for `ref.extern N`; a list for `either`."""
+    """A constant as (type, bits); references are 0 for null and N + 1 for `ref.extern N`, None for any function; a list for `either`."""
     name = node[0]
     if name in ("i32.const", "i64.const"):
         return name[:3], integer(node[1], int(name[1:3]))
@@ -133,6 +133,10 @@ def value(node):
         return "null", 0
     if name in ("ref.extern", "ref.host") and len(node) > 1:
         return "externref", int(node[1], 0) + 1
+    if name == "ref.func":
+        return "funcref", int(node[1], 0) + 1 if node[1:] and node[1].isdigit() else None
+    if name == "float.const":
+        return "float", node[1]
     if name == "either":
         return "either", [value(item) for item in node[1:]]
     raise Unreadable(f"a constant of {name}")
