@@ -28,7 +28,7 @@ pub struct Engine {
 struct Shared {
     config: Config,
     /// The stacks that no call runs on.
-    stacks: Mutex<Vec<Box<Stack>>>,
+    stacks: Mutex<Vec<Stack>>,
 }
 
 impl Engine {
@@ -47,13 +47,13 @@ impl Engine {
     }
 
     /// A stack that no call runs on.
-    pub(crate) fn stack(&self) -> Box<Stack> {
+    pub(crate) fn stack(&self) -> Stack {
         let stack = self.shared.stacks.lock().unwrap_or_else(PoisonError::into_inner).pop();
         stack.unwrap_or_default()
     }
 
     /// Takes a stack back.
-    pub(crate) fn keep(&self, stack: Box<Stack>) {
+    pub(crate) fn keep(&self, stack: Stack) {
         let mut stacks = self.shared.stacks.lock().unwrap_or_else(PoisonError::into_inner);
         if stacks.len() < limits::STACKS {
             stacks.push(stack);

@@ -135,11 +135,12 @@ impl<T: 'static> Linker<T> {
         Ok(self)
     }
 
-    /// Defines each function that a module imports and that isn't defined as one that traps when it is called.
+    /// Defines each function that a module imports and that isn't defined as one that traps when it is called, with its names
+    /// in the message. Memories, tables and globals stay undefined.
     ///
     /// # Errors
     ///
-    /// None today.
+    /// Those of [`Linker::func_new`], of which none can come.
     pub fn define_unknown_imports_as_traps(&mut self, module: &Module) -> Result<&mut Self, Error> {
         for import in module.imports() {
             let ExternType::Func(ty) = import.ty else { continue };

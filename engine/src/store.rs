@@ -80,7 +80,7 @@ pub(crate) struct Inner {
     pub references: References,
     pub stack_limits: StackLimits,
     /// The stack, while a call runs.
-    pub stack: Option<Box<Stack>>,
+    pub stack: Option<Stack>,
     /// The first value above those of the open calls.
     pub top: usize,
     /// How many calls of the host are open, each in a function of the host that the one before has called.

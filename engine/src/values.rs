@@ -103,7 +103,7 @@ pub(crate) use tuples;
 
 macro_rules! values {
     ($($ty:ident)*) => {
-        #[allow(non_snake_case)]
+        #[allow(non_snake_case, clippy::unused_unit)]
         impl<$($ty: WasmTy),*> WasmValues for ($($ty,)*) {
             const TYPES: &'static [ValType] = &[$($ty::TYPE),*];
 
