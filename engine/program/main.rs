@@ -1,141 +1,194 @@
-//! The program: runs an exported function of a module.
+//! The program: runs an exported function of a module, or a module that is a program.
 
-use engine::{Caps, Config, Engine, Error, Instance, Linker, Module, Store, Val};
+use engine::{Config, Engine, Error, Instance, Linker, Module, Store, Val};
+use host::{Host, Unwritten};
+use options::Options;
 use script::Script;
-use spectest::Host;
+use std::io::Write;
 use std::process::ExitCode;
 use std::time::Duration;
-use std::{env, fs, io, thread};
+use std::{env, fs, io, mem, path, thread};
 
+mod host;
+mod options;
 mod script;
 mod spectest;
 mod values;
+mod wasi;
 
-const HELP: &str = "\
-usage: engine FILE.wasm FUNCTION ARGS.. [OPTION..]
-       engine --script [OPTION..]
+/// The function that is run where none is named.
+const START: &str = "_start";
 
-It runs an exported function of a WebAssembly module, and prints its results, one a line. Arguments are numbers in decimal
-or, after 0x, in hexadecimal, or null. A float is given and printed by its bits, in hexadecimal.
+/// The status where nobody reads the output: that of a program which a signal ends for it.
+const CLOSED: u8 = 141;
 
-  --fuel N               stop after N units of fuel; the last line of the standard error has what was used
-  --memory-cap BYTES     the most bytes of all memories together; 1 GiB if it isn't given
-  --table-cap ELEMENTS   the most elements of all tables together; 10,000,000 if it isn't given
-  --strict-floats        refuse a module with floats; without it an instruction that computes with floats traps
-  --time                 print the processor time of the call to the standard error
-  --script               read lines from the standard input, as the documentation of the module `script` says
-  --help                 print this
-
-The exit status is 0, or 1 if the guest stops (`trap: ` and why), 2 if the arguments make no sense, 3 if the file is no
-module that can be run (`FILE: ` and why).";
-
-/// What the arguments say.
-struct Options {
-    words: Vec<String>,
-    fuel: Option<u64>,
-    caps: Caps,
-    is_strict: bool,
-    has_time: bool,
-    is_script: bool,
+/// Why there are no results.
+enum Failed {
+    /// The arguments make no sense.
+    Misused(String),
+    /// The file is no module that can be run.
+    Refused(String),
+    /// The guest stops.
+    Trapped(String),
+    /// The guest ends with this status.
+    Ended(i32),
+    /// Nobody reads the output any more.
+    Closed,
 }
 
-/// Why there are no results: the exit status, and what is printed.
-struct Failed(u8, String);
+impl Failed {
+    /// The same, with the name of the file that can't be run.
+    fn of_file(self, file: &str) -> Self {
+        match self {
+            Self::Refused(what) => Self::Refused(format!("{file}: {what}")),
+            it => it,
+        }
+    }
+}
+
+impl From<io::Error> for Failed {
+    /// For what can't be printed.
+    fn from(error: io::Error) -> Self {
+        match error.kind() {
+            io::ErrorKind::BrokenPipe => Self::Closed,
+            _ => Self::Misused(format!("the output can't be written: {error}")),
+        }
+    }
+}
 
 fn main() -> ExitCode {
-    let args: Vec<String> = env::args().skip(1).collect();
-    if args.iter().any(|it| it == "--help") {
-        println!("{HELP}");
-        return ExitCode::SUCCESS;
-    }
-    match options(args.into_iter()).and_then(|options| run(&options)) {
-        Ok(()) => ExitCode::SUCCESS,
-        Err(Failed(1, what)) => {
-            println!("trap: {what}");
-            ExitCode::from(1)
-        }
-        Err(Failed(status, what)) => {
-            eprintln!("{what}");
-            ExitCode::from(status)
-        }
-    }
+    let args: Result<Vec<_>, _> = env::args_os().skip(1).map(|it| it.into_string()).collect();
+    let args = args.map_err(|it| misused(format!("{} is no Unicode", it.display())));
+    let options = args.and_then(|args| options::options(args.into_iter()).map_err(misused));
+    options.and_then(run).unwrap_or_else(|failed| tell(&failed))
+}
+
+/// The exit status for what failed, which is printed.
+fn tell(failed: &Failed) -> ExitCode {
+    let (status, message) = match failed {
+        Failed::Ended(status) => return ExitCode::from(*status as u8),
+        Failed::Closed => return ExitCode::from(CLOSED),
+        Failed::Trapped(what) => (1, format!("trap: {what}")),
+        Failed::Misused(what) => (2, format!("engine: {what} (engine --help says how it is used)")),
+        Failed::Refused(what) => (3, what.clone()),
+    };
+    // Where the standard error is closed too, the status alone is left.
+    let _ = writeln!(io::stderr(), "{message}");
+    ExitCode::from(status)
 }
 
 fn misused(what: impl Into<String>) -> Failed {
-    Failed(2, format!("engine: {} (engine --help says how it is used)", what.into()))
+    Failed::Misused(what.into())
 }
 
-fn options(mut args: impl Iterator<Item = String>) -> Result<Options, Failed> {
-    let caps = Caps { bytes: 1 << 30, elements: 10_000_000 };
-    let mut options = Options { words: vec![], fuel: None, caps, is_strict: false, has_time: false, is_script: false };
-    while let Some(arg) = args.next() {
-        let mut number = || {
-            let number = args.next().and_then(|it| it.parse::<u64>().ok());
-            number.ok_or(misused(format!("after {arg} there is no number")))
-        };
-        match arg.as_str() {
-            "--fuel" => options.fuel = Some(number()?),
-            "--memory-cap" => options.caps.bytes = number()? as usize,
-            "--table-cap" => options.caps.elements = number()? as usize,
-            "--strict-floats" => options.is_strict = true,
-            "--time" => options.has_time = true,
-            "--script" => options.is_script = true,
-            _ if arg.starts_with("--") => return Err(misused(format!("{arg} is no option"))),
-            _ => options.words.push(arg),
-        }
+fn run(options: Options) -> Result<ExitCode, Failed> {
+    if options.has_help {
+        writeln!(io::stdout(), "{}", options::HELP)?;
+    } else if options.has_version {
+        writeln!(io::stdout(), "engine {}", env!("CARGO_PKG_VERSION"))?;
+    } else if options.is_script {
+        Script::new(options.caps).run(io::stdin().lock(), io::stdout())?;
+    } else {
+        return run_file(options);
     }
-    Ok(options)
+    Ok(ExitCode::SUCCESS)
 }
 
-fn run(options: &Options) -> Result<(), Failed> {
-    if options.is_script {
-        let script = Script::new(options.caps);
-        return script.run(io::stdin().lock(), io::stdout()).map_err(|it| misused(it.to_string()));
-    }
-    let [file, function, words @ ..] = &options.words[..] else {
-        return Err(misused("a file and a function are missing"));
-    };
+fn run_file(mut options: Options) -> Result<ExitCode, Failed> {
+    let words = mem::take(&mut options.words);
+    let [file, words @ ..] = &words[..] else { return Err(misused("a file is missing")) };
+    let (function, words) = words.split_first().map_or((START, words), |(first, rest)| (first.as_str(), rest));
     let bytes = fs::read(file).map_err(|it| misused(format!("{file} can't be read: {it}")))?;
-    let refused = |what: String| Failed(3, format!("{file}: {what}"));
     let engine = Engine::new(Config::default().consume_fuel(options.fuel.is_some()));
     let read = if options.is_strict { Module::new_strict } else { Module::new };
-    let module = read(&engine, &bytes).map_err(|it| refused(it.to_string()))?;
+    let module = read(&engine, &bytes).map_err(|it| Failed::Refused(format!("{file}: {it}")))?;
     let ty = values::type_of(&module, function).map_err(misused)?;
     let args = values::arguments(&ty, function, words.iter().map(String::as_str)).map_err(misused)?;
-    let mut store = Store::new(&engine, Host::default());
+    let name = path::Path::new(file).file_name().map_or(file.into(), |it| it.to_string_lossy());
+    options.given.args.insert(0, name.into_owned());
+    let mut store = Store::new(&engine, Host::new(mem::take(&mut options.given)));
     store.set_caps(options.caps);
-    let failed = |it| match it {
-        Error::Module(_) | Error::Link(_) => refused(it.to_string()),
-        Error::Misused(what) => misused(what),
-        Error::Trap(trap) => Failed(1, trap.to_string()),
-    };
-    if let Some(fuel) = options.fuel {
-        store.set_fuel(fuel).map_err(failed)?;
-    }
-    let mut linker = Linker::new(&engine);
-    spectest::define(&mut linker, &mut store, &module).map_err(failed)?;
-    let made = linker.instantiate(&mut store, &module);
+    let instance = instantiate(&mut store, &module, options.fuel);
+    let instance = instance.map_err(|it| ended(&store, it).of_file(file))?;
     let begun = processor_time();
-    let results = made.and_then(|it| call(&it, &mut store, function, &args)).map_err(failed);
+    let results = call(&instance, &mut store, function, &args);
     let time = processor_time() - begun;
-    let printed = results.map(|results| results.iter().for_each(|it| println!("{it}")));
+    let results = results.map_err(|it| ended(&store, it)).and_then(|results| print(&mut store, &results));
+    let status = results.map_or_else(|failed| tell(&failed), |()| ExitCode::SUCCESS);
+    report(&options, &store, time)?;
+    Ok(status)
+}
+
+/// An instance of a module, with what it imports.
+fn instantiate(store: &mut Store<Host>, module: &Module, fuel: Option<u64>) -> Result<Instance, Error> {
+    if let Some(fuel) = fuel {
+        store.set_fuel(fuel)?;
+    }
+    let mut linker = Linker::new(&store.engine().clone());
+    wasi::define(&mut linker, module)?;
+    spectest::define(&mut linker, store, module)?;
+    linker.instantiate(store, module)
+}
+
+/// Why a call gives no results.
+fn ended(store: &Store<Host>, error: Error) -> Failed {
+    let closed = |it: &Unwritten| it.0.kind() == io::ErrorKind::BrokenPipe;
+    match error {
+        Error::Misused(what) => Failed::Misused(what),
+        Error::Module(_) | Error::Link(_) => Failed::Refused(error.to_string()),
+        _ => match error.i32_exit_status() {
+            Some(status) => Failed::Ended(status),
+            None if error.downcast_ref().is_some_and(closed) => Failed::Closed,
+            None => Failed::Trapped(format!("{error}{}", backtrace(store))),
+        },
+    }
+}
+
+/// The functions that were open, a line each, the innermost one first.
+fn backtrace(store: &Store<Host>) -> String {
+    let frames = store.backtrace();
+    let names = frames.first().map(|it| it.module.function_names()).unwrap_or_default();
+    let name = |function: u32| names.get(&function).map_or(format!("function {function}"), |it| it.to_string());
+    frames.iter().map(|it| format!("\n    in {}", name(it.function))).collect()
+}
+
+/// Prints results after what the guest has printed.
+fn print(store: &mut Store<Host>, results: &[String]) -> Result<(), Failed> {
+    let output = &mut store.data_mut().output;
+    results.iter().try_for_each(|it| writeln!(output, "{it}"))?;
+    Ok(output.flush()?)
+}
+
+/// Prints to the standard error what the options ask for.
+fn report(options: &Options, store: &Store<Host>, time: Duration) -> Result<(), Failed> {
+    let mut errors = io::stderr();
     if options.has_time {
-        eprintln!("time: {:.3} ms", time.as_secs_f64() * 1000.0);
+        writeln!(errors, "time: {:.3} ms", time.as_secs_f64() * 1000.0)?;
     }
     if let (Some(given), Ok(left)) = (options.fuel, store.get_fuel()) {
-        eprintln!("fuel: {}", given - left);
+        writeln!(errors, "fuel: {}", given - left)?;
     }
-    printed
+    Ok(())
 }
 
 /// The results of a call, as text.
 fn call(instance: &Instance, store: &mut Store<Host>, name: &str, args: &[Val]) -> Result<Vec<String>, Error> {
+    initialize(instance, store, name)?;
     let missing = || Error::Misused(format!("there is no function {name}"));
     let function = instance.get_func(&*store, name).ok_or_else(missing)?;
     let args: Option<Vec<_>> = args.iter().map(|it| values::referring(instance, &mut *store, *it)).collect();
     let args = args.ok_or(Error::Misused("there is no function of this number".into()))?;
     let results = function.call(&mut *store, &args)?;
     Ok(results.into_iter().map(|it| values::print(values::numbered(&*store, it))).collect())
+}
+
+/// Calls what a library that imports WASI has to be called first.
+fn initialize(instance: &Instance, store: &mut Store<Host>, name: &str) -> Result<(), Error> {
+    const INITIALIZE: &str = "_initialize";
+    match instance.get_typed_func::<(), ()>(&*store, INITIALIZE) {
+        Ok(first) if name != INITIALIZE => first.call(store, ()),
+        _ => Ok(()),
+    }
 }
 
 /// The processor time of this thread, as Linux counts it; elsewhere the time of the clock.

@@ -19,8 +19,9 @@
 //! call, that it came to an instruction which computes with floats), `unlinkable:`, `trap:`, and `error:` for a line that
 //! makes no sense; after one of them the module is the one before.
 
-use crate::spectest::{self, Host};
-use crate::values;
+use crate::host::Host;
+use crate::wasi::Given;
+use crate::{spectest, values};
 use engine::library::{RawRef, TypedRawRef, V128, ValType};
 use engine::{
     Caps, Config, Contents, Engine, Error, FloatInstruction, Instance, Linker, Module, Refusal, RefusalKind, Store, Val,
@@ -54,7 +55,7 @@ impl Script {
     }
 
     fn with(engine: &Engine, caps: Caps, is_strict: bool) -> Script {
-        let mut store = Store::new(engine, Host::default());
+        let mut store = Store::new(engine, Host::new(Given::default()));
         store.set_caps(caps);
         let linker = Linker::new(engine);
         Script { caps, store, linker, made: None, named: HashMap::new(), is_strict }

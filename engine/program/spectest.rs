@@ -14,34 +14,10 @@
 //!
 //! Each instance has a memory, tables and globals of its own.
 
-use engine::library::{GlobalType, HostError, MemoryType, Mutability, RawRef, RefType, TableType, TrapCode, ValType};
+use crate::host::{Host, Unwritten};
+use engine::library::{GlobalType, MemoryType, Mutability, RawRef, RefType, TableType, TrapCode, ValType};
 use engine::{AsContextMut, Caller, Error, Extern, Global, Linker, Memory, Module, Store, Table, Val};
 use std::fmt;
-use std::io::{self, Write};
-
-/// The data of the host: where it prints.
-pub struct Host {
-    pub output: Box<dyn Write + Send>,
-}
-
-impl Default for Host {
-    /// A host that prints to the standard output.
-    fn default() -> Self {
-        Self { output: Box::new(io::stdout()) }
-    }
-}
-
-/// Why a guest stops that prints where nothing can be written.
-#[derive(Debug)]
-pub struct Unwritten(io::Error);
-
-impl fmt::Display for Unwritten {
-    fn fmt(&self, f: &mut fmt::Formatter<'_>) -> fmt::Result {
-        write!(f, "the output can't be written: {}", self.0)
-    }
-}
-
-impl HostError for Unwritten {}
 
 /// Defines what a module imports of this host.
 pub fn define(linker: &mut Linker<Host>, store: &mut Store<Host>, module: &Module) -> Result<(), Error> {

@@ -23,7 +23,18 @@ pub fn parse(text: &str, ty: ValType) -> Option<TypedRawVal> {
 pub fn type_of(module: &Module, function: &str) -> Result<FuncType, String> {
     match module.get_export(function) {
         Some(ExternType::Func(ty)) => Ok(ty),
-        _ => Err("there is no exported function of this name".into()),
+        _ => Err(missing(module, function)),
+    }
+}
+
+/// Which functions there are, where there is none of this name.
+fn missing(module: &Module, function: &str) -> String {
+    let is_function = |(name, ty): (&_, ExternType)| matches!(ty, ExternType::Func(_)).then(|| format!("{name}"));
+    let mut names: Vec<String> = module.exports().filter_map(is_function).collect();
+    names.sort();
+    match names[..] {
+        [] => format!("there is no exported function {function}, and no other one"),
+        _ => format!("there is no exported function {function}, but {}", names.join(", ")),
     }
 }
 

@@ -68,6 +68,7 @@
 //! | `instance`, `compiled`, `items` | instances, modules, memories, tables and globals, as an embedder has them |
 //! | `values`, `func`, `caller`, `linker` | functions of the host and of guests, and what modules may import |
 //! | `call`, `resume`, `trace` | calls between the host and instances, those that wait for fuel, and those that end early |
+//! | `names` | the names of functions |
 //! | `execute` | the loop |
 //!
 //! The program stands in `program/`.
@@ -99,6 +100,7 @@ mod instructions;
 mod items;
 mod linker;
 mod module;
+mod names;
 mod operands;
 mod proposals;
 mod reader;

@@ -3,11 +3,10 @@
 //! WebAssembly core specification, 5.5 (sections) and 3.5 (validation of modules).
 
 use crate::library::{FuncType, GlobalType, MemoryType, RawRef, RawVal, RefType, TableType, ValType, wasm};
-use crate::limits;
 use crate::operands::Operands;
-use crate::proposals;
 use crate::reader::{Read, Reader, Refusal, ensure};
 use crate::translate::{self, Function};
+use crate::{limits, names, proposals};
 use std::collections::{BTreeMap, HashMap};
 
 /// What a module imports or exports, by its number in the module.
@@ -112,6 +111,8 @@ pub(crate) struct Module {
     pub(crate) code: Vec<Function>,
     /// Of each function, whether a constant, an export or a segment names it, so that code may refer to it.
     pub(crate) is_declared: Vec<bool>,
+    /// What the section of names has.
+    pub(crate) names: Box<[u8]>,
 }
 
 /// How many of each kind are imported.
@@ -158,7 +159,9 @@ impl Module {
             let id = reader.byte()?;
             let mut section = reader.part()?;
             if id == 0 {
-                section.name()?;
+                if section.name()? == names::SECTION {
+                    module.names = section.take(section.len())?.into();
+                }
                 continue;
             }
             let order = [0, 1, 2, 3, 4, 5, 6, 7, 8, 9, 11, 12, 10];
