@@ -355,7 +355,7 @@ pub record LinesMeaning : Type 0 where
 abbrev pub meaning_of : Header → PartsValue → LinesMeaning
 meaning_of header parts = record {
   meter = header.meter;
-  limiter = option_map limiter_meaning header.limiter;
+  limiter = option_map limiter_meaning header.limiter_line;
   region = header.region;
   earlier = map part_meaning parts.earlier;
   tenant = parts.tenant;

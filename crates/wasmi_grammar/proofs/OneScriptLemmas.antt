@@ -116,9 +116,9 @@ module _ (old old' : Script) (same : LinesHaveSameMeaning old old') where
   }
 
   -- both ask for as many tenants
-  tenants_same : tenants_of old.header.limiter ≡ tenants_of old'.header.limiter
-  tenants_same = tenants_is old.header.limiter ∙ ap (λ s. tenants_meaning s.limiter) same
-      ∙ sym (tenants_is old'.header.limiter)
+  tenants_same : tenants_of old.header.limiter_line ≡ tenants_of old'.header.limiter_line
+  tenants_same = tenants_is old.header.limiter_line ∙ ap (λ s. tenants_meaning s.limiter) same
+      ∙ sym (tenants_is old'.header.limiter_line)
 
   -- a line that the one takes the other takes, and each line that says the same
   takes_too : (line line' : Line) → line_meaning line ≡ line_meaning line' → (new : Script) → AddsLine old line new
@@ -134,10 +134,10 @@ module _ (old old' : Script) (same : LinesHaveSameMeaning old old') where
   )
   takes_too (Limiter line) (Limiter line') says new a =
       let told : limiter_meaning line ≡ limiter_meaning line' = cc in (
-        record old' { header = record old'.header { limiter = Some line' } },
+        record old' { header = record old'.header { limiter_line = Some line' } },
         record {
           before_commands = none_too a.before_commands;
-          first = none_of limiter_meaning old'.header.limiter
+          first = none_of limiter_meaning old'.header.limiter_line
               (ap (λ s. s.limiter) (sym same) ∙ ap (option_map limiter_meaning) a.first);
           apart = apart_too (Some line) (Some line') old'.header.region (ap (λ t. Some t) told)
               (subst (AreApart (Some line)) (ap (λ s. s.region) same) a.apart);
@@ -151,8 +151,8 @@ module _ (old old' : Script) (same : LinesHaveSameMeaning old old') where
         record {
           before_commands = none_too a.before_commands;
           first = ap (λ s. s.region) (sym same) ∙ a.first;
-          apart = apart_too old.header.limiter old'.header.limiter (Some line') (ap (λ s. s.limiter) same)
-              (subst (λ r. AreApart old.header.limiter (Some r)) told a.apart);
+          apart = apart_too old.header.limiter_line old'.header.limiter_line (Some line') (ap (λ s. s.limiter) same)
+              (subst (λ r. AreApart old.header.limiter_line (Some r)) told a.apart);
           header = refl;
           parts = refl;
         },

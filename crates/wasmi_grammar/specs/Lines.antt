@@ -39,16 +39,16 @@ pub record AddsMeter (old : Script) (line : MeterLine) (new : Script) : Type 0 w
 -- a limiter line, the first one of any kind and before all commands
 pub record AddsLimiter (old : Script) (line : LimiterLine) (new : Script) : Type 0 where
   pub before_commands : HasNoCommands old
-  pub first : old.header.limiter ≡ None
+  pub first : old.header.limiter_line ≡ None
   pub apart : AreApart (Some line) old.header.region
-  pub header : new.header ≡ record old.header { limiter = Some line }
+  pub header : new.header ≡ record old.header { limiter_line = Some line }
   pub parts : new.parts ≡ old.parts
 
 -- a `region` line, the first one and before all commands
 pub record AddsRegion (old : Script) (line : RegionLine) (new : Script) : Type 0 where
   pub before_commands : HasNoCommands old
   pub first : old.header.region ≡ None
-  pub apart : AreApart old.header.limiter (Some line)
+  pub apart : AreApart old.header.limiter_line (Some line)
   pub header : new.header ≡ record old.header { region = Some line }
   pub parts : new.parts ≡ old.parts
 
@@ -59,7 +59,7 @@ pub record AddsCall (old : Script) (call : Call) (new : Script) : Type 0 where
 
 -- an `as` line: the calls before it are a part, and those after it are another tenant's, of whom there is one
 pub record AddsPart (old : Script) (named : ℕ) (new : Script) : Type 0 where
-  pub there : named < tenants_of old.header.limiter
+  pub there : named < tenants_of old.header.limiter_line
   pub parts : new.parts ≡ record { earlier = parts_in old.parts; tenant = named; calls = [] }
   pub header : new.header ≡ old.header
 
@@ -93,7 +93,7 @@ lines_in text = slice_split (λ byte. byte == 10) text
 
 -- no line was taken yet
 pub record IsNewScript (script : Script) : Type 0 where
-  pub no_header : script.header ≡ record { meter = None; limiter = None; region = None }
+  pub no_header : script.header ≡ record { meter = None; limiter_line = None; region = None }
   pub no_commands : script.parts ≡ record { earlier = []; tenant = 0; calls = [] }
 
 -- the lines, taken one after the other from none on, lead to this script

@@ -55,7 +55,7 @@ pub record ScriptMeaning : Type 0 where
 abbrev pub script_meaning : Script → ScriptMeaning
 script_meaning script = record {
   meter = script.header.meter;
-  limiter = option_map limiter_meaning script.header.limiter;
+  limiter = option_map limiter_meaning script.header.limiter_line;
   region = script.header.region;
   parts = map part_meaning (parts_in script.parts);
 }

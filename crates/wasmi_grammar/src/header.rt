@@ -55,7 +55,7 @@ pub struct Header {
     /// The `meter` line, if there is one. Without it the meter is off.
     pub meter: Option<MeterLine>,
     /// The limiter line, if there is one. Without it no limiter is given.
-    pub limiter: Option<LimiterLine>,
+    pub limiter_line: Option<LimiterLine>,
     /// The `region` line, if there is one. Without it no region is lent.
     pub region: Option<RegionLine>,
 }
@@ -63,9 +63,9 @@ pub struct Header {
 impl Header {
     /// How many tenants the script has: none without a `tenants` line.
     pub fn tenants(&self) -> usize
-        ensures { result ≡ tenants_of self.now.limiter }
+        ensures { result ≡ tenants_of self.now.limiter_line }
     {
-        match &self.limiter {
+        match &self.limiter_line {
             Some(LimiterLine::Tenants(line)) => line.count,
             _ => 0,
         }

@@ -209,13 +209,13 @@ impl Script {
         ensures ok { OnOk result (AddsLimiter self.old line self.new) }
         ensures refused { OnErr result ((new : Script) → ¬ (AddsLimiter self.old line new)) }
     {
-        if !self.parts.is_empty() || self.header.limiter.is_some() {
+        if !self.parts.is_empty() || self.header.limiter_line.is_some() {
             return Err(LineError::BadCommand);
         }
         if self.header.region.is_some() && matches!(line, LimiterLine::Tenants(_)) {
             return Err(LineError::BadCommand);
         }
-        self.header.limiter = Some(line);
+        self.header.limiter_line = Some(line);
         Ok(())
     }
 
@@ -226,7 +226,7 @@ impl Script {
     {
         if !self.parts.is_empty()
             || self.header.region.is_some()
-            || matches!(self.header.limiter, Some(LimiterLine::Tenants(_)))
+            || matches!(self.header.limiter_line, Some(LimiterLine::Tenants(_)))
         {
             return Err(LineError::BadCommand);
         }

@@ -376,12 +376,12 @@ module _ (once : IsDeterministic tenant_rules) where
   same_line (Some (Tenants asked)) (Some (Tenants asked')) none same = cc
 
   -- replays of scripts that say the same, where no word is `complain`
-  replays_unique : (script script' : Script) (ran ran' : Ran) → HasNoComplain script.header.limiter
+  replays_unique : (script script' : Script) (ran ran' : Ran) → HasNoComplain script.header.limiter_line
       → HaveSameMeaning script script'
       → IsReplayOf script ran → IsReplayOf script' ran' → HaveBoth ran.replies.items ran'.replies.items
       → SameReplies ran.replies.items ran'.replies.items ran.held ran'.held
   replays_unique script script' ran ran' quiet same replay replay' has =
-      by script.header.limiter script'.header.limiter quiet (ap ScriptMeaning.limiter same) replay replay'
+      by script.header.limiter_line script'.header.limiter_line quiet (ap ScriptMeaning.limiter same) replay replay'
     where
       other : (l l' : Option LimiterLine) → HasNoAnswers l → option_map limiter_meaning l ≡ option_map limiter_meaning l'
           → IsReplayBy l script ran → IsReplayBy l' script' ran'

@@ -21,7 +21,7 @@ HasNoComplain limiter = ⊤
 -- Memory isn't refused and the reader doesn't fail: no reply says out of memory, and no word is `complain`, so that no
 -- notice of it is answered by another error.
 abbrev pub IsDecided : ReplayOutcome → Type 0
-IsDecided (Ok replayed) = All IsNotOutOfMemory replayed.ran.replies.items × HasNoComplain replayed.script.header.limiter
+IsDecided (Ok replayed) = All IsNotOutOfMemory replayed.ran.replies.items × HasNoComplain replayed.script.header.limiter_line
 IsDecided (Err (Parse OutOfMemory)) = ⊥
 IsDecided (Err ReadFault) = ⊥
 IsDecided (Err error) = ⊤

@@ -88,4 +88,4 @@ IsReplayBy limiter script ran = IsReplayOnOne limiter script.header (calls_of sc
 
 -- the replies are those of a run as the script's header lines ask for it
 abbrev pub IsReplayOf : Script → Ran → Type 0
-IsReplayOf script ran = IsReplayBy script.header.limiter script ran
+IsReplayOf script ran = IsReplayBy script.header.limiter_line script ran

@@ -40,7 +40,7 @@ pub fn run_script(alloc: Global, script: &Script) -> Result<Ran, AllocError>
 {
     let header = &script.header;
     let calls = script.parts.calls();
-    match &header.limiter {
+    match &header.limiter_line {
         None => run_freely(alloc, header, calls),
         Some(LimiterLine::Quota(caps)) => run_under_quota(alloc, header, calls, *caps),
         Some(LimiterLine::Answers(answers)) => run_answered(alloc, header, calls, answers),

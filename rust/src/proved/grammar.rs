@@ -582,7 +582,7 @@ mod header {
         /// The `meter` line, if there is one. Without it the meter is off.
         pub meter: Option<MeterLine>,
         /// The limiter line, if there is one. Without it no limiter is given.
-        pub limiter: Option<LimiterLine>,
+        pub limiter_line: Option<LimiterLine>,
         /// The `region` line, if there is one. Without it no region is lent.
         pub region: Option<RegionLine>,
     }
@@ -593,14 +593,14 @@ mod header {
         /// # Contract
         ///
         /// ```text
-        /// ensures: result ≡ tenants_of self.now.limiter
+        /// ensures: result ≡ tenants_of self.now.limiter_line
         /// ```
         ///
         /// Definitions: [`tenants_of`](crate::specs::grammar::HeadersSpecs#tenants_of).
         #[must_use]
         #[inline]
         pub fn tenants(&self) -> usize {
-            match &self.limiter {
+            match &self.limiter_line {
                 Some(LimiterLine::Tenants(line)) => line.count,
                 _ => 0,
             }
@@ -1016,13 +1016,13 @@ mod script {
         /// Definitions: [`AddsLimiter`](crate::specs::grammar::LinesSpecs#AddsLimiter).
         #[inline]
         fn take_limiter(&mut self, line: LimiterLine) -> Result<(), LineError> {
-            if !self.parts.is_empty() || self.header.limiter.is_some() {
+            if !self.parts.is_empty() || self.header.limiter_line.is_some() {
                 return Err(LineError::BadCommand);
             }
             if self.header.region.is_some() && matches!(line, LimiterLine::Tenants(_)) {
                 return Err(LineError::BadCommand);
             }
-            self.header.limiter = Some(line);
+            self.header.limiter_line = Some(line);
             Ok(())
         }
 
@@ -1040,7 +1040,7 @@ mod script {
         fn take_region(&mut self, line: RegionLine) -> Result<(), LineError> {
             if !self.parts.is_empty()
                 || self.header.region.is_some()
-                || matches!(self.header.limiter, Some(LimiterLine::Tenants(_)))
+                || matches!(self.header.limiter_line, Some(LimiterLine::Tenants(_)))
             {
                 return Err(LineError::BadCommand);
             }

@@ -946,7 +946,7 @@ mod running {
     pub fn run_script(script: &Script) -> Result<Ran, AllocError> {
         let header = &script.header;
         let calls = script.parts.calls();
-        match &header.limiter {
+        match &header.limiter_line {
             None => run_freely(header, calls),
             Some(LimiterLine::Quota(caps)) => run_under_quota(header, calls, *caps),
             Some(LimiterLine::Answers(answers)) => run_answered(header, calls, answers),

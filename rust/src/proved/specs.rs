@@ -6477,16 +6477,16 @@ pub record <b id="AddsMeter">AddsMeter</b> (old : Script) (line : MeterLine) (ne
 -- a limiter line, the first one of any kind and before all commands
 pub record <b id="AddsLimiter">AddsLimiter</b> (old : Script) (line : LimiterLine) (new : Script) : Type 0 where
   pub <b id="before_commands">before_commands</b> : <a href="../../grammar/LinesSpecs/index.html#HasNoCommands">HasNoCommands</a> old
-  pub <b id="first">first</b> : old.header.limiter ≡ None
+  pub <b id="first">first</b> : old.header.limiter_line ≡ None
   pub <b id="apart">apart</b> : <a href="../../grammar/HeadersSpecs/index.html#AreApart">AreApart</a> (Some line) old.header.region
-  pub <b id="header">header</b> : new.header ≡ record old.header { limiter = Some line }
+  pub <b id="header">header</b> : new.header ≡ record old.header { limiter_line = Some line }
   pub <b id="parts">parts</b> : new.parts ≡ old.parts
 
 -- a `region` line, the first one and before all commands
 pub record <b id="AddsRegion">AddsRegion</b> (old : Script) (line : RegionLine) (new : Script) : Type 0 where
   pub <b id="before_commands">before_commands</b> : <a href="../../grammar/LinesSpecs/index.html#HasNoCommands">HasNoCommands</a> old
   pub <b id="first">first</b> : old.header.region ≡ None
-  pub <b id="apart">apart</b> : <a href="../../grammar/HeadersSpecs/index.html#AreApart">AreApart</a> old.header.limiter (Some line)
+  pub <b id="apart">apart</b> : <a href="../../grammar/HeadersSpecs/index.html#AreApart">AreApart</a> old.header.limiter_line (Some line)
   pub <b id="header">header</b> : new.header ≡ record old.header { region = Some line }
   pub <b id="parts">parts</b> : new.parts ≡ old.parts
 
@@ -6497,7 +6497,7 @@ pub record <b id="AddsCall">AddsCall</b> (old : Script) (call : Call) (new : Scr
 
 -- an `as` line: the calls before it are a part, and those after it are another tenant&#x27;s, of whom there is one
 pub record <b id="AddsPart">AddsPart</b> (old : Script) (named : ℕ) (new : Script) : Type 0 where
-  pub <b id="there">there</b> : named &lt; <a href="../../grammar/HeadersSpecs/index.html#tenants_of">tenants_of</a> old.header.limiter
+  pub <b id="there">there</b> : named &lt; <a href="../../grammar/HeadersSpecs/index.html#tenants_of">tenants_of</a> old.header.limiter_line
   pub <b id="parts">parts</b> : new.parts ≡ record { earlier = <a href="../../grammar/PartsSpecs/index.html#parts_in">parts_in</a> old.parts; tenant = named; calls = [] }
   pub <b id="header">header</b> : new.header ≡ old.header
 
@@ -6531,7 +6531,7 @@ unfoldable pub <b id="lines_in">lines_in</b> : List ℕ → List (List ℕ)
 
 -- no line was taken yet
 pub record <b id="IsNewScript">IsNewScript</b> (<a href="../../grammar/LinesSpecs/index.html#script">script</a> : Script) : Type 0 where
-  pub <b id="no_header">no_header</b> : script.header ≡ record { meter = None; limiter = None; region = None }
+  pub <b id="no_header">no_header</b> : script.header ≡ record { meter = None; limiter_line = None; region = None }
   pub <b id="no_commands">no_commands</b> : script.parts ≡ record { earlier = []; tenant = 0; calls = [] }
 
 -- the lines, taken one after the other from none on, lead to this script
@@ -6628,7 +6628,7 @@ pub record <b id="ScriptMeaning">ScriptMeaning</b> : Type 0 where
 abbrev pub <b id="script_meaning">script_meaning</b> : Script → <a href="../../grammar/MeaningsSpecs/index.html#ScriptMeaning">ScriptMeaning</a>
 <a href="../../grammar/MeaningsSpecs/index.html#script_meaning">script_meaning</a> script = record {
   <a href="../../grammar/MeaningsSpecs/index.html#meter">meter</a> = script.header.<a href="../../grammar/MeaningsSpecs/index.html#meter">meter</a>;
-  <a href="../../grammar/MeaningsSpecs/index.html#limiter">limiter</a> = option_map <a href="../../grammar/MeaningsSpecs/index.html#limiter_meaning">limiter_meaning</a> script.header.<a href="../../grammar/MeaningsSpecs/index.html#limiter">limiter</a>;
+  <a href="../../grammar/MeaningsSpecs/index.html#limiter">limiter</a> = option_map <a href="../../grammar/MeaningsSpecs/index.html#limiter_meaning">limiter_meaning</a> script.header.limiter_line;
   <a href="../../grammar/MeaningsSpecs/index.html#region">region</a> = script.header.<a href="../../grammar/MeaningsSpecs/index.html#region">region</a>;
   <a href="../../grammar/MeaningsSpecs/index.html#parts">parts</a> = map <a href="../../grammar/MeaningsSpecs/index.html#part_meaning">part_meaning</a> (<a href="../../grammar/PartsSpecs/index.html#parts_in">parts_in</a> script.parts);
 }
@@ -6722,7 +6722,7 @@ abbrev pub <b id="HasNoComplain">HasNoComplain</b> : Option LimiterLine → Type
 -- Memory isn&#x27;t refused and the reader doesn&#x27;t fail: no reply says out of memory, and no word is `complain`, so that no
 -- notice of it is answered by another error.
 abbrev pub <b id="IsDecided">IsDecided</b> : <a href="../../script/OutcomesSpecs/index.html#ReplayOutcome">ReplayOutcome</a> → Type 0
-<a href="../../script/DecidedSpecs/index.html#IsDecided">IsDecided</a> (Ok replayed) = All <a href="../../machine/DeterminismSpecs/index.html#IsNotOutOfMemory">IsNotOutOfMemory</a> replayed.ran.replies.items × <a href="../../script/DecidedSpecs/index.html#HasNoComplain">HasNoComplain</a> replayed.script.header.limiter
+<a href="../../script/DecidedSpecs/index.html#IsDecided">IsDecided</a> (Ok replayed) = All <a href="../../machine/DeterminismSpecs/index.html#IsNotOutOfMemory">IsNotOutOfMemory</a> replayed.ran.replies.items × <a href="../../script/DecidedSpecs/index.html#HasNoComplain">HasNoComplain</a> replayed.script.header.limiter_line
 <a href="../../script/DecidedSpecs/index.html#IsDecided">IsDecided</a> (Err (Parse OutOfMemory)) = ⊥
 <a href="../../script/DecidedSpecs/index.html#IsDecided">IsDecided</a> (Err ReadFault) = ⊥
 <a href="../../script/DecidedSpecs/index.html#IsDecided">IsDecided</a> (Err error) = ⊤
@@ -7059,7 +7059,7 @@ abbrev pub <b id="IsReplayBy">IsReplayBy</b> : Option LimiterLine → Script →
 
 -- the replies are those of a run as the script&#x27;s header lines ask for it
 abbrev pub <b id="IsReplayOf">IsReplayOf</b> : Script → <a href="../../budget/LawsSpecs/index.html#Ran">Ran</a> → Type 0
-<a href="../../script/ScriptRunsSpecs/index.html#IsReplayOf">IsReplayOf</a> script ran = <a href="../../script/ScriptRunsSpecs/index.html#IsReplayBy">IsReplayBy</a> script.header.limiter script ran
+<a href="../../script/ScriptRunsSpecs/index.html#IsReplayOf">IsReplayOf</a> script ran = <a href="../../script/ScriptRunsSpecs/index.html#IsReplayBy">IsReplayBy</a> script.header.limiter_line script ran
 </code></pre>
 "####]
     pub mod ScriptRunsSpecs {}

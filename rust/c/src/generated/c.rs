@@ -2675,7 +2675,9 @@ pub mod machine {
             match parse(lines) {
                 Ok(script) => {
                     let header = &script.header;
-                    if header.meter.is_none() && header.limiter.is_none() && header.region.is_none()
+                    if header.meter.is_none()
+                        && header.limiter_line.is_none()
+                        && header.region.is_none()
                     {
                         Ok(script)
                     } else {
