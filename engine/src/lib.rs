@@ -82,6 +82,7 @@ pub use wasmi_core as library;
 pub use wasmi_core_proved as library;
 
 mod arena;
+mod body;
 #[cfg(feature = "crate")]
 #[path = "../crate/bulk.rs"]
 mod bulk;
@@ -99,6 +100,7 @@ mod instance;
 mod instructions;
 mod items;
 mod linker;
+mod lower;
 mod module;
 mod names;
 mod operands;
