@@ -42,44 +42,12 @@ pub(crate) enum Exit {
 /// Runs the code of an instance from a place on, until its first call returns or a function outside of it is called. The
 /// place is then that at which it goes on; after a trap it is somewhere in the function that has trapped.
 pub(crate) fn execute(inner: &mut Inner, at: &mut Activation) -> Result<Exit, TrapCode> {
-    let Inner { fuel, caps, instances, items, stack, .. } = inner;
-    let Lent { values, frames, calls } = stack.as_mut().ok_or(TrapCode::StackOverflow)?.lend();
-    let values = Cell::from_mut(values).as_slice_of_cells();
-    let instance = &mut instances[at.instance];
     let mut current = 0;
     loop {
-        let Entity { module, memories, tables, globals, first, .. } = &mut *instance;
-        let body = &module.code[at.frame.function];
-        let slots = Slots::at(values, at.frame.base).ok_or(TrapCode::StackOverflow)?;
-        let code = body.code.get(at.frame.next..).unwrap_or_default();
-        let mut state = State {
-            // The library lends the bytes of a memory until it is used in another way.
-            bytes: memories.get(current).map_or(&mut [][..], |it| items.memories[*it].data_mut()),
-            body,
-            frame: at.frame,
-            floor: at.floor,
-            calls,
-            values,
-            frames,
-            module,
-            bodies: &module.code,
-            first: *first,
-            fuel,
-            tables: (tables, &items.tables),
-            globals: (globals, &mut items.globals),
-            exit: Exit::Done,
-            #[cfg(not(all(jumps, not(debug_assertions))))]
-            place: (code, slots, 0),
+        let op = match run(inner, at, current)? {
+            Ran::Ended(exit) => return Ok(exit),
+            Ran::Left(op) => op,
         };
-        let outcome = state.run(code, slots);
-        at.frame = state.frame;
-        match outcome {
-            Outcome::Exit => return Ok(state.exit),
-            Outcome::Trap(trap) => return Err(trap),
-            _ => {}
-        }
-        let op = state.body.wide[state.body.code[at.frame.next].imm as usize];
-        let slots = Slots::at(values, at.frame.base).ok_or(TrapCode::StackOverflow)?;
         match op.code {
             Code::host => {
                 at.frame.next += 1;
@@ -90,13 +58,65 @@ pub(crate) fn execute(inner: &mut Inner, at: &mut Activation) -> Result<Exit, Tr
                 return Ok(Exit::Float(FloatInstruction { name, offset }));
             }
             Code::memory_use => current = op.imm as usize,
-            _ => match bulk(op, instance, items, fuel, caps, slots) {
+            _ => match left(op, inner, at) {
                 Err(TrapCode::OutOfFuel) => return Ok(Exit::OutOfFuel),
                 ended => ended?,
             },
         }
         at.frame.next += 1;
     }
+}
+
+/// Why handlers have ended: the loop is to end, or to do an instruction, which is the next one.
+enum Ran {
+    Ended(Exit),
+    Left(Op),
+}
+
+/// Runs handlers, for which a memory is the first one.
+fn run(inner: &mut Inner, at: &mut Activation, memory: usize) -> Result<Ran, TrapCode> {
+    let Inner { fuel, instances, items, stack, .. } = inner;
+    let Lent { values, frames, calls } = stack.as_mut().ok_or(TrapCode::StackOverflow)?.lend();
+    let values = Cell::from_mut(values).as_slice_of_cells();
+    let Entity { module, memories, tables, globals, first, .. } = &instances[at.instance];
+    let body = &module.code[at.frame.function];
+    let slots = Slots::at(values, at.frame.base).ok_or(TrapCode::StackOverflow)?;
+    let code = body.code.get(at.frame.next..).unwrap_or_default();
+    let mut state = State {
+        // The library lends the bytes of a memory until it is used in another way.
+        bytes: memories.get(memory).map_or(&mut [][..], |it| items.memories[*it].data_mut()),
+        body,
+        frame: at.frame,
+        floor: at.floor,
+        calls,
+        values,
+        frames,
+        module,
+        bodies: &module.code,
+        first: *first,
+        fuel,
+        tables: (tables, &items.tables),
+        globals: (globals, &mut items.globals),
+        exit: Exit::Done,
+        #[cfg(not(all(jumps, not(debug_assertions))))]
+        place: (code, slots, 0),
+    };
+    let outcome = state.run(code, slots);
+    at.frame = state.frame;
+    match outcome {
+        Outcome::Exit => Ok(Ran::Ended(state.exit)),
+        Outcome::Trap(trap) => Err(trap),
+        _ => Ok(Ran::Left(state.body.wide[state.body.code[at.frame.next].imm as usize])),
+    }
+}
+
+/// Does an instruction that handlers leave to the loop.
+fn left(op: Op, inner: &mut Inner, at: &Activation) -> Result<(), TrapCode> {
+    let Inner { fuel, caps, instances, items, stack, .. } = inner;
+    let Lent { values, .. } = stack.as_mut().ok_or(TrapCode::StackOverflow)?.lend();
+    let values = Cell::from_mut(values).as_slice_of_cells();
+    let slots = Slots::at(values, at.frame.base).ok_or(TrapCode::StackOverflow)?;
+    bulk(op, &mut instances[at.instance], items, fuel, caps, slots)
 }
 
 /// Checks that there is room for the frame of a function.

@@ -10,6 +10,11 @@ use crate::library::{RawVal, ReadAs, TrapCode, TypedRawVal, simd, wasm};
 
 /// The handler of an instruction of the engine's own.
 pub(super) fn find(code: Code, way: [Way; 3]) -> Option<Handler> {
+    let is_wide = code.facts().is_wide && code != Code::shuffle;
+    if is_wide { Some(LEAVE) } else { of_values(code, way).or_else(|| of_control(code, way)) }
+}
+
+fn of_values(code: Code, way: [Way; 3]) -> Option<Handler> {
     Some(match code {
         Code::zero => return zeros(way[0]),
         Code::begin => begin,
@@ -19,26 +24,12 @@ pub(super) fn find(code: Code, way: [Way; 3]) -> Option<Handler> {
         Code::set => set,
         Code::set_signed => set_signed,
         Code::add_two => add_two,
-        Code::add_branch => ways!(way, add_branch: (SLOT) (LAST)),
         Code::add_scaled => ways!(way, add_scaled:
             (SLOT, SLOT, SLOT) (SLOT, SLOT, LAST) (LAST, SLOT, SLOT) (LAST, SLOT, LAST)),
         Code::shift_and => ways!(way, shift_and: (SLOT, SLOT) (SLOT, LAST) (LAST, SLOT) (LAST, LAST)),
         Code::and_shift => ways!(way, and_shift: (SLOT, SLOT) (SLOT, LAST) (LAST, SLOT) (LAST, LAST)),
         Code::select => ways!(way, select: (SLOT, SLOT) (SLOT, LAST) (LAST, SLOT) (LAST, LAST)),
         Code::shuffle => shuffle,
-        Code::fuel => fuel,
-        Code::branch => branch,
-        Code::branch_if => ways!(way, branch_if: (SLOT, SLOT) (SLOT, LAST) (LAST, SLOT) (LAST, LAST)),
-        Code::branch_unless => return find(Code::branch_if, way),
-        Code::branch_table => ways!(way, branch_table: (SLOT, SLOT) (SLOT, LAST)),
-        Code::ret => ret,
-        Code::ret_one => ways!(way, ret_one: (SLOT, SLOT) (SLOT, LAST)),
-        Code::ret_many => ret_many,
-        Code::call => call,
-        Code::call_indirect => call_indirect,
-        Code::return_call => return_call,
-        Code::return_call_indirect => return_call_indirect,
-        Code::unreachable => unreachable,
         Code::global_get => ways!(way, global_get: (SLOT) (LAST)),
         Code::global_set => global_set,
         Code::ref_func => ref_func,
@@ -48,7 +39,27 @@ pub(super) fn find(code: Code, way: [Way; 3]) -> Option<Handler> {
         Code::i64_sub128 => i64_sub128,
         Code::i64_mul_wide_s => i64_mul_wide_s,
         Code::i64_mul_wide_u => i64_mul_wide_u,
-        _ if code.facts().is_wide => leave,
+        _ => return None,
+    })
+}
+
+fn of_control(code: Code, way: [Way; 3]) -> Option<Handler> {
+    Some(match code {
+        Code::fuel => fuel,
+        Code::branch => branch,
+        Code::branch_if | Code::branch_unless => {
+            ways!(way, branch_if: (SLOT, SLOT) (SLOT, LAST) (LAST, SLOT) (LAST, LAST))
+        }
+        Code::add_branch => ways!(way, add_branch: (SLOT) (LAST)),
+        Code::branch_table => ways!(way, branch_table: (SLOT, SLOT) (SLOT, LAST)),
+        Code::ret => ret,
+        Code::ret_one => ways!(way, ret_one: (SLOT, SLOT) (SLOT, LAST)),
+        Code::ret_many => ret_many,
+        Code::call => call,
+        Code::call_indirect => call_indirect,
+        Code::return_call => return_call,
+        Code::return_call_indirect => return_call_indirect,
+        Code::unreachable => unreachable,
         _ => return None,
     })
 }
