@@ -31,6 +31,16 @@ impl<X> Arena<X> {
         item
     }
 
+    #[inline(always)]
+    pub fn get(&self, number: u32) -> Option<&X> {
+        self.items.get(number as usize)?.as_ref()
+    }
+
+    #[inline(always)]
+    pub fn get_mut(&mut self, number: u32) -> Option<&mut X> {
+        self.items.get_mut(number as usize)?.as_mut()
+    }
+
     /// Two items, unless they are one.
     pub fn pair(&mut self, numbers: [u32; 2]) -> Option<[&mut X; 2]> {
         match self.items.get_disjoint_mut(numbers.map(|it| it as usize)) {

@@ -6,7 +6,7 @@ use crate::execute::{self, Exit};
 use crate::handle::Owner;
 use crate::library::{RawVal, TrapCode};
 use crate::limits;
-use crate::stack::{self, Activation, Frame, Lent};
+use crate::stack::{Activation, Frame, Lent};
 use crate::store::{Inner, Store};
 use std::sync::Arc;
 
@@ -186,7 +186,7 @@ impl Inner {
             return Err(TrapCode::StackOverflow);
         }
         let function = function as usize;
-        stack::enter(values, &instances[instance].module.code[function], base)?;
+        execute::enter(values, &instances[instance].module.code[function], base)?;
         Ok(Activation { instance, floor: frames.len(), frame: Frame { function, next: 0, base } })
     }
 

@@ -145,11 +145,44 @@ macro_rules! codes {
             // An instruction that computes with floats: `lane` is its number, `imm` its place in the file.
             float,
             // Values: from slot `a` to slot `d`.
-            copy, copy_many, select, global_get, global_set, is_null, ref_func, shuffle, i64_add128, i64_sub128, i64_mul_wide_s,
+            copy, copy_two, copy_many, set, set_signed, ret_one, ret_many, zero, begin, add_two, add_branch, add_scaled, shift_and,
+            and_shift, select, global_get, global_set, is_null, ref_func, shuffle, i64_add128, i64_sub128, i64_mul_wide_s,
             i64_mul_wide_u,
             // Memories and tables: `imm` is the number of a memory, table or segment, `lane` that of a second one.
             memory_use, add_offset, memory_size, memory_grow, memory_fill, memory_copy, memory_init, data_drop,
             table_get, table_set, table_size, table_grow, table_fill, table_copy, table_init, elem_drop,
+        }
+
+        impl Code {
+            /// What is to be known of an instruction before a handler is found for it.
+            pub fn facts(self) -> Facts {
+                use crate::library::ValType::*;
+                match self {
+                    $($(Code::$u => Facts::of(Kind::Unary, $ua, Some($ur)),)*)*
+                    $($(Code::$b => Facts::of(Kind::Binary, $bb, Some($br)),)*)*
+                    $(Code::$t => Facts::of(Kind::Ternary, V128, Some(V128)),)*
+                    $($(Code::$d => Facts::of(Kind::Binary, $dt, Some($dt)),)*)*
+                    $($(Code::$l => Facts::of(Kind::Load, I32, Some($lt)),)*)*
+                    $($(Code::$s => Facts::of(Kind::Store, $st, None),)*)*
+                    $($(Code::$e => Facts::of(Kind::Extract, V128, Some($et)),)*)*
+                    $($(Code::$r => Facts::of(Kind::Replace, $rt, Some(V128)),)*)*
+                    $(Code::$ll => Facts::of(Kind::Lane, V128, Some(V128)),)*
+                    $(Code::$sl => Facts::of(Kind::Lane, V128, None),)*
+                    Code::is_null | Code::add_offset => Facts::of(Kind::Own, I64, Some(I64)),
+                    Code::add_scaled | Code::shift_and | Code::and_shift => Facts::of(Kind::Own, I32, Some(I32)),
+                    Code::copy | Code::ref_func | Code::set | Code::set_signed | Code::select | Code::global_get => {
+                        Facts { gives_last: true, has_result: true, ..Facts::NONE }
+                    }
+                    Code::shuffle | Code::memory_size | Code::memory_grow | Code::table_get | Code::table_size | Code::table_grow => {
+                        Facts { has_result: true, is_wide: true, ..Facts::NONE }
+                    }
+                    Code::memory_fill | Code::memory_copy | Code::memory_init | Code::data_drop | Code::memory_use | Code::host
+                    | Code::float | Code::table_set | Code::table_fill | Code::table_copy | Code::table_init | Code::elem_drop => {
+                        Facts { is_wide: true, ..Facts::NONE }
+                    }
+                    _ => Facts::NONE,
+                }
+            }
         }
 
         /// The row of an opcode: what it does, and how it is written in a module.
@@ -181,6 +214,51 @@ pub enum Form {
     Lane(u8, &'static [ValType], ValType),
     /// Of an address and perhaps a value, with the number of bytes, and of lanes if one is accessed.
     Access(u8, Option<u8>, Option<ValType>, Option<ValType>),
+}
+
+/// The kind of an instruction: one of the library by its operands, or one of the engine's own.
+#[derive(Clone, Copy, PartialEq, Eq, Debug)]
+pub(crate) enum Kind {
+    Unary,
+    Binary,
+    Ternary,
+    Load,
+    Store,
+    Extract,
+    Replace,
+    Lane,
+    Own,
+}
+
+/// What is to be known of an instruction before a handler is found for it.
+#[derive(Clone, Copy)]
+pub(crate) struct Facts {
+    pub kind: Kind,
+    /// The type of the last operand, and that of the result.
+    pub operand: Option<ValType>,
+    pub result: Option<ValType>,
+    pub has_result: bool,
+    /// Whether the low word of the result is handed over to the next instruction.
+    pub gives_last: bool,
+    /// Whether its operands don't fit into an instruction of 16 bytes.
+    pub is_wide: bool,
+}
+
+impl Facts {
+    pub const NONE: Facts =
+        Facts { kind: Kind::Own, operand: None, result: None, has_result: false, gives_last: false, is_wide: false };
+
+    fn of(kind: Kind, operand: ValType, result: Option<ValType>) -> Facts {
+        let scalar = result.filter(|ty| *ty != ValType::V128);
+        Facts {
+            kind,
+            operand: Some(operand),
+            result: scalar,
+            has_result: result.is_some(),
+            gives_last: scalar.is_some(),
+            is_wide: kind == Kind::Lane,
+        }
+    }
 }
 
 /// An internal instruction. `d` is the slot of the result in the function's frame, `a`, `b` and `c` are those of operands.

@@ -63,13 +63,14 @@
 //! | `instructions` | the table of the library's instructions, and the form of the code that runs |
 //! | `floats` | the instructions on floats: which of them are the library's on bits, and which trap |
 //! | `translate`, `operands` | the validation of a function, and its translation, with its stack of operands |
+//! | `lower`, `body` | what is executed of a function: instructions with their handlers |
 //! | `engine`, `store`, `stack` | what tenants share, what a tenant has, and what calls run on |
 //! | `handle`, `arena`, `references` | who needs an item of a store, items by number, and references of functions |
 //! | `instance`, `compiled`, `items` | instances, modules, memories, tables and globals, as an embedder has them |
 //! | `values`, `func`, `caller`, `linker` | functions of the host and of guests, and what modules may import |
 //! | `call`, `resume`, `trace` | calls between the host and instances, those that wait for fuel, and those that end early |
 //! | `names` | the names of functions |
-//! | `execute` | the loop |
+//! | `execute` | the handlers, and the loop for what they lack |
 //!
 //! The program stands in `program/`.
 #![forbid(unsafe_code)]
@@ -82,6 +83,7 @@ pub use wasmi_core as library;
 pub use wasmi_core_proved as library;
 
 mod arena;
+mod body;
 #[cfg(feature = "crate")]
 #[path = "../crate/bulk.rs"]
 mod bulk;
@@ -99,6 +101,7 @@ mod instance;
 mod instructions;
 mod items;
 mod linker;
+mod lower;
 mod module;
 mod names;
 mod operands;

@@ -1,8 +1,7 @@
 //! The stack of a thread that runs a guest: the values in the frames of its calls. WebAssembly core specification, 4.2.
 
-use crate::library::{RawVal, TrapCode};
+use crate::library::RawVal;
 use crate::limits;
-use crate::translate::Function;
 
 /// Where a call goes on: a function, the number of its next instruction, and the first of the values of its frame.
 #[derive(Clone, Copy, Debug)]
@@ -73,17 +72,4 @@ impl Stack {
         let Self { values, frames, limits } = self;
         Lent { values: &mut values[..limits.values + SLOTS], frames, calls: limits.calls }
     }
-}
-
-/// Makes the frame of a function whose parameters lie there already.
-#[inline(always)]
-pub(crate) fn enter(values: &mut [RawVal], function: &Function, base: usize) -> Result<(), TrapCode> {
-    if base + function.slots + SLOTS > values.len() {
-        return Err(TrapCode::StackOverflow);
-    }
-    let begun = base + function.params;
-    values[begun..begun + function.zeros].fill(RawVal::default());
-    let begun = begun + function.zeros;
-    values[begun..begun + function.constants.len()].copy_from_slice(&function.constants);
-    Ok(())
 }

@@ -1,0 +1,17 @@
+//! Says whether handlers may call each other without end: where the compiler makes a jump of a call that comes last. Over
+//! the Rust crate it does so only if it optimises both together, as the release profile of the package in `crate/` says.
+
+use std::env;
+
+fn main() {
+    let is = |name: &str, values: &[&str]| env::var(name).is_ok_and(|it| values.contains(&it.as_str()));
+    let makes_jumps = is("OPT_LEVEL", &["2", "3", "s"])
+        && is("CARGO_CFG_TARGET_ARCH", &["x86_64", "aarch64"])
+        && !is("CARGO_CFG_TARGET_OS", &["windows"])
+        && (env::var_os("CARGO_FEATURE_CRATE").is_none() || is("PROFILE", &["release"]))
+        && env::var_os("CARGO_FEATURE_PORTABLE").is_none();
+    println!("cargo::rustc-check-cfg=cfg(jumps)");
+    if makes_jumps {
+        println!("cargo::rustc-cfg=jumps");
+    }
+}

@@ -1,0 +1,57 @@
+//! Functions as they are executed.
+
+use crate::execute::Handler;
+use crate::instructions::Op;
+use crate::library::RawVal;
+use crate::library::simd::ImmLaneIdx32;
+
+/// How many bits the number of a type takes beside that of a table.
+pub(crate) const TYPE_BITS: u32 = 20;
+
+/// An instruction with its handler. What the numbers are is the handler's: slots, a constant, a place.
+#[derive(Clone, Copy)]
+pub(crate) struct Instruction {
+    pub handler: Handler,
+    pub d: u16,
+    pub a: u16,
+    pub imm: u32,
+}
+
+impl Instruction {
+    #[inline(always)]
+    pub fn low(&self) -> u16 {
+        self.imm as u16
+    }
+
+    #[inline(always)]
+    pub fn high(&self) -> u16 {
+        (self.imm >> 16) as u16
+    }
+
+    /// The constant in `imm`.
+    #[inline(always)]
+    pub fn number(&self) -> i64 {
+        self.imm.cast_signed().into()
+    }
+
+    /// The constant in `d`.
+    #[inline(always)]
+    pub fn short(&self) -> i64 {
+        self.d.cast_signed().into()
+    }
+}
+
+/// A function as it is executed.
+pub(crate) struct Body {
+    pub params: u16,
+    /// How many slots the parameters and locals take.
+    pub locals: u16,
+    /// What the slots after those begin with.
+    pub constants: Box<[RawVal]>,
+    /// How many slots the frame takes.
+    pub slots: usize,
+    pub code: Box<[Instruction]>,
+    /// Instructions that don't fit into one of 16 bytes, by number.
+    pub wide: Box<[Op]>,
+    pub shuffles: Box<[[ImmLaneIdx32; 16]]>,
+}

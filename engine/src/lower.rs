@@ -1,0 +1,201 @@
+//! Makes what is executed of a function's code: instructions that hold their handlers.
+//!
+//! An instruction may take an operand as the last result, so that no slot is written and read between them, or hold a
+//! number as an operand. Some pairs become one instruction: a comparison and the branch on it, an addition and the access
+//! at the sum, a result and its copy, two copies, and others that are frequent.
+//!
+//! A slot of an operand is read once, by the instruction that takes the operand; only a branch that keeps its operands
+//! copies them first, and it stands between.
+
+use crate::body::{Body, Instruction};
+use crate::execute::{Handler, LAST, LEAVE, SLOT, Shape, Way, find};
+use crate::instructions::{Code, Facts, Kind, Op};
+use crate::library::{RawVal, ReadAs, V128};
+use crate::translate::Function;
+
+mod encode;
+mod fuse;
+
+/// An instruction whose handler isn't found yet.
+#[derive(Clone, Copy)]
+struct Draft {
+    op: Op,
+    facts: Facts,
+    shape: Shape,
+    /// Where the result goes, and where the operands lie. Of a branch the first is `LAST` if it is taken at 0.
+    way: [Way; 3],
+}
+
+impl Draft {
+    fn new(op: Op) -> Draft {
+        Draft { op, facts: op.code.facts(), shape: Shape::Plain, way: [SLOT; 3] }
+    }
+
+    fn handler(&self) -> Option<Handler> {
+        find(self.op.code, self.shape, self.way)
+    }
+
+    /// The same with one way changed, if there is a handler for this.
+    fn with(mut self, index: usize, way: Way) -> Option<Draft> {
+        self.way[index] = way;
+        self.handler().map(|_| self)
+    }
+}
+
+struct Lowering<'f> {
+    function: &'f Function,
+    /// The first slots of constants and of operands.
+    first: [u16; 2],
+    /// The new place of each instruction that is jumped to, and `NOWHERE` for the others.
+    places: Vec<u32>,
+    /// The instructions that jump.
+    jumps: Vec<usize>,
+    /// The slot of each constant that has one, and the constants in the order of their slots.
+    slots: Vec<Option<u16>>,
+    constants: Vec<RawVal>,
+    /// The present instruction, which may become one with the next one.
+    last: Option<Draft>,
+    code: Vec<Instruction>,
+    wide: Vec<Op>,
+}
+
+const NOWHERE: u32 = u32::MAX;
+
+/// Makes the code of a function, which charges fuel or doesn't.
+pub(crate) fn lower(function: Function, is_metered: bool) -> Body {
+    let locals = (function.params + function.zeros) as u16;
+    let count = function.constants.len();
+    let mut it = Lowering {
+        function: &function,
+        first: [locals, locals + count as u16],
+        places: labels(&function.code),
+        jumps: vec![],
+        slots: vec![None; count],
+        constants: vec![],
+        last: None,
+        code: Vec::with_capacity(function.code.len()),
+        wide: vec![],
+    };
+    for (place, op) in function.code.iter().enumerate() {
+        it.mark(place);
+        if is_metered || op.code != Code::fuel {
+            it.lower(*op);
+        }
+    }
+    it.flush();
+    let shift = it.begin(locals);
+    for jump in it.jumps {
+        let imm = &mut it.code[jump + shift].imm;
+        *imm = it.places[*imm as usize] + shift as u32;
+    }
+    Body {
+        params: function.params as u16,
+        locals,
+        constants: it.constants.into(),
+        slots: function.slots,
+        code: it.code.into(),
+        wide: it.wide.into(),
+        shuffles: function.shuffles.into(),
+    }
+}
+
+/// The places that something jumps to are 0, the others `NOWHERE`.
+fn labels(code: &[Op]) -> Vec<u32> {
+    let mut places = vec![NOWHERE; code.len() + 1];
+    for (place, op) in code.iter().enumerate() {
+        match op.code {
+            Code::branch | Code::branch_if | Code::branch_unless => places[op.imm as usize] = 0,
+            Code::branch_table => places[place + 1..=place + 1 + op.imm as usize].fill(0),
+            _ => {}
+        }
+    }
+    places
+}
+
+impl Lowering<'_> {
+    /// Puts the instruction that begins a frame before the others, if there has to be one. Returns how many there are.
+    fn begin(&mut self, locals: u16) -> usize {
+        let (zeros, params) = (self.function.zeros, self.function.params as u16);
+        if zeros == 0 && self.constants.is_empty() {
+            return 0;
+        }
+        let few = Way::try_from(zeros).ok().filter(|_| self.constants.is_empty());
+        let few = few.and_then(|count| find(Code::zero, Shape::Plain, [count, SLOT, SLOT]));
+        let handler = few.or_else(|| find(Code::begin, Shape::Plain, [SLOT; 3])).unwrap_or(LEAVE);
+        self.code.insert(0, Instruction { handler, d: params, a: locals, imm: 0 });
+        1
+    }
+
+    /// Notes the new place of an instruction that is jumped to, which becomes one with none before it.
+    fn mark(&mut self, place: usize) {
+        if self.places[place] != NOWHERE {
+            self.flush();
+            self.places[place] = self.code.len() as u32;
+        }
+    }
+
+    fn lower(&mut self, op: Op) {
+        let draft = Draft::new(op);
+        match (draft.facts.kind, op.code) {
+            (Kind::Binary, _) => self.binary(draft),
+            (_, Code::i32_eqz) => self.eqz(draft),
+            (Kind::Unary, _) => self.push_using(draft, 1, op.a),
+            (Kind::Load, _) => self.load(draft),
+            (Kind::Store, _) => self.store(draft),
+            (_, Code::copy) => self.copy(draft),
+            (_, Code::select) => self.push_using(draft, 1, op.c),
+            (_, Code::branch_if) => self.branch_if(draft, SLOT),
+            (_, Code::branch_unless) => self.branch_if(draft, LAST),
+            (_, Code::branch_table) => self.push_using(draft, 1, op.a),
+            (_, Code::ret) => self.ret(draft),
+            _ => self.push(draft),
+        }
+    }
+
+    /// Keeps an instruction, and finds the handler of the one before.
+    fn push(&mut self, draft: Draft) {
+        self.flush();
+        self.last = Some(draft);
+    }
+
+    /// The same, where an operand may be the last result.
+    fn push_using(&mut self, draft: Draft, index: usize, slot: u16) {
+        let draft = self.using_last(draft, index, slot).unwrap_or(draft);
+        self.push(draft);
+    }
+
+    fn flush(&mut self) {
+        if let Some(draft) = self.last.take() {
+            let is_jump =
+                matches!(draft.op.code, Code::branch | Code::branch_if | Code::branch_unless | Code::add_branch);
+            if is_jump || draft.shape == Shape::Branch {
+                self.jumps.push(self.code.len());
+            }
+            let instruction = self.encode(draft);
+            self.code.push(instruction);
+        }
+    }
+
+    /// An instruction with the last result as an operand. The result goes to no slot then if nothing else reads it.
+    fn using_last(&mut self, draft: Draft, index: usize, slot: u16) -> Option<Draft> {
+        let last = self.last.filter(|it| it.facts.gives_last && it.op.d == slot)?;
+        let draft = draft.with(index, LAST)?;
+        if slot >= self.first[1] {
+            self.last = last.with(0, LAST).or(Some(last));
+        }
+        Some(draft)
+    }
+
+    /// The last instruction, if its result is this operand, which nothing else reads.
+    fn only_use(&self, slot: u16) -> Option<Draft> {
+        self.last.filter(|it| it.facts.has_result && it.op.d == slot && slot >= self.first[1])
+    }
+
+    /// The bits of a constant, if one lies in the slot and has at most 64.
+    fn constant(&self, slot: u16) -> Option<u64> {
+        let index = usize::from(slot).checked_sub(self.first[0].into())?;
+        let raw = self.function.constants.get(index)?;
+        let is_narrow = V128::from(*raw).as_u128() >> 64 == 0;
+        is_narrow.then(|| raw.read_as())
+    }
+}
