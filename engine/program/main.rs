@@ -3,7 +3,9 @@
 use engine::{Config, Engine, Error, Instance, Linker, Module, Store, Val};
 use host::{Host, Unwritten};
 use options::Options;
+use profile::Names;
 use script::Script;
+use std::collections::BTreeMap;
 use std::io::Write;
 use std::process::ExitCode;
 use std::time::Duration;
@@ -11,6 +13,7 @@ use std::{env, fs, io, mem, path, thread};
 
 mod host;
 mod options;
+mod profile;
 mod script;
 mod spectest;
 mod values;
@@ -99,7 +102,7 @@ fn run_file(mut options: Options) -> Result<ExitCode, Failed> {
     let [file, words @ ..] = &words[..] else { return Err(misused("a file is missing")) };
     let (function, words) = words.split_first().map_or((START, words), |(first, rest)| (first.as_str(), rest));
     let bytes = fs::read(file).map_err(|it| misused(format!("{file} can't be read: {it}")))?;
-    let engine = Engine::new(Config::default().consume_fuel(options.fuel.is_some()));
+    let engine = Engine::new(Config::default().consume_fuel(options.fuel.is_some()).profile(options.is_profiled()));
     let read = if options.is_strict { Module::new_strict } else { Module::new };
     let module = read(&engine, &bytes).map_err(|it| Failed::Refused(format!("{file}: {it}")))?;
     let ty = values::type_of(&module, function).map_err(misused)?;
@@ -108,14 +111,19 @@ fn run_file(mut options: Options) -> Result<ExitCode, Failed> {
     options.given.args.insert(0, name.into_owned());
     let mut store = Store::new(&engine, Host::new(mem::take(&mut options.given)));
     store.set_caps(options.caps);
-    let instance = instantiate(&mut store, &module, options.fuel);
+    // A profile is of fuel too, which is there without end where no option limits it.
+    let fuel = options.fuel.or(options.is_profiled().then_some(u64::MAX));
+    if options.traces_calls {
+        trace_calls(&mut store, &module);
+    }
+    let instance = instantiate(&mut store, &module, fuel);
     let instance = instance.map_err(|it| ended(&store, it).of_file(file))?;
     let begun = processor_time();
     let results = call(&instance, &mut store, function, &args);
     let time = processor_time() - begun;
     let results = results.map_err(|it| ended(&store, it)).and_then(|results| print(&mut store, &results));
     let status = results.map_or_else(|failed| tell(&failed), |()| ExitCode::SUCCESS);
-    report(&options, &store, time)?;
+    report(&options, &mut store, &module, time)?;
     Ok(status)
 }
 
@@ -147,9 +155,19 @@ fn ended(store: &Store<Host>, error: Error) -> Failed {
 /// The functions that were open, a line each, the innermost one first.
 fn backtrace(store: &Store<Host>) -> String {
     let frames = store.backtrace();
-    let names = frames.first().map(|it| it.module.function_names()).unwrap_or_default();
-    let name = |function: u32| names.get(&function).map_or(format!("function {function}"), |it| it.to_string());
-    frames.iter().map(|it| format!("\n    in {}", name(it.function))).collect()
+    let Some(innermost) = frames.first() else { return String::new() };
+    let names = Names::of(&innermost.module);
+    frames.iter().map(|it| format!("\n    in {}", names.get(it.function))).collect()
+}
+
+/// Prints the name of each function that is called, further to the right the more calls are open.
+fn trace_calls(store: &mut Store<Host>, module: &Module) {
+    let names: BTreeMap<_, _> = module.function_names().into_iter().map(|(it, name)| (it, name.to_owned())).collect();
+    store.trace_calls(move |depth, function| {
+        let name = names.get(&function).map_or_else(|| format!("function {function}"), String::clone);
+        // A standard error that is closed ends no program.
+        let _ = writeln!(io::stderr(), "{:indent$}{name}", "", indent = 2 * depth.min(40));
+    });
 }
 
 /// Prints results after what the guest has printed.
@@ -160,8 +178,16 @@ fn print(store: &mut Store<Host>, results: &[String]) -> Result<(), Failed> {
 }
 
 /// Prints to the standard error what the options ask for.
-fn report(options: &Options, store: &Store<Host>, time: Duration) -> Result<(), Failed> {
+fn report(options: &Options, store: &mut Store<Host>, module: &Module, time: Duration) -> Result<(), Failed> {
     let mut errors = io::stderr();
+    let names = Names::of(module);
+    if options.has_profile {
+        profile::print(&store.profile(), &names, &mut errors)?;
+    }
+    if let Some(path) = &options.folded {
+        let file = fs::File::create(path).map_err(|it| misused(format!("{path} can't be written: {it}")))?;
+        profile::write_folded(&store.profile(), &names, io::BufWriter::new(file))?;
+    }
     if options.has_time {
         writeln!(errors, "time: {:.3} ms", time.as_secs_f64() * 1000.0)?;
     }

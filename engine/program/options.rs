@@ -17,6 +17,11 @@ it runs _start: the module is a program that imports WASI preview 1, and WORDS a
   --table-cap ELEMENTS   the most elements of all tables together; 10,000,000 if it isn't given
   --strict-floats        refuse a module with floats; without it an instruction that computes with floats traps
   --time                 print the processor time of the call to the standard error
+  --profile              print to the standard error which functions and instructions were executed, and the fuel of each
+                         function
+  --folded FILE          write the fuel of each stack of functions to a file, in the lines that flamegraph.pl and
+                         inferno-flamegraph read
+  --trace-calls          print each function that is called to the standard error
   --script               read lines from the standard input, as the documentation of the module `script` says
   -h, --help             print this
   -V, --version          print the version
@@ -41,10 +46,20 @@ pub struct Options {
     pub caps: Caps,
     pub is_strict: bool,
     pub has_time: bool,
+    pub has_profile: bool,
+    pub folded: Option<String>,
+    pub traces_calls: bool,
     pub is_script: bool,
     pub has_help: bool,
     pub has_version: bool,
     pub given: Given,
+}
+
+impl Options {
+    /// Whether what is executed has to be counted.
+    pub fn is_profiled(&self) -> bool {
+        self.has_profile || self.folded.is_some() || self.traces_calls
+    }
 }
 
 /// Reads the arguments. An error is a sentence.
@@ -58,6 +73,9 @@ pub fn options(mut args: impl Iterator<Item = String>) -> Result<Options, String
             "--seed" => options.given.seed = number(&arg, args.next())?,
             "--strict-floats" => options.is_strict = true,
             "--time" => options.has_time = true,
+            "--profile" => options.has_profile = true,
+            "--folded" => options.folded = Some(text(&arg, args.next())?),
+            "--trace-calls" => options.traces_calls = true,
             "--script" => options.is_script = true,
             "--clock" => options.given.has_clock = true,
             "--dir" => options.given.folders.push(Folder::named(&text(&arg, args.next())?)?),

@@ -4,6 +4,7 @@ use crate::execute::Handler;
 use crate::instructions::Op;
 use crate::library::RawVal;
 use crate::library::simd::ImmLaneIdx32;
+use crate::profile::Piece;
 
 /// How many bits the number of a type takes beside that of a table.
 pub(crate) const TYPE_BITS: u32 = 20;
@@ -54,4 +55,6 @@ pub(crate) struct Body {
     /// Instructions that don't fit into one of 16 bytes, by number.
     pub wide: Box<[Op]>,
     pub shuffles: Box<[[ImmLaneIdx32; 16]]>,
+    /// If it is profiled, the instructions of its pieces.
+    pub pieces: Box<[Piece]>,
 }

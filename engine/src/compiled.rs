@@ -46,7 +46,7 @@ impl Module {
     ///
     /// What is wrong with the bytes, and where.
     pub fn new(engine: &Engine, bytes: &[u8]) -> Result<Module, Refusal> {
-        Self::of(engine, module::Module::new(bytes, engine.is_metered())?)
+        Self::of(engine, module::Module::new(bytes, engine.config())?)
     }
 
     /// The same, but a module that has a type, a constant or an instruction of floats is refused.
@@ -55,7 +55,7 @@ impl Module {
     ///
     /// What is wrong with the bytes, and where.
     pub fn new_strict(engine: &Engine, bytes: &[u8]) -> Result<Module, Refusal> {
-        Self::of(engine, module::Module::new_strict(bytes, engine.is_metered())?)
+        Self::of(engine, module::Module::new_strict(bytes, engine.config())?)
     }
 
     fn of(engine: &Engine, inner: module::Module) -> Result<Module, Refusal> {

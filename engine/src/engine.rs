@@ -8,12 +8,29 @@ use std::sync::{Arc, Mutex, PoisonError};
 #[derive(Clone, Copy, Debug, Default)]
 pub struct Config {
     is_metered: bool,
+    is_profiled: bool,
 }
 
 impl Config {
+    pub(crate) fn is_metered(self) -> bool {
+        self.is_metered
+    }
+
+    pub(crate) fn is_profiled(self) -> bool {
+        self.is_profiled
+    }
+
     /// Whether code takes fuel. If not, which is so at first, a store has no meter.
     pub fn consume_fuel(&mut self, is_metered: bool) -> &mut Self {
         self.is_metered = is_metered;
+        self
+    }
+
+    /// Whether code takes fuel and counts what it executes, for [`Store::profile`](crate::Store::profile). If not, which is
+    /// so at first, nothing is counted.
+    pub fn profile(&mut self, is_profiled: bool) -> &mut Self {
+        self.is_metered |= is_profiled;
+        self.is_profiled = is_profiled;
         self
     }
 }
@@ -40,6 +57,10 @@ impl Engine {
     /// Whether its modules take fuel.
     pub fn is_metered(&self) -> bool {
         self.shared.config.is_metered
+    }
+
+    pub(crate) fn config(&self) -> Config {
+        self.shared.config
     }
 
     pub(crate) fn is_same(&self, other: &Self) -> bool {

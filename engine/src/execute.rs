@@ -58,6 +58,7 @@ pub(crate) fn execute(inner: &mut Inner, at: &mut Activation) -> Result<Exit, Tr
                 return Ok(Exit::Float(FloatInstruction { name, offset }));
             }
             Code::memory_use => current = op.imm as usize,
+            Code::profile => inner.begin_piece(op.imm, at),
             _ => match left(op, inner, at) {
                 Err(TrapCode::OutOfFuel) => return Ok(Exit::OutOfFuel),
                 ended => ended?,

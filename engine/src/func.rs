@@ -3,6 +3,7 @@
 use crate::call::{Callee, HostFn};
 use crate::caller::Caller;
 use crate::context::{AsContext, AsContextMut};
+use crate::engine::Config;
 use crate::error::Error;
 use crate::handle::Owner;
 use crate::instance;
@@ -171,7 +172,7 @@ impl<T> Host<T> {
 
 /// An instance of which a function of the host is the only function.
 fn of_host<T>(store: &mut Store<T>, ty: FuncType, call: Arc<HostFn<T>>) -> Func {
-    let module = Arc::new(Module::of_host(&ty, store.inner.engine.is_metered()));
+    let module = Arc::new(Module::of_host(&ty, *Config::default().consume_fuel(store.inner.engine.is_metered())));
     let callee = Host { ty, call }.callee();
     let owner = instance::insert(store, module, vec![callee], vec![]).expect("there are too many functions");
     Func { owner, function: 0 }

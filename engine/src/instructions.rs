@@ -142,6 +142,8 @@ macro_rules! codes {
             // Control: `imm` is the place that is jumped to, the amount of fuel, or the number of values or of a function.
             fuel, branch, branch_if, branch_unless, branch_table, ret, call, call_indirect, return_call, return_call_indirect, host,
             unreachable,
+            // A piece of code begins, of which `imm` is the number.
+            profile,
             // An instruction that computes with floats: `lane` is its number, `imm` its place in the file.
             float,
             // Values: from slot `a` to slot `d`.
@@ -177,7 +179,7 @@ macro_rules! codes {
                         Facts { has_result: true, is_wide: true, ..Facts::NONE }
                     }
                     Code::memory_fill | Code::memory_copy | Code::memory_init | Code::data_drop | Code::memory_use | Code::host
-                    | Code::float | Code::table_set | Code::table_fill | Code::table_copy | Code::table_init | Code::elem_drop => {
+                    | Code::profile | Code::float | Code::table_set | Code::table_fill | Code::table_copy | Code::table_init | Code::elem_drop => {
                         Facts { is_wide: true, ..Facts::NONE }
                     }
                     _ => Facts::NONE,

@@ -69,7 +69,7 @@
 //! | `instance`, `compiled`, `items` | instances, modules, memories, tables and globals, as an embedder has them |
 //! | `values`, `func`, `caller`, `linker` | functions of the host and of guests, and what modules may import |
 //! | `call`, `resume`, `trace` | calls between the host and instances, those that wait for fuel, and those that end early |
-//! | `names` | the names of functions |
+//! | `names`, `profile` | the names of functions, and what was executed |
 //! | `execute` | the handlers, and the loop for what they lack |
 //!
 //! The program stands in `program/`.
@@ -105,6 +105,7 @@ mod lower;
 mod module;
 mod names;
 mod operands;
+mod profile;
 mod proposals;
 mod reader;
 mod references;
@@ -125,6 +126,7 @@ pub use func::{Func, IntoFunc, TypedFunc};
 pub use instance::{Contents, Instance};
 pub use items::{Extern, Global, Memory, Table};
 pub use linker::Linker;
+pub use profile::{Profile, ProfiledFunction};
 pub use reader::{Refusal, RefusalKind};
 pub use resume::{OutOfFuel, ResumableCall};
 pub use stack::StackLimits;

@@ -8,9 +8,11 @@
 //! copies them first, and it stands between.
 
 use crate::body::{Body, Instruction};
+use crate::engine::Config;
 use crate::execute::{Handler, LAST, LEAVE, SLOT, Shape, Way, find};
 use crate::instructions::{Code, Facts, Kind, Op};
 use crate::library::{RawVal, ReadAs, V128};
+use crate::profile::pieces_of;
 use crate::translate::Function;
 
 mod encode;
@@ -61,8 +63,9 @@ struct Lowering<'f> {
 
 const NOWHERE: u32 = u32::MAX;
 
-/// Makes the code of a function, which charges fuel or doesn't.
-pub(crate) fn lower(function: Function, is_metered: bool) -> Body {
+/// Makes the code of a function, which charges fuel and is profiled or isn't.
+pub(crate) fn lower(function: Function, config: Config) -> Body {
+    let mut piece = 0;
     let locals = (function.params + function.zeros) as u16;
     let count = function.constants.len();
     let mut it = Lowering {
@@ -78,7 +81,11 @@ pub(crate) fn lower(function: Function, is_metered: bool) -> Body {
     };
     for (place, op) in function.code.iter().enumerate() {
         it.mark(place);
-        if is_metered || op.code != Code::fuel {
+        if op.code == Code::fuel && config.is_profiled() {
+            it.lower(Op::of(Code::profile, piece));
+            piece += 1;
+        }
+        if config.is_metered() || op.code != Code::fuel {
             it.lower(*op);
         }
     }
@@ -96,6 +103,7 @@ pub(crate) fn lower(function: Function, is_metered: bool) -> Body {
         code: it.code.into(),
         wide: it.wide.into(),
         shuffles: function.shuffles.into(),
+        pieces: if config.is_profiled() { pieces_of(&function.code) } else { Box::default() },
     }
 }
 

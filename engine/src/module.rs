@@ -3,6 +3,7 @@
 //! WebAssembly core specification, 5.5 (sections) and 3.5 (validation of modules).
 
 use crate::body::Body;
+use crate::engine::Config;
 use crate::library::{FuncType, GlobalType, MemoryType, RawRef, RawVal, RefType, TableType, ValType, wasm};
 use crate::lower::lower;
 use crate::operands::Operands;
@@ -111,7 +112,7 @@ pub(crate) struct Module {
     pub(crate) data: Vec<Data>,
     pub(crate) data_count: Option<u32>,
     pub(crate) code: Vec<Body>,
-    pub(crate) is_metered: bool,
+    pub(crate) config: Config,
     /// Of each function, whether a constant, an export or a segment names it, so that code may refer to it.
     pub(crate) is_declared: Vec<bool>,
     /// What the section of names has.
@@ -129,19 +130,19 @@ pub(crate) struct Imported {
 
 impl Module {
     /// Reads a module in the binary format. An instruction that computes with floats traps when it is executed.
-    pub fn new(bytes: &[u8], is_metered: bool) -> Result<Module, Refusal> {
-        Self::read(Reader::new(bytes, false), is_metered)
+    pub fn new(bytes: &[u8], config: Config) -> Result<Module, Refusal> {
+        Self::read(Reader::new(bytes, false), config)
     }
 
     /// The same, but a module that has a type, a constant or an instruction of floats is refused.
-    pub fn new_strict(bytes: &[u8], is_metered: bool) -> Result<Module, Refusal> {
-        Self::read(Reader::new(bytes, true), is_metered)
+    pub fn new_strict(bytes: &[u8], config: Config) -> Result<Module, Refusal> {
+        Self::read(Reader::new(bytes, true), config)
     }
 
     /// A module of one function, which it imports.
-    pub(crate) fn of_host(ty: &FuncType, is_metered: bool) -> Module {
+    pub(crate) fn of_host(ty: &FuncType, config: Config) -> Module {
         let imported = Imported { functions: 1, ..Imported::default() };
-        let code = vec![lower(Function::of_host(0, ty), is_metered)];
+        let code = vec![lower(Function::of_host(0, ty), config)];
         Module { types: vec![ty.clone()], same: vec![0], functions: vec![0], imported, code, ..Module::default() }
     }
 
@@ -149,13 +150,13 @@ impl Module {
         &self.types[self.functions[function as usize] as usize]
     }
 
-    fn read(mut reader: Reader, is_metered: bool) -> Read<Module> {
+    fn read(mut reader: Reader, config: Config) -> Read<Module> {
         let begin = reader;
         ensure(reader.take(4).ok() == Some(b"\0asm"), begin.malformed("this isn't a WebAssembly module"))?;
         let (begin, version) = (reader, reader.take(4)?);
         let unknown = begin.unknown(proposals::of_version(version), "the version of the binary format isn't 1");
         ensure(version == [1, 0, 0, 0], unknown)?;
-        let mut module = Module { is_metered, ..Module::default() };
+        let mut module = Module { config, ..Module::default() };
         let (mut last, mut has_data) = (0, false);
         while !reader.is_empty() {
             let begin = reader;
@@ -236,7 +237,7 @@ impl Module {
                 let ty = self.known(reader, self.types.len(), "a type is unknown")?;
                 self.functions.push(ty);
                 let function = Function::of_host(self.imported.functions as u32, &self.types[ty as usize]);
-                self.code.push(lower(function, self.is_metered));
+                self.code.push(lower(function, self.config));
                 (&mut self.imported.functions, Item::Function)
             }
             1 => {
@@ -339,7 +340,7 @@ impl Module {
         let mut operands = Operands::default();
         for body in bodies {
             let function = translate::function(self, self.code.len() as u32, body, &mut operands)?;
-            self.code.push(lower(function, self.is_metered));
+            self.code.push(lower(function, self.config));
         }
         Ok(())
     }

@@ -13,6 +13,7 @@ use crate::library::{
 };
 use crate::limits;
 use crate::module::Module;
+use crate::profile::Recorder;
 use crate::references::References;
 use crate::stack::{Stack, StackLimits};
 use crate::trace::Trace;
@@ -86,6 +87,7 @@ pub(crate) struct Inner {
     /// How many calls of the host are open, each in a function of the host that the one before has called.
     pub nested: usize,
     pub trace: Trace,
+    pub recorder: Recorder,
     pub dropped: Arc<Dropped>,
     /// The instances that are needed as long as the store is.
     pub pinned: Vec<Arc<Owner>>,
@@ -129,6 +131,7 @@ impl<T> Store<T> {
             top: 0,
             nested: 0,
             trace: Trace::default(),
+            recorder: Recorder::default(),
             dropped: Arc::default(),
             pinned: vec![],
         };

@@ -165,6 +165,47 @@ fn copied_bytes_cost_fuel() {
     assert!(errors.starts_with("trap: all fuel consumed"), "{errors}");
 }
 
+/// The last or the first word of each line that has a number there.
+fn numbers<'a>(lines: &'a str, word: fn(&'a str) -> Option<&'a str>) -> u64 {
+    lines.lines().filter_map(|it| word(it)?.parse::<u64>().ok()).sum()
+}
+
+#[test]
+fn profiles() {
+    let place = Place::new("profiles");
+    let (plain, plain_fuel) = place.ends("tiny.wasm run 50 --fuel 100000000", 0);
+    let (output, errors) = place.ends("tiny.wasm run 50 --fuel 100000000 --profile --folded folded", 0);
+    assert_eq!(output, plain);
+    assert_eq!(errors.lines().last(), plain_fuel.lines().last());
+    let functions = numbers(errors.split("\n\n").next().unwrap(), |it| it.split_whitespace().next());
+    let folded = fs::read_to_string(place.0.join("folded")).unwrap();
+    assert_eq!(functions, numbers(&folded, |it| it.split_whitespace().last()));
+    // What the functions haven't taken was taken for the module's segments.
+    let fuel = numbers(plain_fuel.trim_start_matches("fuel: "), |it| it.split_whitespace().next());
+    assert!(functions <= fuel && fuel < functions + 100, "{functions} {fuel}");
+}
+
+#[test]
+fn instructions_are_counted() {
+    let place = Place::new("counted");
+    // The loop of `fill` is run until the fuel is used: a call of the host and a branch each time.
+    let (_, errors) = place.ends("terminal.wasm --fuel 1000000 --profile -- fill", 1);
+    let count = |name: &str| -> u64 {
+        let line = errors.lines().find(|it| it.split_whitespace().last() == Some(name));
+        line.and_then(|it| it.split_whitespace().next()?.parse().ok()).unwrap_or_else(|| panic!("{name}: {errors}"))
+    };
+    let calls = errors.lines().find(|it| it.ends_with("  random_get")).and_then(|it| it.split_whitespace().nth(3));
+    assert_eq!(calls.map(str::to_owned), Some(count("host").saturating_sub(2).to_string()));
+}
+
+#[test]
+fn calls_are_traced() {
+    let place = Place::new("traced");
+    let calls = "start\n  args_sizes_get\n  args_get\n  stop_later\n    stop\n      put\n        fd_write\nstopping\n";
+    let (_, errors) = place.ends("terminal.wasm --trace-calls -- stop", 1);
+    assert!(errors.starts_with(calls), "{errors}");
+}
+
 #[cfg(unix)]
 #[test]
 fn a_closed_output_ends_quietly() {

@@ -65,7 +65,16 @@ fn body(code: Code, shape: Shape, handler: Handler, count: u32) -> Body {
     let code = [first].into_iter().chain((1..=count).map(instruction)).chain([last, last]).collect();
     let wide = [Op { d: 8, a: 8, b: 8, lane: 1, ..Op::new(Code::shuffle) }].into();
     let lanes = [0; 16].map(|lane: u8| ImmLaneIdx32::try_from(lane).ok().unwrap());
-    Body { params: 1, locals: 4, constants: [].into(), slots: 16, code, wide, shuffles: [lanes].into() }
+    Body {
+        params: 1,
+        locals: 4,
+        constants: [].into(),
+        slots: 16,
+        code,
+        wide,
+        shuffles: [lanes].into(),
+        pieces: [].into(),
+    }
 }
 
 /// The height of the stack after a function, if the probe was reached.
