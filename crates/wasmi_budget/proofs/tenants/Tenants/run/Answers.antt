@@ -7,19 +7,19 @@ use Rattle.wasmi_budget.proofs.tenants.Tenants.run.Goals as goal
 
 pub returns-in_default-clause-no_tenant : goal.returns-in_default-clause-no_tenant
 returns-in_default-clause-no_tenant c = (
-  λ _. no_value _ _ _ c.self.invariant _ c.self.view_is _ c.deref.ensures.value _ c.in_default.ensures,
+  λ _. no_value _ _ _ c.self.invariant _ c.self.view_is _ c.deref.ensures.value _ c.in_default.ensures.found,
   λ _. refl,
 )
 
 pub run-requires : goal.run-requires
 run-requires c = record {
   totals = c.requires.totals _ (its_value _ _ _ c.self.invariant _ c.self.view_is _ c.deref.ensures.value _ _
-      c.in-Some.ensures _ c.index_mut-machine.ensures.value);
+      c.in-Some.ensures.found _ c.index_mut-machine.ensures.value);
 }
 
 pub returns-in_err-replies-clause-no_tenant : goal.returns-in_err-replies-clause-no_tenant
 returns-in_err-replies-clause-no_tenant c =
-    let there = its_value _ _ _ c.self.invariant _ c.self.view_is _ c.deref.ensures.value _ _ c.in-Some.ensures _
+    let there = its_value _ _ _ c.self.invariant _ c.self.view_is _ c.deref.ensures.value _ _ c.in-Some.ensures.found _
     c.index_mut-machine.ensures.value in
     let refused : c.from_residual.result ≡ Err OutOfMemory = search rules in
     (λ error. absurd cc, λ none. absurd (none-some _ (sym none ∙ there)))
@@ -39,16 +39,16 @@ returns-in_err-replies-clause-refused c = always_err c.from_residual.result (
 pub returns-clause-ran : goal.returns-clause-ran
 returns-clause-ran c = record {
   machine = _;
-  found = its_value _ _ _ c.self.invariant _ c.self.view_is _ c.deref.ensures.value _ _ c.in-Some.ensures _
+  found = its_value _ _ _ c.self.invariant _ c.self.view_is _ c.deref.ensures.value _ _ c.in-Some.ensures.found _
       c.index_mut-machine.ensures.value;
   machine' = c.run.new.self;
   ran = c.in_ok-replies.ensures.run;
-  after = set_value _ _ _ c.self.invariant _ c.self.view_is _ c.deref.ensures.value _ _ c.in-Some.ensures _;
+  after = set_value _ _ _ c.self.invariant _ c.self.view_is _ c.deref.ensures.value _ _ c.in-Some.ensures.found _;
   held = c.run.ensures.held;
 }
 
 pub returns-clause-no_tenant : goal.returns-clause-no_tenant
 returns-clause-no_tenant c =
-    let there = its_value _ _ _ c.self.invariant _ c.self.view_is _ c.deref.ensures.value _ _ c.in-Some.ensures _
+    let there = its_value _ _ _ c.self.invariant _ c.self.view_is _ c.deref.ensures.value _ _ c.in-Some.ensures.found _
     c.index_mut-machine.ensures.value in
     (λ error. absurd cc, λ none. absurd (none-some _ (sym none ∙ there)))
