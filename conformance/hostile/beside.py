@@ -1,11 +1,12 @@
 """Writes the calls that the programs of this folder make in two libraries at once. usage: beside.py FOLDER
 
 From the prototypes of include/ it writes FOLDER/beside.c, with a function for --wrap for each function of the headers, FOLDER/wraps, the
-linker's options, and FOLDER/names, the new names of the other library's functions for `objcopy --redefine-syms`. Each function calls the
-library that a program is linked with, and on copies of all that is written the other one, and compares the results, what was written, and
-the bytes around the copies. A handle's twin is found by the handle's pointer. Requests for memory are counted for each library alone, so
-that the same ones are refused. When the program ends, how often each function was called and how often it differed is added to the file
-that BESIDE names, and the status is 1 if one differed. With BESIDE_PLANTED the first call of each function is made to differ."""
+linker's options, FOLDER/names, the new names of the other library's functions for `objcopy --redefine-syms`, and FOLDER/parts, what of each
+function is compared. Each function calls the library that a program is linked with, and on copies of all that is written the other one,
+and compares the results, what was written, and the bytes around the copies. A handle's twin is found by the handle's pointer. Requests for
+memory are counted for each library alone, so that the same ones are refused. When the program ends, how often each function was called and
+differed is added to the file that BESIDE names, and the status is 1 if one differed. With BESIDE_PLANTED each part is made to differ once,
+and added to that file; a difference that isn't seen ends the program with 3."""
 import pathlib
 import sys
 
@@ -27,7 +28,8 @@ HEAD = """#define _GNU_SOURCE
 
 enum { EDGE = 64, MOST_HANDLES = 4096, OTHER = 0xa7 };
 
-static struct { const char *name; long calls, differ; } functions[COUNT];
+static struct { const char *name; long calls, differ; unsigned planted; } functions[COUNT];
+static bool is_planting;
 static pthread_mutex_t lock = PTHREAD_MUTEX_INITIALIZER;
 static struct { uint8_t *at; wasmi_machine twin; } twins[MOST_HANDLES];
 
@@ -77,28 +79,50 @@ static bool put(uint8_t *at, bool is_made, wasmi_machine twin) {
     return is_made == twin.is_made;
 }
 
-static bool is_planted(int function) {
-    return functions[function].calls == 0 && getenv("BESIDE_PLANTED") != NULL;
+/* The first part of a function that has something in it and wasn't made to differ before, or -1. */
+static int planted_part(int function, int count, const size_t *sizes) {
+    int part = 0;
+    pthread_mutex_lock(&lock);
+    while (is_planting && part < count && (sizes[part] == 0 || functions[function].planted & 1u << part))
+        part++;
+    if (is_planting && part < count)
+        functions[function].planted |= 1u << part;
+    else
+        part = -1;
+    pthread_mutex_unlock(&lock);
+    return part;
 }
 
-static void counted(int function, const char *name, bool is_same) {
+static void counted(int function, const char *name, bool is_same, int part) {
     pthread_mutex_lock(&lock);
     functions[function].name = name;
     functions[function].calls++;
-    if (!is_same && functions[function].differ++ < 3)
+    if (part >= 0 && is_same) {
+        printf("%s: a difference that is planted isn't seen\\n", name);
+        fflush(NULL);
+        _exit(3);
+    }
+    if (part < 0 && !is_same && functions[function].differ++ < 3)
         printf("%s differs\\n", name);
     pthread_mutex_unlock(&lock);
+}
+
+__attribute__((constructor)) static void begun(void) {
+    is_planting = getenv("BESIDE_PLANTED") != NULL;
 }
 
 __attribute__((destructor)) static void told(void) {
     const char *name = getenv("BESIDE");
     FILE *file = name != NULL ? fopen(name, "a") : NULL;
     int differ = file == NULL;
-    for (int i = 0; i < COUNT && file != NULL; i++)
-        if (functions[i].calls > 0) {
+    for (int i = 0; i < COUNT && file != NULL; i++) {
+        if (functions[i].calls > 0)
             fprintf(file, "%s %ld %ld\\n", functions[i].name, functions[i].calls, functions[i].differ);
-            differ |= functions[i].differ > 0;
-        }
+        for (int part = 0; part < 32; part++)
+            if (functions[i].planted >> part & 1)
+                fprintf(file, "planted %s %d\\n", functions[i].name, part);
+        differ |= functions[i].differ > 0;
+    }
     if (file == NULL || fclose(file) != 0 || differ) {
         fflush(NULL);
         _exit(1);
@@ -134,37 +158,41 @@ def parameters_of(parameters):
     return made
 
 
+def arrays_of(parameters):
+    """What a function writes besides handles: the type, the name, and how many items it has."""
+    return [(kind, field, count) for kind, field, count, is_written in parameters_of(parameters) if count and is_written and kind not in HANDLES]
+
+
 def wrapper(number, name, given, parameters):
     """The function that takes the place of one of the headers."""
     its = parameters_of(parameters)
-    written = [(kind, field, count) for kind, field, count, is_written in its if count and is_written]
-    handles, arrays = [it for it in written if it[0] in HANDLES], [it for it in written if it[0] not in HANDLES]
+    handles, arrays = [(kind, field) for kind, field, _, _ in its if kind in HANDLES], arrays_of(parameters)
     said = ", ".join(parameters)
     lines = [f"{given} __real_{name}({said});", f"{given} source_{name}({said});", f"{given} __wrap_{name}({said}) {{"]
-    lines += [f"    wasmi_machine {field}_found = taken({field}->at, {field}->is_made);" for _, field, _ in handles]
-    lines += [f"    {kind} {field}_twin = {{{field}_found.at, {field}_found.is_made}};" for kind, field, _ in handles]
-    lines += [f"    size_t {field}_size = {count} * sizeof *{field};\n    {kind} *{field}_twin = COPY({field}, {field}_size);" for kind, field, count in arrays]
-    twins = {field: f"&{field}_twin" for _, field, _ in handles} | {field: f"{field}_size == 0 ? {field} : {field}_twin" for _, field, _ in arrays}
+    lines += [f"    wasmi_machine {field}_found = taken({field}->at, {field}->is_made);" for _, field in handles]
+    lines += [f"    {kind} {field}_twin = {{{field}_found.at, {field}_found.is_made}};" for kind, field in handles]
+    lines += [f"    size_t {field}_size = {field} == NULL ? 0 : {count} * sizeof *{field};\n    {kind} *{field}_twin = COPY({field}, {field}_size);" for kind, field, count in arrays]
+    twins = {field: f"&{field}_twin" for _, field in handles} | {field: f"{field}_size == 0 ? {field} : {field}_twin" for _, field, _ in arrays}
     left = "" if given == "void" else f"{given} here = "
     lines += ["    long before = requests;", f"    {left}__real_{name}({', '.join(field for _, field, _, _ in its)});", "    long after = requests;", "    requests = before;"]
     lines += [f"    {left.replace('here', 'there')}source_{name}({', '.join(twins.get(field, field) for _, field, _, _ in its)});", "    requests = after;", "    bool is_same = true;"]
-    lines += [f"    if (is_planted({number}))\n        {planted(given, handles, arrays)};"]
+    lines += [f"    const size_t sizes[] = {{{', '.join(size for size, _, _ in parts_of(given, arrays)) or '0'}}};",
+              f"    int part = planted_part({number}, {len(parts_of(given, arrays))}, sizes);"]
+    lines += [f"    if (part == {at})\n        {difference};" for at, (_, difference, _) in enumerate(parts_of(given, arrays))]
     if given != "void":
         lines += [f"    is_same &= {f'same_{given}(&here, &there)' if given.startswith('wasmi_') else 'here == there'};"]
     for kind, field, count in arrays:
-        lines += [f"    is_same &= has_edges({field}_twin, {field}_size);", f"    for (size_t i = 0; i < {count}; i++)",
+        lines += [f"    is_same &= has_edges({field}_twin, {field}_size);", f"    for (size_t i = 0; i < {field}_size / sizeof *{field}; i++)",
                   f"        is_same &= {f'same_{kind}(&{field}[i], &{field}_twin[i])' if kind.startswith('wasmi_') else f'{field}[i] == {field}_twin[i]'};"]
-    lines += [f"    is_same &= put({field}->at, {field}->is_made, (wasmi_machine){{{field}_twin.at, {field}_twin.is_made}});" for _, field, _ in handles]
-    return "\n".join([*lines, f'    counted({number}, "{name}", is_same);', "    return here;" if given != "void" else "", "}"])
+    lines += [f"    is_same &= put({field}->at, {field}->is_made, (wasmi_machine){{{field}_twin.at, {field}_twin.is_made}});" for _, field in handles]
+    return "\n".join([*lines, f'    counted({number}, "{name}", is_same, part);', "    return here;" if given != "void" else "", "}"])
 
 
-def planted(given, handles, arrays):
-    """A difference in what the other library gave, for a call to see."""
-    if given.startswith("wasmi_"):
-        return "there.status ^= 1"
-    if given != "void":
-        return "there ^= 1"
-    return f"{arrays[0][1]}_twin[0] ^= 1" if arrays else "is_same = false"
+def parts_of(given, arrays):
+    """What of a call is compared: how large it is, how it is made to differ, and what it is."""
+    made = [] if given == "void" else [("1", "there.status ^= 1" if given.startswith("wasmi_") else "there ^= 1", "result")]
+    made += [(f"{field}_size", f"*(uint8_t *){field}_twin ^= 1", field) for _, field, _ in arrays]
+    return made + [("1", f"((uint8_t *){field}_twin)[{field}_size] ^= 1", f"the end of {field}") for _, field, _ in arrays]
 
 
 def main(folder):
@@ -175,6 +203,7 @@ def main(folder):
     parts += [wrapper(number, name, given, parameters) for number, (name, (given, *parameters)) in enumerate(calls.items())]
     (folder / "beside.c").write_text("\n".join(parts) + "\n")
     (folder / "wraps").write_text("".join(f"-Wl,--wrap={name}\n" for name in calls))
+    (folder / "parts").write_text("".join(f"{name} {part}\n" for name, (given, *parameters) in calls.items() for part in range(len(parts_of(given, arrays_of(parameters))))))
     (folder / "names").write_text("".join(f"{name} source_{name}\n" for name in calls))
 
 
