@@ -3,10 +3,10 @@
 From the prototypes of include/ it writes FOLDER/beside.c, with a function for --wrap for each function of the headers, FOLDER/wraps, the
 linker's options, FOLDER/names, the new names of the other library's functions for `objcopy --redefine-syms`, and FOLDER/parts, what of each
 function is compared. Each function calls the library that a program is linked with, and on copies of all that is written the other one,
-and compares the results, what was written, and the bytes around the copies. A handle's twin is found by the handle's pointer. Requests for
-memory are counted for each library alone, so that the same ones are refused. When the program ends, how often each function was called and
-differed is added to the file that BESIDE names, and the status is 1 if one differed. With BESIDE_PLANTED each part is made to differ once,
-and added to that file; a difference that isn't seen ends the program with 3."""
+and compares the results, what was written, and the bytes around the copies. A handle's twin is found by the handle's pointer. A call for
+which a request for memory was refused isn't compared, nor what follows on its handle, since the two don't make the same requests. When the
+program ends, how often each function was called and differed is added to the file that BESIDE names, and the status is 1 if one differed.
+With BESIDE_PLANTED each part is made to differ once, and added to that file; a difference that isn't seen ends the program with 3."""
 import pathlib
 import sys
 
@@ -51,16 +51,20 @@ static bool has_edges(const void *copy, size_t size) {
     return true;
 }
 
-/* The twin of a handle is taken out before a call, and put in after it. */
-static wasmi_machine taken(uint8_t *at, bool is_made) {
+/* The twin of a handle is taken out before a call, and put in after it. A handle has none from a call on for which memory
+   was refused, unless it is said to have changed nothing. */
+static wasmi_machine taken(uint8_t *at, bool is_made, bool *is_compared) {
     wasmi_machine twin = {0};
+    size_t i = 0;
     pthread_mutex_lock(&lock);
-    for (size_t i = 0; is_made && i < MOST_HANDLES; i++)
-        if (twins[i].at == at) {
-            twin = twins[i].twin;
-            twins[i].at = NULL;
-            break;
-        }
+    while (is_made && i < MOST_HANDLES && twins[i].at != at)
+        i++;
+    if (i == MOST_HANDLES) {
+        *is_compared = false;
+    } else if (is_made) {
+        twin = twins[i].twin;
+        twins[i].at = NULL;
+    }
     pthread_mutex_unlock(&lock);
     return twin;
 }
@@ -129,8 +133,8 @@ __attribute__((destructor)) static void told(void) {
     }
 }
 
-/* That of blocks.h, in a program that has it. */
-__attribute__((weak)) _Thread_local long requests;
+/* Those of blocks.h, in a program that has them. */
+__attribute__((weak)) _Thread_local long requests, refused;
 """
 
 
@@ -165,14 +169,20 @@ def wrapper(number, name, given, parameters):
     its = parameters_of(parameters)
     handles, arrays = [(kind, field) for kind, field, _, _ in its if kind in HANDLES], arrays_of(parameters)
     said = ", ".join(parameters)
-    lines = [f"{given} __real_{name}({said});", f"{given} source_{name}({said});", f"{given} __wrap_{name}({said}) {{"]
-    lines += [f"    wasmi_machine {field}_found = taken({field}->at, {field}->is_made);" for _, field in handles]
+    lines = [f"{given} __wrap_{name}({said}) {{"]
+    lines += ["    bool is_compared = true;"]
+    lines += [f"    wasmi_machine {field}_found = taken({field}->at, {field}->is_made, &is_compared);" for _, field in handles]
     lines += [f"    {kind} {field}_twin = {{{field}_found.at, {field}_found.is_made}};" for kind, field in handles]
     lines += [f"    size_t {field}_size = {field} == NULL ? 0 : {count} * sizeof *{field};\n    {kind} *{field}_twin = COPY({field}, {field}_size);" for kind, field, count in arrays]
     twins = {field: f"&{field}_twin" for _, field in handles} | {field: f"{field}_size == 0 ? {field} : {field}_twin" for _, field, _ in arrays}
     left = "" if given == "void" else f"{given} here = "
-    lines += ["    long before = requests;", f"    {left}__real_{name}({', '.join(field for _, field, _, _ in its)});", "    long after = requests;", "    requests = before;"]
-    lines += [f"    {left.replace('here', 'there')}source_{name}({', '.join(twins.get(field, field) for _, field, _, _ in its)});", "    requests = after;", "    bool is_same = true;"]
+    puts = [f"put({field}->at, {field}->is_made, (wasmi_machine){{{field}_twin.at, {field}_twin.is_made}})" for _, field in handles]
+    is_unchanged = "here.status == WASMI_NO_ROOM" if given.startswith("wasmi_") else "false" if given == "void" else "here == WASMI_NO_ROOM"
+    end = "    return here;" if given != "void" else "    return;"
+    lines += ["    const long before = requests;", f"    {left}__real_{name}({', '.join(field for _, field, _, _ in its)});"]
+    lines += ["    const long after = requests, which = refused;", "    if (!is_compared || (which > before && which <= after)) {", *(f"        is_compared &= {is_unchanged};\n        if (is_compared)\n            {it};\n        else\n            source_{kind}_drop(&{field}_twin);" for it, (kind, field) in zip(puts, handles)), f"    {end}", "    }", "    refused = 0;"]
+    lines += [f"    {left.replace('here', 'there')}source_{name}({', '.join(twins.get(field, field) for _, field, _, _ in its)});"]
+    lines += ["    requests = after, refused = which;", "    bool is_same = true;"]
     lines += [f"    const size_t sizes[] = {{{', '.join(size for size, _, _ in parts_of(given, arrays)) or '0'}}};",
               f"    int part = planted_part({number}, {len(parts_of(given, arrays))}, sizes);"]
     lines += [f"    if (part == {at})\n        {difference};" for at, (_, difference, _) in enumerate(parts_of(given, arrays))]
@@ -181,8 +191,8 @@ def wrapper(number, name, given, parameters):
     for kind, field, count in arrays:
         lines += [f"    is_same &= has_edges({field}_twin, {field}_size);", f"    for (size_t i = 0; i < {field}_size / sizeof *{field}; i++)",
                   f"        is_same &= {f'same_{kind}(&{field}[i], &{field}_twin[i])' if kind.startswith('wasmi_') else f'{field}[i] == {field}_twin[i]'};"]
-    lines += [f"    is_same &= put({field}->at, {field}->is_made, (wasmi_machine){{{field}_twin.at, {field}_twin.is_made}});" for _, field in handles]
-    return "\n".join([*lines, f'    counted({number}, "{name}", is_same, part);', "    return here;" if given != "void" else "", "}"])
+    lines += [f"    is_same &= {it};" for it in puts]
+    return "\n".join([*lines, f'    counted({number}, "{name}", is_same, part);', end, "}"])
 
 
 def parts_of(given, arrays):
@@ -197,6 +207,7 @@ def main(folder):
     calls = {name: it for header in headers for name, it in prototypes(header).items()}
     kinds = {name: fields for header in headers for name, fields in structs(header).items() if name not in HANDLES}
     parts = [HEAD.replace("COUNT]", f"{len(calls)}]").replace("< COUNT ", f"< {len(calls)} "), *(same_struct(*it) for it in kinds.items())]
+    parts += [f"{given} {front}_{name}({', '.join(parameters)});" for front in ("__real", "source") for name, (given, *parameters) in calls.items()]
     parts += [wrapper(number, name, given, parameters) for number, (name, (given, *parameters)) in enumerate(calls.items())]
     (folder / "beside.c").write_text("\n".join(parts) + "\n")
     (folder / "wraps").write_text("".join(f"-Wl,--wrap={name}\n" for name in calls))

@@ -19,9 +19,8 @@ void __wrap_free(void *old);
 
 /* The blocks that any thread asked for and none has given back. */
 static atomic_long blocks;
-/* The requests of this thread, which beside.py sets too, and the number of the one that is refused, if any is. */
-_Thread_local long requests;
-static _Thread_local long refused;
+/* The requests of this thread, and the number of the one that is refused, if any is. What beside.py writes sets them too. */
+_Thread_local long requests, refused;
 
 static int is_refused(size_t size) {
     requests++;
