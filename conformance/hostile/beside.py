@@ -164,54 +164,68 @@ def arrays_of(parameters):
     return [(kind, field, count) for kind, field, count, is_written in parameters_of(parameters) if count and is_written and kind not in HANDLES]
 
 
+def uncompared(kinds, puts, is_unchanged, end):
+    """What a function does where it compares nothing: the twin stays if nothing was changed, and ends otherwise."""
+    lines = ["    if (!is_compared || (which > before && which <= after)) {"]
+    for put, (kind, field) in zip(puts, kinds):
+        lines += [f"        is_compared &= {is_unchanged};", "        if (is_compared)", f"            {put};", "        else", f"            source_{kind}_drop(&{field}_twin);"]
+    return [*lines, f"    {end}", "    }"]
+
+
+def compared(given, arrays):
+    """The comparison of what the two libraries gave and wrote."""
+    lines = ["    bool is_same = true;"] if given == "void" else [f"    bool is_same = {same(given, 'here', 'there')};"]
+    for kind, field, _ in arrays:
+        lines += [f"    is_same &= has_edges({field}_twin, {field}_size);", f"    for (size_t i = 0; i < {field}_size / sizeof *{field}; i++)"]
+        lines += [f"        is_same &= {same(kind, f'{field}[i]', f'{field}_twin[i]')};"]
+    return lines
+
+
+def same(kind, one, other):
+    return f"same_{kind}(&{one}, &{other})" if kind.startswith("wasmi_") else f"{one} == {other}"
+
+
 def wrapper(number, name, given, parameters):
     """The function that takes the place of one of the headers."""
-    its = parameters_of(parameters)
-    handles, arrays = [(kind, field) for kind, field, _, _ in its if kind in HANDLES], arrays_of(parameters)
-    said = ", ".join(parameters)
-    lines = [f"{given} __wrap_{name}({said}) {{"]
-    lines += ["    bool is_compared = true;"]
-    lines += [f"    wasmi_machine {field}_found = taken({field}->at, {field}->is_made, &is_compared);" for _, field in handles]
-    lines += [f"    {kind} {field}_twin = {{{field}_found.at, {field}_found.is_made}};" for kind, field in handles]
-    lines += [f"    size_t {field}_size = {field} == NULL ? 0 : {count} * sizeof *{field};\n    {kind} *{field}_twin = COPY({field}, {field}_size);" for kind, field, count in arrays]
+    its, arrays = parameters_of(parameters), arrays_of(parameters)
+    handles = [(kind, field) for kind, field, _, _ in its if kind in HANDLES]
+    lines = [f"{given} __wrap_{name}({', '.join(parameters)}) {{", "    bool is_compared = true;"]
+    for kind, field in handles:
+        lines += [f"    wasmi_machine {field}_found = taken({field}->at, {field}->is_made, &is_compared);", f"    {kind} {field}_twin = {{{field}_found.at, {field}_found.is_made}};"]
+    for kind, field, count in arrays:
+        lines += [f"    size_t {field}_size = {field} == NULL ? 0 : {count} * sizeof *{field};", f"    {kind} *{field}_twin = COPY({field}, {field}_size);"]
     twins = {field: f"&{field}_twin" for _, field in handles} | {field: f"{field}_size == 0 ? {field} : {field}_twin" for _, field, _ in arrays}
-    left = "" if given == "void" else f"{given} here = "
     puts = [f"put({field}->at, {field}->is_made, (wasmi_machine){{{field}_twin.at, {field}_twin.is_made}})" for _, field in handles]
     is_unchanged = "here.status == WASMI_NO_ROOM" if given.startswith("wasmi_") else "false" if given == "void" else "here == WASMI_NO_ROOM"
-    end = "    return here;" if given != "void" else "    return;"
-    lines += ["    const long before = requests;", f"    {left}__real_{name}({', '.join(field for _, field, _, _ in its)});"]
-    lines += ["    const long after = requests, which = refused;", "    if (!is_compared || (which > before && which <= after)) {", *(f"        is_compared &= {is_unchanged};\n        if (is_compared)\n            {it};\n        else\n            source_{kind}_drop(&{field}_twin);" for it, (kind, field) in zip(puts, handles)), f"    {end}", "    }", "    refused = 0;"]
-    lines += [f"    {left.replace('here', 'there')}source_{name}({', '.join(twins.get(field, field) for _, field, _, _ in its)});"]
-    lines += ["    requests = after, refused = which;", "    bool is_same = true;"]
-    lines += [f"    const size_t sizes[] = {{{', '.join(size for size, _, _ in parts_of(given, arrays)) or '0'}}};",
-              f"    int part = planted_part({number}, {len(parts_of(given, arrays))}, sizes);"]
-    lines += [f"    if (part == {at})\n        {difference};" for at, (_, difference, _) in enumerate(parts_of(given, arrays))]
-    if given != "void":
-        lines += [f"    is_same &= {f'same_{given}(&here, &there)' if given.startswith('wasmi_') else 'here == there'};"]
-    for kind, field, count in arrays:
-        lines += [f"    is_same &= has_edges({field}_twin, {field}_size);", f"    for (size_t i = 0; i < {field}_size / sizeof *{field}; i++)",
-                  f"        is_same &= {f'same_{kind}(&{field}[i], &{field}_twin[i])' if kind.startswith('wasmi_') else f'{field}[i] == {field}_twin[i]'};"]
-    lines += [f"    is_same &= {it};" for it in puts]
+    here, there, end = ("", "", "    return;") if given == "void" else (f"{given} here = ", f"{given} there = ", "    return here;")
+    lines += ["    const long before = requests;", f"    {here}__real_{name}({', '.join(field for _, field, _, _ in its)});", "    const long after = requests, which = refused;"]
+    lines += [*uncompared(handles, puts, is_unchanged, end), "    refused = 0;"]
+    lines += [f"    {there}source_{name}({', '.join(twins.get(field, field) for _, field, _, _ in its)});", "    requests = after, refused = which;"]
+    parts = parts_of(given, arrays)
+    lines += [f"    const size_t sizes[] = {{{', '.join(size for size, _ in parts) or '0'}}};", f"    int part = planted_part({number}, {len(parts)}, sizes);"]
+    lines += [f"    if (part == {at})\n        {difference};" for at, (_, difference) in enumerate(parts)]
+    lines += [*compared(given, arrays), *(f"    is_same &= {it};" for it in puts)]
     return "\n".join([*lines, f'    counted({number}, "{name}", is_same, part);', end, "}"])
 
 
 def parts_of(given, arrays):
-    """What of a call is compared: how large it is, how it is made to differ, and what it is."""
-    made = [] if given == "void" else [("1", "there.status ^= 1" if given.startswith("wasmi_") else "there ^= 1", "result")]
-    made += [(f"{field}_size", f"*(uint8_t *){field}_twin ^= 1", field) for _, field, _ in arrays]
-    return made + [("1", f"((uint8_t *){field}_twin)[{field}_size] ^= 1", f"the end of {field}") for _, field, _ in arrays]
+    """What of a call is compared: how large it is, and how it is made to differ."""
+    made = [] if given == "void" else [("1", "there.status ^= 1" if given.startswith("wasmi_") else "there ^= 1")]
+    made += [(f"{field}_size", f"*(uint8_t *){field}_twin ^= 1") for _, field, _ in arrays]
+    return made + [("1", f"((uint8_t *){field}_twin)[{field}_size] ^= 1") for _, field, _ in arrays]
 
 
 def main(folder):
     headers = [(TOP / f"include/wasmi_{name}.h").read_text() for name in ("core", "instructions", "machine", "memory")]
     calls = {name: it for header in headers for name, it in prototypes(header).items()}
     kinds = {name: fields for header in headers for name, fields in structs(header).items() if name not in HANDLES}
-    parts = [HEAD.replace("COUNT]", f"{len(calls)}]").replace("< COUNT ", f"< {len(calls)} "), *(same_struct(*it) for it in kinds.items())]
-    parts += [f"{given} {front}_{name}({', '.join(parameters)});" for front in ("__real", "source") for name, (given, *parameters) in calls.items()]
-    parts += [wrapper(number, name, given, parameters) for number, (name, (given, *parameters)) in enumerate(calls.items())]
-    (folder / "beside.c").write_text("\n".join(parts) + "\n")
+    texts = [HEAD.replace("COUNT]", f"{len(calls)}]").replace("< COUNT ", f"< {len(calls)} "), *(same_struct(*it) for it in kinds.items())]
+    texts += [f"{given} {front}_{name}({', '.join(parameters)});" for front in ("__real", "source") for name, (given, *parameters) in calls.items()]
+    texts += [wrapper(number, name, given, parameters) for number, (name, (given, *parameters)) in enumerate(calls.items())]
+    (folder / "beside.c").write_text("\n".join(texts) + "\n")
     (folder / "wraps").write_text("".join(f"-Wl,--wrap={name}\n" for name in calls))
-    (folder / "parts").write_text("".join(f"{name} {part}\n" for name, (given, *parameters) in calls.items() for part in range(len(parts_of(given, arrays_of(parameters))))))
+    parts = {name: len(parts_of(given, arrays_of(parameters))) for name, (given, *parameters) in calls.items()}
+    (folder / "parts").write_text("".join(f"{name} {part}\n" for name, count in parts.items() for part in range(count)))
     (folder / "names").write_text("".join(f"{name} source_{name}\n" for name in calls))
 
 
