@@ -3,6 +3,7 @@
 #include "wasmi_memory.h"
 #include <inttypes.h>
 #include <stdio.h>
+#include <stdlib.h>
 #include <string.h>
 #include <sys/mman.h>
 
@@ -19,6 +20,12 @@ static void said(const char *name, uint8_t status, uint64_t number) {
            number, memory.size / PAGE, meter.left, quota.held_bytes / PAGE);
 }
 
+/* Sets the fuel that is left; the meter is on. */
+static void refuel(uint64_t amount) {
+    if (wasmi_fuel_set(&meter, amount) != WASMI_DONE)
+        abort();
+}
+
 static void grow(const char *name, uint64_t pages) {
     uint64_t number = 0;
     uint8_t status = wasmi_memory_grow(&memory, region, reserved, pages, &meter, &quota, &number);
@@ -28,13 +35,13 @@ static void grow(const char *name, uint64_t pages) {
 static void under_fuel_and_a_limit(void) {
     grow("grow by none", 0);
     grow("grow without fuel", 1);
-    wasmi_fuel_set(&meter, 40000);
+    refuel(40000);
     grow("grow by two", 2);
     grow("grow beyond the maximum", 62);
     grow("grow beyond the cap", 38);
     grow("grow up to the cap", 37);
     quota.cap_bytes = UINT64_MAX;
-    wasmi_fuel_set(&meter, 1000000);
+    refuel(1000000);
     reserved = 60 * PAGE;
     grow("grow in a short region", 24);
     reserved = 64 * PAGE;
@@ -114,7 +121,7 @@ int main(void) {
     fuel();
     forged();
     memory.size = PAGE;
-    wasmi_fuel_set(&meter, 3000);
+    refuel(3000);
     settle("one page, not permitted", 1);
     settle("two pages", 2);
     settle("two pages, no fuel", 2);
