@@ -1,6 +1,7 @@
 /* Compares each function of wasmi_instructions.h with the instruction of its name by number, on some operands, which
    make each trap, and on COUNT random ones. At the end it prints how many were compared. usage: by_name [COUNT] */
 #include "wasmi_instructions.h"
+#include "wasmi_oracle.h"
 #include <stdio.h>
 #include <stdlib.h>
 #include <string.h>

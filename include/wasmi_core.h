@@ -53,12 +53,9 @@ extern "C" {
    A Boolean is 0 or 1. */
 typedef struct { uint64_t lo, hi; } wasmi_words;
 
-/* What an instruction gives for one element of an array: the value, or 0 if it traps, and the status. */
-typedef struct { wasmi_words value; uint8_t status; } wasmi_result;
-
 /* What each call except wasmi_script_run returns. The statuses below 253 are the numbers of traps, and an instruction
-   has no other traps than these three. UNKNOWN is tested first, then NO_LANE, LENGTHS_DIFFER and traps; one of an
-   element of an array is in its wasmi_result alone. After any status except WASMI_DONE nothing is written. */
+   has no other traps than these three. UNKNOWN is tested first, then NO_LANE, LENGTHS_DIFFER (of the arrays of
+   wasmi_oracle.h) and traps. After any status except WASMI_DONE nothing is written. */
 enum {
     WASMI_DONE = 0,
     /* a load or a store past the end of the bytes */
@@ -86,43 +83,28 @@ enum {
 uint8_t wasmi_script_run(const uint8_t *script, size_t script_len, uint8_t *text, size_t text_len, size_t *needed)
     WASMI_CHECKED WASMI_NOT_NULL(5);
 
-/* Executes the instruction that has a number in the table below, on values or on each element of arrays, which all
-   have the same length. Of these instructions only those of two operands trap. A shift of a vector takes its amount
+/* Executes the instruction that has a number in the table below. Of these instructions only those of two operands trap. A shift of a vector takes its amount
    from the low 32 bits of b. Of the relaxed instructions a swizzle gives 0 for an index above 15, a selection of lanes
    takes each bit by the mask's, the one product of q15 that doesn't fit is the greatest number, and a dot reads both
    operands with sign and its sums of 16 bits wrap. */
 uint8_t wasmi_unary(uint16_t number, wasmi_words a, wasmi_words *value) WASMI_CHECKED WASMI_NOT_NULL(3);
-uint8_t wasmi_unary_each(uint16_t number, const wasmi_words *a, size_t a_len, wasmi_words *values, size_t values_len)
-    WASMI_CHECKED;
 uint8_t wasmi_binary(uint16_t number, wasmi_words a, wasmi_words b, wasmi_words *value) WASMI_CHECKED WASMI_NOT_NULL(4);
-uint8_t wasmi_binary_each(uint16_t number, const wasmi_words *a, size_t a_len, const wasmi_words *b, size_t b_len,
-                          wasmi_result *results, size_t results_len) WASMI_CHECKED;
 uint8_t wasmi_ternary(uint16_t number, wasmi_words a, wasmi_words b, wasmi_words c, wasmi_words *value)
     WASMI_CHECKED WASMI_NOT_NULL(5);
-uint8_t wasmi_ternary_each(uint16_t number, const wasmi_words *a, size_t a_len, const wasmi_words *b, size_t b_len,
-                           const wasmi_words *c, size_t c_len, wasmi_words *values, size_t values_len) WASMI_CHECKED;
 
-/* Loads and stores at ptr + offset, where 2^64 or more is past the end, on bytes of the caller's. wasmi_load_each
-   loads a value for each element of ptrs; there are as many results. The loads and stores of whole integers (i32.load,
-   i64.load, i32.store, i64.store) are load_u32, load_u64, store32 and store64. */
+/* Loads and stores at ptr + offset, where 2^64 or more is past the end, on bytes of the caller's. The loads and stores
+   of whole integers (i32.load, i64.load, i32.store, i64.store) are load_u32, load_u64, store32 and store64. */
 uint8_t wasmi_load(uint16_t number, const uint8_t *memory, size_t memory_len, uint64_t ptr, uint64_t offset,
                    wasmi_words *value) WASMI_CHECKED WASMI_NOT_NULL(6);
-uint8_t wasmi_load_each(uint16_t number, const uint8_t *memory, size_t memory_len, const uint64_t *ptrs,
-                        size_t ptrs_len, uint64_t offset, wasmi_result *results, size_t results_len) WASMI_CHECKED;
 uint8_t wasmi_store(uint16_t number, uint8_t *memory, size_t memory_len, uint64_t ptr, uint64_t offset,
                     wasmi_words value) WASMI_CHECKED;
 
-/* Executes an instruction on one lane, whose index is below the number of lanes, on values or on each element of
-   arrays, which all have the same length. A replacement takes its item from the second operand. */
+/* Executes an instruction on one lane, whose index is below the number of lanes. A replacement takes its item from the
+   second operand. */
 uint8_t wasmi_extract_lane(uint16_t number, uint8_t lane, wasmi_words a, wasmi_words *value)
     WASMI_CHECKED WASMI_NOT_NULL(4);
-uint8_t wasmi_extract_lane_each(uint16_t number, uint8_t lane, const wasmi_words *a, size_t a_len, wasmi_words *values,
-                                size_t values_len) WASMI_CHECKED;
 uint8_t wasmi_replace_lane(uint16_t number, uint8_t lane, wasmi_words a, wasmi_words item, wasmi_words *value)
     WASMI_CHECKED WASMI_NOT_NULL(5);
-uint8_t wasmi_replace_lane_each(uint16_t number, uint8_t lane, const wasmi_words *a, size_t a_len,
-                                const wasmi_words *items, size_t items_len, wasmi_words *values, size_t values_len)
-    WASMI_CHECKED;
 uint8_t wasmi_load_lane(uint16_t number, uint8_t lane, const uint8_t *memory, size_t memory_len, uint64_t ptr,
                         uint64_t offset, wasmi_words a, wasmi_words *value) WASMI_CHECKED WASMI_NOT_NULL(8);
 uint8_t wasmi_store_lane(uint16_t number, uint8_t lane, uint8_t *memory, size_t memory_len, uint64_t ptr,
