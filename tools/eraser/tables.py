@@ -35,6 +35,7 @@ REQUIRES = {
     "sized: IsSized ty size": ("is_sized(ty, size)", NO_SUCH_SIZE),
     "lent: IsSome (loan self)": ("self.limiter.is_some()", "the reference lends no limiter"),
     "within: size.old ≤ length region.old": ("*size <= region.len()", "the size is above the length of the region"),
+    "within: size.old ≤ length region.now": ("*size <= region.len()", "the size is above the length of the region"),
     "totals: HoldsTotals (L.Reserving.holdings limiter.old) machine.old":
         ("u128::from(limiter.held_bytes()) == machine.total_bytes()"
          " && u128::from(limiter.held_elements()) == machine.total_elements()",
