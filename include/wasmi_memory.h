@@ -5,7 +5,8 @@
    room to grow in place. A table is a wasmi_table and a region of references. So a region may be reserved address space
    with guard pages, and a struct with its bytes may be copied, stored and sent: a snapshot, a fork, a shared mapping.
    A memory that is made or grown gets zeros: each of its new bytes is written, so that it has to be accessible before
-   the call (wasmi_memory_question gives the new size). No byte past the new size is written.
+   the call (wasmi_memory_question gives the new size). No byte past the new size is written, and
+   wasmi_memory_grow_zeroed writes none at all.
    The loads and stores of wasmi_core.h work on (region, memory.size).
 
    Meters and quotas: a wasmi_meter with is_on == 0 is no meter, and then nothing is charged. A wasmi_quota with
@@ -105,6 +106,13 @@ uint8_t wasmi_memory_new(wasmi_memory *memory, uint8_t *region, size_t region_le
    has taken its permission back, and no fuel is taken. */
 uint8_t wasmi_memory_grow(wasmi_memory *memory, uint8_t *region, size_t region_len, uint64_t pages, wasmi_meter *meter,
                           wasmi_quota *quota, uint64_t *number) WASMI_CHECKED WASMI_NOT_NULL(1, 5, 6, 7);
+
+/* Grows a memory as wasmi_memory_grow does, into bytes of the region that are zeros already, as fresh pages of mmap are,
+   and writes none of them: a growth takes no time for its bytes, and no page is touched. Where they aren't zeros, the
+   memory has what stands there; the guest reads it then, and nothing else follows. */
+uint8_t wasmi_memory_grow_zeroed(wasmi_memory *memory, const uint8_t *region, size_t region_len, uint64_t pages,
+                                 wasmi_meter *meter, wasmi_quota *quota, uint64_t *number)
+    WASMI_CHECKED WASMI_NOT_NULL(1, 5, 6, 7);
 
 /* Ends a memory: the quota gives up its size in bytes, so that others can have it, and the struct stands for no memory
    from then on. Its size is 0 then, so that no load or store reaches the region, and page_size_log2 is 255, so that

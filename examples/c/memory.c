@@ -1,11 +1,13 @@
 /* A guest memory in a reserved region of address space: it is grown in place across calls, under fuel and a limit, and
    refused in each way; then under a limiter of one's own. It is C and C++. */
+#define _DEFAULT_SOURCE
 #include "wasmi_memory.h"
 #include <inttypes.h>
 #include <stdio.h>
 #include <stdlib.h>
 #include <string.h>
 #include <sys/mman.h>
+#include <unistd.h>
 
 #define PAGE ((size_t)65536)
 
@@ -103,6 +105,29 @@ static void settle(const char *name, uint64_t pages) {
     printf("%-24s asked %d, told %d\n", "", answers.asked, answers.told);
 }
 
+/* Fresh pages of the system are zeros: a growth over 256 MiB of them writes nothing, so they stay with the system. */
+static void fresh_pages(void) {
+    const size_t most = 4096 * PAGE, size = (size_t)sysconf(_SC_PAGESIZE);
+    wasmi_memory large = memory;
+    size_t touched = 0;
+    uint8_t *fresh = (uint8_t *)mmap(NULL, most, PROT_READ | PROT_WRITE, MAP_PRIVATE | MAP_ANONYMOUS, -1, 0);
+    unsigned char *resident = (unsigned char *)malloc(most / size);
+    uint64_t number = 0;
+    if (fresh == MAP_FAILED || resident == NULL || madvise(fresh, most, MADV_NOHUGEPAGE) < 0)
+        return;
+    large.maximum = 4096;
+    meter.is_on = 0;
+    uint8_t status = wasmi_memory_new(&large, fresh, most, &quota);
+    if (status == WASMI_DONE)
+        status = wasmi_memory_grow_zeroed(&large, fresh, most, 4095, &meter, &quota, &number);
+    if (mincore(fresh, most, resident) == 0)
+        for (size_t i = 0; i < most / size; i++)
+            touched += resident[i] & 1;
+    printf("%-24s status %d, %zu pages, %zu of them touched\n", "256 MiB of fresh pages", status, large.size / PAGE,
+           (touched * size + PAGE - 1) / PAGE);
+    free(resident);
+}
+
 int main(void) {
     region = (uint8_t *)mmap(NULL, reserved, PROT_READ | PROT_WRITE, MAP_PRIVATE | MAP_ANONYMOUS, -1, 0);
     if (region == MAP_FAILED)
@@ -129,6 +154,7 @@ int main(void) {
     uint64_t pages = 0;
     uint8_t status = wasmi_memory_size(&memory, region, reserved, &pages);
     said("size", status, pages);
+    fresh_pages();
     return 0;
 }
 
@@ -164,4 +190,5 @@ two pages, no fuel       status 37, number     0,  3 pages, fuel 952, held 64
 beyond the maximum       status 33, number     0,  3 pages, fuel 952, held 64
                          asked 0, told 0
 size                     status  0, number     3,  3 pages, fuel 952, held 64
+256 MiB of fresh pages   status 0, 4096 pages, 1 of them touched
 */

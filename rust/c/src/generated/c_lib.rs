@@ -1064,6 +1064,36 @@ mod memory {
     /// # Contract
     ///
     /// ```text
+    /// ensures grown: GrowsBy of_memory quota_rules (by_pages pages)
+    ///     (embedded memory.old region.now meter.old (limiter_of quota.old) number.old) result
+    ///     (embedded memory.new (zeroed region.now memory.old.size memory.new.size) meter.new
+    ///     (limiter_of quota.new) number.new)
+    /// ensures quota: KeepsQuota quota.old quota.new
+    /// ensures invalid: IsNone of_memory memory.old region.now → quota.new ≡ quota.old
+    /// ensures unasked: (ty : MemoryTypeValue) → IsState memory.old region.now ty
+    ///     → (pages ≡ 0) ⊎ (in_bounds ty (memory.old.size / page_bytes ty.page + pages) ≡ false)
+    ///     → quota.new ≡ quota.old
+    /// ```
+    ///
+    /// Definitions: [`GrowsBy`](crate::specs::machine::ExchangeSpecs#GrowsBy), [`quota_rules`](crate::specs::meter::CappedSpecs#quota_rules), [`zeroed`](crate::specs::region::MemorySpecs#zeroed), [`MemoryTypeValue`](crate::specs::store::MemorySpecs#MemoryTypeValue), [`in_bounds`](crate::specs::store::MemorySpecs#in_bounds), [`page_bytes`](crate::specs::store::MemorySpecs#page_bytes).
+    #[unsafe(no_mangle)]
+    pub unsafe extern "C" fn wasmi_memory_grow_zeroed(
+        memory: &mut MemoryNumbers,
+        region: *const u8,
+        region_len: usize,
+        pages: u64,
+        meter: &mut MeterNumbers,
+        quota: &mut QuotaNumbers,
+        number: &mut u64,
+    ) -> u8 {
+        let region = unsafe { crate::memory::items(region, region_len) };
+
+        on_memory::grow_zeroed(memory, region, pages, meter, quota, number)
+    }
+
+    /// # Contract
+    ///
+    /// ```text
     /// ensures ended: EndsMemory (placed memory.old region.now) (limiter_of quota.old) result
     ///     memory.new (limiter_of quota.new)
     /// ensures quota: KeepsQuota quota.old quota.new
