@@ -25,7 +25,7 @@ static size_t page_of(const wasmi_memory *m) {
 }
 
 static wide greatest_of(const wasmi_memory *m) {
-    return ((wide)1 << (m->is_64 ? 64 : 32)) / page_of(m);
+    return two_to_32_or_64(m->is_64) / page_of(m);
 }
 
 static bool has_type(const wasmi_memory *m) {

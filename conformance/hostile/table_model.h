@@ -22,7 +22,7 @@ typedef struct {
 static const uint32_t copy_of_none[1] = {0};
 
 static wide indices_of(const wasmi_table *t) {
-    return (wide)1 << (t->is_64 ? 64 : 32);
+    return two_to_32_or_64(t->is_64);
 }
 
 static bool has_type(const wasmi_table *t) {
