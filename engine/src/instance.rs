@@ -278,7 +278,7 @@ fn passes_functions(module: &module::Module) -> bool {
 
 /// Makes the memories, tables, globals and segments of an instance.
 fn allocate(inner: &mut Inner, number: u32) -> Result<(), Error> {
-    let Inner { instances, items, caps, .. } = inner;
+    let Inner { instances, items, limiter, .. } = inner;
     let Items { memories, tables, globals } = items;
     let entity = &mut instances[number];
     let (module, first) = (entity.module.clone(), entity.first);
@@ -288,12 +288,12 @@ fn allocate(inner: &mut Inner, number: u32) -> Result<(), Error> {
     }
     let global = |it: u32| *globals[entity.globals[it as usize]].get_raw();
     for ty in &module.memories[module.imported.memories..] {
-        let memory = library::Memory::new(*ty, &mut caps.lent()).map_err(of_memory)?;
+        let memory = library::Memory::new(*ty, &mut limiter.lent()).map_err(of_memory)?;
         entity.memories.push(memories.insert(memory));
     }
     for (ty, init) in &module.tables[module.imported.tables..] {
         let init = TypedRawRef::new(init.value(first, &global).into(), ty.element());
-        let table = library::Table::new(*ty, init, &mut caps.lent()).map_err(of_table)?;
+        let table = library::Table::new(*ty, init, &mut limiter.lent()).map_err(of_table)?;
         entity.tables.push(tables.insert(table));
     }
     for segment in &module.elements {

@@ -77,7 +77,7 @@ impl Memory {
     pub fn new(mut context: impl AsContextMut, ty: MemoryType) -> Result<Memory, Error> {
         let store = context.as_context_mut().store;
         store.collect();
-        let memory = library::Memory::new(ty, &mut store.inner.caps.lent()).map_err(crate::execute::of_memory)?;
+        let memory = library::Memory::new(ty, &mut store.inner.limiter.lent()).map_err(crate::execute::of_memory)?;
         let number = store.inner.items.memories.insert(memory);
         Ok(Memory { owner: store.inner.owner(Kept::Memory(number)), number })
     }
@@ -102,7 +102,7 @@ impl Memory {
         store.collect();
         store.inner.check(&self.owner);
         let memory = &mut store.inner.items.memories[self.number];
-        Ok(memory.grow(pages, None, &mut store.inner.caps.lent()).map_err(crate::execute::of_memory)?)
+        Ok(memory.grow(pages, None, &mut store.inner.limiter.lent()).map_err(crate::execute::of_memory)?)
     }
 
     /// Its bytes.
@@ -163,7 +163,7 @@ impl Table {
         let store = context.as_context_mut().store;
         store.collect();
         let init = element(ty, init)?;
-        let table = library::Table::new(ty, init, &mut store.inner.caps.lent()).map_err(crate::execute::of_table)?;
+        let table = library::Table::new(ty, init, &mut store.inner.limiter.lent()).map_err(crate::execute::of_table)?;
         let number = store.inner.items.tables.insert(table);
         Ok(Table { owner: store.inner.owner(Kept::Table(number)), number })
     }
@@ -212,7 +212,7 @@ impl Table {
         store.inner.check(&self.owner);
         let table = &mut store.inner.items.tables[self.number];
         let init = element(table.ty(), init)?;
-        Ok(table.grow(count, init, None, &mut store.inner.caps.lent()).map_err(crate::execute::of_table)?)
+        Ok(table.grow(count, init, None, &mut store.inner.limiter.lent()).map_err(crate::execute::of_table)?)
     }
 
     fn get_table<'a, T>(&self, context: &StoreContext<'a, T>) -> &'a library::Table {

@@ -8,8 +8,8 @@ use crate::engine::Engine;
 use crate::error::Error;
 use crate::handle::{Dropped, Kept, Owner};
 use crate::library::{
-    ElementSegment, Fuel, FuelCostsProvider, Global, LimiterError, Memory, ResourceLimiter, ResourceLimiterRef, Table,
-    TrapCode,
+    ElementSegment, Fuel, FuelCostsProvider, Global, LimiterError, Memory, MemoryError, ResourceLimiter,
+    ResourceLimiterRef, Table, TableError, TrapCode,
 };
 use crate::limits;
 use crate::module::Module;
@@ -17,6 +17,7 @@ use crate::profile::Recorder;
 use crate::references::References;
 use crate::stack::{Stack, StackLimits};
 use crate::trace::Trace;
+use std::mem;
 use std::sync::{Arc, Weak};
 
 /// Two caps, on the bytes of all memories and on the elements of all tables of a store: what is left of each.
@@ -35,24 +36,48 @@ impl Default for Caps {
     }
 }
 
-impl Caps {
-    pub(crate) fn lent(&mut self) -> ResourceLimiterRef<'_> {
+/// The caps of a store, as the library asks for them. What it is allowed can still fail, by the maximum of a table, by
+/// fuel or by the system; then it doesn't count.
+#[derive(Default)]
+pub(crate) struct Limiter {
+    pub caps: Caps,
+    /// What was taken last.
+    taken: usize,
+}
+
+impl Limiter {
+    pub fn lent(&mut self) -> ResourceLimiterRef<'_> {
         (self as &mut dyn ResourceLimiter).into()
     }
 }
 
-/// Takes what is added, if that much is left.
-fn take(left: &mut usize, from: usize, to: usize) -> Result<bool, LimiterError> {
-    Ok(left.checked_sub(to - from).map(|rest| *left = rest).is_some())
+/// Takes this much, if it is left, and notes how much was taken.
+fn take(left: &mut usize, taken: &mut usize, added: usize) -> bool {
+    let rest = left.checked_sub(added);
+    *taken = rest.map_or(0, |_| added);
+    rest.map(|rest| *left = rest).is_some()
+}
+
+/// Adds to what is left. A cap may have been set to all that there is meanwhile.
+fn give(left: &mut usize, freed: usize) {
+    *left = left.saturating_add(freed);
 }
 
 #[rustfmt::skip]
-impl ResourceLimiter for Caps {
+impl ResourceLimiter for Limiter {
     fn memory_growing(&mut self, from: usize, to: usize, _most: Option<usize>) -> Result<bool, LimiterError> {
-        take(&mut self.bytes, from, to)
+        Ok(take(&mut self.caps.bytes, &mut self.taken, to - from))
     }
     fn table_growing(&mut self, from: usize, to: usize, _most: Option<usize>) -> Result<bool, LimiterError> {
-        take(&mut self.elements, from, to)
+        Ok(take(&mut self.caps.elements, &mut self.taken, to - from))
+    }
+    fn memory_grow_failed(&mut self, _error: &MemoryError) -> Result<(), LimiterError> {
+        give(&mut self.caps.bytes, mem::take(&mut self.taken));
+        Ok(())
+    }
+    fn table_grow_failed(&mut self, _error: &TableError) -> Result<(), LimiterError> {
+        give(&mut self.caps.elements, mem::take(&mut self.taken));
+        Ok(())
     }
     fn instances(&self) -> usize { usize::MAX }
     fn tables(&self) -> usize { limits::TABLES }
@@ -75,7 +100,7 @@ pub struct Store<T> {
 pub(crate) struct Inner {
     pub engine: Engine,
     pub fuel: Fuel,
-    pub caps: Caps,
+    pub limiter: Limiter,
     pub instances: Arena<Entity>,
     pub items: Items,
     pub references: References,
@@ -122,7 +147,7 @@ impl<T> Store<T> {
         let inner = Inner {
             engine: engine.clone(),
             fuel: Fuel::new(engine.is_metered(), FuelCostsProvider::default()),
-            caps: Caps::default(),
+            limiter: Limiter::default(),
             instances: Arena::default(),
             items: Items::default(),
             references: References::default(),
@@ -171,13 +196,13 @@ impl<T> Store<T> {
     /// What memories and tables may still take.
     pub fn caps(&mut self) -> Caps {
         self.collect();
-        self.inner.caps
+        self.inner.limiter.caps
     }
 
     /// Sets what memories and tables may take from now on.
     pub fn set_caps(&mut self, caps: Caps) {
         self.collect();
-        self.inner.caps = caps;
+        self.inner.limiter.caps = caps;
     }
 
     /// Limits the stack of the calls that begin from now on. It has no more than [`StackLimits::default`].
@@ -213,11 +238,11 @@ impl Inner {
         match kept {
             Kept::Memory(number) => {
                 let memory = self.items.memories.remove(number);
-                self.caps.bytes += memory.map_or(0, |it| it.data_size());
+                give(&mut self.limiter.caps.bytes, memory.map_or(0, |it| it.data_size()));
             }
             Kept::Table(number) => {
                 let table = self.items.tables.remove(number);
-                self.caps.elements += table.map_or(0, |it| it.size() as usize);
+                give(&mut self.limiter.caps.elements, table.map_or(0, |it| it.size() as usize));
             }
             Kept::Global(number) => drop(self.items.globals.remove(number)),
             Kept::Instance(_) => {}
