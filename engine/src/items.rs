@@ -22,6 +22,9 @@ pub enum Extern {
 }
 
 /// A memory of a store.
+///
+/// A handle of a memory, of another item or of an instance can be cloned, and isn't `Copy`: an instance is freed when
+/// its last handle is dropped ([`Instance`](crate::Instance)).
 #[derive(Clone, Debug)]
 pub struct Memory {
     pub(crate) owner: Arc<Owner>,
@@ -73,7 +76,23 @@ impl Memory {
     ///
     /// # Errors
     ///
-    /// If the store's caps or the system don't allow it.
+    /// [`TrapCode::GrowthOperationLimited`] if the store's [caps](crate::Caps) don't allow it,
+    /// [`TrapCode::OutOfSystemMemory`] if the system doesn't.
+    ///
+    /// # Examples
+    ///
+    /// ```
+    /// use engine::{Engine, Memory, MemoryType, Store};
+    ///
+    /// let mut store = Store::new(&Engine::default(), ());
+    /// // Of one page, and of at most three.
+    /// let mut ty = MemoryType::builder();
+    /// ty.min(1).max(Some(3));
+    /// let memory = Memory::new(&mut store, ty.build()?)?;
+    /// memory.write(&mut store, 0, b"bytes")?;
+    /// assert_eq!(memory.grow(&mut store, 2)?, 1);
+    /// # Ok::<(), Box<dyn std::error::Error>>(())
+    /// ```
     pub fn new(mut context: impl AsContextMut, ty: MemoryType) -> Result<Memory, Error> {
         let store = context.as_context_mut().store;
         store.collect();
@@ -92,11 +111,12 @@ impl Memory {
         self.get(&context.as_context()).size()
     }
 
-    /// Grows it by so many pages, and says how many it had.
+    /// Grows it by so many pages, and says how many it had. No fuel is taken.
     ///
     /// # Errors
     ///
-    /// If its type, the store's caps or the system don't allow it.
+    /// [`TrapCode::GrowthOperationLimited`] if its type or the store's [caps](crate::Caps) don't allow it,
+    /// [`TrapCode::OutOfSystemMemory`] if the system doesn't.
     pub fn grow(&self, mut context: impl AsContextMut, pages: u64) -> Result<u64, Error> {
         let store = context.as_context_mut().store;
         store.collect();
@@ -158,7 +178,7 @@ impl Table {
     ///
     /// # Errors
     ///
-    /// If the element is of another type, and if the store's caps or the system don't allow it.
+    /// If the element is of another type, and for the reasons of [`Memory::new`].
     pub fn new(mut context: impl AsContextMut, ty: TableType, init: Val) -> Result<Table, Error> {
         let store = context.as_context_mut().store;
         store.collect();
@@ -201,11 +221,11 @@ impl Table {
         Ok(table.set(index, value).map_err(|_| TrapCode::TableOutOfBounds)?)
     }
 
-    /// Grows it by so many elements like this one, and says how many it had.
+    /// Grows it by so many elements like this one, and says how many it had. No fuel is taken.
     ///
     /// # Errors
     ///
-    /// If the element is of another type, and if the table's type, the store's caps or the system don't allow it.
+    /// If the element is of another type, and for the reasons of [`Memory::grow`].
     pub fn grow(&self, mut context: impl AsContextMut, count: u64, init: Val) -> Result<u64, Error> {
         let store = context.as_context_mut().store;
         store.collect();

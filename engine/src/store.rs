@@ -21,6 +21,37 @@ use std::mem;
 use std::sync::{Arc, Weak};
 
 /// Two caps, on the bytes of all memories and on the elements of all tables of a store: what is left of each.
+///
+/// A memory or a table takes of them what it has when it is made, and what it grows by. A module's are made when it is
+/// instantiated, so caps are set before ([`Store::set_caps`]). A page of a memory has 65,536 bytes, unless its type
+/// says otherwise, and a module that clang has made has a table of one element.
+///
+/// What would exceed a cap isn't made: `memory.grow` and `table.grow` give -1 to a guest, and the host and an
+/// instantiation get the error [`TrapCode::GrowthOperationLimited`].
+///
+/// # Examples
+///
+/// ```
+/// use engine::{Caps, Engine, Linker, Module, Store, TrapCode};
+///
+/// const PAGE: usize = 65_536;
+/// let engine = Engine::default();
+/// # let wasm = engine::guests::PLAIN;
+/// let module = Module::new(&engine, wasm)?;
+/// let mut store = Store::new(&engine, ());
+/// store.set_caps(Caps { bytes: 2 * PAGE, ..Caps::default() });
+/// // The module has a memory of one page.
+/// let instance = Linker::new(&engine).instantiate(&mut store, &module)?;
+/// assert_eq!(store.caps().bytes, PAGE);
+/// let memory = instance.get_memory(&store, "memory").unwrap();
+/// memory.grow(&mut store, 1)?;
+/// let refused = memory.grow(&mut store, 1).unwrap_err();
+/// assert_eq!(refused.as_trap_code(), Some(TrapCode::GrowthOperationLimited));
+/// # Ok::<(), engine::Error>(())
+/// ```
+#[doc(alias = "StoreLimits")]
+#[doc(alias = "ResourceLimiter")]
+#[doc(alias = "limiter")]
 #[derive(Clone, Copy, Debug, PartialEq, Eq)]
 pub struct Caps {
     /// How many bytes memories may still take.
@@ -86,6 +117,9 @@ impl ResourceLimiter for Limiter {
 
 /// What a tenant has: fuel, caps, its instances with their memories and tables, and data of the host.
 ///
+/// A tenant is one of those whose modules a host runs, such as a customer, a user or a plugin. A store stays usable
+/// after a call that has ended by an error.
+///
 /// What one instance imports from another one, or is given of it, is of one store. The handles of a store's items
 /// ([`Instance`](crate::Instance), [`Memory`](crate::Memory), [`Func`](crate::Func) ..) go with that store, and their
 /// methods panic with another one. A thread has a store of its own; stores may share an [`Engine`].
@@ -142,7 +176,7 @@ pub(crate) struct Entity {
 }
 
 impl<T> Store<T> {
-    /// A store with data of the host. It has no fuel yet, and the caps of [`Caps::default`].
+    /// A store with data of the host. It has no fuel yet ([`Store::set_fuel`]), and the caps of [`Caps::default`].
     pub fn new(engine: &Engine, data: T) -> Store<T> {
         let inner = Inner {
             engine: engine.clone(),
@@ -183,23 +217,53 @@ impl<T> Store<T> {
         self.data
     }
 
-    /// The fuel that is left. An engine that doesn't [consume fuel](crate::Config::consume_fuel) has none.
+    /// The fuel that is left. A store has none at first.
+    ///
+    /// What a call has used is what was left before it, less what is left after it. A call that has ended out of fuel
+    /// leaves what didn't suffice for the next piece of code, which needn't be 0.
+    ///
+    /// # Errors
+    ///
+    /// If the engine doesn't [consume fuel](crate::Config::consume_fuel).
+    ///
+    /// # Examples
+    ///
+    /// ```
+    /// # use engine::{Config, Engine, Linker, Module, Store};
+    /// # let engine = Engine::new(Config::default().consume_fuel(true));
+    /// # let module = Module::new(&engine, engine::guests::PLAIN)?;
+    /// # let mut store = Store::new(&engine, ());
+    /// # let instance = Linker::new(&engine).instantiate(&mut store, &module)?;
+    /// let sum = instance.get_typed_func::<i32, i32>(&store, "sum")?;
+    /// store.set_fuel(1000)?;
+    /// sum.call(&mut store, 4)?;
+    /// let used = 1000 - store.get_fuel()?;
+    /// assert!(used > 0);
+    /// # Ok::<(), engine::Error>(())
+    /// ```
+    #[doc(alias = "fuel_consumed")]
     pub fn get_fuel(&self) -> Result<u64, Error> {
         StoreContext::from(self).get_fuel()
     }
 
     /// Sets the fuel that is left.
+    ///
+    /// # Errors
+    ///
+    /// If the engine doesn't [consume fuel](crate::Config::consume_fuel).
     pub fn set_fuel(&mut self, fuel: u64) -> Result<(), Error> {
         StoreContextMut::from(self).set_fuel(fuel)
     }
 
-    /// What memories and tables may still take.
+    /// What memories and tables may still take. What was dropped is freed first, for which the store is borrowed to be
+    /// changed.
     pub fn caps(&mut self) -> Caps {
         self.collect();
         self.inner.limiter.caps
     }
 
-    /// Sets what memories and tables may take from now on.
+    /// Sets what memories and tables may take from now on. What they have already doesn't count.
+    #[doc(alias = "limiter")]
     pub fn set_caps(&mut self, caps: Caps) {
         self.collect();
         self.inner.limiter.caps = caps;
