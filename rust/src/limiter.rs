@@ -106,20 +106,19 @@ pub(crate) struct Dyn<'a>(pub(crate) &'a mut dyn ResourceLimiter);
 
 /// A call of a proved function with the limiter that is lent, or with none.
 macro_rules! with {
-    ($limiter:ident => $call:expr) => {
+    ($limiter:ident => $call:expr) => {{
+        use crate::proved::meter::{NoLimits, ResourceLimiterRef as Lent};
         match $limiter.as_resource_limiter() {
             Some(limiter) => {
                 let mut limiter = crate::limiter::Dyn(limiter);
-                let $limiter = &mut crate::proved::meter::ResourceLimiterRef::from(&mut limiter);
+                let $limiter = &mut Lent::from(&mut limiter);
                 $call
             }
             None => {
-                let $limiter = &mut crate::proved::meter::ResourceLimiterRef::<
-                    crate::proved::meter::NoLimits,
-                >::default();
+                let $limiter = &mut Lent::<NoLimits>::default();
                 $call
             }
         }
-    };
+    }};
 }
 pub(crate) use with;

@@ -237,11 +237,8 @@ impl u8x16 {
             let table = self.to_array();
             let inside = Self(_mm_and_si128(indices.0, same(0x0f0f_0f0f_0f0f_0f0f))).to_array();
             let word = |start: usize| {
-                let bytes = &inside[start..start + 8];
-                bytes
-                    .iter()
-                    .rev()
-                    .fold(0, |word, i| word << 8 | u64::from(table[usize::from(*i)]))
+                let bytes = inside[start..start + 8].iter().rev();
+                bytes.fold(0, |word, i| word << 8 | u64::from(table[usize::from(*i)]))
             };
             let picked = of_words(word(0), word(8));
             Self(_mm_andnot_si128(_mm_cmplt_epi8(indices.0, same(0)), picked))
