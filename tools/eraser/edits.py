@@ -123,6 +123,8 @@ EDITS += [("store", "#[derive(Clone, Copy, Debug)] pub struct ElementSegmentRef"
 # Texts that rustc's LLVM compiles badly, or that older compilers lack.
 EDITS += [
     ("grammar", "let Some(words) = words.as_array::<16>() else {", "let Ok(words) = <&[&str; 16]>::try_from(words) else {", 1),
+    # Rust's search for a char takes a word of memory at a time, and words of scripts are shorter.
+    ("operands", "line.split(' ')", "crate::rattle::between_spaces(line)", 1),
     ("accesses", "for i in 0..N { memory[address + i] = bytes[i]; }", "memory[address..][..N].copy_from_slice(bytes);", 1),
     ("accesses", "memory[address..address + N].split_first_chunk::<N>()", "memory[address..].split_first_chunk::<N>()", 1),
     # The bounds one by one, as they were tested before: LLVM tests their sum once more.
