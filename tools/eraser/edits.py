@@ -130,6 +130,8 @@ EDITS += [
     # The bounds one by one, as they were tested before: LLVM tests their sum once more.
     ("store", "elements[index..index + items.len()]", "elements[index..][..items.len()]", 1),
     ("machine", "memory[offset..offset + len]", "memory[offset..][..len]", 1),
+    ("store", "#[inline] fn front_mut(&mut self, end: usize) -> &mut [u8] { match self {",
+     "#[inline(always)]\n            fn front_mut(&mut self, end: usize) -> &mut [u8] {\n                match self {", 1),
     ("store", "let end = offset + buffer.len(); buffer.copy_from_slice(&bytes[offset..end]);",
      "        buffer.copy_from_slice(&bytes[offset..][..buffer.len()]);", 1),
 ]
