@@ -128,3 +128,16 @@ impl<T: Copy, const N: usize> ArrayExt<T, N> for [T; N] {
         Ok(items.map(|item| item.expect("each was set")))
     }
 }
+
+/// The parts of a line between spaces, as `split(' ')` gives them. They are short, so each byte is looked at by itself.
+#[cfg(feature = "std")]
+#[inline]
+pub fn between_spaces(line: &str) -> impl Iterator<Item = &str> {
+    let mut rest = Some(line);
+    core::iter::from_fn(move || {
+        let text = rest?;
+        let end = text.bytes().position(|byte| byte == b' ');
+        rest = end.map(|end| &text[end + 1..]);
+        Some(&text[..end.unwrap_or(text.len())])
+    })
+}

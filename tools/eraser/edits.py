@@ -123,11 +123,15 @@ EDITS += [("store", "#[derive(Clone, Copy, Debug)] pub struct ElementSegmentRef"
 # Texts that rustc's LLVM compiles badly, or that older compilers lack.
 EDITS += [
     ("grammar", "let Some(words) = words.as_array::<16>() else {", "let Ok(words) = <&[&str; 16]>::try_from(words) else {", 1),
+    # Rust's search for a char takes a word of memory at a time, and words of scripts are shorter.
+    ("operands", "line.split(' ')", "crate::rattle::between_spaces(line)", 1),
     ("accesses", "for i in 0..N { memory[address + i] = bytes[i]; }", "memory[address..][..N].copy_from_slice(bytes);", 1),
     ("accesses", "memory[address..address + N].split_first_chunk::<N>()", "memory[address..].split_first_chunk::<N>()", 1),
     # The bounds one by one, as they were tested before: LLVM tests their sum once more.
     ("store", "elements[index..index + items.len()]", "elements[index..][..items.len()]", 1),
     ("machine", "memory[offset..offset + len]", "memory[offset..][..len]", 1),
+    ("store", "#[inline] fn front_mut(&mut self, end: usize) -> &mut [u8] { match self {",
+     "#[inline(always)]\n            fn front_mut(&mut self, end: usize) -> &mut [u8] {\n                match self {", 1),
     ("store", "let end = offset + buffer.len(); buffer.copy_from_slice(&bytes[offset..end]);",
      "        buffer.copy_from_slice(&bytes[offset..][..buffer.len()]);", 1),
 ]
