@@ -129,11 +129,8 @@ __attribute__((destructor)) static void told(void) {
     }
 }
 
-#ifdef COUNTS_REQUESTS
-extern _Thread_local long requests;
-#else
-static _Thread_local long requests;
-#endif
+/* That of blocks.h, in a program that has it. */
+__attribute__((weak)) _Thread_local long requests;
 """
 
 

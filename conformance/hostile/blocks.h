@@ -18,11 +18,7 @@ void __wrap_free(void *old);
 /* The blocks that any thread asked for and none has given back. */
 static atomic_long blocks;
 /* The requests of this thread, which beside.py sets too, and the number of the one that is refused, if any is. */
-#ifdef COUNTS_REQUESTS
 _Thread_local long requests;
-#else
-static _Thread_local long requests;
-#endif
 static _Thread_local long refused;
 
 static int is_refused(size_t size) {
