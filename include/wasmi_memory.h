@@ -6,7 +6,7 @@
    with guard pages, and a struct with its bytes may be copied, stored and sent: a snapshot, a fork, a shared mapping.
    A memory that is made or grown gets zeros: each of its new bytes is written, so that it has to be accessible before
    the call (wasmi_memory_question gives the new size). No byte past the new size is written, and
-   wasmi_memory_grow_zeroed writes none at all.
+   wasmi_memory_new_zeroed and wasmi_memory_grow_zeroed write none at all.
    The loads and stores of wasmi_core.h work on (region, memory.size).
 
    Meters and quotas: a wasmi_meter with is_on == 0 is no meter, and then nothing is charged. A wasmi_quota with
@@ -107,9 +107,11 @@ uint8_t wasmi_memory_new(wasmi_memory *memory, uint8_t *region, size_t region_le
 uint8_t wasmi_memory_grow(wasmi_memory *memory, uint8_t *region, size_t region_len, uint64_t pages, wasmi_meter *meter,
                           wasmi_quota *quota, uint64_t *number) WASMI_CHECKED WASMI_NOT_NULL(1, 5, 6, 7);
 
-/* Grows a memory as wasmi_memory_grow does, into bytes of the region that are zeros already, as fresh pages of mmap are,
-   and writes none of them: a growth takes no time for its bytes, and no page is touched. Where they aren't zeros, the
-   memory has what stands there; the guest reads it then, and nothing else follows. */
+/* As wasmi_memory_new and wasmi_memory_grow, where the new bytes of the region are zeros already, as fresh pages of mmap
+   are. No byte is written: this takes no time for the bytes, and no page is touched. Where they aren't zeros, the memory
+   has what stands there; the guest reads it then, and nothing else follows. */
+uint8_t wasmi_memory_new_zeroed(wasmi_memory *memory, const uint8_t *region, size_t region_len, wasmi_quota *quota)
+    WASMI_CHECKED WASMI_NOT_NULL(1, 4);
 uint8_t wasmi_memory_grow_zeroed(wasmi_memory *memory, const uint8_t *region, size_t region_len, uint64_t pages,
                                  wasmi_meter *meter, wasmi_quota *quota, uint64_t *number)
     WASMI_CHECKED WASMI_NOT_NULL(1, 5, 6, 7);

@@ -45,7 +45,7 @@ static bool is_state(const wasmi_memory *m, size_t length) {
            in_bounds(m, m->size / page_of(m));
 }
 
-static uint8_t new_by_model(state *s, int i) {
+static uint8_t new_by_model(state *s, int i, bool writes) {
     wasmi_memory *m = &s->memory[i];
     if (!has_type(m))
         return WASMI_INVALID_STATE;
@@ -58,7 +58,7 @@ static uint8_t new_by_model(state *s, int i) {
         gives_back(&s->quota, 1);
         return WASMI_MEMORY_REGION_TOO_SHORT;
     }
-    if (size > 0)
+    if (size > 0 && writes)
         memset(s->region[i], 0, (size_t)size);
     m->size = (size_t)size;
     return WASMI_DONE;
@@ -369,7 +369,10 @@ static bool call_agrees(state *s, state *model) {
     wasmi_memory *m = &s->memory[i];
     uint64_t pages = some_pages(s, i);
     switch (below(11)) {
-    case 0: return wasmi_memory_new(m, s->region[i], s->length[i], &s->quota) == new_by_model(model, i);
+    case 0:
+        if (below(2))
+            return wasmi_memory_new_zeroed(m, s->region[i], s->length[i], &s->quota) == new_by_model(model, i, false);
+        return wasmi_memory_new(m, s->region[i], s->length[i], &s->quota) == new_by_model(model, i, true);
     case 1:
     case 2:
         return wasmi_memory_grow(m, s->region[i], s->length[i], pages, &s->meter, &s->quota, &s->number) ==

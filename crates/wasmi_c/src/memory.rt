@@ -5,9 +5,9 @@ ghost use Rattle.wasmi_meter.specs.Capped.{quota_rules};
 ghost use Rattle.wasmi_meter.specs.Limiter.{optional_rules};
 ghost use Rattle.wasmi_store.specs.Buffer.{Lent};
 ghost use Rattle.wasmi_store.specs.Memory.{IsSized, MakesMemory, MemoryTypeValue, in_bounds, minimum_bytes, named_type, page_bytes};
-ghost use Rattle.wasmi_region.specs.Memory.{made_in, memory_in, zeroed};
+ghost use Rattle.wasmi_region.specs.Memory.{made_in, made_in_zeros, memory_in, zeroed};
 ghost use Rattle.wasmi_c.specs.Host.{is_about, memory_growth};
-ghost use Rattle.wasmi_c.specs.MemoryCalls.{AsksEmbedded, CopiesBytesEmbedded, CountsEmbedded, EndsMemory, IsNoType, MakesEmbedded, ReadsEmbedded, WritesBytesEmbedded, WritesEmbedded, by_pages, copied_range, filled_range, of_memory};
+ghost use Rattle.wasmi_c.specs.MemoryCalls.{AsksEmbedded, CopiesBytesEmbedded, CountsEmbedded, EndsMemory, IsNoType, MakesEmbedded, ReadsEmbedded, WritesBytesEmbedded, WritesEmbedded, by_pages, copied_range, filled_range, made_over, of_memory};
 ghost use Rattle.wasmi_c.specs.Placement.{GrowsAs, GrowsBy, IsNone, SettlesBy, status_of, written_number};
 ghost use Rattle.wasmi_c.specs.Numbers.{embedded, limiter_of, metered_region, placed, settings_of, IsState, KeepsQuota};
 
@@ -62,6 +62,46 @@ pub fn make(memory: &mut MemoryNumbers, region: &mut [u8], quota: &mut QuotaNumb
         }
         Err(error) => memory_status(error),
     }
+}
+
+/// Makes a memory as [`make`] does, at the front of a region whose bytes up to the minimum are zeros
+/// already, and writes no byte of it. Where they aren't zeros, the memory has what stands there.
+pub fn make_zeroed(memory: &mut MemoryNumbers, region: &[u8], quota: &mut QuotaNumbers) -> u8
+    ensures made { MakesEmbedded (placed memory.old region.now) (limiter_of quota.old) result
+        (placed memory.new (made_over region.now memory.new.size result))
+        (limiter_of quota.new) }
+    ensures quota { KeepsQuota quota.old quota.new }
+    ensures invalid { IsNoType memory.old → quota.new ≡ quota.old }
+    ensures unasked { (ty : MemoryTypeValue) → named_type (settings_of memory.old) ≡ Some ty
+        → 2 ^ 64 ≤ minimum_bytes ty → quota.new ≡ quota.old }
+{
+    let Some(ty) = memory.ty() else {
+        return INVALID_STATE;
+    };
+    match make_zeroed_under(ty, region, quota) {
+        Ok(size) => {
+            memory.size = size;
+            DONE
+        }
+        Err(error) => memory_status(error),
+    }
+}
+
+/// Makes a memory of this type under a limiter in zeros, as [`wasmi_region::memory::make_zeroed`]
+/// does.
+pub fn make_zeroed_under<L: ResourceLimiter>(
+    ty: MemoryType,
+    region: &[u8],
+    limiter: &mut L,
+) -> Result<usize, MemoryError>
+    ensures made { MakesMemory (optional_rules L.rules) (Lent region.now) ty
+        (Some limiter.old) (made_in_zeros ty region.now result) (Some limiter.new) }
+    ensures sized { IfOk result (λ size. IsSized ty size × (size ≤ length region.now)) }
+{
+    let mut lent = ResourceLimiterRef::from(limiter);
+    let made = region_memory::make_zeroed(ty, region, &mut lent);
+    let _limiter = lent.into_limiter();
+    made
 }
 
 /// Grows a memory of this type under a limiter.

@@ -1,6 +1,6 @@
 //! Memories in regions of the caller's, and fuel meters.
 ghost use Rattle.std.specs.Prelude.{◌≡◌, ◌≤◌, ◌+◌, ◌/◌, ◌^◌, ◌⊎◌, false, Some};
-ghost use Rattle.wasmi_c.specs.MemoryCalls.{AsksEmbedded, CopiesBytesEmbedded, CountsEmbedded, EndsMemory, IsNoType, MakesEmbedded, ReadsEmbedded, WritesBytesEmbedded, WritesEmbedded, by_pages, copied_range, filled_range, of_memory};
+ghost use Rattle.wasmi_c.specs.MemoryCalls.{AsksEmbedded, CopiesBytesEmbedded, CountsEmbedded, EndsMemory, IsNoType, MakesEmbedded, ReadsEmbedded, WritesBytesEmbedded, WritesEmbedded, by_pages, copied_range, filled_range, made_over, of_memory};
 ghost use Rattle.wasmi_c.specs.Placement.{GrowsBy, IsNone, SettlesBy};
 ghost use Rattle.wasmi_c.specs.declared.status.TheConstants.{DONE};
 ghost use Rattle.wasmi_c.specs.Numbers.{limiter_of, KeepsQuota, embedded, IsState, metered_region, meter_of, placed, settings_of};
@@ -29,6 +29,23 @@ pub extern "C" fn wasmi_memory_new(
         → 2 ^ 64 ≤ minimum_bytes ty → quota.new ≡ quota.old }
 {
     on_memory::make(memory, region, quota)
+}
+
+#[unsafe(no_mangle)]
+pub extern "C" fn wasmi_memory_new_zeroed(
+    memory: &mut MemoryNumbers,
+    region: &[u8],
+    quota: &mut QuotaNumbers,
+) -> u8
+    ensures made { MakesEmbedded (placed memory.old region.now) (limiter_of quota.old) result
+        (placed memory.new (made_over region.now memory.new.size result))
+        (limiter_of quota.new) }
+    ensures quota { KeepsQuota quota.old quota.new }
+    ensures invalid { IsNoType memory.old → quota.new ≡ quota.old }
+    ensures unasked { (ty : MemoryTypeValue) → named_type (settings_of memory.old) ≡ Some ty
+        → 2 ^ 64 ≤ minimum_bytes ty → quota.new ≡ quota.old }
+{
+    on_memory::make_zeroed(memory, region, quota)
 }
 
 #[unsafe(no_mangle)]

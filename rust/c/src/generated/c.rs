@@ -3116,6 +3116,62 @@ pub mod memory {
         }
     }
 
+    /// Makes a memory as [`make`] does, at the front of a region whose bytes up to the minimum are zeros
+    /// already, and writes no byte of it. Where they aren't zeros, the memory has what stands there.
+    ///
+    /// # Contract
+    ///
+    /// ```text
+    /// ensures made: MakesEmbedded (placed memory.old region.now) (limiter_of quota.old) result
+    ///     (placed memory.new (made_over region.now memory.new.size result))
+    ///     (limiter_of quota.new)
+    /// ensures quota: KeepsQuota quota.old quota.new
+    /// ensures invalid: IsNoType memory.old → quota.new ≡ quota.old
+    /// ensures unasked: (ty : MemoryTypeValue) → named_type (settings_of memory.old) ≡ Some ty
+    ///     → 2 ^ 64 ≤ minimum_bytes ty → quota.new ≡ quota.old
+    /// ```
+    ///
+    /// Definitions: [`MemoryTypeValue`](crate::specs::store::MemorySpecs#MemoryTypeValue), [`named_type`](crate::specs::store::MemorySpecs#named_type), [`minimum_bytes`](crate::specs::store::MemorySpecs#minimum_bytes).
+    #[inline]
+    pub fn make_zeroed(memory: &mut MemoryNumbers, region: &[u8], quota: &mut QuotaNumbers) -> u8 {
+        let Some(ty) = memory.ty() else {
+            return INVALID_STATE;
+        };
+        match make_zeroed_under(ty, region, quota) {
+            Ok(size) => {
+                memory.size = size;
+                DONE
+            }
+            Err(error) => memory_status(error),
+        }
+    }
+
+    /// Makes a memory of this type under a limiter in zeros, as [`memory::make_zeroed`](crate::proved::region::memory::make_zeroed)
+    /// does.
+    ///
+    /// # Contract
+    ///
+    /// ```text
+    /// ensures made: MakesMemory (optional_rules L.rules) (Lent region.now) ty
+    ///     (Some limiter.old) (made_in_zeros ty region.now result) (Some limiter.new)
+    /// ensures sized: IfOk result (λ size. IsSized ty size × (size ≤ length region.now))
+    /// ```
+    ///
+    /// Definitions: [`MakesMemory`](crate::specs::store::MemorySpecs#MakesMemory), [`optional_rules`](crate::specs::meter::LimiterSpecs#optional_rules), [`Lent`](crate::specs::store::BufferSpecs#Lent), [`made_in_zeros`](crate::specs::region::MemorySpecs#made_in_zeros), [`IsSized`](crate::specs::store::MemorySpecs#IsSized).
+    ///
+    /// `L` is the type of the limiter, a [`ResourceLimiter`](crate::machine::ResourceLimiter#contract).
+    #[inline]
+    pub fn make_zeroed_under<L: ResourceLimiter>(
+        ty: MemoryType,
+        region: &[u8],
+        limiter: &mut L,
+    ) -> Result<usize, MemoryError> {
+        let mut lent = ResourceLimiterRef::from(limiter);
+        let made = region_memory::make_zeroed(ty, region, &mut lent);
+        let _limiter = lent.into_limiter();
+        made
+    }
+
     /// Grows a memory of this type under a limiter.
     ///
     /// # Contract
