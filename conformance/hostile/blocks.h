@@ -1,10 +1,12 @@
 /* Requests for memory, for programs that are linked with --wrap for malloc, realloc and free: the blocks that weren't
-   given back are counted, one request can be refused by its number, and each of more than 4 MiB is refused. */
+   given back are counted, one request can be refused by its number, and each of more than 4 MiB is refused. Where a size_t
+   has 32 bits, malloc's blocks lie at multiples of 8, and posix_memalign is asked for others, so it is wrapped too. */
 #ifndef BLOCKS_H
 #define BLOCKS_H
 
 #include <stdatomic.h>
 #include <stddef.h>
+#include <stdint.h>
 
 enum { MOST_BYTES = 1 << 22 };
 
@@ -37,6 +39,17 @@ void *__wrap_realloc(void *old, size_t size) {
     blocks += block != NULL && old == NULL;
     return block;
 }
+
+#if SIZE_MAX == UINT32_MAX
+extern int __real_posix_memalign(void **block, size_t alignment, size_t size);
+int __wrap_posix_memalign(void **block, size_t alignment, size_t size);
+
+int __wrap_posix_memalign(void **block, size_t alignment, size_t size) {
+    int error = is_refused(size) ? 12 : __real_posix_memalign(block, alignment, size);
+    blocks += error == 0;
+    return error;
+}
+#endif
 
 void __wrap_free(void *old) {
     blocks -= old != NULL;

@@ -21,6 +21,9 @@ __extension__ typedef unsigned __int128 wide;
 __extension__ typedef __float128 wide;
 #endif
 
+/* The status of a table whose minimum is above SIZE_MAX, which the headers for 64 bits haven't got. */
+enum { TABLE_MINIMUM_OVERFLOW = 49 };
+
 static inline wide two_to_32_or_64(bool is_64) {
     return (wide)UINT64_C(0x80000000) * 2 * (is_64 ? UINT64_C(0x100000000) : 1);
 }

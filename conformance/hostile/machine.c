@@ -26,7 +26,7 @@ static wasmi_reply called(wasmi_machine *machine, wasmi_call call) {
     if (is_direct(&call) && below(2)) {
         return called_directly(machine, &call);
     }
-    /* The struct lies at a multiple of 8, and its size is one. */
+    /* The struct lies at a multiple of its alignment, since its size is one. */
     return wasmi_machine_call(machine, at_edge(OF_CALL, &call, sizeof call));
 }
 
@@ -239,6 +239,7 @@ static const char *refusal_of(uint8_t status) {
         case WASMI_MEMORY_GROWTH: return "out of bounds memory growth";
         case WASMI_MEMORY_DENIED: return "a resource limiter denied to allocate or grow the linear memory";
         case WASMI_MEMORY_SIZE_OVERFLOW: return "the minimum size of the memory type overflows the system index type";
+        case TABLE_MINIMUM_OVERFLOW: return "the minimum table size overflows the system bounds";
         case WASMI_TABLE_DENIED: return "a resource limiter denied to allocate or grow the table";
         case WASMI_TABLE_GROWTH: return "out of bounds table access: `table.growth`";
         case WASMI_TABLE_INIT: return "out of bounds table access: `table.init`";
@@ -663,7 +664,7 @@ static void forge(long count) {
         wasmi_call call;
         for (size_t at = 0; at < sizeof call; at += sizeof(uint64_t)) {
             uint64_t word = below(3) ? number() : any();
-            memcpy((uint8_t *)&call + at, &word, sizeof word);
+            memcpy((uint8_t *)&call + at, &word, sizeof call - at < sizeof word ? sizeof call - at : sizeof word);
         }
         call.kind = (uint16_t)below(KINDS);
         look(&machine, &call, called(&machine, call));

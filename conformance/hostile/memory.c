@@ -37,7 +37,7 @@ static bool has_type(const wasmi_memory *m) {
 }
 
 static bool in_bounds(const wasmi_memory *m, wide pages) {
-    return pages <= greatest_of(m) && (!m->has_maximum || pages <= m->maximum) && pages * page_of(m) <= UINT64_MAX;
+    return pages <= greatest_of(m) && (!m->has_maximum || pages <= m->maximum) && pages * page_of(m) <= SIZE_MAX;
 }
 
 static bool is_state(const wasmi_memory *m, size_t length) {
@@ -50,7 +50,7 @@ static uint8_t new_by_model(state *s, int i, bool writes) {
     if (!has_type(m))
         return WASMI_INVALID_STATE;
     wide size = (wide)m->minimum * page_of(m);
-    if (size > UINT64_MAX)
+    if (size > SIZE_MAX)
         return WASMI_MEMORY_SIZE_OVERFLOW;
     if (!permits(&s->quota, (size_t)size, 1))
         return WASMI_MEMORY_DENIED;
@@ -136,7 +136,7 @@ static uint8_t question_by_model(state *s, int i, uint64_t pages) {
     wide most = (wide)m->maximum * page_of(m);
     s->question.current = m->size;
     s->question.desired = m->size + (size_t)pages * page_of(m);
-    s->question.maximum = !m->has_maximum ? 0 : most > UINT64_MAX ? SIZE_MAX : (size_t)most;
+    s->question.maximum = !m->has_maximum ? 0 : most > SIZE_MAX ? SIZE_MAX : (size_t)most;
     s->question.has_maximum = m->has_maximum != 0;
     return WASMI_ASKS;
 }
