@@ -80,7 +80,7 @@ fn run(inner: &mut Inner, at: &mut Activation, memory: usize) -> Result<Ran, Tra
     let Lent { values, frames, calls } = stack.as_mut().ok_or(TrapCode::StackOverflow)?.lend();
     let values = Cell::from_mut(values).as_slice_of_cells();
     let Entity { module, memories, tables, globals, first, .. } = &instances[at.instance];
-    let body = &module.code[at.frame.function];
+    let body = module.code[at.frame.function].body(module.config);
     let slots = Slots::at(values, at.frame.base).ok_or(TrapCode::StackOverflow)?;
     let code = body.code.get(at.frame.next..).unwrap_or_default();
     let mut state = State {

@@ -134,7 +134,8 @@ fn finish<T, R>(
 /// The frames and values of calls.
 fn saved(inner: &mut Inner, calls: &Calls, base: usize, floor: usize) -> (Vec<Frame>, Vec<RawVal>) {
     let Frame { function, base: last, .. } = calls.at.frame;
-    let top = last + inner.instances[calls.at.instance].module.code[function].slots;
+    let module = &inner.instances[calls.at.instance].module;
+    let top = last + module.code[function].body(module.config).slots;
     let stack = inner.stack();
     (stack.frames[floor..].to_vec(), stack.values[base..top].to_vec())
 }
