@@ -1,6 +1,6 @@
 /* Wrong calls in front of the proved ones, which `plant` links in one at a time: FAULT is the number of the fault. Each
    function takes the place of the library's by --wrap, and passes on everything but what its fault changes. */
-#include "wasmi_core.h"
+#include "wasmi_oracle.h"
 #include "wasmi_machine.h"
 
 uint8_t __real_wasmi_binary(uint16_t number, wasmi_words a, wasmi_words b, wasmi_words *value);

@@ -596,13 +596,17 @@ static const wasmi_limits LIMITS = {4 * PAGE, 32, 64, 7, 2, 1, 0};
 static void small_machine(wasmi_machine *machine) {
     const uint32_t items[3] = {1, 2, 3};
     memset(machine, 0, sizeof *machine);
-    wasmi_machine_new(machine, &LIMITS);
+    if (wasmi_machine_new(machine, &LIMITS) != WASMI_DONE) {
+        exit(2);
+    }
     for (uint16_t kind = 0; kind < KINDS; kind++) {
         if (kind != WASMI_CALL_DROP_MEMORY && kind != WASMI_CALL_DROP_TABLE) {
             called(machine, of_kind(kind));
         }
     }
-    wasmi_machine_new_segment(machine, WASMI_TYPE_FUNCREF, items, 3);
+    if (wasmi_machine_new_segment(machine, WASMI_TYPE_FUNCREF, items, 3).status != WASMI_DONE) {
+        exit(2);
+    }
 }
 
 /* What a reply to any struct has: nothing beside a refusal except fuel that is short, and totals within the caps. */
@@ -739,7 +743,9 @@ static void pass_on(void) {
     wasmi_machine machine;
     memset(&machine, 0, sizeof machine);
     const wasmi_limits limits = {.is_unlimited = 1};
-    wasmi_machine_new(&machine, &limits);
+    if (wasmi_machine_new(&machine, &limits) != WASMI_DONE) {
+        exit(2);
+    }
     called(&machine, of_kind(WASMI_CALL_NEW_MEMORY));
     for (uint64_t i = 1; i <= THREADS; i++) {
         pthread_t thread;

@@ -629,6 +629,21 @@ fn growths_in_a_loop_end_by_fuel() {
 }
 
 #[test]
+fn a_growth_that_fails_takes_nothing_of_the_caps() {
+    let caps = Caps { bytes: 1 << 20, elements: 100 };
+    // Beyond the maximum of a table.
+    let table = Wasm::default().function(&[], &[], &[], &[0xd0, FUNC, 0x41, 9, 0xfc, 15, 0, 0x1a]).table(&[1, 0, 4]);
+    let mut store = store_with(SOME, caps);
+    called(&table, &mut store, &[]).unwrap();
+    assert_eq!(store.caps(), caps);
+    // Without the fuel for a page.
+    let memory = Wasm::default().function(&[], &[], &[], &[0x41, 1, 0x40, 0, 0x1a]).memory(&[0, 0]);
+    let mut store = store_with(1000, caps);
+    assert_eq!(called(&memory, &mut store, &[]), out_of_fuel());
+    assert_eq!(store.caps(), caps);
+}
+
+#[test]
 fn bulk_instructions_in_a_loop_end_by_fuel() {
     let len = [0x41, 0x80, 0x80, 0x04]; // 65,536
     for code in [
@@ -643,16 +658,37 @@ fn bulk_instructions_in_a_loop_end_by_fuel() {
     }
 }
 
+/// The fuel that the instantiation of a module and a call of its function use.
+fn used(wasm: Wasm) -> u64 {
+    let mut store = store(SOME);
+    called(&wasm, &mut store, &[]).unwrap();
+    SOME - store.get_fuel().unwrap()
+}
+
 #[test]
 fn what_a_bulk_instruction_costs() {
-    let used = |len: u8| {
+    let bytes = |len: u8| {
         let code = [&[0x41, 0, 0x41, 7, 0x41][..], &[len | 0x80, 1], &[0xfc, 11, 0]].concat();
-        let mut store = store(SOME);
-        called(&Wasm::default().function(&[], &[], &[], &code).memory(&[0, 1]), &mut store, &[]).unwrap();
-        SOME - store.get_fuel().unwrap()
+        used(Wasm::default().function(&[], &[], &[], &code).memory(&[0, 1]))
     };
     // 128 and 192 bytes, of which 64 cost one unit.
-    assert_eq!(used(64) - used(0), 1);
+    assert_eq!(bytes(64) - bytes(0), 1);
+    let elements = |len: u8| {
+        let code = [0x41, 0, 0xd0, FUNC, 0x41, len, 0xfc, 17, 0];
+        used(Wasm::default().function(&[], &[], &[], &code).table(&[0, 63]))
+    };
+    // 252 bytes.
+    assert_eq!(elements(63) - elements(0), 3);
+    let pages = |count: u8| {
+        let code = [0x41, count, 0x40, 0, 0x1a];
+        used(Wasm::default().function(&[], &[], &[], &code).memory(&[0, 0]))
+    };
+    assert_eq!(pages(3) - pages(0), 3 * 1024);
+    let segment = |len: u8| {
+        let data = [&[0, 0x41, 0, 0x0b, len][..], &vec![7; len.into()]].concat();
+        used(Wasm::default().function(&[], &[], &[], &[]).memory(&[0, 1]).item(11, data))
+    };
+    assert_eq!([segment(63), segment(64), segment(127)].map(|it| it - segment(0)), [0, 1, 1]);
 }
 
 #[test]

@@ -3056,6 +3056,7 @@ pub mod memory {
     use crate::proved::meter::{Kind, MemoryError, ResourceLimiter, ResourceLimiterRef};
     use crate::proved::region::memory as region_memory;
     use crate::proved::store::MemoryType;
+    use crate::proved::store::range::fill_range;
 
     /// The binary logarithm of the size of a page that no memory has.
     const NO_PAGE_SIZE: u8 = 255;
@@ -3115,6 +3116,62 @@ pub mod memory {
         }
     }
 
+    /// Makes a memory as [`make`] does, at the front of a region whose bytes up to the minimum are zeros
+    /// already, and writes no byte of it. Where they aren't zeros, the memory has what stands there.
+    ///
+    /// # Contract
+    ///
+    /// ```text
+    /// ensures made: MakesEmbedded (placed memory.old region.now) (limiter_of quota.old) result
+    ///     (placed memory.new (made_over region.now memory.new.size result))
+    ///     (limiter_of quota.new)
+    /// ensures quota: KeepsQuota quota.old quota.new
+    /// ensures invalid: IsNoType memory.old → quota.new ≡ quota.old
+    /// ensures unasked: (ty : MemoryTypeValue) → named_type (settings_of memory.old) ≡ Some ty
+    ///     → 2 ^ 64 ≤ minimum_bytes ty → quota.new ≡ quota.old
+    /// ```
+    ///
+    /// Definitions: [`MemoryTypeValue`](crate::specs::store::MemorySpecs#MemoryTypeValue), [`named_type`](crate::specs::store::MemorySpecs#named_type), [`minimum_bytes`](crate::specs::store::MemorySpecs#minimum_bytes).
+    #[inline]
+    pub fn make_zeroed(memory: &mut MemoryNumbers, region: &[u8], quota: &mut QuotaNumbers) -> u8 {
+        let Some(ty) = memory.ty() else {
+            return INVALID_STATE;
+        };
+        match make_zeroed_under(ty, region, quota) {
+            Ok(size) => {
+                memory.size = size;
+                DONE
+            }
+            Err(error) => memory_status(error),
+        }
+    }
+
+    /// Makes a memory of this type under a limiter in zeros, as [`memory::make_zeroed`](crate::proved::region::memory::make_zeroed)
+    /// does.
+    ///
+    /// # Contract
+    ///
+    /// ```text
+    /// ensures made: MakesMemory (optional_rules L.rules) (Lent region.now) ty
+    ///     (Some limiter.old) (made_in_zeros ty region.now result) (Some limiter.new)
+    /// ensures sized: IfOk result (λ size. IsSized ty size × (size ≤ length region.now))
+    /// ```
+    ///
+    /// Definitions: [`MakesMemory`](crate::specs::store::MemorySpecs#MakesMemory), [`optional_rules`](crate::specs::meter::LimiterSpecs#optional_rules), [`Lent`](crate::specs::store::BufferSpecs#Lent), [`made_in_zeros`](crate::specs::region::MemorySpecs#made_in_zeros), [`IsSized`](crate::specs::store::MemorySpecs#IsSized).
+    ///
+    /// `L` is the type of the limiter, a [`ResourceLimiter`](crate::machine::ResourceLimiter#contract).
+    #[inline]
+    pub fn make_zeroed_under<L: ResourceLimiter>(
+        ty: MemoryType,
+        region: &[u8],
+        limiter: &mut L,
+    ) -> Result<usize, MemoryError> {
+        let mut lent = ResourceLimiterRef::from(limiter);
+        let made = region_memory::make_zeroed(ty, region, &mut lent);
+        let _limiter = lent.into_limiter();
+        made
+    }
+
     /// Grows a memory of this type under a limiter.
     ///
     /// # Contract
@@ -3137,10 +3194,43 @@ pub mod memory {
         limiter: &mut L,
         number: &mut u64,
     ) -> u8 {
+        let old_size = memory.size;
+        let status = grow_zeroed_under(memory, ty, region, pages, meter, limiter, number);
+        fill_range(region, old_size, memory.size, 0);
+        status
+    }
+
+    /// Grows a memory of this type under a limiter into bytes that are zeros, of which it writes none.
+    ///
+    /// # Contract
+    ///
+    /// ```text
+    /// requires state: IsState memory.old region.now ty
+    /// ensures grown: GrowsAs of_memory L.rules (by_pages pages) ty
+    ///     (embedded memory.old region.now meter.old (Some limiter.old) number.old) result
+    ///     (embedded memory.new (zeroed region.now memory.old.size memory.new.size) meter.new
+    ///     (Some limiter.new) number.new)
+    /// ensures larger: memory.old.size ≤ memory.new.size
+    /// ensures within: memory.new.size ≤ length region.now
+    /// ```
+    ///
+    /// Definitions: [`zeroed`](crate::specs::region::MemorySpecs#zeroed).
+    ///
+    /// `L` is the type of the limiter, a [`ResourceLimiter`](crate::machine::ResourceLimiter#contract).
+    #[inline]
+    pub fn grow_zeroed_under<L: ResourceLimiter>(
+        memory: &mut MemoryNumbers,
+        ty: MemoryType,
+        region: &[u8],
+        pages: u64,
+        meter: &mut MeterNumbers,
+        limiter: &mut L,
+        number: &mut u64,
+    ) -> u8 {
         let mut fuel = meter.fuel();
         let mut size = memory.size;
         let mut lent = ResourceLimiterRef::from(limiter);
-        let grown = region_memory::grow(ty, &mut size, region, pages, &mut fuel, &mut lent);
+        let grown = region_memory::grow_zeroed(ty, &mut size, region, pages, &mut fuel, &mut lent);
         let _limiter = lent.into_limiter();
         memory.size = size;
         meter.store_left(&fuel);
@@ -3180,6 +3270,37 @@ pub mod memory {
     ) -> u8 {
         type_or_return!(ty, memory, region);
         grow_under(memory, ty, region, pages, meter, quota, number)
+    }
+
+    /// Grows a memory as [`grow`] does, into bytes of the region that are zeros already, and writes no
+    /// byte of it. Where they aren't zeros, the memory has what stands there.
+    ///
+    /// # Contract
+    ///
+    /// ```text
+    /// ensures grown: GrowsBy of_memory quota_rules (by_pages pages)
+    ///     (embedded memory.old region.now meter.old (limiter_of quota.old) number.old) result
+    ///     (embedded memory.new (zeroed region.now memory.old.size memory.new.size) meter.new
+    ///     (limiter_of quota.new) number.new)
+    /// ensures quota: KeepsQuota quota.old quota.new
+    /// ensures invalid: IsNone of_memory memory.old region.now → quota.new ≡ quota.old
+    /// ensures unasked: (ty : MemoryTypeValue) → IsState memory.old region.now ty
+    ///     → (pages ≡ 0) ⊎ (in_bounds ty (memory.old.size / page_bytes ty.page + pages) ≡ false)
+    ///     → quota.new ≡ quota.old
+    /// ```
+    ///
+    /// Definitions: [`GrowsBy`](crate::specs::machine::ExchangeSpecs#GrowsBy), [`quota_rules`](crate::specs::meter::CappedSpecs#quota_rules), [`zeroed`](crate::specs::region::MemorySpecs#zeroed), [`MemoryTypeValue`](crate::specs::store::MemorySpecs#MemoryTypeValue), [`in_bounds`](crate::specs::store::MemorySpecs#in_bounds), [`page_bytes`](crate::specs::store::MemorySpecs#page_bytes).
+    #[inline]
+    pub fn grow_zeroed(
+        memory: &mut MemoryNumbers,
+        region: &[u8],
+        pages: u64,
+        meter: &mut MeterNumbers,
+        quota: &mut QuotaNumbers,
+        number: &mut u64,
+    ) -> u8 {
+        type_or_return!(ty, memory, region);
+        grow_zeroed_under(memory, ty, region, pages, meter, quota, number)
     }
 
     /// Ends a memory: the quota gives up its bytes, and the numbers stand for no memory from then on. If
