@@ -20,6 +20,7 @@ HEAD = """#define _GNU_SOURCE
 #include "wasmi_instructions.h"
 #include "wasmi_machine.h"
 #include "wasmi_memory.h"
+#include "wasmi_oracle.h"
 #include <pthread.h>
 #include <stdio.h>
 #include <stdlib.h>
@@ -216,7 +217,7 @@ def parts_of(given, arrays):
 
 
 def main(folder):
-    headers = [(TOP / f"include/wasmi_{name}.h").read_text() for name in ("core", "instructions", "machine", "memory")]
+    headers = [it.read_text() for it in sorted((TOP / "include").glob("wasmi_*.h"))]
     calls = {name: it for header in headers for name, it in prototypes(header).items()}
     kinds = {name: fields for header in headers for name, fields in structs(header).items() if name not in HANDLES}
     texts = [HEAD.replace("COUNT]", f"{len(calls)}]").replace("< COUNT ", f"< {len(calls)} "), *(same_struct(*it) for it in kinds.items())]
