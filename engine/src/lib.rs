@@ -149,7 +149,7 @@ pub mod guests {
 
 /// Bounds on what a module may have. WebAssembly core specification, A.2 (implementation limitations).
 ///
-/// With them no module of n bytes takes more than ten times as long to read as plain code of n bytes
+/// With them no module of n bytes takes more than fifteen times as long to read as plain code of n bytes
 /// (`tests/modules.rs`): an instruction takes at most 1,000 operands, the library's bound on parameters and results, and
 /// `operands` handles them as slices. The rest is a constant for each byte, and for a name or a constant of the module a
 /// look-up.

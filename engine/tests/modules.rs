@@ -308,56 +308,71 @@ fn limits_of_a_function() {
 }
 
 /// The processor time that it takes to read a module, as Linux counts it; elsewhere the time of the clock.
-fn time_of(wasm: &Wasm) -> Duration {
+fn time_of(bytes: &[u8]) -> Duration {
     let now = || {
         thread::yield_now();
         let line = std::fs::read_to_string("/proc/thread-self/schedstat").ok();
         let nanoseconds = line.and_then(|it| it.split(' ').next()?.parse().ok());
         nanoseconds.map_or_else(|| std::time::UNIX_EPOCH.elapsed().unwrap(), Duration::from_nanos)
     };
-    let bytes = wasm.bytes();
     let begun = now();
-    assert!(Module::new(&ENGINE, &bytes).is_ok());
+    assert!(Module::new(&ENGINE, bytes).is_ok());
     now() - begun
 }
 
-/// Code of about 100 KB takes at most some times as long as plain code: no instruction makes a long list again and again.
-/// In a release it is ten times; tests are built with less optimization.
-#[test]
-fn hostile_functions_are_read_in_time() {
-    let many = |code: &[u8]| code.repeat(100_000 / code.len());
+/// Hostile code of about a megabyte, each by a name. Type 1 is from 1,000 operands to as many results, and type 2 from
+/// nothing to them.
+fn hostile() -> Vec<(&'static str, Wasm)> {
+    let many = |code: &[u8]| code.repeat(1_000_000 / code.len());
     let (zeros, gets) = ([0x41, 0].repeat(1000), [0x20, 0].repeat(15_000));
-    let (drops, labels) = (|count| [0x1a].repeat(count), [&[0x0e][..], &leb(50_000), &[0; 50_001]].concat());
-    // From 1,000 operands to as many results: types 1, and from nothing 2.
+    let (drops, labels) = (|count| [0x1a].repeat(count), [&[0x0e][..], &leb(65_000), &[0; 65_001]].concat());
     let ty = |params: &[u8], results: &[u8]| [vec![0x60], sized(params), sized(results)].concat();
     let wasm = |params: &[u8], code: &[&[u8]]| {
         let wasm = Wasm::default().function(params, &[], &[], &code.concat());
         wasm.item(1, ty(&[I32; 1000], &[I32; 1000])).item(1, ty(&[], &[I32; 1000]))
     };
     let in_block = |code: &[&[u8]]| wasm(&[I32], &[&[0x02, 2], &code.concat(), &[0x0b], &drops(1000)]);
-    let each: Vec<u8> = (0..15_000).flat_map(|it| [vec![0x20], leb(it)].concat()).collect();
-    let set: Vec<u8> = (0..15_000).flat_map(|it| [vec![0x41, 0, 0x21], leb(it)].concat()).collect();
-    let plain = time_of(&wasm(&[I32, I32], &[&many(&[0x20, 0, 0x20, 1, 0x6a, 0x21, 1])]));
-    for (name, wasm) in [
+    let each = |first: &[u8], count: u64| (0..count).flat_map(|it| [first, &leb(it)].concat()).collect::<Vec<u8>>();
+    let chosen = [&zeros[..], &[0x41, 0], &labels].concat();
+    let given_back = sized(&[&[0][..], &each(&[0x20], 1000), &[0x0b]].concat());
+    vec![
         ("a local set over many operands", wasm(&[I32], &[&gets, &many(&[0x20, 0, 0x21, 0]), &drops(15_000)])),
         (
             "each local set below many operands",
-            wasm(&[I32; 0], &[]).function(&[], &[], &[(15_000, I32)], &[&each[..], &set, &drops(15_000)].concat()),
+            wasm(&[I32; 0], &[]).function(
+                &[],
+                &[],
+                &[(15_000, I32)],
+                &[each(&[0x20], 15_000), each(&[0x41, 0, 0x21], 15_000), drops(15_000)].concat(),
+            ),
         ),
         ("blocks over many operands", wasm(&[I32], &[&gets, &many(&[0x02, 0x40, 0x0b]), &drops(15_000)])),
         ("blocks with 1,000 operands", wasm(&[], &[&zeros, &many(&[0x02, 1, 0x0b]), &drops(1000)])),
         ("choices with 1,000 operands", wasm(&[], &[&zeros, &many(&[0x41, 0, 0x04, 1, 0x0b]), &drops(1000)])),
         ("jumps with 1,000 operands", in_block(&[&zeros, &many(&[0x20, 0, 0x0d, 0])])),
         ("jumps with 1,000 operands that lie in a local", in_block(&[&gets[..2000], &many(&[0x20, 0, 0x0d, 0])])),
-        (
-            "a table of labels with 1,000 operands",
-            in_block(&[&zeros, &[0x41, 0], &labels, &zeros, &[0x41, 0], &labels]),
-        ),
+        ("tables of labels with 1,000 operands", in_block(&[&chosen.repeat(15)])),
         ("jumps with 1,000 operands that aren't reached", in_block(&[&[0x00], &many(&[0x0c, 0])])),
         ("blocks with 1,000 operands that aren't reached", in_block(&[&[0x00], &many(&[0x02, 1, 0x0b])])),
-    ] {
-        let time = time_of(&wasm);
-        assert!(time < plain * 50 + Duration::from_millis(20), "{name}: {time:?}, and plain code {plain:?}");
+        (
+            "calls with 1,000 operands that aren't reached",
+            in_block(&[&[0x00], &many(&[0x10, 1])]).item(3, leb(1)).item(10, given_back),
+        ),
+    ]
+}
+
+/// Each is read in less than a second a megabyte, since no instruction makes a long list again and again. In a release it
+/// takes less than fifteen times as long as plain code; `--nocapture` shows the times.
+#[test]
+fn hostile_functions_are_read_in_time() {
+    let plain = [0x20, 0, 0x20, 1, 0x6a, 0x21, 1].repeat(1_000_000 / 7);
+    let plain = time_of(&Wasm::default().function(&[I32, I32], &[], &[], &plain).bytes());
+    println!("plain code: {plain:?}");
+    for (name, wasm) in hostile() {
+        let bytes = wasm.bytes();
+        let time = time_of(&bytes);
+        println!("{name}: {time:?}, {} bytes", bytes.len());
+        assert!(time < Duration::from_micros(bytes.len() as u64), "{name}: {time:?}, and plain code {plain:?}");
     }
 }
 
