@@ -147,3 +147,43 @@ macro_rules! bits {
 
 bits! { singles, f32, SINGLES; f32x4_splat f32x4_extract_lane f32x4_replace_lane f32x4_abs f32x4_neg simd::ImmLaneIdx4 }
 bits! { doubles, f64, DOUBLES; f64x2_splat f64x2_extract_lane f64x2_replace_lane f64x2_abs f64x2_neg simd::ImmLaneIdx2 }
+
+/// Comparisons beside Rust's own of the lanes: each pair of some lanes, at each place of a vector.
+macro_rules! compared {
+    ($name:ident $lane:ty; $($op:ident $as:ty, $holds:tt;)*) => {
+        #[test]
+        fn $name() {
+            const HALF: $lane = <$lane>::MAX / 2;
+            const EDGES: [$lane; 8] =
+                [0, 1, HALF - 1, HALF, HALF + 1, HALF + 2, <$lane>::MAX - 1, <$lane>::MAX];
+            const COUNT: usize = 16 / size_of::<$lane>();
+            let edges = |first: usize| (0..COUNT).map(move |lane| EDGES[(first + lane) % 8]);
+            let of = |lanes: Vec<$lane>| {
+                let bytes: Vec<u8> = lanes.iter().flat_map(|lane| lane.to_le_bytes()).collect();
+                vector(bytes.try_into().expect("16 bytes"))
+            };
+            for (i, j) in (0..8).flat_map(|i| (0..8).map(move |j| (i, j))) {
+                let (a, b) = (of(edges(i).collect()), of(edges(j).collect()));
+                $(
+                    let read = |lane: $lane| <$as>::from_ne_bytes(lane.to_ne_bytes());
+                    let holds = |(a, b)| if read(a) $holds read(b) { <$lane>::MAX } else { 0 };
+                    let expected = of(edges(i).zip(edges(j)).map(holds).collect());
+                    assert_eq!(simd::$op(a, b), expected, "{} {a:?} {b:?}", stringify!($op));
+                )*
+            }
+        }
+    };
+}
+
+compared! { comparisons_of_8_bits u8;
+i8x16_eq u8, ==; i8x16_ne u8, !=; i8x16_lt_u u8, <; i8x16_le_u u8, <=; i8x16_gt_u u8, >; i8x16_ge_u u8, >=;
+i8x16_lt_s i8, <; i8x16_le_s i8, <=; i8x16_gt_s i8, >; i8x16_ge_s i8, >=; }
+compared! { comparisons_of_16_bits u16;
+i16x8_eq u16, ==; i16x8_ne u16, !=; i16x8_lt_u u16, <; i16x8_le_u u16, <=; i16x8_gt_u u16, >; i16x8_ge_u u16, >=;
+i16x8_lt_s i16, <; i16x8_le_s i16, <=; i16x8_gt_s i16, >; i16x8_ge_s i16, >=; }
+compared! { comparisons_of_32_bits u32;
+i32x4_eq u32, ==; i32x4_ne u32, !=; i32x4_lt_u u32, <; i32x4_le_u u32, <=; i32x4_gt_u u32, >; i32x4_ge_u u32, >=;
+i32x4_lt_s i32, <; i32x4_le_s i32, <=; i32x4_gt_s i32, >; i32x4_ge_s i32, >=; }
+compared! { comparisons_of_64_bits u64;
+i64x2_eq u64, ==; i64x2_ne u64, !=;
+i64x2_lt_s i64, <; i64x2_le_s i64, <=; i64x2_gt_s i64, >; i64x2_ge_s i64, >=; }
