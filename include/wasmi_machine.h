@@ -316,17 +316,29 @@ wasmi_reply wasmi_pool_add(wasmi_pool *pool, const wasmi_limits *limits) WASMI_C
    given back, which is tested and not proved. Its time grows with the number of tenants that were added later. */
 uint8_t wasmi_pool_remove(wasmi_pool *pool, size_t tenant) WASMI_CHECKED WASMI_NOT_NULL(1);
 
-/* Replies to a call on the machine of a tenant. Before all else: NO_POOL, NO_CALL, NO_TENANT, then NO_ROOM if memory
-   for the reply is refused. Fuel for what the caller does itself is taken by WASMI_CALL_GET_FUEL, then a
+/* Replies to a call on the machine of a tenant. Before all else: NO_POOL, NO_CALL, NO_TENANT. It takes no memory but what
+   the call takes on the machine. Fuel for what the caller does itself is taken by WASMI_CALL_GET_FUEL, then a
    WASMI_CALL_SET_FUEL to what is left. */
 wasmi_reply wasmi_pool_call(wasmi_pool *pool, size_t tenant, const wasmi_call *call) WASMI_CHECKED WASMI_NOT_NULL(1, 3);
+
+/* The calls that engines make most, with plain arguments: each does what wasmi_pool_call does with the same operands, in
+   less time, and returns and sets what the call of a machine by the same name does. Before all else: NO_POOL, then
+   NO_CALL if op is no number of such an instruction, then NO_TENANT; then *value, *number or *left is unchanged. */
+uint8_t wasmi_pool_load(wasmi_pool *pool, size_t tenant, uint16_t op, size_t memory, uint64_t ptr, uint64_t offset,
+                        uint64_t *value) WASMI_CHECKED WASMI_NOT_NULL(1, 7);
+uint8_t wasmi_pool_store(wasmi_pool *pool, size_t tenant, uint16_t op, size_t memory, uint64_t ptr, uint64_t offset,
+                         uint64_t value) WASMI_CHECKED WASMI_NOT_NULL(1);
+uint8_t wasmi_pool_binary(wasmi_pool *pool, size_t tenant, uint16_t op, uint8_t dst, uint8_t a, uint8_t b)
+    WASMI_CHECKED WASMI_NOT_NULL(1);
+uint8_t wasmi_pool_grow(wasmi_pool *pool, size_t tenant, size_t memory, uint64_t pages, uint64_t *number)
+    WASMI_CHECKED WASMI_NOT_NULL(1, 5);
+uint8_t wasmi_pool_fuel_left(wasmi_pool *pool, size_t tenant, uint64_t *left) WASMI_CHECKED WASMI_NOT_NULL(1, 3);
 
 /* As wasmi_machine_read on a tenant's machine; before all else: NO_POOL, NO_TENANT. */
 wasmi_reply wasmi_pool_read(wasmi_pool *pool, size_t tenant, size_t memory, size_t offset, uint8_t *bytes, size_t len)
     WASMI_CHECKED WASMI_NOT_NULL(1);
 
-/* As wasmi_machine_write on a tenant's machine; before all else: NO_POOL, NO_ROOM, NO_TENANT, then NO_ROOM if memory for
-   the reply is refused. */
+/* As wasmi_machine_write on a tenant's machine; before all else: NO_POOL, NO_ROOM, NO_TENANT. */
 wasmi_reply wasmi_pool_write(wasmi_pool *pool, size_t tenant, size_t memory, size_t offset, const uint8_t *bytes,
                              size_t len) WASMI_CHECKED WASMI_NOT_NULL(1);
 

@@ -91,3 +91,13 @@ wasmi_reply __wrap_wasmi_pool_run_lines(wasmi_pool *pool, size_t tenant, const u
     return __real_wasmi_pool_run_lines(pool, tenant, lines, lines_len, text, text_len);
 }
 #endif
+
+#if FAULT == 11
+uint8_t __real_wasmi_pool_store(wasmi_pool *pool, size_t tenant, uint16_t op, size_t memory, uint64_t ptr, uint64_t offset,
+                                uint64_t value);
+
+uint8_t __wrap_wasmi_pool_store(wasmi_pool *pool, size_t tenant, uint16_t op, size_t memory, uint64_t ptr, uint64_t offset,
+                                uint64_t value) {
+    return __real_wasmi_pool_store(pool, tenant, op, memory, ptr, offset, op == 3 ? value & UINT8_MAX : value);
+}
+#endif

@@ -307,7 +307,8 @@ fn limits_of_a_function() {
     assert!(!is_refused(16_000, &all));
 }
 
-/// The processor time that it takes to read a module, as Linux counts it; elsewhere the time of the clock.
+/// The processor time that it takes to read a module and to call its first function with little fuel, as Linux counts
+/// it; elsewhere the time of the clock.
 fn time_of(bytes: &[u8]) -> Duration {
     let now = || {
         thread::yield_now();
@@ -316,7 +317,11 @@ fn time_of(bytes: &[u8]) -> Duration {
         nanoseconds.map_or_else(|| std::time::UNIX_EPOCH.elapsed().unwrap(), Duration::from_nanos)
     };
     let begun = now();
-    assert!(Module::new(&ENGINE, bytes).is_ok());
+    let module = Module::new(&ENGINE, bytes).unwrap();
+    let mut store = store(20_000);
+    let function = instance(&module, &mut store).unwrap().get_func(&store, "f").unwrap();
+    let args = vec![Val::from(0_i32); function.ty(&store).params().len()];
+    let _ = function.call(&mut store, &args);
     now() - begun
 }
 
@@ -361,8 +366,8 @@ fn hostile() -> Vec<(&'static str, Wasm)> {
     ]
 }
 
-/// Each is read in less than a second a megabyte, since no instruction makes a long list again and again. In a release it
-/// takes less than fifteen times as long as plain code; `--nocapture` shows the times.
+/// Each is read, and made ready at its first call, in less than a second a megabyte, since no instruction makes a long list
+/// again and again. `--nocapture` shows the times.
 #[test]
 fn hostile_functions_are_read_in_time() {
     let plain = [0x20, 0, 0x20, 1, 0x6a, 0x21, 1].repeat(1_000_000 / 7);

@@ -913,6 +913,104 @@ mod machine {
     /// # Contract
     ///
     /// ```text
+    /// ensures step: ActsOnHeld {R = ℕ × ℕ} (NO_POOL, value.old)
+    ///     handle.old.pool.held (result, value.new) handle.new.pool.held
+    ///     (TenantRepliesInWord tenant (item_load op memory ptr offset) value.old
+    ///     (result, value.new))
+    /// ensures caps: KeepsCaps handle.old.pool.held handle.new.pool.held
+    /// ```
+    #[unsafe(no_mangle)]
+    pub extern "C" fn wasmi_pool_load(
+        handle: &mut PoolHandle,
+        tenant: usize,
+        op: u16,
+        memory: usize,
+        ptr: u64,
+        offset: u64,
+        value: &mut u64,
+    ) -> u8 {
+        on_pool!(handle, NO_POOL, pool => pool.load(tenant, op, memory, ptr, offset, value))
+    }
+
+    /// # Contract
+    ///
+    /// ```text
+    /// ensures step: ActsOnHeld NO_POOL handle.old.pool.held result handle.new.pool.held
+    ///     (TenantRepliesInStatus tenant (item_store op memory ptr offset value) result)
+    /// ensures caps: KeepsCaps handle.old.pool.held handle.new.pool.held
+    /// ```
+    #[unsafe(no_mangle)]
+    pub extern "C" fn wasmi_pool_store(
+        handle: &mut PoolHandle,
+        tenant: usize,
+        op: u16,
+        memory: usize,
+        ptr: u64,
+        offset: u64,
+        value: u64,
+    ) -> u8 {
+        on_pool!(handle, NO_POOL, pool => pool.store(tenant, op, memory, ptr, offset, value))
+    }
+
+    /// # Contract
+    ///
+    /// ```text
+    /// ensures step: ActsOnHeld NO_POOL handle.old.pool.held result handle.new.pool.held
+    ///     (TenantRepliesInStatus tenant (vector_binary op dst a b) result)
+    /// ensures caps: KeepsCaps handle.old.pool.held handle.new.pool.held
+    /// ```
+    #[unsafe(no_mangle)]
+    pub extern "C" fn wasmi_pool_binary(
+        handle: &mut PoolHandle,
+        tenant: usize,
+        op: u16,
+        dst: u8,
+        a: u8,
+        b: u8,
+    ) -> u8 {
+        on_pool!(handle, NO_POOL, pool => pool.binary(tenant, op, dst, a, b))
+    }
+
+    /// # Contract
+    ///
+    /// ```text
+    /// ensures step: ActsOnHeld {R = ℕ × ℕ} (NO_POOL, number.old)
+    ///     handle.old.pool.held (result, number.new) handle.new.pool.held
+    ///     (TenantRepliesInWord tenant (Some (GrowMemory memory pages)) number.old
+    ///     (result, number.new))
+    /// ensures caps: KeepsCaps handle.old.pool.held handle.new.pool.held
+    /// ```
+    #[unsafe(no_mangle)]
+    pub extern "C" fn wasmi_pool_grow(
+        handle: &mut PoolHandle,
+        tenant: usize,
+        memory: usize,
+        pages: u64,
+        number: &mut u64,
+    ) -> u8 {
+        on_pool!(handle, NO_POOL, pool => pool.grow(tenant, memory, pages, number))
+    }
+
+    /// # Contract
+    ///
+    /// ```text
+    /// ensures step: ActsOnHeld {R = ℕ × ℕ} (NO_POOL, left.old)
+    ///     handle.old.pool.held (result, left.new) handle.new.pool.held
+    ///     (TenantRepliesInWord tenant (Some GetFuel) left.old (result, left.new))
+    /// ensures caps: KeepsCaps handle.old.pool.held handle.new.pool.held
+    /// ```
+    #[unsafe(no_mangle)]
+    pub extern "C" fn wasmi_pool_fuel_left(
+        handle: &mut PoolHandle,
+        tenant: usize,
+        left: &mut u64,
+    ) -> u8 {
+        on_pool!(handle, NO_POOL, pool => pool.fuel_left(tenant, left))
+    }
+
+    /// # Contract
+    ///
+    /// ```text
     /// ensures step: ActsOnHeld {R = ReplyStruct × List ℕ} (only NO_POOL, bytes.old)
     ///     handle.old.pool.held (result, bytes.new) handle.new.pool.held
     ///     (TenantReadsOut tenant memory offset bytes.old result bytes.new)
