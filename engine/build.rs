@@ -10,7 +10,7 @@ fn main() {
         && !is("CARGO_CFG_TARGET_OS", &["windows"])
         && (env::var_os("CARGO_FEATURE_CRATE").is_none() || is("PROFILE", &["release"]))
         && env::var_os("CARGO_FEATURE_PORTABLE").is_none();
-    // Without such a line each change of a file in the folder, a document too, makes all be built anew.
+    // Where a script names nothing, a change of any file of the package makes all of it compile again.
     println!("cargo::rerun-if-env-changed=OPT_LEVEL");
     println!("cargo::rustc-check-cfg=cfg(jumps)");
     if makes_jumps {

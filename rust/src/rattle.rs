@@ -21,15 +21,14 @@ pub use list::Vec;
 
 pub mod alloc {
     //! Allocators and what they refuse.
+    use core::fmt::Display;
 
     /// Memory was refused.
     #[derive(Clone, Copy, Debug, PartialEq, Eq)]
     pub struct AllocError;
 
-    impl core::fmt::Display for AllocError {
-        fn fmt(&self, f: &mut core::fmt::Formatter<'_>) -> core::fmt::Result {
-            f.write_str("out of memory")
-        }
+    shown! {
+        Display for AllocError: |_it| "out of memory";
     }
 
     impl core::error::Error for AllocError {}
@@ -128,4 +127,17 @@ impl<T: Copy, const N: usize> ArrayExt<T, N> for [T; N] {
         }
         Ok(items.map(|item| item.expect("each was set")))
     }
+}
+
+/// The parts of a line between spaces, as `split(' ')` gives them. They are short, so each byte is looked at by itself.
+#[cfg(feature = "std")]
+#[inline]
+pub fn between_spaces(line: &str) -> impl Iterator<Item = &str> {
+    let mut rest = Some(line);
+    core::iter::from_fn(move || {
+        let text = rest?;
+        let end = text.bytes().position(|byte| byte == b' ');
+        rest = end.map(|end| &text[end + 1..]);
+        Some(&text[..end.unwrap_or(text.len())])
+    })
 }

@@ -123,11 +123,15 @@ EDITS += [("store", "#[derive(Clone, Copy, Debug)] pub struct ElementSegmentRef"
 # Texts that rustc's LLVM compiles badly, or that older compilers lack.
 EDITS += [
     ("grammar", "let Some(words) = words.as_array::<16>() else {", "let Ok(words) = <&[&str; 16]>::try_from(words) else {", 1),
+    # Rust's search for a char takes a word of memory at a time, and words of scripts are shorter.
+    ("operands", "line.split(' ')", "crate::rattle::between_spaces(line)", 1),
     ("accesses", "for i in 0..N { memory[address + i] = bytes[i]; }", "memory[address..][..N].copy_from_slice(bytes);", 1),
     ("accesses", "memory[address..address + N].split_first_chunk::<N>()", "memory[address..].split_first_chunk::<N>()", 1),
     # The bounds one by one, as they were tested before: LLVM tests their sum once more.
     ("store", "elements[index..index + items.len()]", "elements[index..][..items.len()]", 1),
     ("machine", "memory[offset..offset + len]", "memory[offset..][..len]", 1),
+    ("store", "#[inline] fn front_mut(&mut self, end: usize) -> &mut [u8] { match self {",
+     "#[inline(always)]\n            fn front_mut(&mut self, end: usize) -> &mut [u8] {\n                match self {", 1),
     ("store", "let end = offset + buffer.len(); buffer.copy_from_slice(&bytes[offset..end]);",
      "        buffer.copy_from_slice(&bytes[offset..][..buffer.len()]);", 1),
 ]
@@ -214,6 +218,19 @@ EDITS += [
                 return u16x8::from_le_bytes((words | (tops << 9) - (tops << 1)).to_le_bytes());
             }
             let tops = u16x8::splat(0x80);""", 1),
+    # Lanes of 8 and 16 bits that are less are found in the words of a vector: LLVM takes each lane out by itself.
+    ("lanewise", "use crate::proved::lanes::SimdLane;\n    use crate::proved::raw::V128;", "use crate::proved::lanes::SimdLane;\n    use crate::proved::raw::V128;\n    use crate::rattle::simd::prelude::AS_ARRAYS;", 1),
+    ("lanewise", "let ones = T::lanes_of(V128::from_word_pair(u64::MAX, u64::MAX));", """if AS_ARRAYS && size_of::<T>() < 4 {
+                let (a, b) = (T::vector_of(a).words(), T::vector_of(b).words());
+                let less = ones_if_less_in_word::<T>;
+                return V128::from_word_pair(less(a.0, b.0), less(a.1, b.1));
+            }
+            let ones = T::lanes_of(V128::from_word_pair(u64::MAX, u64::MAX));""", 1),
+    ("widening", "T::Wide::vector_of(T::sums(T::even(v), T::odd(v)))", """if AS_ARRAYS {
+            let (even, odd) = (T::Wide::vector_of(T::even(v)).words(), T::Wide::vector_of(T::odd(v)).words());
+            return V128::from_word_pair(even.0 + odd.0, even.1 + odd.1);
+        }
+        T::Wide::vector_of(T::sums(T::even(v), T::odd(v)))""", 1),
     # A comparison whose result is inverted becomes two masks of 64 bits.
     ("lanewise", "v128_not(less_u::<T>(rhs, lhs))", "ones_unless_less::<T>(T::lanes_of(rhs), T::lanes_of(lhs))", 1),
     ("lanewise", "v128_not(less_s::<T>(rhs, lhs))", "ones_unless_less::<T>(T::biased(T::lanes_of(rhs)), T::biased(T::lanes_of(lhs)))", 1),
@@ -223,9 +240,22 @@ EDITS += [
         /// All ones where the lane of `a` isn't less than that of `b`, else all zeros.
         #[inline(always)]
         fn ones_unless_less<T: SimdLane>(a: T::Vector, b: T::Vector) -> V128 {
+            if AS_ARRAYS && size_of::<T>() < 4 {
+                return v128_not(ones_if_less::<T>(a, b));
+            }
             let ones = T::lanes_of(V128::from_word_pair(u64::MAX, u64::MAX));
             let zeros = T::lanes_of(V128::from_word_pair(0, 0));
-            T::vector_of(T::choose_if_less(a, b, zeros, ones))""", 1),
+            T::vector_of(T::choose_if_less(a, b, zeros, ones))
+        }
+
+        /// All ones in each lane of a word that is less than that of the other word, else all zeros: its highest bit, and those below it.
+        #[inline(always)]
+        fn ones_if_less_in_word<T>(a: u64, b: u64) -> u64 {
+            let width = 8 * size_of::<T>();
+            let tops = (u64::MAX / (u64::MAX >> (64 - width))) << (width - 1);
+            let at_least = (a | tops) - (b & !tops);
+            let less = ((!a & b) | (!(a ^ b) & !at_least)) & tops;
+            (less << 1).wrapping_sub(less >> (width - 1))""", 1),
 ]
 
 # The printer's texts, piece by piece: Rattle makes code of each piece, and rustc a call of `core::fmt`.

@@ -151,6 +151,7 @@ pub mod simd {
         use crate::proved::lanes::SimdLane;
         use crate::proved::lanewise::simd::v128_not;
         use crate::proved::raw::V128;
+        use crate::rattle::simd::prelude::AS_ARRAYS;
 
         /// All ones where the lane of `lhs` is less than that of `rhs`, read unsigned, else all zeros.
         ///
@@ -287,9 +288,22 @@ pub mod simd {
         /// All ones where the lane of `a` isn't less than that of `b`, else all zeros.
         #[inline(always)]
         fn ones_unless_less<T: SimdLane>(a: T::Vector, b: T::Vector) -> V128 {
+            if AS_ARRAYS && size_of::<T>() < 4 {
+                return v128_not(ones_if_less::<T>(a, b));
+            }
             let ones = T::lanes_of(V128::from_word_pair(u64::MAX, u64::MAX));
             let zeros = T::lanes_of(V128::from_word_pair(0, 0));
             T::vector_of(T::choose_if_less(a, b, zeros, ones))
+        }
+
+        /// All ones in each lane of a word that is less than that of the other word, else all zeros: its highest bit, and those below it.
+        #[inline(always)]
+        fn ones_if_less_in_word<T>(a: u64, b: u64) -> u64 {
+            let width = 8 * size_of::<T>();
+            let tops = (u64::MAX / (u64::MAX >> (64 - width))) << (width - 1);
+            let at_least = (a | tops) - (b & !tops);
+            let less = ((!a & b) | (!(a ^ b) & !at_least)) & tops;
+            (less << 1).wrapping_sub(less >> (width - 1))
         }
 
         /// # Contract
@@ -306,6 +320,11 @@ pub mod simd {
         /// `T` is a type with the trait `SimdLane`.
         #[inline(always)]
         fn ones_if_less<T: SimdLane>(a: T::Vector, b: T::Vector) -> V128 {
+            if AS_ARRAYS && size_of::<T>() < 4 {
+                let (a, b) = (T::vector_of(a).words(), T::vector_of(b).words());
+                let less = ones_if_less_in_word::<T>;
+                return V128::from_word_pair(less(a.0, b.0), less(a.1, b.1));
+            }
             let ones = T::lanes_of(V128::from_word_pair(u64::MAX, u64::MAX));
             let zeros = T::lanes_of(V128::from_word_pair(0, 0));
             T::vector_of(T::choose_if_less(a, b, ones, zeros))

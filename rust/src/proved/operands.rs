@@ -770,7 +770,7 @@ mod words {
     #[inline]
     pub fn read_words<'a>(line: &'a str, words: &mut Vec<&'a str>) -> Result<(), AllocError> {
         words.clear();
-        for word in line.split(' ') {
+        for word in crate::rattle::between_spaces(line) {
             if !word.is_empty() {
                 words.push(word)?;
             }

@@ -630,7 +630,7 @@ mod memory {
             /// Definitions: [`block`](crate::specs::store::BufferSpecs#block), [`block_refilled`](crate::specs::store::BufferSpecs#block_refilled).
             ///
             /// `R` is the type of what has the bytes, a [`Region`](crate::machine::Region#contract).
-            #[inline]
+            #[inline(always)]
             fn front_mut(&mut self, end: usize) -> &mut [u8] {
                 match self {
                     Storage::Owned(bytes) => bytes.slice_mut(..end),

@@ -1313,6 +1313,13 @@ pub mod simd {
     /// `T` is a type with the trait `PairedLane`.
     #[inline(always)]
     fn neighbours_u<T: PairedLane>(v: V128) -> V128 {
+        if AS_ARRAYS {
+            let (even, odd) = (
+                T::Wide::vector_of(T::even(v)).words(),
+                T::Wide::vector_of(T::odd(v)).words(),
+            );
+            return V128::from_word_pair(even.0 + odd.0, even.1 + odd.1);
+        }
         T::Wide::vector_of(T::sums(T::even(v), T::odd(v)))
     }
 

@@ -4,7 +4,7 @@ use crate::proved::meter::ResourceLimiter as Limits;
 use crate::rattle::alloc::{AllocError, AllocFailed};
 use crate::rattle::arrayvec::ArrayString;
 use crate::rattle::rc::RcSlice;
-use crate::rattle::{ArrayExt, SliceExt, TryClone, Vec};
+use crate::rattle::{ArrayExt, SliceExt, TryClone, Vec, between_spaces};
 use crate::{LimiterError, MemoryError, ResourceLimiter, TableError};
 use core::fmt::Write;
 use std::string::{String, ToString};
@@ -219,4 +219,22 @@ fn a_limiter_behind_dyn_is_asked_and_told_the_same() {
         "memory 9 10 None",
     ];
     assert_eq!(notes.0, heard);
+}
+
+#[test]
+fn parts_are_those_of_split() {
+    let lines = [
+        "",
+        " ",
+        "  ",
+        "a",
+        "ab c",
+        " a b ",
+        "é  ü ",
+        "a\tb\u{a0}c d",
+    ];
+    for line in lines {
+        let parts: vec::Vec<_> = between_spaces(line).collect();
+        assert_eq!(parts, line.split(' ').collect::<vec::Vec<_>>(), "{line:?}");
+    }
 }
