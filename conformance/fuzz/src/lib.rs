@@ -1,10 +1,15 @@
 //! What the targets share: how libFuzzer calls them, and what is said where two sides differ.
+use std::ffi::{c_char, c_int, c_long, c_ulong};
 use std::fmt::Debug;
 use std::sync::LazyLock;
 
 unsafe extern "C" {
     /// libFuzzer's own change of an input; the length of the new one.
     pub fn LLVMFuzzerMutate(data: *mut u8, size: usize, max: usize) -> usize;
+    /// The number at the front of a text, as the C library reads it.
+    pub fn strtol(text: *const c_char, end: *mut *mut c_char, base: c_int) -> c_long;
+    /// The same without a sign.
+    pub fn strtoul(text: *const c_char, end: *mut *mut c_char, base: c_int) -> c_ulong;
 }
 
 /// Has libFuzzer call a function, which is false for an input that isn't worth keeping, and make inputs by another one,
@@ -12,6 +17,17 @@ unsafe extern "C" {
 #[macro_export]
 macro_rules! fuzz_target {
     ($tried:path $(, $changed:path)?) => {
+        // The names by which libFuzzer calls these two if it was compiled beside glibc 2.38 or later, which an older one lacks.
+        #[unsafe(no_mangle)]
+        pub extern "C" fn __isoc23_strtol(text: *const std::ffi::c_char, end: *mut *mut std::ffi::c_char, base: i32) -> std::ffi::c_long {
+            unsafe { $crate::strtol(text, end, base) }
+        }
+
+        #[unsafe(no_mangle)]
+        pub extern "C" fn __isoc23_strtoul(text: *const std::ffi::c_char, end: *mut *mut std::ffi::c_char, base: i32) -> std::ffi::c_ulong {
+            unsafe { $crate::strtoul(text, end, base) }
+        }
+
         #[unsafe(no_mangle)]
         pub extern "C" fn LLVMFuzzerTestOneInput(data: *const u8, size: usize) -> i32 {
             let input = if size == 0 { &[] } else { unsafe { std::slice::from_raw_parts(data, size) } };
