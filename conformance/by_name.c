@@ -1,7 +1,9 @@
 /* Compares each function of wasmi_instructions.h with the instruction of its name by number, on some operands, which
-   make each trap. At the end it prints how many were compared. */
+   make each trap, and on COUNT random ones. At the end it prints how many were compared. usage: by_name [COUNT] */
 #include "wasmi_instructions.h"
+#include "wasmi_oracle.h"
 #include <stdio.h>
+#include <stdlib.h>
 #include <string.h>
 
 /* Operands, and addresses inside a memory of 32 bytes, at its end, past it, and past 2^32 and 2^64. */
@@ -141,6 +143,22 @@ static const char *const LOAD_NAMES[] = {WASMI_LOAD_NAMES(NAME) NULL};
 static const char *const STORE_NAMES[] = {WASMI_STORE_NAMES(NAME) NULL};
 
 static int compared = 0, differing = 0;
+static long random_count = 0;
+
+/* Random numbers (splitmix64), a fourth of them small. */
+static uint64_t any_number(void) {
+    static uint64_t state = 1;
+    uint64_t z = state += UINT64_C(0x9e3779b97f4a7c15);
+    z = (z ^ (z >> 30)) * UINT64_C(0xbf58476d1ce4e5b9);
+    z = (z ^ (z >> 27)) * UINT64_C(0x94d049bb133111eb);
+    z ^= z >> 31;
+    return z % 4 == 0 ? z >> 58 : z;
+}
+
+static wasmi_words any_words(void) {
+    wasmi_words made = {any_number(), any_number()};
+    return made;
+}
 
 static void compare(const char *name, int agrees) {
     compared++;
@@ -165,38 +183,50 @@ static int is_same(wasmi_result one, wasmi_result other) {
     return one.status == other.status && (one.status != WASMI_DONE || is_same_value);
 }
 
+static int call_agrees(const struct by_name *it, int is_unary, uint16_t number, wasmi_words a, wasmi_words b) {
+    wasmi_result wanted = {{0, 0}, 0};
+    wanted.status = is_unary ? wasmi_unary(number, a, &wanted.value) : wasmi_binary(number, a, b, &wanted.value);
+    return is_same(it->call(it->function, a, b), wanted);
+}
+
 static void compare_calls(void) {
     for (size_t f = 0; f < COUNT(UNARIES) + COUNT(BINARIES); f++) {
         int is_unary = f < COUNT(UNARIES), agrees = 1;
         const struct by_name *it = is_unary ? &UNARIES[f] : &BINARIES[f - COUNT(UNARIES)];
         uint16_t number = number_of(it->name, is_unary ? UNARY_NAMES : BINARY_NAMES);
         for (int i = 0; i < OPERAND_COUNT * OPERAND_COUNT; i++) {
-            wasmi_words a = OPERANDS[i / OPERAND_COUNT], b = OPERANDS[i % OPERAND_COUNT];
-            wasmi_result wanted = {{0, 0}, 0};
-            wanted.status = is_unary ? wasmi_unary(number, a, &wanted.value) : wasmi_binary(number, a, b, &wanted.value);
-            agrees &= is_same(it->call(it->function, a, b), wanted);
+            agrees &= call_agrees(it, is_unary, number, OPERANDS[i / OPERAND_COUNT], OPERANDS[i % OPERAND_COUNT]);
+        }
+        for (long i = 0; i < random_count; i++) {
+            agrees &= call_agrees(it, is_unary, number, any_words(), any_words());
         }
         compare(it->name, agrees);
     }
 }
 
 /* The function by name and the call by number begin with the same bytes, and leave the same. */
+static int access_agrees(const struct by_name *it, int is_load, uint16_t number, uint64_t ptr, wasmi_words value) {
+    uint8_t memory[LEN], other[LEN];
+    for (int k = 0; k < LEN; k++) {
+        memory[k] = other[k] = (uint8_t)(k * 37 + 129);
+    }
+    wasmi_result wanted = {{0, 0}, 0};
+    wanted.status = is_load ? wasmi_load(number, other, LEN, ptr, 3, &wanted.value)
+                            : wasmi_store(number, other, LEN, ptr, 3, value);
+    int agrees = is_same(it->access(it->function, memory, ptr, value), wanted);
+    return agrees & (memcmp(memory, other, LEN) == 0);
+}
+
 static void compare_accesses(void) {
     for (size_t f = 0; f < COUNT(LOADS) + COUNT(STORES); f++) {
         int is_load = f < COUNT(LOADS), agrees = 1;
         const struct by_name *it = is_load ? &LOADS[f] : &STORES[f - COUNT(LOADS)];
         uint16_t number = number_of(it->name, is_load ? LOAD_NAMES : STORE_NAMES);
         for (int i = 0; i < PTR_COUNT; i++) {
-            uint8_t memory[LEN], other[LEN];
-            for (int k = 0; k < LEN; k++) {
-                memory[k] = other[k] = (uint8_t)(k * 37 + 129);
-            }
-            wasmi_words value = OPERANDS[OPERAND_COUNT - 1];
-            wasmi_result wanted = {{0, 0}, 0};
-            wanted.status = is_load ? wasmi_load(number, other, LEN, PTRS[i], 3, &wanted.value)
-                                    : wasmi_store(number, other, LEN, PTRS[i], 3, value);
-            agrees &= is_same(it->access(it->function, memory, PTRS[i], value), wanted);
-            agrees &= memcmp(memory, other, LEN) == 0;
+            agrees &= access_agrees(it, is_load, number, PTRS[i], OPERANDS[OPERAND_COUNT - 1]);
+        }
+        for (long i = 0; i < random_count; i++) {
+            agrees &= access_agrees(it, is_load, number, any_number() % 8 == 0 ? any_number() : any_number() % LEN, any_words());
         }
         compare(it->name, agrees);
     }
@@ -225,7 +255,8 @@ static void compare_shuffles(void) {
     }
 }
 
-int main(void) {
+int main(int count, char **words) {
+    random_count = count > 1 ? atol(words[1]) : 0;
     compare_calls();
     compare_accesses();
     compare_shuffles();

@@ -2,7 +2,7 @@
    list of answers, which is the argument, the others with what scripts print. Then it tries each number for each other
    name of its kind: none passes, except those of one meaning. It compares each call on arrays with the call on values,
    for each element. At the end it sees each status. */
-#include "wasmi_core.h"
+#include "wasmi_oracle.h"
 #include <inttypes.h>
 #include <stdio.h>
 #include <stdlib.h>

@@ -10,6 +10,8 @@ fn main() {
         && !is("CARGO_CFG_TARGET_OS", &["windows"])
         && (env::var_os("CARGO_FEATURE_CRATE").is_none() || is("PROFILE", &["release"]))
         && env::var_os("CARGO_FEATURE_PORTABLE").is_none();
+    // Where a script names nothing, a change of any file of the package makes all of it compile again.
+    println!("cargo::rerun-if-env-changed=OPT_LEVEL");
     println!("cargo::rustc-check-cfg=cfg(jumps)");
     if makes_jumps {
         println!("cargo::rustc-cfg=jumps");

@@ -147,7 +147,7 @@ const shown = (value) => typeof value === 'number' || typeof value === 'bigint' 
 
 const print = (text) => fs.writeSync(1, `${text}\n`);
 let instance = null, of = null;
-let registered = {};
+let registered = {}, named = {};
 // The host of an instance, as program/spectest.rs has it. What a call prints comes before its reply.
 const host = () => ({
   print: () => print(''),
@@ -245,15 +245,24 @@ function load(file) {
   return 'ok:';
 }
 
+function written(memory, place, ...file) {
+  new Uint8Array(instance.exports[memory].buffer).set(fs.readFileSync(file.join(' ')), Number(place));
+  return 'ok:';
+}
+
 function reply(line) {
   const [command, ...words] = line.split(' ');
   if (command === 'module') return load(words.join(' '));
   if (command === 'validate') return validated(words.join(' '));
   if (command === 'fuel') return 'ok:';
-  if (command === 'drop') { registered = {}; instance = null; return 'ok:'; }
+  if (command === 'drop') { registered = {}; named = {}; instance = null; return 'ok:'; }
+  if (command === 'use') { [instance, of] = named[words[0]]; return 'ok:'; }
   if (command === 'left') return 'none: V8 has no fuel';
   if (!instance) return 'error: there is no instance';
   if (command === 'register') { registered[words[0]] = instance.exports; return 'ok:'; }
+  if (command === 'name') { named[words[0]] = [instance, of]; return 'ok:'; }
+  if (command === 'grow') return `ok: ${instance.exports[words[0]].grow(Number(words[1]))}`;
+  if (command === 'write') return written(...words);
   if (command === 'digest') return digest();
   const f = instance.exports[words[0]];
   if (typeof f !== 'function') return `error: there is no function ${words[0]}`;

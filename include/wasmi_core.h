@@ -1,13 +1,17 @@
-/* The calls of wasmi_core for C and C++, in libwasmi_core.a (x86-64 Linux).
+/* The calls of wasmi_core for C and C++, in libwasmi_core.a.
+
+   Processors: the archive that is proved is for Linux on x86-64, and takes a processor of x86-64-v2 (SSE4.2 and popcnt,
+   since 2009); on an older one an instruction such as wasm_i32_popcnt ends the program. The library that is built from
+   source (rust/c) has the same calls for any target of Rust, and is tested, not proved.
 
    State: there is none. Instructions work on values and bytes of the caller's, and a script is run as a whole
    (wasmi_script_run). A machine with memories, fuel and limits that lives across calls is in wasmi_machine.h.
    wasmi_instructions.h has a function for each scalar instruction, load and store, which takes less time than a call
    by its number.
 
-   Pointers: value and needed must not be NULL. An array is a pointer and a number of elements, of at most PTRDIFF_MAX
-   bytes; the pointer may be NULL only if that number is 0. What a call writes must not overlap with anything else
-   that the call takes. No pointer is kept.
+   Pointers: no pointer is NULL, except one of an array. An array is a pointer and a number of elements, of at most
+   PTRDIFF_MAX bytes; the pointer may be NULL only if that number is 0. What a call writes must not overlap with anything
+   else that the call takes. No pointer is kept.
 
    Threads: calls may be made from several threads at once, as long as none writes what another one reads or writes.
 
@@ -27,23 +31,32 @@ extern "C" {
 /* The version of this header and the others beside it: MAJOR counts what breaks a program, and MINOR what is new, such
    as a call or a status. 1.0.0 had this header without a version, 1.1.0 came with wasmi_machine.h and wasmi_memory.h,
    1.2.0 with wasmi_instructions.h, 1.3.0 with the pools of wasmi_machine.h, and 1.4.0 with writes over a range of a
-   machine's memory, wasmi_pool_remove, wasmi_quota_release_memory and wasmi_quota_release_table. */
+   machine's memory, wasmi_pool_remove, wasmi_quota_release_memory and _table, wasmi_memory_new_zeroed and
+   wasmi_memory_grow_zeroed. */
 #define WASMI_CORE_VERSION "1.4.0"
 #define WASMI_CORE_VERSION_MAJOR 1
 #define WASMI_CORE_VERSION_MINOR 4
 #define WASMI_CORE_VERSION_PATCH 0
 
-/* A value: an item of up to 64 bits in lo, or bits 0 to 63 and bits 64 to 127 of a vector. An instruction on 32 bits
+/* What a compiler is told of a call: that its status has to be looked at, and which parameters aren't NULL. It is told
+   nothing where WASMI_CORE_NO_ATTRIBUTES is defined. */
+#if defined(__GNUC__) && !defined(WASMI_CORE_NO_ATTRIBUTES)
+#define WASMI_CHECKED __attribute__((warn_unused_result))
+#define WASMI_NOT_NULL(...) __attribute__((nonnull(__VA_ARGS__)))
+#else
+#define WASMI_CHECKED
+#define WASMI_NOT_NULL(...)
+#endif
+
+/* A value: an item of up to 64 bits in lo, or bits 0 to 63 and bits 64 to 127 of a vector, so that lo is the first 8 of
+   its bytes in a memory. An instruction on 32 bits
    ignores the higher bits of its operands, one on an item of 64 bits ignores hi, and the unused bits of a value are 0.
    A Boolean is 0 or 1. */
 typedef struct { uint64_t lo, hi; } wasmi_words;
 
-/* What an instruction gives for one element of an array: the value, or 0 if it traps, and the status. */
-typedef struct { wasmi_words value; uint8_t status; } wasmi_result;
-
 /* What each call except wasmi_script_run returns. The statuses below 253 are the numbers of traps, and an instruction
-   has no other traps than these three. UNKNOWN is tested first, then NO_LANE, LENGTHS_DIFFER and traps; one of an
-   element of an array is in its wasmi_result alone. After any status except WASMI_DONE nothing is written. */
+   has no other traps than these three. UNKNOWN is tested first, then NO_LANE, LENGTHS_DIFFER (of the arrays of
+   wasmi_oracle.h) and traps. After any status except WASMI_DONE nothing is written. */
 enum {
     WASMI_DONE = 0,
     /* a load or a store past the end of the bytes */
@@ -68,42 +81,35 @@ enum {
 enum {
     WASMI_TEXT_TOO_SHORT = 5
 };
-uint8_t wasmi_script_run(const uint8_t *script, size_t script_len, uint8_t *text, size_t text_len, size_t *needed);
+uint8_t wasmi_script_run(const uint8_t *script, size_t script_len, uint8_t *text, size_t text_len, size_t *needed)
+    WASMI_CHECKED WASMI_NOT_NULL(5);
 
-/* Executes the instruction that has a number in the table below, on values or on each element of arrays, which all
-   have the same length. Of these instructions only those of two operands trap. A shift of a vector takes its amount
-   from the low 32 bits of b. */
-uint8_t wasmi_unary(uint16_t number, wasmi_words a, wasmi_words *value);
-uint8_t wasmi_unary_each(uint16_t number, const wasmi_words *a, size_t a_len, wasmi_words *values, size_t values_len);
-uint8_t wasmi_binary(uint16_t number, wasmi_words a, wasmi_words b, wasmi_words *value);
-uint8_t wasmi_binary_each(uint16_t number, const wasmi_words *a, size_t a_len, const wasmi_words *b, size_t b_len,
-                          wasmi_result *results, size_t results_len);
-uint8_t wasmi_ternary(uint16_t number, wasmi_words a, wasmi_words b, wasmi_words c, wasmi_words *value);
-uint8_t wasmi_ternary_each(uint16_t number, const wasmi_words *a, size_t a_len, const wasmi_words *b, size_t b_len,
-                           const wasmi_words *c, size_t c_len, wasmi_words *values, size_t values_len);
+/* Executes the instruction that has a number in the table below. Of these instructions only those of two operands trap. A shift of a vector takes its amount
+   from the low 32 bits of b. Of the relaxed instructions a swizzle gives 0 for an index above 15, a selection of lanes
+   takes each bit by the mask's, the one product of q15 that doesn't fit is the greatest number, and a dot reads both
+   operands with sign and its sums of 16 bits wrap. */
+uint8_t wasmi_unary(uint16_t number, wasmi_words a, wasmi_words *value) WASMI_CHECKED WASMI_NOT_NULL(3);
+uint8_t wasmi_binary(uint16_t number, wasmi_words a, wasmi_words b, wasmi_words *value) WASMI_CHECKED WASMI_NOT_NULL(4);
+uint8_t wasmi_ternary(uint16_t number, wasmi_words a, wasmi_words b, wasmi_words c, wasmi_words *value)
+    WASMI_CHECKED WASMI_NOT_NULL(5);
 
-/* Loads and stores at ptr + offset, where 2^64 or more is past the end, on bytes of the caller's. wasmi_load_each
-   loads a value for each element of ptrs; there are as many results. The loads and stores of whole integers (i32.load,
-   i64.load, i32.store, i64.store) are load_u32, load_u64, store32 and store64. */
+/* Loads and stores at ptr + offset, where 2^64 or more is past the end, on bytes of the caller's. The loads and stores
+   of whole integers (i32.load, i64.load, i32.store, i64.store) are load_u32, load_u64, store32 and store64. */
 uint8_t wasmi_load(uint16_t number, const uint8_t *memory, size_t memory_len, uint64_t ptr, uint64_t offset,
-                   wasmi_words *value);
-uint8_t wasmi_load_each(uint16_t number, const uint8_t *memory, size_t memory_len, const uint64_t *ptrs,
-                        size_t ptrs_len, uint64_t offset, wasmi_result *results, size_t results_len);
+                   wasmi_words *value) WASMI_CHECKED WASMI_NOT_NULL(6);
 uint8_t wasmi_store(uint16_t number, uint8_t *memory, size_t memory_len, uint64_t ptr, uint64_t offset,
-                    wasmi_words value);
+                    wasmi_words value) WASMI_CHECKED;
 
-/* Executes an instruction on one lane, whose index is below the number of lanes, on values or on each element of
-   arrays, which all have the same length. A replacement takes its item from the second operand. */
-uint8_t wasmi_extract_lane(uint16_t number, uint8_t lane, wasmi_words a, wasmi_words *value);
-uint8_t wasmi_extract_lane_each(uint16_t number, uint8_t lane, const wasmi_words *a, size_t a_len, wasmi_words *values,
-                                size_t values_len);
-uint8_t wasmi_replace_lane(uint16_t number, uint8_t lane, wasmi_words a, wasmi_words item, wasmi_words *value);
-uint8_t wasmi_replace_lane_each(uint16_t number, uint8_t lane, const wasmi_words *a, size_t a_len,
-                                const wasmi_words *items, size_t items_len, wasmi_words *values, size_t values_len);
+/* Executes an instruction on one lane, whose index is below the number of lanes. A replacement takes its item from the
+   second operand. */
+uint8_t wasmi_extract_lane(uint16_t number, uint8_t lane, wasmi_words a, wasmi_words *value)
+    WASMI_CHECKED WASMI_NOT_NULL(4);
+uint8_t wasmi_replace_lane(uint16_t number, uint8_t lane, wasmi_words a, wasmi_words item, wasmi_words *value)
+    WASMI_CHECKED WASMI_NOT_NULL(5);
 uint8_t wasmi_load_lane(uint16_t number, uint8_t lane, const uint8_t *memory, size_t memory_len, uint64_t ptr,
-                        uint64_t offset, wasmi_words a, wasmi_words *value);
+                        uint64_t offset, wasmi_words a, wasmi_words *value) WASMI_CHECKED WASMI_NOT_NULL(8);
 uint8_t wasmi_store_lane(uint16_t number, uint8_t lane, uint8_t *memory, size_t memory_len, uint64_t ptr,
-                         uint64_t offset, wasmi_words a);
+                         uint64_t offset, wasmi_words a) WASMI_CHECKED;
 
 /* The table of tools/header begins. */
 /* one operand, for wasmi_unary. */

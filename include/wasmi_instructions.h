@@ -1,4 +1,4 @@
-/* Each scalar instruction, load and store by name, for C and C++, in libwasmi_core.a (x86-64 Linux).
+/* Each scalar instruction, load and store by name, for C and C++, in libwasmi_core.a.
 
    Names: wasm_i32_add is i32.add, and so on. bitand, bitor and bitxor are and, or and xor; the loads and stores of whole
    integers (i32.load, i64.load, i32.store, i64.store) are load_u32, load_u64, store32 and store64. The other instructions
@@ -22,10 +22,12 @@ extern "C" {
 
 /* The bytes of a and b that lanes has the indices of: those of a are 0 to 15, those of b 16 to 31. WASMI_NO_LANE if an
    index is greater. There are 16 lanes. */
-uint8_t wasm_i8x16_shuffle(wasmi_words a, wasmi_words b, const uint8_t *lanes, wasmi_words *value);
+uint8_t wasm_i8x16_shuffle(wasmi_words a, wasmi_words b, const uint8_t *lanes, wasmi_words *value)
+    WASMI_CHECKED WASMI_NOT_NULL(3, 4);
 
 /* Stores a vector. */
-uint8_t wasm_v128_store(uint8_t *memory, size_t memory_len, uint64_t ptr, uint64_t offset, wasmi_words value);
+uint8_t wasm_v128_store(uint8_t *memory, size_t memory_len, uint64_t ptr, uint64_t offset, wasmi_words value)
+    WASMI_CHECKED;
 
 /* The table of tools/header begins. */
 /* The scalar instructions by name. */
@@ -56,10 +58,10 @@ int32_t wasm_i32_shr_s(int32_t lhs, int32_t rhs);
 uint32_t wasm_i32_shr_u(uint32_t lhs, uint32_t rhs);
 int32_t wasm_i32_rotl(int32_t lhs, int32_t rhs);
 int32_t wasm_i32_rotr(int32_t lhs, int32_t rhs);
-uint8_t wasm_i32_div_s(int32_t lhs, int32_t rhs, int32_t *value);
-uint8_t wasm_i32_div_u(uint32_t lhs, uint32_t rhs, uint32_t *value);
-uint8_t wasm_i32_rem_s(int32_t lhs, int32_t rhs, int32_t *value);
-uint8_t wasm_i32_rem_u(uint32_t lhs, uint32_t rhs, uint32_t *value);
+uint8_t wasm_i32_div_s(int32_t lhs, int32_t rhs, int32_t *value) WASMI_CHECKED WASMI_NOT_NULL(3);
+uint8_t wasm_i32_div_u(uint32_t lhs, uint32_t rhs, uint32_t *value) WASMI_CHECKED WASMI_NOT_NULL(3);
+uint8_t wasm_i32_rem_s(int32_t lhs, int32_t rhs, int32_t *value) WASMI_CHECKED WASMI_NOT_NULL(3);
+uint8_t wasm_i32_rem_u(uint32_t lhs, uint32_t rhs, uint32_t *value) WASMI_CHECKED WASMI_NOT_NULL(3);
 bool wasm_i32_eq(int32_t lhs, int32_t rhs);
 bool wasm_i32_ne(int32_t lhs, int32_t rhs);
 bool wasm_i32_lt_s(int32_t lhs, int32_t rhs);
@@ -81,10 +83,10 @@ int64_t wasm_i64_shr_s(int64_t lhs, int64_t rhs);
 uint64_t wasm_i64_shr_u(uint64_t lhs, uint64_t rhs);
 int64_t wasm_i64_rotl(int64_t lhs, int64_t rhs);
 int64_t wasm_i64_rotr(int64_t lhs, int64_t rhs);
-uint8_t wasm_i64_div_s(int64_t lhs, int64_t rhs, int64_t *value);
-uint8_t wasm_i64_div_u(uint64_t lhs, uint64_t rhs, uint64_t *value);
-uint8_t wasm_i64_rem_s(int64_t lhs, int64_t rhs, int64_t *value);
-uint8_t wasm_i64_rem_u(uint64_t lhs, uint64_t rhs, uint64_t *value);
+uint8_t wasm_i64_div_s(int64_t lhs, int64_t rhs, int64_t *value) WASMI_CHECKED WASMI_NOT_NULL(3);
+uint8_t wasm_i64_div_u(uint64_t lhs, uint64_t rhs, uint64_t *value) WASMI_CHECKED WASMI_NOT_NULL(3);
+uint8_t wasm_i64_rem_s(int64_t lhs, int64_t rhs, int64_t *value) WASMI_CHECKED WASMI_NOT_NULL(3);
+uint8_t wasm_i64_rem_u(uint64_t lhs, uint64_t rhs, uint64_t *value) WASMI_CHECKED WASMI_NOT_NULL(3);
 bool wasm_i64_eq(int64_t lhs, int64_t rhs);
 bool wasm_i64_ne(int64_t lhs, int64_t rhs);
 bool wasm_i64_lt_s(int64_t lhs, int64_t rhs);
@@ -95,60 +97,78 @@ bool wasm_i64_gt_s(int64_t lhs, int64_t rhs);
 bool wasm_i64_gt_u(uint64_t lhs, uint64_t rhs);
 bool wasm_i64_ge_s(int64_t lhs, int64_t rhs);
 bool wasm_i64_ge_u(uint64_t lhs, uint64_t rhs);
-void wasm_i64_add128(int64_t lhs_lo, int64_t lhs_hi, int64_t rhs_lo, int64_t rhs_hi, int64_t *lo, int64_t *hi);
-void wasm_i64_sub128(int64_t lhs_lo, int64_t lhs_hi, int64_t rhs_lo, int64_t rhs_hi, int64_t *lo, int64_t *hi);
-void wasm_i64_mul_wide_s(int64_t lhs, int64_t rhs, int64_t *lo, int64_t *hi);
-void wasm_i64_mul_wide_u(int64_t lhs, int64_t rhs, int64_t *lo, int64_t *hi);
+void wasm_i64_add128(int64_t lhs_lo, int64_t lhs_hi, int64_t rhs_lo, int64_t rhs_hi, int64_t *lo, int64_t *hi)
+    WASMI_NOT_NULL(5, 6);
+void wasm_i64_sub128(int64_t lhs_lo, int64_t lhs_hi, int64_t rhs_lo, int64_t rhs_hi, int64_t *lo, int64_t *hi)
+    WASMI_NOT_NULL(5, 6);
+void wasm_i64_mul_wide_s(int64_t lhs, int64_t rhs, int64_t *lo, int64_t *hi) WASMI_NOT_NULL(3, 4);
+void wasm_i64_mul_wide_u(int64_t lhs, int64_t rhs, int64_t *lo, int64_t *hi) WASMI_NOT_NULL(3, 4);
 
 /* The loads by name. */
-uint8_t wasm_i32_load8_s(const uint8_t *memory, size_t memory_len, uint64_t ptr, uint64_t offset, int32_t *value);
-uint8_t wasm_i32_load8_u(const uint8_t *memory, size_t memory_len, uint64_t ptr, uint64_t offset, int32_t *value);
-uint8_t wasm_i32_load16_s(const uint8_t *memory, size_t memory_len, uint64_t ptr, uint64_t offset, int32_t *value);
-uint8_t wasm_i32_load16_u(const uint8_t *memory, size_t memory_len, uint64_t ptr, uint64_t offset, int32_t *value);
-uint8_t wasm_i64_load8_s(const uint8_t *memory, size_t memory_len, uint64_t ptr, uint64_t offset, int64_t *value);
-uint8_t wasm_i64_load8_u(const uint8_t *memory, size_t memory_len, uint64_t ptr, uint64_t offset, int64_t *value);
-uint8_t wasm_i64_load16_s(const uint8_t *memory, size_t memory_len, uint64_t ptr, uint64_t offset, int64_t *value);
-uint8_t wasm_i64_load16_u(const uint8_t *memory, size_t memory_len, uint64_t ptr, uint64_t offset, int64_t *value);
-uint8_t wasm_i64_load32_s(const uint8_t *memory, size_t memory_len, uint64_t ptr, uint64_t offset, int64_t *value);
-uint8_t wasm_i64_load32_u(const uint8_t *memory, size_t memory_len, uint64_t ptr, uint64_t offset, int64_t *value);
-uint8_t wasm_load_u32(const uint8_t *memory, size_t memory_len, uint64_t ptr, uint64_t offset, uint32_t *value);
-uint8_t wasm_load_u64(const uint8_t *memory, size_t memory_len, uint64_t ptr, uint64_t offset, uint64_t *value);
+uint8_t wasm_i32_load8_s(const uint8_t *memory, size_t memory_len, uint64_t ptr, uint64_t offset, int32_t *value)
+    WASMI_CHECKED WASMI_NOT_NULL(5);
+uint8_t wasm_i32_load8_u(const uint8_t *memory, size_t memory_len, uint64_t ptr, uint64_t offset, int32_t *value)
+    WASMI_CHECKED WASMI_NOT_NULL(5);
+uint8_t wasm_i32_load16_s(const uint8_t *memory, size_t memory_len, uint64_t ptr, uint64_t offset, int32_t *value)
+    WASMI_CHECKED WASMI_NOT_NULL(5);
+uint8_t wasm_i32_load16_u(const uint8_t *memory, size_t memory_len, uint64_t ptr, uint64_t offset, int32_t *value)
+    WASMI_CHECKED WASMI_NOT_NULL(5);
+uint8_t wasm_i64_load8_s(const uint8_t *memory, size_t memory_len, uint64_t ptr, uint64_t offset, int64_t *value)
+    WASMI_CHECKED WASMI_NOT_NULL(5);
+uint8_t wasm_i64_load8_u(const uint8_t *memory, size_t memory_len, uint64_t ptr, uint64_t offset, int64_t *value)
+    WASMI_CHECKED WASMI_NOT_NULL(5);
+uint8_t wasm_i64_load16_s(const uint8_t *memory, size_t memory_len, uint64_t ptr, uint64_t offset, int64_t *value)
+    WASMI_CHECKED WASMI_NOT_NULL(5);
+uint8_t wasm_i64_load16_u(const uint8_t *memory, size_t memory_len, uint64_t ptr, uint64_t offset, int64_t *value)
+    WASMI_CHECKED WASMI_NOT_NULL(5);
+uint8_t wasm_i64_load32_s(const uint8_t *memory, size_t memory_len, uint64_t ptr, uint64_t offset, int64_t *value)
+    WASMI_CHECKED WASMI_NOT_NULL(5);
+uint8_t wasm_i64_load32_u(const uint8_t *memory, size_t memory_len, uint64_t ptr, uint64_t offset, int64_t *value)
+    WASMI_CHECKED WASMI_NOT_NULL(5);
+uint8_t wasm_load_u32(const uint8_t *memory, size_t memory_len, uint64_t ptr, uint64_t offset, uint32_t *value)
+    WASMI_CHECKED WASMI_NOT_NULL(5);
+uint8_t wasm_load_u64(const uint8_t *memory, size_t memory_len, uint64_t ptr, uint64_t offset, uint64_t *value)
+    WASMI_CHECKED WASMI_NOT_NULL(5);
 
 /* The loads of vectors by name. */
-uint8_t wasm_v128_load(const uint8_t *memory, size_t memory_len, uint64_t ptr, uint64_t offset, wasmi_words *value);
+uint8_t wasm_v128_load(const uint8_t *memory, size_t memory_len, uint64_t ptr, uint64_t offset, wasmi_words *value)
+    WASMI_CHECKED WASMI_NOT_NULL(5);
 uint8_t wasm_v128_load8x8_s(const uint8_t *memory, size_t memory_len, uint64_t ptr, uint64_t offset,
-                            wasmi_words *value);
+                            wasmi_words *value) WASMI_CHECKED WASMI_NOT_NULL(5);
 uint8_t wasm_v128_load8x8_u(const uint8_t *memory, size_t memory_len, uint64_t ptr, uint64_t offset,
-                            wasmi_words *value);
+                            wasmi_words *value) WASMI_CHECKED WASMI_NOT_NULL(5);
 uint8_t wasm_v128_load16x4_s(const uint8_t *memory, size_t memory_len, uint64_t ptr, uint64_t offset,
-                             wasmi_words *value);
+                             wasmi_words *value) WASMI_CHECKED WASMI_NOT_NULL(5);
 uint8_t wasm_v128_load16x4_u(const uint8_t *memory, size_t memory_len, uint64_t ptr, uint64_t offset,
-                             wasmi_words *value);
+                             wasmi_words *value) WASMI_CHECKED WASMI_NOT_NULL(5);
 uint8_t wasm_v128_load32x2_s(const uint8_t *memory, size_t memory_len, uint64_t ptr, uint64_t offset,
-                             wasmi_words *value);
+                             wasmi_words *value) WASMI_CHECKED WASMI_NOT_NULL(5);
 uint8_t wasm_v128_load32x2_u(const uint8_t *memory, size_t memory_len, uint64_t ptr, uint64_t offset,
-                             wasmi_words *value);
+                             wasmi_words *value) WASMI_CHECKED WASMI_NOT_NULL(5);
 uint8_t wasm_v128_load8_splat(const uint8_t *memory, size_t memory_len, uint64_t ptr, uint64_t offset,
-                              wasmi_words *value);
+                              wasmi_words *value) WASMI_CHECKED WASMI_NOT_NULL(5);
 uint8_t wasm_v128_load16_splat(const uint8_t *memory, size_t memory_len, uint64_t ptr, uint64_t offset,
-                               wasmi_words *value);
+                               wasmi_words *value) WASMI_CHECKED WASMI_NOT_NULL(5);
 uint8_t wasm_v128_load32_splat(const uint8_t *memory, size_t memory_len, uint64_t ptr, uint64_t offset,
-                               wasmi_words *value);
+                               wasmi_words *value) WASMI_CHECKED WASMI_NOT_NULL(5);
 uint8_t wasm_v128_load64_splat(const uint8_t *memory, size_t memory_len, uint64_t ptr, uint64_t offset,
-                               wasmi_words *value);
+                               wasmi_words *value) WASMI_CHECKED WASMI_NOT_NULL(5);
 uint8_t wasm_v128_load32_zero(const uint8_t *memory, size_t memory_len, uint64_t ptr, uint64_t offset,
-                              wasmi_words *value);
+                              wasmi_words *value) WASMI_CHECKED WASMI_NOT_NULL(5);
 uint8_t wasm_v128_load64_zero(const uint8_t *memory, size_t memory_len, uint64_t ptr, uint64_t offset,
-                              wasmi_words *value);
+                              wasmi_words *value) WASMI_CHECKED WASMI_NOT_NULL(5);
 
 /* The stores by name. */
-uint8_t wasm_i32_store8(uint8_t *memory, size_t memory_len, uint64_t ptr, uint64_t offset, int32_t value);
-uint8_t wasm_i32_store16(uint8_t *memory, size_t memory_len, uint64_t ptr, uint64_t offset, int32_t value);
-uint8_t wasm_i64_store8(uint8_t *memory, size_t memory_len, uint64_t ptr, uint64_t offset, int64_t value);
-uint8_t wasm_i64_store16(uint8_t *memory, size_t memory_len, uint64_t ptr, uint64_t offset, int64_t value);
-uint8_t wasm_i64_store32(uint8_t *memory, size_t memory_len, uint64_t ptr, uint64_t offset, int64_t value);
-uint8_t wasm_store32(uint8_t *memory, size_t memory_len, uint64_t ptr, uint64_t offset, uint32_t value);
-uint8_t wasm_store64(uint8_t *memory, size_t memory_len, uint64_t ptr, uint64_t offset, uint64_t value);
+uint8_t wasm_i32_store8(uint8_t *memory, size_t memory_len, uint64_t ptr, uint64_t offset, int32_t value) WASMI_CHECKED;
+uint8_t wasm_i32_store16(uint8_t *memory, size_t memory_len, uint64_t ptr, uint64_t offset, int32_t value)
+    WASMI_CHECKED;
+uint8_t wasm_i64_store8(uint8_t *memory, size_t memory_len, uint64_t ptr, uint64_t offset, int64_t value) WASMI_CHECKED;
+uint8_t wasm_i64_store16(uint8_t *memory, size_t memory_len, uint64_t ptr, uint64_t offset, int64_t value)
+    WASMI_CHECKED;
+uint8_t wasm_i64_store32(uint8_t *memory, size_t memory_len, uint64_t ptr, uint64_t offset, int64_t value)
+    WASMI_CHECKED;
+uint8_t wasm_store32(uint8_t *memory, size_t memory_len, uint64_t ptr, uint64_t offset, uint32_t value) WASMI_CHECKED;
+uint8_t wasm_store64(uint8_t *memory, size_t memory_len, uint64_t ptr, uint64_t offset, uint64_t value) WASMI_CHECKED;
 
 /* These functions, by the shape in which wasmi_core.h has the numbers of their instructions. */
 #define WASM_UNARY_FUNCTIONS(X) \

@@ -1,5 +1,5 @@
 /* A machine that lives from call to call, with memories, tables, element segments, globals, registers, fuel and limits,
-   for C and C++, in libwasmi_core.a (x86-64 Linux). wasmi_core.h has the numbers of instructions, and calls on values
+   for C and C++, in libwasmi_core.a. wasmi_core.h has the numbers of instructions, and calls on values
    and bytes of the caller's.
 
    A machine makes its memories and tables in memory of its own, within two caps or as a list of answers permits, if it
@@ -56,7 +56,7 @@ typedef struct {
 
 /* Makes a machine with nothing on it. DONE; HAS_MACHINE if the handle has one; then NO_ROOM if the system refuses memory.
    After a refusal the handle is unchanged. */
-uint8_t wasmi_machine_new(wasmi_machine *machine, const wasmi_limits *limits);
+uint8_t wasmi_machine_new(wasmi_machine *machine, const wasmi_limits *limits) WASMI_CHECKED WASMI_NOT_NULL(1, 2);
 
 /* The answers of a limiter. */
 enum {
@@ -77,11 +77,11 @@ enum {
    DONE; HAS_MACHINE if the handle has one; then NO_ANSWER if a byte is no number of an answer; then NO_ROOM if the
    system refuses memory. After a refusal the handle is unchanged. */
 uint8_t wasmi_machine_new_with_answers(wasmi_machine *machine, const wasmi_limits *limits, const uint8_t *answers,
-                                       size_t len);
+                                       size_t len) WASMI_CHECKED WASMI_NOT_NULL(1, 2);
 
 /* Ends the machine, if there is one, and gives all of its memory back, which is tested and not proved. The handle may be
    used for a new one. */
-void wasmi_machine_drop(wasmi_machine *machine);
+void wasmi_machine_drop(wasmi_machine *machine) WASMI_NOT_NULL(1);
 
 /* The kinds of calls. Behind each stands what it reads of a wasmi_call, then what its reply has, and then its refusals
    in the order in which they are tested. The first is always WASMI_NO_SUCH, if there is no memory, table, element
@@ -111,7 +111,8 @@ enum {
     WASMI_CALL_NEW_TABLE = 9,
     /* Grows a table by elements of one reference: index, count, type, reference -> number: its old size;
        TABLE_TYPE, TABLE_GROWTH (beyond its type, or denied), TABLE_OUT_OF_FUEL, TABLE_OUT_OF_MEMORY, after which the
-       fuel is spent. */
+       fuel is spent. A growth by 0 returns the size, and takes no fuel. Each other growth, and each write below, costs
+       as much as a copy of 4 bytes an element. */
     WASMI_CALL_GROW_TABLE = 10,
     WASMI_CALL_DROP_TABLE = 11,  /* index; its size still counts */
     WASMI_CALL_GET_ELEMENT = 12, /* index, to -> type, reference; NO_ELEMENT */
@@ -124,7 +125,7 @@ enum {
     WASMI_CALL_FILL_TABLE = 16,  /* index, to, count, type, reference; .. TABLE_FILL .. */
     WASMI_CALL_DROP_ITEMS = 17,  /* index: the items of an element segment, which stays */
     WASMI_CALL_NEW_GLOBAL = 18,  /* type, is_mutable, value -> number: its index; NO_ROOM */
-    WASMI_CALL_SET_GLOBAL = 19,  /* index, type, value; GLOBAL_IMMUTABLE, GLOBAL_TYPE */
+    WASMI_CALL_SET_GLOBAL = 19,  /* index, type, value, whose bits above the type stay; GLOBAL_IMMUTABLE, GLOBAL_TYPE */
     WASMI_CALL_GET_GLOBAL = 20,  /* index -> value */
     WASMI_CALL_SET_REGISTER = 21, /* dst, value */
     WASMI_CALL_GET_REGISTER = 22, /* a -> value */
@@ -225,7 +226,7 @@ typedef struct {
 typedef struct { wasmi_words bytes, elements; uint8_t status; } wasmi_totals;
 
 /* Replies to a call. Before all else: NO_MACHINE, NO_CALL. */
-wasmi_reply wasmi_machine_call(wasmi_machine *machine, const wasmi_call *call);
+wasmi_reply wasmi_machine_call(wasmi_machine *machine, const wasmi_call *call) WASMI_CHECKED WASMI_NOT_NULL(1, 2);
 
 /* The calls that engines make most, with plain arguments; each does what wasmi_machine_call does with the same operands,
    in less time, and returns the status. Before all else: NO_MACHINE, then NO_CALL if op is no number of such an
@@ -234,39 +235,44 @@ wasmi_reply wasmi_machine_call(wasmi_machine *machine, const wasmi_call *call);
 /* WASMI_CALL_LOAD of an item, by a number of wasmi_load below 12; sets *value to the item: NO_SUCH,
    MEMORY_OUT_OF_BOUNDS. After a refusal *value is unchanged. */
 uint8_t wasmi_machine_load(wasmi_machine *machine, uint16_t op, size_t memory, uint64_t ptr, uint64_t offset,
-                           uint64_t *value);
+                           uint64_t *value) WASMI_CHECKED WASMI_NOT_NULL(1, 6);
 
 /* WASMI_CALL_STORE of an item, by a number of wasmi_store below 7: NO_SUCH, MEMORY_OUT_OF_BOUNDS. */
 uint8_t wasmi_machine_store(wasmi_machine *machine, uint16_t op, size_t memory, uint64_t ptr, uint64_t offset,
-                            uint64_t value);
+                            uint64_t value) WASMI_CHECKED WASMI_NOT_NULL(1);
 
 /* WASMI_CALL_BINARY of two registers, by a number of wasmi_binary that is no shift's: NO_SUCH. */
-uint8_t wasmi_machine_binary(wasmi_machine *machine, uint16_t op, uint8_t dst, uint8_t a, uint8_t b);
+uint8_t wasmi_machine_binary(wasmi_machine *machine, uint16_t op, uint8_t dst, uint8_t a, uint8_t b)
+    WASMI_CHECKED WASMI_NOT_NULL(1);
 
 /* WASMI_CALL_GROW_MEMORY: sets *number to the old size in pages, or to the fuel that is needed at MEMORY_OUT_OF_FUEL;
    else *number is unchanged. */
-uint8_t wasmi_machine_grow(wasmi_machine *machine, size_t memory, uint64_t pages, uint64_t *number);
+uint8_t wasmi_machine_grow(wasmi_machine *machine, size_t memory, uint64_t pages, uint64_t *number)
+    WASMI_CHECKED WASMI_NOT_NULL(1, 4);
 
 /* WASMI_CALL_GET_FUEL: sets *left to the fuel that is left; METERING_DISABLED, after which *left is unchanged. */
-uint8_t wasmi_machine_fuel_left(wasmi_machine *machine, uint64_t *left);
+uint8_t wasmi_machine_fuel_left(wasmi_machine *machine, uint64_t *left) WASMI_CHECKED WASMI_NOT_NULL(1, 2);
 
 /* Copies len bytes of a memory from offset on to bytes: NO_MACHINE, NO_SUCH, or MEMORY_ACCESS if they end past it;
    then bytes is unchanged. It takes no memory of its own. */
-wasmi_reply wasmi_machine_read(wasmi_machine *machine, size_t memory, size_t offset, uint8_t *bytes, size_t len);
+wasmi_reply wasmi_machine_read(wasmi_machine *machine, size_t memory, size_t offset, uint8_t *bytes, size_t len)
+    WASMI_CHECKED WASMI_NOT_NULL(1);
 
 /* Writes a copy of len bytes over those of a memory from offset on: NO_MACHINE, NO_ROOM, NO_SUCH, MEMORY_ACCESS. */
-wasmi_reply wasmi_machine_write(wasmi_machine *machine, size_t memory, size_t offset, const uint8_t *bytes, size_t len);
+wasmi_reply wasmi_machine_write(wasmi_machine *machine, size_t memory, size_t offset, const uint8_t *bytes, size_t len)
+    WASMI_CHECKED WASMI_NOT_NULL(1);
 
 /* Makes an element segment of a copy of references of a type -> number: its index; NO_MACHINE, NO_CALL if type is of no
    references, NO_ROOM, SEGMENT_TOO_MANY_ITEMS, SEGMENT_OUT_OF_MEMORY. */
-wasmi_reply wasmi_machine_new_segment(wasmi_machine *machine, uint8_t type, const uint32_t *items, size_t len);
+wasmi_reply wasmi_machine_new_segment(wasmi_machine *machine, uint8_t type, const uint32_t *items, size_t len)
+    WASMI_CHECKED WASMI_NOT_NULL(1);
 
 /* Takes fuel for what the caller does itself, as an interpreter's instructions -> number: what is left then;
    NO_MACHINE, METERING_DISABLED, or OUT_OF_FUEL if less is left (number: the amount): then none is taken. */
-wasmi_reply wasmi_machine_consume_fuel(wasmi_machine *machine, uint64_t amount);
+wasmi_reply wasmi_machine_consume_fuel(wasmi_machine *machine, uint64_t amount) WASMI_CHECKED WASMI_NOT_NULL(1);
 
 /* The totals; NO_MACHINE. Without caps its time grows with the number of memories and tables that were ever made. */
-wasmi_totals wasmi_machine_totals(wasmi_machine *machine);
+wasmi_totals wasmi_machine_totals(wasmi_machine *machine) WASMI_NOT_NULL(1);
 
 /* Runs lines of calls, as docs/SCRIPT.md has them, one after the other, and writes what a script prints for them to the
    front of text, as much as text_len has room for -> number: the length of the whole text. First NO_MACHINE. Then, with
@@ -275,7 +281,7 @@ wasmi_totals wasmi_machine_totals(wasmi_machine *machine);
    already, or NO_ROOM if memory is refused for the calls or for their replies. The text takes no memory. After the run
    TEXT_CUT, if the text has 2^64 - 1 bytes or more (number: 2^64 - 1). */
 wasmi_reply wasmi_machine_run_lines(wasmi_machine *machine, const uint8_t *lines, size_t lines_len, uint8_t *text,
-                                    size_t text_len);
+                                    size_t text_len) WASMI_CHECKED WASMI_NOT_NULL(1);
 
 /* A pool: machines, its tenants, under one cap of bytes and one of elements that they share. A tenant goes by its
    index, which counts from 0 and is given once; what a tenant drops counts until it is removed. A pool takes memory for
@@ -295,44 +301,57 @@ typedef struct { uint8_t *at; bool is_made; } wasmi_pool;
 
 /* Makes a pool without tenants: at most so many bytes in all memories, and so many elements in all tables. DONE;
    HAS_POOL if the handle has one; then NO_ROOM if the system refuses memory. After a refusal the handle is unchanged. */
-uint8_t wasmi_pool_new(wasmi_pool *pool, uint64_t bytes, uint64_t elements);
+uint8_t wasmi_pool_new(wasmi_pool *pool, uint64_t bytes, uint64_t elements) WASMI_CHECKED WASMI_NOT_NULL(1);
 
 /* Ends the pool and its tenants' machines, if there is one, and gives all memory back, which is tested and not proved.
    The handle may be used for a new one. */
-void wasmi_pool_drop(wasmi_pool *pool);
+void wasmi_pool_drop(wasmi_pool *pool) WASMI_NOT_NULL(1);
 
 /* Adds a tenant, a machine with nothing on it -> number: its index; NO_POOL, NO_ROOM. Of limits, bytes, elements and
    is_unlimited aren't read: the caps are the pool's. */
-wasmi_reply wasmi_pool_add(wasmi_pool *pool, const wasmi_limits *limits);
+wasmi_reply wasmi_pool_add(wasmi_pool *pool, const wasmi_limits *limits) WASMI_CHECKED WASMI_NOT_NULL(1, 2);
 
 /* Removes a tenant and ends its machine: what it has, with what it dropped, can be had by others from then on. Its index
    is given to no other, and each later call on it is NO_TENANT. DONE; NO_POOL, NO_TENANT. All memory of the machine is
    given back, which is tested and not proved. Its time grows with the number of tenants that were added later. */
-uint8_t wasmi_pool_remove(wasmi_pool *pool, size_t tenant);
+uint8_t wasmi_pool_remove(wasmi_pool *pool, size_t tenant) WASMI_CHECKED WASMI_NOT_NULL(1);
 
-/* Replies to a call on the machine of a tenant. Before all else: NO_POOL, NO_CALL, NO_TENANT, then NO_ROOM if memory
-   for the reply is refused. Fuel for what the caller does itself is taken by WASMI_CALL_GET_FUEL, then a
+/* Replies to a call on the machine of a tenant. Before all else: NO_POOL, NO_CALL, NO_TENANT. It takes no memory but what
+   the call takes on the machine. Fuel for what the caller does itself is taken by WASMI_CALL_GET_FUEL, then a
    WASMI_CALL_SET_FUEL to what is left. */
-wasmi_reply wasmi_pool_call(wasmi_pool *pool, size_t tenant, const wasmi_call *call);
+wasmi_reply wasmi_pool_call(wasmi_pool *pool, size_t tenant, const wasmi_call *call) WASMI_CHECKED WASMI_NOT_NULL(1, 3);
+
+/* The calls that engines make most, with plain arguments: each does what wasmi_pool_call does with the same operands, in
+   less time, and returns and sets what the call of a machine by the same name does. Before all else: NO_POOL, then
+   NO_CALL if op is no number of such an instruction, then NO_TENANT; then *value, *number or *left is unchanged. */
+uint8_t wasmi_pool_load(wasmi_pool *pool, size_t tenant, uint16_t op, size_t memory, uint64_t ptr, uint64_t offset,
+                        uint64_t *value) WASMI_CHECKED WASMI_NOT_NULL(1, 7);
+uint8_t wasmi_pool_store(wasmi_pool *pool, size_t tenant, uint16_t op, size_t memory, uint64_t ptr, uint64_t offset,
+                         uint64_t value) WASMI_CHECKED WASMI_NOT_NULL(1);
+uint8_t wasmi_pool_binary(wasmi_pool *pool, size_t tenant, uint16_t op, uint8_t dst, uint8_t a, uint8_t b)
+    WASMI_CHECKED WASMI_NOT_NULL(1);
+uint8_t wasmi_pool_grow(wasmi_pool *pool, size_t tenant, size_t memory, uint64_t pages, uint64_t *number)
+    WASMI_CHECKED WASMI_NOT_NULL(1, 5);
+uint8_t wasmi_pool_fuel_left(wasmi_pool *pool, size_t tenant, uint64_t *left) WASMI_CHECKED WASMI_NOT_NULL(1, 3);
 
 /* As wasmi_machine_read on a tenant's machine; before all else: NO_POOL, NO_TENANT. */
-wasmi_reply wasmi_pool_read(wasmi_pool *pool, size_t tenant, size_t memory, size_t offset, uint8_t *bytes, size_t len);
+wasmi_reply wasmi_pool_read(wasmi_pool *pool, size_t tenant, size_t memory, size_t offset, uint8_t *bytes, size_t len)
+    WASMI_CHECKED WASMI_NOT_NULL(1);
 
-/* As wasmi_machine_write on a tenant's machine; before all else: NO_POOL, NO_ROOM, NO_TENANT, then NO_ROOM if memory for
-   the reply is refused. */
+/* As wasmi_machine_write on a tenant's machine; before all else: NO_POOL, NO_ROOM, NO_TENANT. */
 wasmi_reply wasmi_pool_write(wasmi_pool *pool, size_t tenant, size_t memory, size_t offset, const uint8_t *bytes,
-                             size_t len);
+                             size_t len) WASMI_CHECKED WASMI_NOT_NULL(1);
 
 /* As wasmi_machine_run_lines on a tenant's machine; before all else NO_POOL, and before the run NO_TENANT, then NO_ROOM
    if memory for the replies is refused. An `as` line is a bad line. */
 wasmi_reply wasmi_pool_run_lines(wasmi_pool *pool, size_t tenant, const uint8_t *lines, size_t lines_len, uint8_t *text,
-                                 size_t text_len);
+                                 size_t text_len) WASMI_CHECKED WASMI_NOT_NULL(1);
 
 /* What a tenant has, dropped memories and tables at their last size; NO_POOL, NO_TENANT, after which both are 0. */
-wasmi_totals wasmi_pool_tenant_totals(wasmi_pool *pool, size_t tenant);
+wasmi_totals wasmi_pool_tenant_totals(wasmi_pool *pool, size_t tenant) WASMI_NOT_NULL(1);
 
 /* What all tenants have together; NO_POOL. */
-wasmi_totals wasmi_pool_totals(wasmi_pool *pool);
+wasmi_totals wasmi_pool_totals(wasmi_pool *pool) WASMI_NOT_NULL(1);
 
 #ifdef __cplusplus
 }

@@ -1,9 +1,12 @@
-/* Memories, fuel and tables whose state lies with the caller, for C and C++, in libwasmi_core.a (x86-64 Linux).
+/* Memories, fuel and tables whose state lies with the caller, for C and C++, in libwasmi_core.a.
 
    State: all of it is in structs of plain numbers and in arrays of the caller's; the library keeps nothing between
    calls. A memory is a wasmi_memory and a region of bytes: its first `size` bytes are the memory's, and the rest is
    room to grow in place. A table is a wasmi_table and a region of references. So a region may be reserved address space
    with guard pages, and a struct with its bytes may be copied, stored and sent: a snapshot, a fork, a shared mapping.
+   A memory that is made or grown gets zeros: each of its new bytes is written, so that it has to be accessible before
+   the call (wasmi_memory_question gives the new size). No byte past the new size is written, and
+   wasmi_memory_new_zeroed and wasmi_memory_grow_zeroed write none at all.
    The loads and stores of wasmi_core.h work on (region, memory.size).
 
    Meters and quotas: a wasmi_meter with is_on == 0 is no meter, and then nothing is charged. A wasmi_quota with
@@ -93,7 +96,8 @@ typedef struct {
    Refusals in their order: INVALID_STATE where page_size_log2 is neither 0 nor 16, or the limits are out of order or
    above what addresses reach; MEMORY_SIZE_OVERFLOW where the minimum has 2^64 bytes or more; MEMORY_DENIED where the
    quota doesn't permit; MEMORY_REGION_TOO_SHORT, after which the quota has taken its permission back. */
-uint8_t wasmi_memory_new(wasmi_memory *memory, uint8_t *region, size_t region_len, wasmi_quota *quota);
+uint8_t wasmi_memory_new(wasmi_memory *memory, uint8_t *region, size_t region_len, wasmi_quota *quota)
+    WASMI_CHECKED WASMI_NOT_NULL(1, 4);
 
 /* Grows a memory by pages of zeros. *number is its old size in pages. A growth by 0 changes nothing else. It costs as
    much fuel as a copy of the added bytes (wasmi_fuel_copy_cost): 1,024 for a page of 64 KiB at 64 bytes for a unit.
@@ -101,7 +105,16 @@ uint8_t wasmi_memory_new(wasmi_memory *memory, uint8_t *region, size_t region_le
    doesn't permit; MEMORY_REGION_TOO_SHORT; MEMORY_OUT_OF_FUEL with what is needed in *number. At the last two the quota
    has taken its permission back, and no fuel is taken. */
 uint8_t wasmi_memory_grow(wasmi_memory *memory, uint8_t *region, size_t region_len, uint64_t pages, wasmi_meter *meter,
-                          wasmi_quota *quota, uint64_t *number);
+                          wasmi_quota *quota, uint64_t *number) WASMI_CHECKED WASMI_NOT_NULL(1, 5, 6, 7);
+
+/* As wasmi_memory_new and wasmi_memory_grow, where the new bytes of the region are zeros already, as fresh pages of mmap
+   are. No byte is written: this takes no time for the bytes, and no page is touched. Where they aren't zeros, the memory
+   has what stands there; the guest reads it then, and nothing else follows. */
+uint8_t wasmi_memory_new_zeroed(wasmi_memory *memory, const uint8_t *region, size_t region_len, wasmi_quota *quota)
+    WASMI_CHECKED WASMI_NOT_NULL(1, 4);
+uint8_t wasmi_memory_grow_zeroed(wasmi_memory *memory, const uint8_t *region, size_t region_len, uint64_t pages,
+                                 wasmi_meter *meter, wasmi_quota *quota, uint64_t *number)
+    WASMI_CHECKED WASMI_NOT_NULL(1, 5, 6, 7);
 
 /* Ends a memory: the quota gives up its size in bytes, so that others can have it, and the struct stands for no memory
    from then on. Its size is 0 then, so that no load or store reaches the region, and page_size_log2 is 255, so that
@@ -113,7 +126,8 @@ uint8_t wasmi_memory_grow(wasmi_memory *memory, uint8_t *region, size_t region_l
    another one: nothing is written. Memories that were made and that grew under one quota, and none under another, are
    never refused so. Where two structs are copies of one memory, end one of them. Under a quota that is off nothing is
    given up, and the memory ends all the same. */
-uint8_t wasmi_quota_release_memory(wasmi_quota *quota, wasmi_memory *memory, const uint8_t *region, size_t region_len);
+uint8_t wasmi_quota_release_memory(wasmi_quota *quota, wasmi_memory *memory, const uint8_t *region, size_t region_len)
+    WASMI_CHECKED WASMI_NOT_NULL(1, 2);
 
 /* What a growth asks a limiter: may a memory get from current to desired bytes, or a table to so many elements, where
    its type allows at most maximum (which is 0 where has_maximum is)? A maximum of 2^64 bytes or more is cut at
@@ -137,7 +151,7 @@ typedef struct {
    WASMI_ASKS. Where no limiter is asked the question stays: INVALID_STATE; DONE for a growth by 0; MEMORY_GROWTH where
    the type refuses, which no other refusal of this call has. */
 uint8_t wasmi_memory_question(const wasmi_memory *memory, const uint8_t *region, size_t region_len, uint64_t pages,
-                              wasmi_question *question);
+                              wasmi_question *question) WASMI_CHECKED WASMI_NOT_NULL(1, 5);
 
 /* This one grows as wasmi_memory_grow does, under a limiter that answers so. Refusals in their order: INVALID_STATE;
    OTHER_SIZE where the answers are to another question, so that the memory's size isn't answers->current (any more), or
@@ -148,18 +162,21 @@ uint8_t wasmi_memory_question(const wasmi_memory *memory, const uint8_t *region,
    an error; *number stays then); the limiter is told then. Where its answer depends on the cause, settle with a
    notice_answer of 0, tell it, and take its error for MEMORY_DENIED. */
 uint8_t wasmi_memory_settle(wasmi_memory *memory, uint8_t *region, size_t region_len, uint64_t pages,
-                            wasmi_meter *meter, wasmi_answers *answers, uint64_t *number);
+                            wasmi_meter *meter, wasmi_answers *answers, uint64_t *number)
+    WASMI_CHECKED WASMI_NOT_NULL(1, 5, 6, 7);
 
 /* The size in pages; INVALID_STATE. */
-uint8_t wasmi_memory_size(const wasmi_memory *memory, const uint8_t *region, size_t region_len, uint64_t *pages);
+uint8_t wasmi_memory_size(const wasmi_memory *memory, const uint8_t *region, size_t region_len, uint64_t *pages)
+    WASMI_CHECKED WASMI_NOT_NULL(1, 4);
 
 /* Copies len bytes of a memory from offset on to bytes; INVALID_STATE, then MEMORY_ACCESS where they end past it. */
 uint8_t wasmi_memory_read(const wasmi_memory *memory, const uint8_t *region, size_t region_len, size_t offset,
-                          uint8_t *bytes, size_t len);
+                          uint8_t *bytes, size_t len) WASMI_CHECKED WASMI_NOT_NULL(1);
 
-/* Writes len bytes over those of a memory from offset on; INVALID_STATE, then MEMORY_ACCESS where they end past it. */
+/* Writes len bytes over those of a memory from offset on; INVALID_STATE, then MEMORY_ACCESS where they end past it.
+   The bytes must not lie in the region. */
 uint8_t wasmi_memory_write(const wasmi_memory *memory, uint8_t *region, size_t region_len, size_t offset,
-                           const uint8_t *bytes, size_t len);
+                           const uint8_t *bytes, size_t len) WASMI_CHECKED WASMI_NOT_NULL(1);
 
 /* What is written over: count bytes or elements from `to` on, in a copy by those from `from` on. */
 typedef struct {
@@ -172,39 +189,45 @@ typedef struct {
 
 /* Fills the bytes of a range with a value; range->from isn't read. */
 uint8_t wasmi_memory_fill(const wasmi_memory *memory, uint8_t *region, size_t region_len, const wasmi_range *range,
-                          uint8_t value, wasmi_meter *meter, uint64_t *number);
+                          uint8_t value, wasmi_meter *meter, uint64_t *number) WASMI_CHECKED WASMI_NOT_NULL(1, 4, 6, 7);
 
 /* Copies bytes of a memory over others of it. Where the ranges overlap, the old bytes are copied. */
 uint8_t wasmi_memory_copy_within(const wasmi_memory *memory, uint8_t *region, size_t region_len,
-                                 const wasmi_range *range, wasmi_meter *meter, uint64_t *number);
+                                 const wasmi_range *range, wasmi_meter *meter, uint64_t *number)
+    WASMI_CHECKED WASMI_NOT_NULL(1, 4, 5, 6);
 
-/* Copies bytes of another memory, in another region, over those of a memory. */
+/* Copies bytes of another memory over those of a memory. The two regions must not overlap: where both are one memory,
+   as a memory.copy may have it, call wasmi_memory_copy_within, or the bytes of an overlap are wrong. */
 uint8_t wasmi_memory_copy(const wasmi_memory *memory, uint8_t *region, size_t region_len, const wasmi_memory *source,
                           const uint8_t *source_region, size_t source_len, const wasmi_range *range,
-                          wasmi_meter *meter, uint64_t *number);
+                          wasmi_meter *meter, uint64_t *number) WASMI_CHECKED WASMI_NOT_NULL(1, 4, 7, 8, 9);
 
 /* Copies bytes, such as a data segment's, over those of a memory. */
 uint8_t wasmi_memory_init(const wasmi_memory *memory, uint8_t *region, size_t region_len, const uint8_t *bytes,
-                          size_t len, const wasmi_range *range, wasmi_meter *meter, uint64_t *number);
+                          size_t len, const wasmi_range *range, wasmi_meter *meter, uint64_t *number)
+    WASMI_CHECKED WASMI_NOT_NULL(1, 6, 7, 8);
 
 /* Sets the fuel that is left; METERING_DISABLED where the meter is off. */
-uint8_t wasmi_fuel_set(wasmi_meter *meter, uint64_t amount);
+uint8_t wasmi_fuel_set(wasmi_meter *meter, uint64_t amount) WASMI_CHECKED WASMI_NOT_NULL(1);
 
 /* The fuel that is left; METERING_DISABLED where the meter is off. */
-uint8_t wasmi_fuel_left(const wasmi_meter *meter, uint64_t *left);
+uint8_t wasmi_fuel_left(const wasmi_meter *meter, uint64_t *left) WASMI_CHECKED WASMI_NOT_NULL(1, 2);
 
 /* Takes fuel, as for the caller's own instructions; *number is what is left then. METERING_DISABLED; OUT_OF_FUEL where
    less is left, with the amount in *number, and none is taken. */
-uint8_t wasmi_fuel_consume(wasmi_meter *meter, uint64_t amount, uint64_t *number);
+uint8_t wasmi_fuel_consume(wasmi_meter *meter, uint64_t amount, uint64_t *number) WASMI_CHECKED WASMI_NOT_NULL(1, 3);
 
-/* The price of a copy of so many bytes, also by a meter that is off: UINT64_MAX where bytes_copied_per_fuel is 0. */
-uint64_t wasmi_fuel_copy_cost(const wasmi_meter *meter, uint64_t bytes);
+/* The price of a copy of so many bytes, also by a meter that is off: bytes / bytes_copied_per_fuel, rounded down, or
+   UINT64_MAX where that is 0. */
+uint64_t wasmi_fuel_copy_cost(const wasmi_meter *meter, uint64_t bytes) WASMI_NOT_NULL(1);
 
 /* Takes the price of a copy of so many bytes, as wasmi_fuel_consume takes an amount. */
-uint8_t wasmi_fuel_consume_copy(wasmi_meter *meter, uint64_t bytes, uint64_t *number);
+uint8_t wasmi_fuel_consume_copy(wasmi_meter *meter, uint64_t bytes, uint64_t *number)
+    WASMI_CHECKED WASMI_NOT_NULL(1, 3);
 
 /* Tables. A reference is a number, 0 for null; its type is the caller's matter. elements_len is the length of the
-   region in elements. The calls that write over a range or grow take fuel for 4 bytes an element.
+   region in elements. The calls that write over a range or grow take fuel for 4 bytes an element, or for UINT64_MAX
+   bytes where that is more.
    The elements lie in the caller's own array. So an engine may read and write elements[k] itself for each k below the
    size, as wasmi_table_get and _set do, and need not call for it: table->size is the size since the last call that was
    done, and wasmi_table_size tests that the struct stands for a table first. */
@@ -215,7 +238,7 @@ uint8_t wasmi_fuel_consume_copy(wasmi_meter *meter, uint64_t bytes, uint64_t *nu
    the number of indices; TABLE_DENIED where the quota doesn't permit; TABLE_OUT_OF_MEMORY where the region is too
    short, after which the quota has taken its permission back. */
 uint8_t wasmi_table_new(wasmi_table *table, uint32_t *elements, size_t elements_len, uint32_t reference,
-                        wasmi_quota *quota);
+                        wasmi_quota *quota) WASMI_CHECKED WASMI_NOT_NULL(1, 5);
 
 /* Grows a table by elements of one reference. *number is its old size. A growth by 0 changes nothing else.
    Refusals in their order: INVALID_STATE; TABLE_GROWTH where there would be as many elements as indices, where the
@@ -223,55 +246,61 @@ uint8_t wasmi_table_new(wasmi_table *table, uint32_t *elements, size_t elements_
    where the region is too short, which leaves the fuel taken. At a refusal after its permission the quota has taken it
    back. */
 uint8_t wasmi_table_grow(wasmi_table *table, uint32_t *elements, size_t elements_len, uint64_t delta,
-                         uint32_t reference, wasmi_meter *meter, wasmi_quota *quota, uint64_t *number);
+                         uint32_t reference, wasmi_meter *meter, wasmi_quota *quota, uint64_t *number)
+    WASMI_CHECKED WASMI_NOT_NULL(1, 6, 7, 8);
 
 /* Ends a table, as wasmi_quota_release_memory ends a memory: the quota gives up its size in elements. The size is 0
    then, and type is 0, which no table has. INVALID_STATE; NOT_HELD where the quota holds less. */
 uint8_t wasmi_quota_release_table(wasmi_quota *quota, wasmi_table *table, const uint32_t *elements,
-                                  size_t elements_len);
+                                  size_t elements_len) WASMI_CHECKED WASMI_NOT_NULL(1, 2);
 
 /* A growth of a table under a limiter of the caller's own: as wasmi_memory_question and wasmi_memory_settle, but in
    elements. TABLE_GROWTH is where there would be as many elements as indices, unasked, or an answer of 0; it is also
    above the maximum, after the permission, and then told is 1. TABLE_DENIED is an error. */
 uint8_t wasmi_table_question(const wasmi_table *table, const uint32_t *elements, size_t elements_len, uint64_t delta,
-                             wasmi_question *question);
+                             wasmi_question *question) WASMI_CHECKED WASMI_NOT_NULL(1, 5);
 uint8_t wasmi_table_settle(wasmi_table *table, uint32_t *elements, size_t elements_len, uint64_t delta,
-                           uint32_t reference, wasmi_meter *meter, wasmi_answers *answers, uint64_t *number);
+                           uint32_t reference, wasmi_meter *meter, wasmi_answers *answers, uint64_t *number)
+    WASMI_CHECKED WASMI_NOT_NULL(1, 6, 7, 8);
 
 /* The size in elements; INVALID_STATE. */
-uint8_t wasmi_table_size(const wasmi_table *table, const uint32_t *elements, size_t elements_len, uint64_t *size);
+uint8_t wasmi_table_size(const wasmi_table *table, const uint32_t *elements, size_t elements_len, uint64_t *size)
+    WASMI_CHECKED WASMI_NOT_NULL(1, 4);
 
 /* The element at an index; INVALID_STATE, then NO_ELEMENT past the end. */
 uint8_t wasmi_table_get(const wasmi_table *table, const uint32_t *elements, size_t elements_len, uint64_t index,
-                        uint32_t *reference);
+                        uint32_t *reference) WASMI_CHECKED WASMI_NOT_NULL(1, 5);
 
 /* Sets the element at an index; INVALID_STATE, then TABLE_SET past the end. */
 uint8_t wasmi_table_set(const wasmi_table *table, uint32_t *elements, size_t elements_len, uint64_t index,
-                        uint32_t reference);
+                        uint32_t reference) WASMI_CHECKED WASMI_NOT_NULL(1);
 
 /* Fills the elements of a range with a reference; range->from isn't read. Refusals in their order: INVALID_STATE;
    TABLE_FILL where they end past the table; TABLE_OUT_OF_FUEL with what is needed in *number. */
 uint8_t wasmi_table_fill(const wasmi_table *table, uint32_t *elements, size_t elements_len, const wasmi_range *range,
-                         uint32_t reference, wasmi_meter *meter, uint64_t *number);
+                         uint32_t reference, wasmi_meter *meter, uint64_t *number)
+    WASMI_CHECKED WASMI_NOT_NULL(1, 4, 6, 7);
 
 /* Copies elements of a table over others of it. Where the ranges overlap, the old elements are copied. Refusals in
    their order: INVALID_STATE; TABLE_COPY where a range ends past the table; TABLE_OUT_OF_FUEL with what is needed in
    *number. */
 uint8_t wasmi_table_copy(const wasmi_table *table, uint32_t *elements, size_t elements_len, const wasmi_range *range,
-                         wasmi_meter *meter, uint64_t *number);
+                         wasmi_meter *meter, uint64_t *number) WASMI_CHECKED WASMI_NOT_NULL(1, 4, 5, 6);
 
 /* Copies elements of another table, in another region, over those of a table. Refusals in their order: INVALID_STATE,
    for either; TABLE_TYPE where their types differ; TABLE_COPY where a range ends past its table; TABLE_OUT_OF_FUEL with
    what is needed in *number. */
 uint8_t wasmi_table_copy_from(const wasmi_table *table, uint32_t *elements, size_t elements_len,
                               const wasmi_table *source, const uint32_t *source_elements, size_t source_len,
-                              const wasmi_range *range, wasmi_meter *meter, uint64_t *number);
+                              const wasmi_range *range, wasmi_meter *meter, uint64_t *number)
+    WASMI_CHECKED WASMI_NOT_NULL(1, 4, 7, 8, 9);
 
 /* Copies items, such as an element segment's, over the elements of a table; to copy no item costs nothing. Refusals in
    their order: INVALID_STATE; TABLE_INIT where a range ends past the items or the table; TABLE_OUT_OF_FUEL with what is
    needed in *number. */
 uint8_t wasmi_table_init(const wasmi_table *table, uint32_t *elements, size_t elements_len, const uint32_t *items,
-                         size_t items_len, const wasmi_range *range, wasmi_meter *meter, uint64_t *number);
+                         size_t items_len, const wasmi_range *range, wasmi_meter *meter, uint64_t *number)
+    WASMI_CHECKED WASMI_NOT_NULL(1, 6, 7, 8);
 
 #ifdef __cplusplus
 }

@@ -44,10 +44,34 @@ def without_comments(text):
     return re.sub(r"/\*.*?\*/", "", text, flags=re.S)
 
 
+PROTOTYPE = re.compile(r"^([\w ]+?) (wasmi?_\w+)\(([^)]*)\)(\s+WASMI_[A-Z_]+(?:\([\d, ]+\))?)*;", re.M)
+
+
 def prototypes(header):
     """The calls of a header: by name, what they return and their parameters."""
-    found = re.findall(r"^([\w ]+?) (wasmi?_\w+)\(([^)]*)\);", without_comments(header), re.M)
-    return {name: [given, *map(spaced, parameters.split(","))] for given, name, parameters in found}
+    found = PROTOTYPE.findall(without_comments(header))
+    return {name: [given, *map(spaced, parameters.split(","))] for given, name, parameters, _ in found}
+
+
+def attributes(given, parameters):
+    """What a compiler is told of a call: that its status has to be looked at, and which parameters must not be NULL. That is each pointer after which
+    no length stands, since an array of length 0 may be NULL."""
+    following = [*parameters[1:], ""]
+    pointers = [number for number, (it, after) in enumerate(zip(parameters, following), 1) if "*" in it and not re.match(r"size_t (\w+_)?len$", after)]
+    made = ["WASMI_CHECKED"] * (given in ("uint8_t", "wasmi_reply"))
+    return made + [f"WASMI_NOT_NULL({', '.join(map(str, pointers))})"] * bool(pointers)
+
+
+def with_attributes(header):
+    """The text of a header with the attributes of each call, on the last line of its prototype where there is room."""
+    def written(found):
+        given, name, parameters, _ = found.groups()
+        bare = f"{given} {name}({parameters})"
+        added = " ".join(attributes(given, list(map(spaced, parameters.split(",")))))
+        if not added:
+            return f"{bare};"
+        return f"{bare} {added};" if len(f"{bare} {added};".splitlines()[-1]) <= 120 else f"{bare}\n    {added};"
+    return PROTOTYPE.sub(written, header)
 
 
 def parameter_in_c(name, word, is_only_array):

@@ -1,10 +1,12 @@
 /* Requests for memory, for programs that are linked with --wrap for malloc, realloc and free: the blocks that weren't
-   given back are counted, one request can be refused by its number, and each of more than 4 MiB is refused. */
+   given back are counted, one request can be refused by its number, and each of more than 4 MiB is refused. Where a size_t
+   has 32 bits, malloc's blocks lie at multiples of 8, and posix_memalign is asked for others, so it is wrapped too. */
 #ifndef BLOCKS_H
 #define BLOCKS_H
 
 #include <stdatomic.h>
 #include <stddef.h>
+#include <stdint.h>
 
 enum { MOST_BYTES = 1 << 22 };
 
@@ -17,8 +19,8 @@ void __wrap_free(void *old);
 
 /* The blocks that any thread asked for and none has given back. */
 static atomic_long blocks;
-/* The requests of this thread, and the number of the one that is refused, if any is. */
-static _Thread_local long requests, refused;
+/* The requests of this thread, and the number of the one that is refused, if any is. What beside.py writes sets them too. */
+_Thread_local long requests, refused;
 
 static int is_refused(size_t size) {
     requests++;
@@ -36,6 +38,17 @@ void *__wrap_realloc(void *old, size_t size) {
     blocks += block != NULL && old == NULL;
     return block;
 }
+
+#if SIZE_MAX == UINT32_MAX
+extern int __real_posix_memalign(void **block, size_t alignment, size_t size);
+int __wrap_posix_memalign(void **block, size_t alignment, size_t size);
+
+int __wrap_posix_memalign(void **block, size_t alignment, size_t size) {
+    int error = is_refused(size) ? 12 : __real_posix_memalign(block, alignment, size);
+    blocks += error == 0;
+    return error;
+}
+#endif
 
 void __wrap_free(void *old) {
     blocks -= old != NULL;

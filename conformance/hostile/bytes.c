@@ -168,7 +168,8 @@ static void begin(void) {
         compare("a new memory", 0, 0, wasmi_machine_call(&machine, &call).number == (uint64_t)memory);
         for (size_t i = 0; i < size[memory]; i++)
             model[memory][i] = (uint8_t)(1 + any() % 255);
-        wasmi_machine_write(&machine, (size_t)memory, 0, model[memory], size[memory]);
+        wasmi_reply written = wasmi_machine_write(&machine, (size_t)memory, 0, model[memory], size[memory]);
+        compare("what is written first", 0, 0, written.status == WASMI_DONE);
         look(memory);
     }
 }

@@ -1,6 +1,6 @@
 /* Wrong calls in front of the proved ones, which `plant` links in one at a time: FAULT is the number of the fault. Each
    function takes the place of the library's by --wrap, and passes on everything but what its fault changes. */
-#include "wasmi_core.h"
+#include "wasmi_oracle.h"
 #include "wasmi_machine.h"
 
 uint8_t __real_wasmi_binary(uint16_t number, wasmi_words a, wasmi_words b, wasmi_words *value);
@@ -89,5 +89,15 @@ wasmi_reply __wrap_wasmi_pool_run_lines(wasmi_pool *pool, size_t tenant, const u
     if (wasmi_pool_tenant_totals(pool, tenant).status == WASMI_NO_TENANT)
         lines_len = 0;
     return __real_wasmi_pool_run_lines(pool, tenant, lines, lines_len, text, text_len);
+}
+#endif
+
+#if FAULT == 11
+uint8_t __real_wasmi_pool_store(wasmi_pool *pool, size_t tenant, uint16_t op, size_t memory, uint64_t ptr, uint64_t offset,
+                                uint64_t value);
+
+uint8_t __wrap_wasmi_pool_store(wasmi_pool *pool, size_t tenant, uint16_t op, size_t memory, uint64_t ptr, uint64_t offset,
+                                uint64_t value) {
+    return __real_wasmi_pool_store(pool, tenant, op, memory, ptr, offset, op == 3 ? value & UINT8_MAX : value);
 }
 #endif

@@ -14,7 +14,19 @@
 #include <sys/mman.h>
 #include <unistd.h>
 
+/* Numbers of more than 64 bits; where C has none, one of the floats that has the same sums and products of powers of two. */
+#ifdef __SIZEOF_INT128__
 __extension__ typedef unsigned __int128 wide;
+#else
+__extension__ typedef __float128 wide;
+#endif
+
+/* The status of a table whose minimum is above SIZE_MAX, which the headers for 64 bits haven't got. */
+enum { TABLE_MINIMUM_OVERFLOW = 49 };
+
+static inline wide two_to_32_or_64(bool is_64) {
+    return (wide)UINT64_C(0x80000000) * 2 * (is_64 ? UINT64_C(0x100000000) : 1);
+}
 
 /* The argument at a place, a number from 1 to 2^63 - 1, or another number if there is no such argument. A program that is
    given anything else would compare nothing, so it ends with 2. */

@@ -26,7 +26,7 @@ static wasmi_reply called(wasmi_machine *machine, wasmi_call call) {
     if (is_direct(&call) && below(2)) {
         return called_directly(machine, &call);
     }
-    /* The struct lies at a multiple of 8, and its size is one. */
+    /* The struct lies at a multiple of its alignment, since its size is one. */
     return wasmi_machine_call(machine, at_edge(OF_CALL, &call, sizeof call));
 }
 
@@ -239,6 +239,7 @@ static const char *refusal_of(uint8_t status) {
         case WASMI_MEMORY_GROWTH: return "out of bounds memory growth";
         case WASMI_MEMORY_DENIED: return "a resource limiter denied to allocate or grow the linear memory";
         case WASMI_MEMORY_SIZE_OVERFLOW: return "the minimum size of the memory type overflows the system index type";
+        case TABLE_MINIMUM_OVERFLOW: return "the minimum table size overflows the system bounds";
         case WASMI_TABLE_DENIED: return "a resource limiter denied to allocate or grow the table";
         case WASMI_TABLE_GROWTH: return "out of bounds table access: `table.growth`";
         case WASMI_TABLE_INIT: return "out of bounds table access: `table.init`";
@@ -595,13 +596,17 @@ static const wasmi_limits LIMITS = {4 * PAGE, 32, 64, 7, 2, 1, 0};
 static void small_machine(wasmi_machine *machine) {
     const uint32_t items[3] = {1, 2, 3};
     memset(machine, 0, sizeof *machine);
-    wasmi_machine_new(machine, &LIMITS);
+    if (wasmi_machine_new(machine, &LIMITS) != WASMI_DONE) {
+        exit(2);
+    }
     for (uint16_t kind = 0; kind < KINDS; kind++) {
         if (kind != WASMI_CALL_DROP_MEMORY && kind != WASMI_CALL_DROP_TABLE) {
             called(machine, of_kind(kind));
         }
     }
-    wasmi_machine_new_segment(machine, WASMI_TYPE_FUNCREF, items, 3);
+    if (wasmi_machine_new_segment(machine, WASMI_TYPE_FUNCREF, items, 3).status != WASMI_DONE) {
+        exit(2);
+    }
 }
 
 /* What a reply to any struct has: nothing beside a refusal except fuel that is short, and totals within the caps. */
@@ -659,7 +664,7 @@ static void forge(long count) {
         wasmi_call call;
         for (size_t at = 0; at < sizeof call; at += sizeof(uint64_t)) {
             uint64_t word = below(3) ? number() : any();
-            memcpy((uint8_t *)&call + at, &word, sizeof word);
+            memcpy((uint8_t *)&call + at, &word, sizeof call - at < sizeof word ? sizeof call - at : sizeof word);
         }
         call.kind = (uint16_t)below(KINDS);
         look(&machine, &call, called(&machine, call));
@@ -738,7 +743,9 @@ static void pass_on(void) {
     wasmi_machine machine;
     memset(&machine, 0, sizeof machine);
     const wasmi_limits limits = {.is_unlimited = 1};
-    wasmi_machine_new(&machine, &limits);
+    if (wasmi_machine_new(&machine, &limits) != WASMI_DONE) {
+        exit(2);
+    }
     called(&machine, of_kind(WASMI_CALL_NEW_MEMORY));
     for (uint64_t i = 1; i <= THREADS; i++) {
         pthread_t thread;

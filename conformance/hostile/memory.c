@@ -25,7 +25,7 @@ static size_t page_of(const wasmi_memory *m) {
 }
 
 static wide greatest_of(const wasmi_memory *m) {
-    return ((wide)1 << (m->is_64 ? 64 : 32)) / page_of(m);
+    return two_to_32_or_64(m->is_64) / page_of(m);
 }
 
 static bool has_type(const wasmi_memory *m) {
@@ -37,7 +37,7 @@ static bool has_type(const wasmi_memory *m) {
 }
 
 static bool in_bounds(const wasmi_memory *m, wide pages) {
-    return pages <= greatest_of(m) && (!m->has_maximum || pages <= m->maximum) && pages * page_of(m) <= UINT64_MAX;
+    return pages <= greatest_of(m) && (!m->has_maximum || pages <= m->maximum) && pages * page_of(m) <= SIZE_MAX;
 }
 
 static bool is_state(const wasmi_memory *m, size_t length) {
@@ -45,12 +45,12 @@ static bool is_state(const wasmi_memory *m, size_t length) {
            in_bounds(m, m->size / page_of(m));
 }
 
-static uint8_t new_by_model(state *s, int i) {
+static uint8_t new_by_model(state *s, int i, bool writes) {
     wasmi_memory *m = &s->memory[i];
     if (!has_type(m))
         return WASMI_INVALID_STATE;
     wide size = (wide)m->minimum * page_of(m);
-    if (size > UINT64_MAX)
+    if (size > SIZE_MAX)
         return WASMI_MEMORY_SIZE_OVERFLOW;
     if (!permits(&s->quota, (size_t)size, 1))
         return WASMI_MEMORY_DENIED;
@@ -58,7 +58,7 @@ static uint8_t new_by_model(state *s, int i) {
         gives_back(&s->quota, 1);
         return WASMI_MEMORY_REGION_TOO_SHORT;
     }
-    if (size > 0)
+    if (size > 0 && writes)
         memset(s->region[i], 0, (size_t)size);
     m->size = (size_t)size;
     return WASMI_DONE;
@@ -75,8 +75,8 @@ static uint8_t release_by_model(state *s, int i) {
     return WASMI_DONE;
 }
 
-/* A growth under the quota, or under the answers. */
-static uint8_t grow_by_model(state *s, int i, uint64_t pages, bool by_answers) {
+/* A growth under the quota, or under the answers, which writes zeros, or leaves what stands there. */
+static uint8_t grow_by_model(state *s, int i, uint64_t pages, bool by_answers, bool writes) {
     wasmi_memory *m = &s->memory[i];
     if (!is_state(m, s->length[i]))
         return WASMI_INVALID_STATE;
@@ -107,7 +107,7 @@ static uint8_t grow_by_model(state *s, int i, uint64_t pages, bool by_answers) {
     if (status == WASMI_DONE) {
         if (s->meter.is_on)
             s->meter.left -= price;
-        if (more > 0)
+        if (more > 0 && writes)
             memset(s->region[i] + m->size, 0, more);
         m->size += more;
         s->number = old;
@@ -136,7 +136,7 @@ static uint8_t question_by_model(state *s, int i, uint64_t pages) {
     wide most = (wide)m->maximum * page_of(m);
     s->question.current = m->size;
     s->question.desired = m->size + (size_t)pages * page_of(m);
-    s->question.maximum = !m->has_maximum ? 0 : most > UINT64_MAX ? SIZE_MAX : (size_t)most;
+    s->question.maximum = !m->has_maximum ? 0 : most > SIZE_MAX ? SIZE_MAX : (size_t)most;
     s->question.has_maximum = m->has_maximum != 0;
     return WASMI_ASKS;
 }
@@ -369,12 +369,17 @@ static bool call_agrees(state *s, state *model) {
     wasmi_memory *m = &s->memory[i];
     uint64_t pages = some_pages(s, i);
     switch (below(11)) {
-    case 0: return wasmi_memory_new(m, s->region[i], s->length[i], &s->quota) == new_by_model(model, i);
+    case 0:
+        if (below(2))
+            return wasmi_memory_new_zeroed(m, s->region[i], s->length[i], &s->quota) == new_by_model(model, i, false);
+        return wasmi_memory_new(m, s->region[i], s->length[i], &s->quota) == new_by_model(model, i, true);
     case 1:
     case 2:
-    case 3:
         return wasmi_memory_grow(m, s->region[i], s->length[i], pages, &s->meter, &s->quota, &s->number) ==
-               grow_by_model(model, i, pages, false);
+               grow_by_model(model, i, pages, false, true);
+    case 3:
+        return wasmi_memory_grow_zeroed(m, s->region[i], s->length[i], pages, &s->meter, &s->quota, &s->number) ==
+               grow_by_model(model, i, pages, false, false);
     case 4:
         return wasmi_memory_question(m, s->region[i], s->length[i], pages, &s->question) ==
                question_by_model(model, i, pages);
@@ -384,7 +389,7 @@ static bool call_agrees(state *s, state *model) {
         s->answers.answer = model->answers.answer = flag();
         s->answers.notice_answer = model->answers.notice_answer = flag();
         return wasmi_memory_settle(m, s->region[i], s->length[i], pages, &s->meter, &s->answers, &s->number) ==
-               grow_by_model(model, i, pages, true);
+               grow_by_model(model, i, pages, true, true);
     case 6: return access_agrees(s, model, i, below(2) != 0);
     case 7: {
         uint64_t amount = any_number();

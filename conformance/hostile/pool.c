@@ -1,5 +1,5 @@
 /* Runs random scripts of tenants twice: whole by wasmi_script_run, and in parts on a pool that lives from part to part,
-   by wasmi_pool_run_lines and by single calls; both have to print the same. A part for a tenant that there isn't, one on
+   by wasmi_pool_run_lines and by single calls, with plain arguments too; both have to print the same. A part for a tenant that there isn't, one on
    a handle without a pool, and one with a request for memory refused have to leave the pool as it was, or as their
    script says. Each array ends where a page begins which can't be touched, and a block that is left after a pool has
    ended is a difference. usage: pool SCRIPTS [SEED]. The last line is `N scripts, M differ`; the exit status is 0 if M
@@ -22,7 +22,8 @@ static void prints_status(uint8_t status) {
     switch (status) {
         case WASMI_DONE: prints("done"); break;
         case WASMI_NO_SUCH: prints("no such"); break;
-        case WASMI_MEMORY_ACCESS: prints("error out of bounds memory access"); break;
+        case WASMI_MEMORY_ACCESS:
+        case WASMI_MEMORY_OUT_OF_BOUNDS: prints("error out of bounds memory access"); break;
         case WASMI_METERING_DISABLED: prints("error fuel metering is disabled"); break;
         default: differs("a status that no such call has", printed);
     }
@@ -142,10 +143,139 @@ static char *called(char *at, size_t tenant) {
             }
             return at;
     }
+    requests = 0, refused = 1;
     prints_status(wasmi_pool_call(&pool, tenant, at_edge(0, &call, sizeof call)).status);
+    if (requests != 0) {
+        differs("a call that makes nothing asks for memory", script);
+    }
+    refused = 0;
     if (wasmi_pool_call(&pool, tenants, at_edge(0, &call, sizeof call)).status != WASMI_NO_TENANT) {
         differs("a call on a tenant that there isn't", script);
     }
+    return at;
+}
+
+/* A load by its own call is that by a call's struct, and leaves the caller's word where it is refused. */
+static char *loaded(char *at, size_t tenant) {
+    uint64_t before = number(), word = before, ptr = number(), offset = below(3);
+    uint16_t op = (uint16_t)below(14);
+    size_t memory = (size_t)below(3);
+    wasmi_call call = {.kind = WASMI_CALL_LOAD, .op = op, .index = memory, .ptr = ptr, .offset = offset};
+    wasmi_reply reply = wasmi_pool_call(&pool, tenant, &call);
+    uint8_t status = wasmi_pool_load(&pool, tenant, op, memory, ptr, offset, &word);
+    int is_item = op < 12;
+    if (status != (is_item ? reply.status : WASMI_NO_CALL)
+        || word != (status == WASMI_DONE ? reply.value.lo : before)) {
+        differs("a load on a tenant", script);
+    }
+    word = before;
+    if (wasmi_pool_load(&pool, tenants, op, memory, ptr, offset, &word) != (is_item ? WASMI_NO_TENANT : WASMI_NO_CALL)
+        || wasmi_pool_load(&none, tenant, op, memory, ptr, offset, &word) != WASMI_NO_POOL || word != before) {
+        differs("a load on a tenant that there isn't", script);
+    }
+    return at;
+}
+
+/* A store by its own call, as a script does it; a read finds its bytes. */
+static char *stored(char *at, size_t tenant) {
+    static const char *const names[] = {"i32_store8", "i32_store16", "i64_store8", "i64_store16",
+                                        "i64_store32", "store32", "store64"};
+    static const size_t sizes[] = {1, 2, 1, 2, 4, 4, 8};
+    uint64_t ptr = number(), offset = below(3), value = below(UINT64_MAX);
+    uint8_t found[8] = {0}, status;
+    uint16_t op = (uint16_t)below(7);
+    size_t memory = (size_t)below(3);
+    if (wasmi_pool_store(&pool, tenant, (uint16_t)(op + 7), memory, ptr, offset, value) != WASMI_NO_CALL
+        || wasmi_pool_store(&pool, tenants, op, memory, ptr, offset, value) != WASMI_NO_TENANT
+        || wasmi_pool_store(&none, tenant, op, memory, ptr, offset, value) != WASMI_NO_POOL) {
+        differs("a store on a tenant that there isn't", script);
+    }
+    status = wasmi_pool_store(&pool, tenant, op, memory, ptr, offset, value);
+    if (status == WASMI_DONE) {
+        wasmi_reply reply = wasmi_pool_read(&pool, tenant, memory, (size_t)(ptr + offset), found, sizes[op]);
+        for (size_t i = 0; i < sizes[op]; i++) {
+            if (reply.status != WASMI_DONE || found[i] != (uint8_t)(value >> 8 * i)) {
+                differs("a read finds another thing than was stored", script);
+            }
+        }
+    }
+    prints_status(status);
+    return at + sprintf(at, "store %s %zu %" PRIu64 " %" PRIu64 " %" PRIu64 "\n", names[op], memory, ptr, offset, value);
+}
+
+/* A growth by its own call, as a script does it, with no request for memory but the growth's own. */
+static char *grown(char *at, size_t tenant) {
+    uint64_t before = number(), word = before, pages = below(3);
+    size_t memory = (size_t)below(3);
+    if (wasmi_pool_grow(&pool, tenants, memory, pages, &word) != WASMI_NO_TENANT
+        || wasmi_pool_grow(&none, tenant, memory, pages, &word) != WASMI_NO_POOL || word != before) {
+        differs("a growth on a tenant that there isn't", script);
+    }
+    uint8_t status = wasmi_pool_grow(&pool, tenant, memory, pages, &word);
+    if (status == WASMI_DONE) {
+        printed_len += (size_t)sprintf(printed + printed_len, "value %" PRIu64 "\n", word);
+    } else if (status == WASMI_MEMORY_GROWTH) {
+        prints("error out of bounds memory growth");
+    } else if (status == WASMI_MEMORY_OUT_OF_FUEL) {
+        printed_len += (size_t)sprintf(printed + printed_len, "error not enough fuel. required=%" PRIu64 "\n", word);
+    } else {
+        prints_status(status);
+    }
+    if (status != WASMI_DONE && status != WASMI_MEMORY_OUT_OF_FUEL && word != before) {
+        differs("a refused growth wrote", script);
+    }
+    return at + sprintf(at, "grow %zu %" PRIu64 "\n", memory, pages);
+}
+
+/* An instruction on two vectors by its own call, as a script does it, and the fuel that is left. */
+static char *direct(char *at, size_t tenant) {
+    uint64_t before = number(), left = before;
+    uint8_t dst = (uint8_t)below(18), a = (uint8_t)below(18), b = (uint8_t)below(18);
+    wasmi_call call = {.kind = WASMI_CALL_GET_FUEL};
+    wasmi_reply reply = wasmi_pool_call(&pool, tenant, &call);
+    if (wasmi_pool_fuel_left(&pool, tenant, &left) != reply.status
+        || left != (reply.status == WASMI_DONE ? reply.number : before)) {
+        differs("the fuel of a tenant", script);
+    }
+    left = before;
+    if (wasmi_pool_fuel_left(&pool, tenants, &left) != WASMI_NO_TENANT
+        || wasmi_pool_fuel_left(&none, tenant, &left) != WASMI_NO_POOL || left != before
+        || wasmi_pool_binary(&pool, tenant, WASMI_BINARY_I8X16_SHL, dst, a, b) != WASMI_NO_CALL
+        || wasmi_pool_binary(&pool, tenants, WASMI_BINARY_I16X8_MUL, dst, a, b) != WASMI_NO_TENANT
+        || wasmi_pool_binary(&none, tenant, WASMI_BINARY_I16X8_MUL, dst, a, b) != WASMI_NO_POOL) {
+        differs("the fuel of a tenant that there isn't, or an instruction on it", script);
+    }
+    prints_status(wasmi_pool_binary(&pool, tenant, WASMI_BINARY_I16X8_MUL, dst, a, b));
+    return at + sprintf(at, "binary i16x8_mul %u %u %u\n", dst, a, b);
+}
+
+/* A memory of one page, made by a line. */
+static char *with_memory(char *at, size_t tenant) {
+    static char text[TEXT];
+    char *from = at;
+    at += sprintf(at, "memory 1 none 16 32\n");
+    wasmi_reply reply = run(&pool, tenant, from, (size_t)(at - from), text);
+    if (reply.status != WASMI_DONE) {
+        differs("a memory by a line", script);
+        return from;
+    }
+    memcpy(printed + printed_len, text, (size_t)reply.number);
+    printed_len += (size_t)reply.number;
+    return at;
+}
+
+/* The calls with plain arguments, with each request for memory refused but that of a growth. */
+static char *plain(char *at, size_t tenant) {
+    uint64_t form = below(5);
+    at = below(2) ? at : with_memory(at, tenant);
+    if (form == 0)
+        return grown(at, tenant);
+    requests = 0, refused = 1;
+    at = form == 1 ? loaded(at, tenant) : form < 4 ? stored(at, tenant) : direct(at, tenant);
+    if (requests != 0) {
+        differs("a call with plain arguments asks for memory", script);
+    }
+    refused = 0;
     return at;
 }
 
@@ -242,8 +372,11 @@ static void one_script(void) {
     for (uint64_t i = below(TURNS); i > 0; i--) {
         size_t tenant = (size_t)below(tenants);
         at += sprintf(at, "as %zu\n", tenant);
-        uint64_t form = below(8);
-        at = form < 4 ? lines_of(at, tenant) : form < 6 ? written(at, tenant) : called(at, tenant);
+        uint64_t form = below(12);
+        at = form < 4   ? lines_of(at, tenant)
+             : form < 6 ? written(at, tenant)
+             : form < 8 ? called(at, tenant)
+                        : plain(at, tenant);
     }
     totals();
     removals();

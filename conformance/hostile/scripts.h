@@ -56,6 +56,32 @@ static char *line(char *at, const char *form) {
     return at + 1;
 }
 
+static size_t lines_in(const char *text, size_t len) {
+    size_t count = 0;
+    for (size_t i = 0; i < len; i++)
+        count += text[i] == '\n';
+    return count;
+}
+
+/* Each request for memory of a script refused in turn: the status says for what there was none, and what is printed is
+   that sentence, the beginning of what is printed otherwise, or a line for each call. */
+static void refused_in_turn(size_t size, size_t len) {
+    static const char sentence[] = "out of memory\n";
+    for (long request = 1;; request++) {
+        size_t needed = 0;
+        requests = 0, refused = request;
+        uint8_t ended = wasmi_script_run((uint8_t *)script, size, (uint8_t *)whole, TEXT, &needed);
+        int was_refused = requests >= request;
+        refused = 0;
+        if (!was_refused)
+            return;
+        bool says_so = needed == strlen(sentence) && memcmp(whole, sentence, needed) == 0;
+        bool begins = needed < len && memcmp(whole, printed, needed) == 0;
+        if (ended == 3 ? !says_so : ended == 4 ? !begins : ended != 0 || lines_in(whole, needed) != lines_in(printed, len))
+            differs("a request for memory is refused", script);
+    }
+}
+
 /* Whether the script up to a place prints what its parts have, whole, and no block of memory is left. */
 static void same_whole(char *end, size_t len) {
     size_t needed = 0;
@@ -64,6 +90,8 @@ static void same_whole(char *end, size_t len) {
     if (ended != 0 || needed != len || memcmp(whole, printed, len) != 0) {
         differs("a whole script", script);
     }
+    if (len % 8 == 0)
+        refused_in_turn((size_t)(end - script), len);
     if (blocks != 0) {
         differs("memory wasn't given back", script);
         blocks = 0;

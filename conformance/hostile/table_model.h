@@ -22,7 +22,7 @@ typedef struct {
 static const uint32_t copy_of_none[1] = {0};
 
 static wide indices_of(const wasmi_table *t) {
-    return (wide)1 << (t->is_64 ? 64 : 32);
+    return two_to_32_or_64(t->is_64);
 }
 
 static bool has_type(const wasmi_table *t) {
@@ -38,6 +38,11 @@ static bool is_state(const wasmi_table *t, size_t length) {
            (!t->has_maximum || t->size <= t->maximum);
 }
 
+/* Whether a table may have so many elements, but for its maximum. */
+static bool is_size(const wasmi_table *t, wide size) {
+    return size < indices_of(t) && size <= SIZE_MAX;
+}
+
 /* The price of so many elements. */
 static uint64_t price_of_elements(const wasmi_meter *meter, uint64_t count) {
     wide bytes = (wide)count * 4;
@@ -48,6 +53,8 @@ static uint8_t new_by_model(state *s, int i, uint32_t reference) {
     wasmi_table *t = &s->table[i];
     if (!has_type(t))
         return WASMI_INVALID_STATE;
+    if (t->minimum > SIZE_MAX)
+        return TABLE_MINIMUM_OVERFLOW;
     if (!permits(&s->quota, t->minimum, 2))
         return WASMI_TABLE_DENIED;
     if (s->length[i] < t->minimum) {
@@ -89,7 +96,7 @@ static uint8_t grow_by_model(state *s, int i, uint64_t delta, uint32_t reference
     if (!is_state(t, s->length[i]))
         return WASMI_INVALID_STATE;
     uint64_t old = t->size;
-    bool asks = delta != 0 && (wide)old + delta < indices_of(t);
+    bool asks = delta != 0 && is_size(t, (wide)old + delta);
     if (by_answers && (old != s->answers.current || (asks && old + delta != s->answers.desired)))
         return WASMI_OTHER_SIZE;
     if (by_answers)
@@ -98,7 +105,7 @@ static uint8_t grow_by_model(state *s, int i, uint64_t delta, uint32_t reference
         s->number = old;
         return WASMI_DONE;
     }
-    if ((wide)old + delta >= indices_of(t))
+    if (!is_size(t, (wide)old + delta))
         return WASMI_TABLE_GROWTH;
     if (by_answers) {
         s->answers.asked = 1;
@@ -134,11 +141,11 @@ static uint8_t question_by_model(state *s, int i, uint64_t delta) {
         return WASMI_INVALID_STATE;
     if (delta == 0)
         return WASMI_DONE;
-    if ((wide)t->size + delta >= indices_of(t))
+    if (!is_size(t, (wide)t->size + delta))
         return WASMI_TABLE_GROWTH;
     s->question.current = t->size;
     s->question.desired = t->size + delta;
-    s->question.maximum = t->has_maximum ? t->maximum : 0;
+    s->question.maximum = !t->has_maximum ? 0 : t->maximum > SIZE_MAX ? SIZE_MAX : (size_t)t->maximum;
     s->question.has_maximum = t->has_maximum != 0;
     return WASMI_ASKS;
 }

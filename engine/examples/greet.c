@@ -14,7 +14,7 @@ __attribute__((export_name("allocate"))) char *allocate(u32 length) {
     return begin;
 }
 
-// The greeting of a name: its place, and its length in the upper half. Nobody has an empty name.
+// The greeting of a name: a pointer to it, and its length in the upper half. Nobody has an empty name.
 __attribute__((export_name("greet"))) u64 greet(const char *name, u32 length) {
     static const char hello[] = "Hello, ";
     if (!length) __builtin_trap();

@@ -2,8 +2,7 @@
 //!
 //! usage: `cargo run --example greet`. The guest is greet.c.
 
-use engine::library::TrapCode;
-use engine::{Caller, Caps, Config, Engine, Error, Instance, Linker, Module, Store};
+use engine::{Caller, Caps, Config, Engine, Error, Instance, Linker, Module, Store, TrapCode};
 
 /// What the host keeps of a guest: the names that it has logged.
 #[derive(Default)]
@@ -12,11 +11,11 @@ struct Host {
 }
 
 /// A function of the host: bytes of the guest's memory become a string.
-fn log(mut caller: Caller<'_, Host>, place: u32, len: u32) -> Result<(), Error> {
+fn log(mut caller: Caller<'_, Host>, pointer: u32, len: u32) -> Result<(), Error> {
     caller.charge_bytes(len.into())?;
     let memory = caller.get_memory("memory").ok_or(Error::new("the guest has no memory"))?;
     let mut bytes = vec![0; len as usize];
-    memory.read(&caller, place as usize, &mut bytes)?;
+    memory.read(&caller, pointer as usize, &mut bytes)?;
     caller.data_mut().logged.push(String::from_utf8_lossy(&bytes).into_owned());
     Ok(())
 }
@@ -27,9 +26,9 @@ fn greet(instance: &Instance, store: &mut Store<Host>, name: &str) -> Result<Str
     let greet = instance.get_typed_func::<(u32, u32), u64>(&*store, "greet")?;
     let memory = instance.get_memory(&*store, "memory").ok_or(Error::new("the guest has no memory"))?;
     let len = name.len() as u32;
-    let place = allocate.call(&mut *store, len)?;
-    memory.write(&mut *store, place as usize, name.as_bytes())?;
-    let greeting = greet.call(&mut *store, (place, len))?;
+    let pointer = allocate.call(&mut *store, len)?;
+    memory.write(&mut *store, pointer as usize, name.as_bytes())?;
+    let greeting = greet.call(&mut *store, (pointer, len))?;
     let mut bytes = vec![0; (greeting >> 32) as usize];
     memory.read(&*store, greeting as u32 as usize, &mut bytes)?;
     Ok(String::from_utf8_lossy(&bytes).into_owned())

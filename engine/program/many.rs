@@ -1,6 +1,7 @@
 //! Measures many instances of a module: made, run and dropped one after another, then all at once in one store; as many
 //! tenants, which have a store with fuel and caps of their own each; and a tenant on each of four threads. The bytes of a
-//! guest's memories are also made alone, since the system may take longer for them than all else takes.
+//! guest's memories are also made alone, and the first write to each 4,096 of them is timed alone, since the system may take
+//! longer for them than all else takes.
 //!
 //! usage: `cargo run --release --example many -- FILE FUNCTION ARGUMENT COUNT`. Times are those of the processor, as
 //! Linux counts them; the bytes are those of the machine's memory that the process has more while all instances are there.
@@ -76,6 +77,15 @@ fn measured<X>(
     Ok(Measured { all, made: (made - begun) / count, run: (ended - made) / count, bytes })
 }
 
+/// The time of the first write to each 4,096 of so many bytes, for which a system with pages of this size gives a page.
+fn first_writes(bytes: usize, count: u32) -> Outcome<Duration> {
+    let begun = processor_time()?;
+    let mut all = vec![0_u8; bytes * count as usize];
+    all.iter_mut().step_by(4096).for_each(|it| *it = 1);
+    std::hint::black_box(&all);
+    Ok((processor_time()? - begun) / count)
+}
+
 /// A tenant: a store with fuel and caps of its own, and an instance.
 fn tenant(guest: &Guest) -> Outcome<(Store<()>, Made)> {
     let mut store = guest.store()?;
@@ -136,6 +146,7 @@ fn main() -> Outcome<()> {
     let size = guest.instance(&mut store)?.0.contents(&store).memories.iter().map(|it| it.data_size()).sum();
     let alone = measured(count, |it| Ok(vec![it as u8 | 1; size]), |_| Ok(()))?;
     println!("{size} bytes alone: {:?} made, {} bytes each", alone.made, alone.bytes);
+    println!("the first write to each 4096 of {size} bytes: {:?}", first_writes(size, count)?);
     let begun = processor_time()?;
     drop(here.all);
     if store.caps() != CAPS {

@@ -9,6 +9,8 @@
 //! | `drop` | `ok:`; all modules are dropped, and what was registered |
 //! | `invoke FUNCTION ARGS..` | `ok: V..`, the results |
 //! | `get GLOBAL` | `ok: V` |
+//! | `grow MEMORY PAGES` | `ok: N`, the pages that the memory had before |
+//! | `write MEMORY PLACE FILE` | `ok:`; the bytes of the file stand in this memory from this place on |
 //! | `digest` | `ok:` and a line that tells contents apart |
 //! | `fuel N` | `ok:`; from now on fuel is charged, and so much is there; the first such line drops all modules |
 //! | `left` | `ok: N`, the fuel that is left |
@@ -24,7 +26,8 @@ use crate::wasi::Given;
 use crate::{spectest, values};
 use engine::library::{RawRef, TypedRawRef, V128, ValType};
 use engine::{
-    Caps, Config, Contents, Engine, Error, FloatInstruction, Instance, Linker, Module, Refusal, RefusalKind, Store, Val,
+    Caps, Config, Contents, Engine, Error, FloatInstruction, Instance, Linker, Memory, Module, Refusal, RefusalKind,
+    Store, Val,
 };
 use std::collections::HashMap;
 use std::fmt::Display;
@@ -102,6 +105,8 @@ impl Script {
                 let value = global.ok_or("error: there is no exported global of this name")?.get(&self.store);
                 Ok(format!("ok: {}", values::print(values::numbered(&self.store, value))))
             }
+            "grow" => self.grow(rest),
+            "write" => self.write(rest),
             "digest" => Ok(format!("ok: {}", digest(&self.made()?.1, &self.store))),
             "fuel" => {
                 let fuel = rest.parse().or(Err("error: fuel is a number"))?;
@@ -125,14 +130,35 @@ impl Script {
     }
 
     fn module(&mut self, file: &str) -> Result<String, String> {
-        let bytes = fs::read(file).map_err(|it| format!("error: {file} can't be read: {it}"))?;
+        let bytes = read(file)?;
         let engine = self.store.engine().clone();
-        let read = if self.is_strict { Module::new_strict } else { Module::new };
-        let module = read(&engine, &bytes).map_err(refused)?;
+        let new = if self.is_strict { Module::new_strict } else { Module::new };
+        let module = new(&engine, &bytes).map_err(refused)?;
         let mut linker = self.linker.clone();
         spectest::define(&mut linker, &mut self.store, &module).map_err(failed)?;
         let instance = linker.instantiate(&mut self.store, &module).map_err(failed)?;
         self.made = Some((module, instance));
+        Ok("ok:".into())
+    }
+
+    fn memory(&self, text: &str) -> Result<Memory, String> {
+        let memory = self.made()?.1.get_memory(&self.store, &name(text)?);
+        memory.ok_or("error: there is no exported memory of this name".into())
+    }
+
+    fn grow(&mut self, rest: &str) -> Result<String, String> {
+        let (memory, pages) = rest.split_once(' ').ok_or("error: grow takes a memory and pages")?;
+        let pages = pages.parse().or(Err("error: pages are a number"))?;
+        Ok(format!("ok: {}", self.memory(memory)?.grow(&mut self.store, pages).map_err(failed)?))
+    }
+
+    fn write(&mut self, rest: &str) -> Result<String, String> {
+        let words: Vec<_> = rest.splitn(3, ' ').collect();
+        let [memory, place, file] = words[..] else {
+            return Err("error: write takes a memory, a place and a file".into());
+        };
+        let place = place.parse().or(Err("error: a place is a number"))?;
+        self.memory(memory)?.write(&mut self.store, place, &read(file)?).map_err(failed)?;
         Ok("ok:".into())
     }
 
@@ -149,6 +175,10 @@ impl Script {
         let results = results.into_iter().map(|it| values::numbered(&self.store, it));
         Ok(results.fold("ok:".into(), |line, it| line + " " + &values::print(it)))
     }
+}
+
+fn read(file: &str) -> Result<Vec<u8>, String> {
+    fs::read(file).map_err(|it| format!("error: {file} can't be read: {it}"))
 }
 
 fn error(what: impl Display) -> String {

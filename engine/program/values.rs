@@ -29,7 +29,7 @@ pub fn type_of(module: &Module, function: &str) -> Result<FuncType, String> {
 
 /// Which functions there are, where there is none of this name.
 fn missing(module: &Module, function: &str) -> String {
-    let is_function = |(name, ty): (&_, ExternType)| matches!(ty, ExternType::Func(_)).then(|| format!("{name}"));
+    let is_function = |(name, ty): (&str, ExternType)| matches!(ty, ExternType::Func(_)).then(|| name.to_string());
     let mut names: Vec<String> = module.exports().filter_map(is_function).collect();
     names.sort();
     match names[..] {

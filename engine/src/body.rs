@@ -1,10 +1,15 @@
 //! Functions as they are executed.
 
+use crate::engine::Config;
 use crate::execute::Handler;
 use crate::instructions::Op;
 use crate::library::RawVal;
 use crate::library::simd::ImmLaneIdx32;
+use crate::lower::lower;
 use crate::profile::Piece;
+use crate::translate::Function;
+use std::mem;
+use std::sync::{Mutex, OnceLock, PoisonError};
 
 /// How many bits the number of a type takes beside that of a table.
 pub(crate) const TYPE_BITS: u32 = 20;
@@ -39,6 +44,36 @@ impl Instruction {
     #[inline(always)]
     pub fn short(&self) -> i64 {
         self.d.cast_signed().into()
+    }
+}
+
+/// A function that was validated and translated. What is executed is made of it when it is first called.
+pub(crate) struct Lazy {
+    body: OnceLock<Body>,
+    function: Mutex<Function>,
+}
+
+impl Lazy {
+    pub fn new(function: Function) -> Lazy {
+        Lazy { body: OnceLock::new(), function: function.into() }
+    }
+
+    /// What is executed, if it was made already.
+    #[inline(always)]
+    pub fn made(&self) -> Option<&Body> {
+        self.body.get()
+    }
+
+    pub fn body(&self, config: Config) -> &Body {
+        let function = || mem::take(&mut *self.function.lock().unwrap_or_else(PoisonError::into_inner));
+        self.body.get_or_init(|| lower(function(), config))
+    }
+}
+
+#[cfg(test)]
+impl From<Body> for Lazy {
+    fn from(body: Body) -> Lazy {
+        Lazy { body: body.into(), function: Mutex::default() }
     }
 }
 

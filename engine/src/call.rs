@@ -186,7 +186,8 @@ impl Inner {
             return Err(TrapCode::StackOverflow);
         }
         let function = function as usize;
-        execute::enter(values, &instances[instance].module.code[function], base)?;
+        let module = &instances[instance].module;
+        execute::enter(values, module.code[function].body(module.config), base)?;
         Ok(Activation { instance, floor: frames.len(), frame: Frame { function, next: 0, base } })
     }
 

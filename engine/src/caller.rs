@@ -45,7 +45,7 @@ impl<T> Caller<'_, T> {
         self.get_export(name)?.into_func()
     }
 
-    /// The fuel that is left.
+    /// The fuel that is left, as [`Store::get_fuel`] says.
     pub fn get_fuel(&self) -> Result<u64, Error> {
         self.as_context().get_fuel()
     }
@@ -55,11 +55,14 @@ impl<T> Caller<'_, T> {
         self.as_context_mut().set_fuel(fuel)
     }
 
-    /// Takes the fuel that a bulk instruction takes for so many bytes. Without a meter nothing is taken.
+    /// Takes the fuel that `memory.copy` takes for so many bytes ([what costs fuel](crate::Config::consume_fuel)). A
+    /// function of the host should do so before it works through bytes of a guest. Without a meter nothing is taken.
     ///
     /// # Errors
     ///
-    /// The trap of a guest without fuel, and nothing is taken.
+    /// [`TrapCode::OutOfFuel`](crate::TrapCode::OutOfFuel), and nothing is taken. A function of the host that returns
+    /// this error ends the call, which can't go on then, even if it began by
+    /// [`call_resumable`](crate::TypedFunc::call_resumable).
     pub fn charge_bytes(&mut self, bytes: u64) -> Result<(), Error> {
         self.as_context_mut().charge_bytes(bytes)
     }

@@ -41,7 +41,7 @@ impl<'a, T> StoreContext<'a, T> {
         &self.store.inner.engine
     }
 
-    /// The fuel that is left.
+    /// The fuel that is left, as [`Store::get_fuel`] says.
     pub fn get_fuel(&self) -> Result<u64, Error> {
         self.store.inner.fuel.get_fuel().map_err(|it| Error::misused(it.to_string()))
     }
@@ -58,7 +58,7 @@ impl<T> StoreContextMut<'_, T> {
         &mut self.store.data
     }
 
-    /// The fuel that is left.
+    /// The fuel that is left, as [`Store::get_fuel`] says.
     pub fn get_fuel(&self) -> Result<u64, Error> {
         self.as_context().get_fuel()
     }
@@ -68,11 +68,11 @@ impl<T> StoreContextMut<'_, T> {
         self.store.inner.fuel.set_fuel(fuel).map_err(|it| Error::misused(it.to_string()))
     }
 
-    /// Takes the fuel that a bulk instruction takes for so many bytes. Without a meter nothing is taken.
+    /// Takes fuel as [`Caller::charge_bytes`](crate::Caller::charge_bytes) does.
     ///
     /// # Errors
     ///
-    /// The trap of a guest without fuel, and nothing is taken.
+    /// [`TrapCode::OutOfFuel`](crate::TrapCode::OutOfFuel), and nothing is taken.
     pub fn charge_bytes(&mut self, bytes: u64) -> Result<(), Error> {
         Ok(self.store.inner.charge(bytes)?)
     }

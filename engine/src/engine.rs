@@ -21,13 +21,24 @@ impl Config {
     }
 
     /// Whether code takes fuel. If not, which is so at first, a store has no meter.
+    ///
+    /// # What costs fuel
+    ///
+    /// - An instruction costs a unit, with the exceptions that the section *Fuel* of the package's README has.
+    /// - What fills, copies, initializes or grows a memory or a table costs besides a unit for each 64 bytes, rounded
+    ///   down. A page of 65,536 bytes thus costs 1,024 units, and an element of a table counts as 4 bytes.
+    /// - The active segments of a module cost that when it is instantiated, and its start function what it executes.
+    /// - The host's own reads, writes and growths cost nothing, and its functions what they charge
+    ///   ([`Caller::charge_bytes`](crate::Caller::charge_bytes)).
+    ///
+    /// Fuel is taken for a piece of code that is executed as a whole, before it is begun.
     pub fn consume_fuel(&mut self, is_metered: bool) -> &mut Self {
         self.is_metered = is_metered;
         self
     }
 
-    /// Whether code takes fuel and counts what it executes, for [`Store::profile`](crate::Store::profile). If not, which is
-    /// so at first, nothing is counted.
+    /// Whether code takes fuel and counts what it executes, for [`Store::profile`](crate::Store::profile). If not,
+    /// which is so at first, nothing is counted.
     pub fn profile(&mut self, is_profiled: bool) -> &mut Self {
         self.is_metered |= is_profiled;
         self.is_profiled = is_profiled;

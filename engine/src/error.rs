@@ -5,6 +5,34 @@ use crate::reader::Refusal;
 use std::fmt;
 
 /// Why a module isn't run, or why a call gives no results.
+///
+/// An error of a guest is asked for its [`TrapCode`]:
+///
+/// | Code | The guest stops because |
+/// |---|---|
+/// | [`TrapCode::UnreachableCodeReached`] | it has executed `unreachable`, as `abort` and `panic!` end in many languages |
+/// | [`TrapCode::MemoryOutOfBounds`], [`TrapCode::TableOutOfBounds`] | an access goes beyond the end |
+/// | [`TrapCode::IndirectCallToNull`], [`TrapCode::BadSignature`] | it calls a null element, or a function of another type |
+/// | [`TrapCode::IntegerDivisionByZero`], [`TrapCode::IntegerOverflow`] | a division has no result |
+/// | [`TrapCode::StackOverflow`] | its calls go deeper than the [`StackLimits`](crate::StackLimits) allow |
+/// | [`TrapCode::OutOfFuel`] | the fuel that is left doesn't suffice for what comes next |
+///
+/// A host has some of them too: that of an access when it reads or writes what isn't there, and
+/// [`TrapCode::GrowthOperationLimited`] and [`TrapCode::OutOfSystemMemory`] when a memory or a table can't be made or
+/// grown, by itself or for a module that is instantiated.
+///
+/// An instruction that computes with floats stops a guest by a [`FloatInstruction`](crate::FloatInstruction), which
+/// [`Error::downcast_ref`] finds.
+///
+/// # Examples
+///
+/// ```
+/// use engine::{Error, TrapCode};
+///
+/// let is_out_of_fuel = |error: &Error| error.as_trap_code() == Some(TrapCode::OutOfFuel);
+/// assert!(is_out_of_fuel(&Error::from(TrapCode::OutOfFuel)));
+/// assert!(!is_out_of_fuel(&Error::new("a name isn't known")));
+/// ```
 #[derive(Debug)]
 pub enum Error {
     /// The bytes are no module that this engine runs.
@@ -23,7 +51,7 @@ impl Error {
         Self::Trap(Trap::new(message))
     }
 
-    /// A trap that carries an error of the host.
+    /// A trap that carries an error of the host, which [`Error::downcast_ref`] finds again.
     pub fn host(error: impl HostError) -> Self {
         Self::Trap(error.into())
     }

@@ -9,7 +9,7 @@ use crate::floats::{self, FloatInstruction};
 use crate::instructions::{Code, Op};
 use crate::library::{Fuel, Memory, MemoryError, RawVal, Table, TableError, TrapCode};
 use crate::stack::{Activation, Lent, SLOTS};
-use crate::store::{Caps, Entity, Inner, Items};
+use crate::store::{Entity, Inner, Items, Limiter};
 use state::{Outcome, Slots, State};
 use std::cell::Cell;
 
@@ -80,7 +80,7 @@ fn run(inner: &mut Inner, at: &mut Activation, memory: usize) -> Result<Ran, Tra
     let Lent { values, frames, calls } = stack.as_mut().ok_or(TrapCode::StackOverflow)?.lend();
     let values = Cell::from_mut(values).as_slice_of_cells();
     let Entity { module, memories, tables, globals, first, .. } = &instances[at.instance];
-    let body = &module.code[at.frame.function];
+    let body = module.code[at.frame.function].body(module.config);
     let slots = Slots::at(values, at.frame.base).ok_or(TrapCode::StackOverflow)?;
     let code = body.code.get(at.frame.next..).unwrap_or_default();
     let mut state = State {
@@ -113,11 +113,11 @@ fn run(inner: &mut Inner, at: &mut Activation, memory: usize) -> Result<Ran, Tra
 
 /// Does an instruction that handlers leave to the loop.
 fn left(op: Op, inner: &mut Inner, at: &Activation) -> Result<(), TrapCode> {
-    let Inner { fuel, caps, instances, items, stack, .. } = inner;
+    let Inner { fuel, limiter, instances, items, stack, .. } = inner;
     let Lent { values, .. } = stack.as_mut().ok_or(TrapCode::StackOverflow)?.lend();
     let values = Cell::from_mut(values).as_slice_of_cells();
     let slots = Slots::at(values, at.frame.base).ok_or(TrapCode::StackOverflow)?;
-    bulk(op, &mut instances[at.instance], items, fuel, caps, slots)
+    bulk(op, &mut instances[at.instance], items, fuel, limiter, slots)
 }
 
 /// Checks that there is room for the frame of a function.
@@ -132,7 +132,7 @@ fn bulk(
     instance: &mut Entity,
     items: &mut Items,
     fuel: &mut Fuel,
-    caps: &mut Caps,
+    limiter: &mut Limiter,
     slots: Slots,
 ) -> Result<(), TrapCode> {
     let Entity { module, memories, tables, elements, is_dropped, .. } = instance;
@@ -151,7 +151,7 @@ fn bulk(
     match op.code {
         Code::memory_size => slots.set(op.d, memory!(number).size()),
         Code::memory_grow => {
-            let size = match memory!(number).grow(a, Some(fuel), &mut caps.lent()) {
+            let size = match memory!(number).grow(a, Some(fuel), &mut limiter.lent()) {
                 Err(MemoryError::OutOfBoundsGrowth | MemoryError::OutOfSystemMemory) => None,
                 grown => Some(grown.map_err(of_memory)?),
             };
@@ -171,7 +171,7 @@ fn bulk(
         Code::table_set => table!(number).set_raw(a, slots.reference(op.b)).map_err(of_table)?,
         Code::table_size => slots.set(op.d, table!(number).size()),
         Code::table_grow => {
-            let size = match table!(number).grow_raw(b, slots.reference(op.a), Some(fuel), &mut caps.lent()) {
+            let size = match table!(number).grow_raw(b, slots.reference(op.a), Some(fuel), &mut limiter.lent()) {
                 Err(TableError::GrowOutOfBounds | TableError::OutOfSystemMemory) => None,
                 grown => Some(grown.map_err(of_table)?),
             };
@@ -194,20 +194,23 @@ fn bulk(
 
 /// How the error of a memory or a table stops a guest.
 macro_rules! traps {
-    ($name:ident, $error:ident, $out_of_bounds:ident) => {
+    ($name:ident, $error:ident, $growth:ident, $out_of_bounds:ident) => {
         #[cold]
         pub(crate) fn $name(error: $error) -> TrapCode {
             match error {
                 $error::OutOfFuel { .. } => TrapCode::OutOfFuel,
-                $error::ResourceLimiterDeniedAllocation => TrapCode::GrowthOperationLimited,
+                $error::ResourceLimiterDeniedAllocation
+                | $error::$growth
+                | $error::MinimumSizeOverflow
+                | $error::MaximumSizeOverflow => TrapCode::GrowthOperationLimited,
                 $error::OutOfSystemMemory => TrapCode::OutOfSystemMemory,
                 _ => TrapCode::$out_of_bounds,
             }
         }
     };
 }
-traps!(of_memory, MemoryError, MemoryOutOfBounds);
-traps!(of_table, TableError, TableOutOfBounds);
+traps!(of_memory, MemoryError, OutOfBoundsGrowth, MemoryOutOfBounds);
+traps!(of_table, TableError, GrowOutOfBounds, TableOutOfBounds);
 
 #[cfg(test)]
 mod tests;

@@ -91,7 +91,7 @@ impl Func {
     ///
     /// # Errors
     ///
-    /// If the arguments aren't of its type, and if the guest stops.
+    /// If the arguments aren't of its type, and if the guest stops, as [`TypedFunc::call`] says.
     pub fn call(&self, mut context: impl AsContextMut, args: &[Val]) -> Result<Vec<Val>, Error> {
         let ty = self.checked(&mut context, args)?;
         let (write, read) =
@@ -139,7 +139,11 @@ impl<P: WasmValues, R: WasmValues> TypedFunc<P, R> {
     ///
     /// # Errors
     ///
-    /// If the guest stops.
+    /// If the guest stops: an [`Error`] says why. The store and its instances can be used after that, as the guest has
+    /// left them.
+    ///
+    /// Of a guest that is out of fuel ([`TrapCode::OutOfFuel`](crate::TrapCode::OutOfFuel)), [`Store::get_fuel`] says
+    /// what is left.
     pub fn call(&self, mut context: impl AsContextMut, params: P) -> Result<R, Error> {
         let Func { owner, function } = &self.func;
         context.as_context_mut().store.call(owner, *function, |values| params.write(values), R::read)

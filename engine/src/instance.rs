@@ -19,9 +19,9 @@ use std::sync::{Arc, Weak};
 /// An instance of a module.
 ///
 /// It is kept as long as a handle of it or of something that it exports is, or an instance that imports from it, and no
-/// longer than its store. Then its memories and tables are freed, and what they took of the store's
-/// [caps](crate::Caps) is given back. An instance whose functions others may have, through a table, a global or an
-/// argument, is kept as long as its store.
+/// longer than its store. Then its memories and tables are freed, and no longer count towards the store's
+/// [caps](crate::Caps). An instance whose functions others may have, through a table, a global or an argument, is kept
+/// as long as its store.
 #[derive(Clone, Debug)]
 pub struct Instance {
     pub(crate) owner: Arc<Owner>,
@@ -46,12 +46,13 @@ pub struct Contents<'a> {
 impl Instance {
     /// Makes an instance, given its imports in order: memories, tables, globals, segments, and then the start function.
     ///
-    /// Active segments are charged as `table.init` and `memory.init` are.
+    /// The store needs fuel for active segments and for the start function alone ([what costs
+    /// fuel](crate::Config::consume_fuel)): without them a store that has none will do.
     ///
     /// # Errors
     ///
-    /// If an import is missing or has another type, if the store's caps or the system don't allow a memory or a table, if a
-    /// segment doesn't fit, and if the start function stops.
+    /// If an import is missing or has another type, if the store's [caps](crate::Caps) or the system don't allow a
+    /// memory or a table, if a segment doesn't fit or there is no fuel for it, and if the start function stops.
     pub fn new(mut context: impl AsContextMut, module: &Module, imports: &[Extern]) -> Result<Instance, Error> {
         if imports.len() != module.inner.imports.len() {
             return Err(Error::Link(format!("the module has {} imports", module.inner.imports.len())));
@@ -278,7 +279,7 @@ fn passes_functions(module: &module::Module) -> bool {
 
 /// Makes the memories, tables, globals and segments of an instance.
 fn allocate(inner: &mut Inner, number: u32) -> Result<(), Error> {
-    let Inner { instances, items, caps, .. } = inner;
+    let Inner { instances, items, limiter, .. } = inner;
     let Items { memories, tables, globals } = items;
     let entity = &mut instances[number];
     let (module, first) = (entity.module.clone(), entity.first);
@@ -288,12 +289,12 @@ fn allocate(inner: &mut Inner, number: u32) -> Result<(), Error> {
     }
     let global = |it: u32| *globals[entity.globals[it as usize]].get_raw();
     for ty in &module.memories[module.imported.memories..] {
-        let memory = library::Memory::new(*ty, &mut caps.lent()).map_err(of_memory)?;
+        let memory = library::Memory::new(*ty, &mut limiter.lent()).map_err(of_memory)?;
         entity.memories.push(memories.insert(memory));
     }
     for (ty, init) in &module.tables[module.imported.tables..] {
         let init = TypedRawRef::new(init.value(first, &global).into(), ty.element());
-        let table = library::Table::new(*ty, init, &mut caps.lent()).map_err(of_table)?;
+        let table = library::Table::new(*ty, init, &mut limiter.lent()).map_err(of_table)?;
         entity.tables.push(tables.insert(table));
     }
     for segment in &module.elements {

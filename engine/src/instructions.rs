@@ -156,8 +156,7 @@ macro_rules! codes {
         }
 
         impl Code {
-            /// What is to be known of an instruction before a handler is found for it.
-            pub fn facts(self) -> Facts {
+            const fn found(self) -> Facts {
                 use crate::library::ValType::*;
                 match self {
                     $($(Code::$u => Facts::of(Kind::Unary, $ua, Some($ur)),)*)*
@@ -187,8 +186,7 @@ macro_rules! codes {
             }
         }
 
-        /// The row of an opcode: what it does, and how it is written in a module.
-        pub fn row(opcode: u32) -> Option<(Code, Form)> {
+        const fn found(opcode: u32) -> Option<(Code, Form)> {
             use crate::library::ValType::*;
             Some(match opcode {
                 $($($un => (Code::$u, Form::Plain(&[$ua], $ur)),)*)*
@@ -207,6 +205,59 @@ macro_rules! codes {
     };
 }
 instructions!(codes);
+
+/// What an instruction does, and how it is written in a module.
+pub type Row = (Code, Form);
+
+const fn rows<const COUNT: usize>(first: u32) -> [Option<Row>; COUNT] {
+    let mut rows = [None; COUNT];
+    let mut i = 0;
+    while i < COUNT {
+        rows[i] = found(first + i as u32);
+        i += 1;
+    }
+    rows
+}
+
+/// The rows of opcodes of one byte, and of those of vectors.
+static ROWS: [Option<Row>; 256] = rows(0);
+static VECTORS: [Option<Row>; 288] = rows(0xfd000);
+
+/// The row of an opcode.
+#[inline(always)]
+pub fn row(opcode: u32) -> Option<&'static Row> {
+    match ROWS.get(opcode as usize) {
+        Some(row) => row.as_ref(),
+        None => VECTORS.get(opcode.checked_sub(0xfd000)? as usize)?.as_ref(),
+    }
+}
+
+/// The facts of the library's instructions, which come first.
+static FACTS: [Facts; Code::fuel as usize] = {
+    let mut facts = [Facts::NONE; _];
+    let (first, second) = (rows::<256>(0), rows::<288>(0xfd000));
+    let mut i = 0;
+    while i < 288 {
+        if let Some((code, _)) = second[i] {
+            facts[code as usize] = code.found();
+        }
+        if i < 256
+            && let Some((code, _)) = first[i]
+        {
+            facts[code as usize] = code.found();
+        }
+        i += 1;
+    }
+    facts
+};
+
+impl Code {
+    /// What is to be known of an instruction before a handler is found for it.
+    #[inline(always)]
+    pub fn facts(self) -> Facts {
+        FACTS.get(self as usize).copied().unwrap_or_else(|| self.found())
+    }
+}
 
 /// Operands, immediates and result of an instruction of the library.
 #[derive(Clone, Copy)]
@@ -250,15 +301,15 @@ impl Facts {
     pub const NONE: Facts =
         Facts { kind: Kind::Own, operand: None, result: None, has_result: false, gives_last: false, is_wide: false };
 
-    fn of(kind: Kind, operand: ValType, result: Option<ValType>) -> Facts {
-        let scalar = result.filter(|ty| *ty != ValType::V128);
+    const fn of(kind: Kind, operand: ValType, result: Option<ValType>) -> Facts {
+        let scalar = if matches!(result, Some(ValType::V128)) { None } else { result };
         Facts {
             kind,
             operand: Some(operand),
             result: scalar,
             has_result: result.is_some(),
             gives_last: scalar.is_some(),
-            is_wide: kind == Kind::Lane,
+            is_wide: matches!(kind, Kind::Lane),
         }
     }
 }

@@ -22,6 +22,9 @@ pub enum Extern {
 }
 
 /// A memory of a store.
+///
+/// A handle of a memory, of another item or of an instance can be cloned, and isn't `Copy`: an instance is freed when
+/// its last handle is dropped ([`Instance`](crate::Instance)).
 #[derive(Clone, Debug)]
 pub struct Memory {
     pub(crate) owner: Arc<Owner>,
@@ -73,11 +76,27 @@ impl Memory {
     ///
     /// # Errors
     ///
-    /// If the store's caps or the system don't allow it.
+    /// [`TrapCode::GrowthOperationLimited`] if the store's [caps](crate::Caps) don't allow it,
+    /// [`TrapCode::OutOfSystemMemory`] if the system doesn't.
+    ///
+    /// # Examples
+    ///
+    /// ```
+    /// use engine::{Engine, Memory, MemoryType, Store};
+    ///
+    /// let mut store = Store::new(&Engine::default(), ());
+    /// // Of one page, and of at most three.
+    /// let mut ty = MemoryType::builder();
+    /// ty.min(1).max(Some(3));
+    /// let memory = Memory::new(&mut store, ty.build()?)?;
+    /// memory.write(&mut store, 0, b"bytes")?;
+    /// assert_eq!(memory.grow(&mut store, 2)?, 1);
+    /// # Ok::<(), Box<dyn std::error::Error>>(())
+    /// ```
     pub fn new(mut context: impl AsContextMut, ty: MemoryType) -> Result<Memory, Error> {
         let store = context.as_context_mut().store;
         store.collect();
-        let memory = library::Memory::new(ty, &mut store.inner.caps.lent()).map_err(crate::execute::of_memory)?;
+        let memory = library::Memory::new(ty, &mut store.inner.limiter.lent()).map_err(crate::execute::of_memory)?;
         let number = store.inner.items.memories.insert(memory);
         Ok(Memory { owner: store.inner.owner(Kept::Memory(number)), number })
     }
@@ -92,17 +111,18 @@ impl Memory {
         self.get(&context.as_context()).size()
     }
 
-    /// Grows it by so many pages, and says how many it had.
+    /// Grows it by so many pages, and says how many it had. No fuel is taken.
     ///
     /// # Errors
     ///
-    /// If its type, the store's caps or the system don't allow it.
+    /// [`TrapCode::GrowthOperationLimited`] if its type or the store's [caps](crate::Caps) don't allow it,
+    /// [`TrapCode::OutOfSystemMemory`] if the system doesn't.
     pub fn grow(&self, mut context: impl AsContextMut, pages: u64) -> Result<u64, Error> {
         let store = context.as_context_mut().store;
         store.collect();
         store.inner.check(&self.owner);
         let memory = &mut store.inner.items.memories[self.number];
-        Ok(memory.grow(pages, None, &mut store.inner.caps.lent()).map_err(crate::execute::of_memory)?)
+        Ok(memory.grow(pages, None, &mut store.inner.limiter.lent()).map_err(crate::execute::of_memory)?)
     }
 
     /// Its bytes.
@@ -158,12 +178,12 @@ impl Table {
     ///
     /// # Errors
     ///
-    /// If the element is of another type, and if the store's caps or the system don't allow it.
+    /// If the element is of another type, and for the reasons of [`Memory::new`].
     pub fn new(mut context: impl AsContextMut, ty: TableType, init: Val) -> Result<Table, Error> {
         let store = context.as_context_mut().store;
         store.collect();
         let init = element(ty, init)?;
-        let table = library::Table::new(ty, init, &mut store.inner.caps.lent()).map_err(crate::execute::of_table)?;
+        let table = library::Table::new(ty, init, &mut store.inner.limiter.lent()).map_err(crate::execute::of_table)?;
         let number = store.inner.items.tables.insert(table);
         Ok(Table { owner: store.inner.owner(Kept::Table(number)), number })
     }
@@ -201,18 +221,18 @@ impl Table {
         Ok(table.set(index, value).map_err(|_| TrapCode::TableOutOfBounds)?)
     }
 
-    /// Grows it by so many elements like this one, and says how many it had.
+    /// Grows it by so many elements like this one, and says how many it had. No fuel is taken.
     ///
     /// # Errors
     ///
-    /// If the element is of another type, and if the table's type, the store's caps or the system don't allow it.
+    /// If the element is of another type, and for the reasons of [`Memory::grow`].
     pub fn grow(&self, mut context: impl AsContextMut, count: u64, init: Val) -> Result<u64, Error> {
         let store = context.as_context_mut().store;
         store.collect();
         store.inner.check(&self.owner);
         let table = &mut store.inner.items.tables[self.number];
         let init = element(table.ty(), init)?;
-        Ok(table.grow(count, init, None, &mut store.inner.caps.lent()).map_err(crate::execute::of_table)?)
+        Ok(table.grow(count, init, None, &mut store.inner.limiter.lent()).map_err(crate::execute::of_table)?)
     }
 
     fn get_table<'a, T>(&self, context: &StoreContext<'a, T>) -> &'a library::Table {

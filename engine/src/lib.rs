@@ -1,78 +1,77 @@
 //! A WebAssembly engine of integers, vectors, memories and tables over the proved library, or over the Rust crate.
 //!
-//! An [`Engine`] translates [`Module`]s. A [`Store`] is what a tenant has: fuel, caps on memory, data of the host, and its
-//! [`Instance`]s. A [`Linker`] has what modules may import: closures of the host, and what other instances export. A
-//! closure is given a [`Caller`], by which it reaches the host's data and the memory of the guest that calls it.
+//! An [`Engine`] translates [`Module`]s. A [`Store`] has what one tenant has, of those whose modules a host runs: fuel,
+//! caps on memory, data of the host, and its [`Instance`]s. A [`Linker`] has what modules may import: closures of the
+//! host, and what other instances export. A closure is given a [`Caller`], by which it reaches the host's data and the
+//! memory of the guest that calls it. An [`Error`] says why a guest has stopped. The types of values, memories and
+//! traps are those of the [`library`] below the engine.
+//!
+//! | To | see |
+//! |---|---|
+//! | meter a guest, and know what a call has used | [`Config::consume_fuel`], [`Store::set_fuel`], [`Store::get_fuel`] |
+//! | limit memories, tables and the stack | [`Caps`], [`Store::set_caps`], [`Store::set_stack_limits`] |
+//! | go on with a call after a refill | [`TypedFunc::call_resumable`] |
+//! | know why a guest has stopped, and where | [`Error::as_trap_code`], [`Store::backtrace`] |
+//! | make memories, tables, globals and functions of the host | [`Memory::new`], [`Table::new`], [`Global::new`], [`Func::wrap`] |
+//! | call functions of any type | [`Func::call`], [`Linker::func_new`], [`Val`] |
+//! | ask a module what it imports and exports | [`Module::imports`], [`Module::exports`] |
+//! | know where fuel goes | [`Config::profile`], [`Store::profile`] |
 //!
 //! # Examples
 //!
-//! A guest is given a string, and gives one back. It has so much fuel, and stops without it; the host goes on.
-//! `examples/greet.rs` is the whole program, and `examples/greet.c` the guest.
+//! A guest is given a string, and gives one back. It traps, and is out of fuel; the host goes on.
 //!
 //! ```
-//! use engine::{Caller, Config, Engine, Error, Linker, Module, Store};
+//! use engine::{Caller, Config, Engine, Error, Linker, Module, Store, TrapCode};
 //!
 //! # let wasm = engine::guests::GREET;
 //! let engine = Engine::new(Config::default().consume_fuel(true));
+//! // The bytes of a file, such as `include_bytes!("greet.wasm")`.
 //! let module = Module::new(&engine, wasm)?;
 //! let mut linker = Linker::new(&engine);
-//! linker.func_wrap("host", "log", |mut caller: Caller<'_, Vec<String>>, place: u32, len: u32| -> Result<(), Error> {
+//! linker.func_wrap("host", "log", |mut caller: Caller<'_, Vec<String>>, pointer: u32, len: u32| -> Result<(), Error> {
+//!     // The guest pays for what the host does for it, and stops here if it can't.
 //!     caller.charge_bytes(len.into())?;
 //!     let memory = caller.get_memory("memory").ok_or(Error::new("the guest has no memory"))?;
 //!     let mut bytes = vec![0; len as usize];
-//!     memory.read(&caller, place as usize, &mut bytes)?;
+//!     memory.read(&caller, pointer as usize, &mut bytes)?;
 //!     caller.data_mut().push(String::from_utf8_lossy(&bytes).into_owned());
 //!     Ok(())
 //! })?;
 //!
 //! let mut store = Store::new(&engine, vec![]);
-//! store.set_fuel(10_000)?;
 //! let instance = linker.instantiate(&mut store, &module)?;
 //! let allocate = instance.get_typed_func::<u32, u32>(&store, "allocate")?;
 //! let greet = instance.get_typed_func::<(u32, u32), u64>(&store, "greet")?;
 //! let memory = instance.get_memory(&store, "memory").ok_or(Error::new("the guest has no memory"))?;
 //!
-//! let place = allocate.call(&mut store, 3)?;
-//! memory.write(&mut store, place as usize, b"Ada")?;
-//! // The guest gives the place and, above it, the length of its answer.
-//! let answer = greet.call(&mut store, (place, 3))?;
+//! store.set_fuel(10_000)?;
+//! let pointer = allocate.call(&mut store, 3)?;
+//! memory.write(&mut store, pointer as usize, b"Ada")?;
+//! // The guest gives a pointer to its answer and, above it, the length.
+//! let answer = greet.call(&mut store, (pointer, 3))?;
 //! let mut bytes = vec![0; (answer >> 32) as usize];
 //! memory.read(&store, answer as u32 as usize, &mut bytes)?;
 //! assert_eq!(bytes, b"Hello, Ada!");
 //! assert_eq!(store.data(), &["Ada"]);
+//! println!("fuel used: {}", 10_000 - store.get_fuel()?);
 //!
-//! // The guest traps for a name without letters, and runs without end until its fuel is used.
-//! assert!(greet.call(&mut store, (place, 0)).is_err());
+//! // The guest traps for an empty name. The store can be used after that.
+//! let trap = greet.call(&mut store, (pointer, 0)).unwrap_err();
+//! assert_eq!(trap.as_trap_code(), Some(TrapCode::UnreachableCodeReached));
+//!
+//! // It runs without end until its fuel doesn't suffice for what comes next.
 //! let spin = instance.get_typed_func::<(), ()>(&store, "spin")?;
-//! assert!(spin.call(&mut store, ()).is_err());
-//! assert_eq!(store.get_fuel()?, 0);
+//! let stopped = spin.call(&mut store, ()).unwrap_err();
+//! assert_eq!(stopped.as_trap_code(), Some(TrapCode::OutOfFuel));
+//! store.set_fuel(10_000)?;
+//! assert!(greet.call(&mut store, (pointer, 3)).is_ok());
 //! # Ok::<(), engine::Error>(())
 //! ```
 //!
-//! # The source
-//!
-//! The engine has what a library of values, instructions, memories, tables and fuel leaves to it: the binary format,
-//! validation, translation, control and instances. The rest is the library's. To be read in this order:
-//!
-//! | Module | What it does |
-//! |---|---|
-//! | `reader` | bytes, numbers, names and types of the binary format |
-//! | `proposals` | what the engine lacks of the binary format, by name |
-//! | `limits` | bounds on what a module may have |
-//! | `module` | sections, and what they must keep |
-//! | `instructions` | the table of the library's instructions, and the form of the code that runs |
-//! | `floats` | the instructions on floats: which of them are the library's on bits, and which trap |
-//! | `translate`, `operands` | the validation of a function, and its translation, with its stack of operands |
-//! | `lower`, `body` | what is executed of a function: instructions with their handlers |
-//! | `engine`, `store`, `stack` | what tenants share, what a tenant has, and what calls run on |
-//! | `handle`, `arena`, `references` | who needs an item of a store, items by number, and references of functions |
-//! | `instance`, `compiled`, `items` | instances, modules, memories, tables and globals, as an embedder has them |
-//! | `values`, `func`, `caller`, `linker` | functions of the host and of guests, and what modules may import |
-//! | `call`, `resume`, `trace` | calls between the host and instances, those that wait for fuel, and those that end early |
-//! | `names`, `profile` | the names of functions, and what was executed |
-//! | `execute` | the handlers, and the loop for what they lack |
-//!
-//! The program stands in `program/`.
+//! This is the guest, in C. In the package's folder `cargo run --example greet` runs the whole program,
+//! `examples/greet.rs`.
+#![doc = concat!("```c\n", include_str!("../examples/greet.c"), "```")]
 #![forbid(unsafe_code)]
 #![warn(missing_docs)]
 
@@ -134,6 +133,13 @@ pub use store::{Caps, Store};
 pub use trace::TraceFrame;
 pub use values::{HostResults, Val, WasmTy, WasmValues};
 
+// The library's types that signatures have, so that they have pages here.
+#[doc(inline)]
+pub use library::{
+    F32, F64, FuncType, FuncTypeError, GlobalType, HostError, IndexType, MemoryError, MemoryType, MemoryTypeBuilder,
+    Mutability, RawRef, RawVal, RefType, TableType, Trap, TrapCode, TypedRawVal, V128, ValType,
+};
+
 /// The modules of the examples in the documentation.
 #[doc(hidden)]
 pub mod guests {
@@ -143,7 +149,7 @@ pub mod guests {
 
 /// Bounds on what a module may have. WebAssembly core specification, A.2 (implementation limitations).
 ///
-/// With them no module of n bytes takes more than ten times as long to read as plain code of n bytes
+/// With them no module of n bytes takes more than fifteen times as long to read as plain code of n bytes
 /// (`tests/modules.rs`): an instruction takes at most 1,000 operands, the library's bound on parameters and results, and
 /// `operands` handles them as slices. The rest is a constant for each byte, and for a name or a constant of the module a
 /// look-up.

@@ -26,21 +26,39 @@ struct Draft {
     shape: Shape,
     /// Where the result goes, and where the operands lie. Of a branch the first is `LAST` if it is taken at 0.
     way: [Way; 3],
+    /// A handler that was found, if it is for what the instruction is now.
+    found: Option<(Handler, Wanted)>,
 }
+
+/// What a handler is for.
+type Wanted = (Code, Shape, [Way; 3]);
 
 impl Draft {
     fn new(op: Op) -> Draft {
-        Draft { op, facts: op.code.facts(), shape: Shape::Plain, way: [SLOT; 3] }
+        Draft { op, facts: op.code.facts(), shape: Shape::Plain, way: [SLOT; 3], found: None }
     }
 
     fn handler(&self) -> Option<Handler> {
-        find(self.op.code, self.shape, self.way)
+        match self.found {
+            Some((handler, found)) if found == self.wanted() => Some(handler),
+            _ => find(self.op.code, self.shape, self.way),
+        }
     }
 
     /// The same with one way changed, if there is a handler for this.
     fn with(mut self, index: usize, way: Way) -> Option<Draft> {
         self.way[index] = way;
-        self.handler().map(|_| self)
+        self.checked()
+    }
+
+    /// The same, if there is a handler for it, which is kept.
+    fn checked(mut self) -> Option<Draft> {
+        self.found = Some((self.handler()?, self.wanted()));
+        Some(self)
+    }
+
+    fn wanted(&self) -> Wanted {
+        (self.op.code, self.shape, self.way)
     }
 }
 

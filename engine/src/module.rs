@@ -2,10 +2,9 @@
 //!
 //! WebAssembly core specification, 5.5 (sections) and 3.5 (validation of modules).
 
-use crate::body::Body;
+use crate::body::Lazy;
 use crate::engine::Config;
 use crate::library::{FuncType, GlobalType, MemoryType, RawRef, RawVal, RefType, TableType, ValType, wasm};
-use crate::lower::lower;
 use crate::operands::Operands;
 use crate::reader::{Read, Reader, Refusal, ensure};
 use crate::translate::{self, Function};
@@ -111,7 +110,7 @@ pub(crate) struct Module {
     pub(crate) elements: Vec<Elements>,
     pub(crate) data: Vec<Data>,
     pub(crate) data_count: Option<u32>,
-    pub(crate) code: Vec<Body>,
+    pub(crate) code: Vec<Lazy>,
     pub(crate) config: Config,
     /// Of each function, whether a constant, an export or a segment names it, so that code may refer to it.
     pub(crate) is_declared: Vec<bool>,
@@ -131,19 +130,20 @@ pub(crate) struct Imported {
 impl Module {
     /// Reads a module in the binary format. An instruction that computes with floats traps when it is executed.
     pub fn new(bytes: &[u8], config: Config) -> Result<Module, Refusal> {
-        Self::read(Reader::new(bytes, false), config)
+        Self::read(Reader::new(bytes, false), config).map_err(|refusal| *refusal)
     }
 
     /// The same, but a module that has a type, a constant or an instruction of floats is refused.
     pub fn new_strict(bytes: &[u8], config: Config) -> Result<Module, Refusal> {
-        Self::read(Reader::new(bytes, true), config)
+        Self::read(Reader::new(bytes, true), config).map_err(|refusal| *refusal)
     }
 
     /// A module of one function, which it imports.
     pub(crate) fn of_host(ty: &FuncType, config: Config) -> Module {
         let imported = Imported { functions: 1, ..Imported::default() };
-        let code = vec![lower(Function::of_host(0, ty), config)];
-        Module { types: vec![ty.clone()], same: vec![0], functions: vec![0], imported, code, ..Module::default() }
+        let code = vec![Lazy::new(Function::of_host(0, ty))];
+        let types = vec![ty.clone()];
+        Module { config, types, same: vec![0], functions: vec![0], imported, code, ..Module::default() }
     }
 
     pub(crate) fn type_of(&self, function: u32) -> &FuncType {
@@ -237,7 +237,7 @@ impl Module {
                 let ty = self.known(reader, self.types.len(), "a type is unknown")?;
                 self.functions.push(ty);
                 let function = Function::of_host(self.imported.functions as u32, &self.types[ty as usize]);
-                self.code.push(lower(function, self.config));
+                self.code.push(Lazy::new(function));
                 (&mut self.imported.functions, Item::Function)
             }
             1 => {
@@ -252,7 +252,7 @@ impl Module {
                 self.globals.push((reader.global_type()?, Constant::Value(RawVal::default())));
                 (&mut self.imported.globals, Item::Global)
             }
-            kind => return Err(begin.unknown(proposals::of_extern(kind), "an import is of an unknown kind")),
+            kind => return Err(begin.unknown(proposals::of_extern(kind), "an import is of an unknown kind").into()),
         };
         *count += 1;
         Ok(Import { module, name, item: kind(*count as u32 - 1) })
@@ -284,7 +284,7 @@ impl Module {
             1 => Item::Table(self.known(reader, self.tables.len(), "a table is unknown")?),
             2 => Item::Memory(self.known(reader, self.memories.len(), "a memory is unknown")?),
             3 => Item::Global(self.known(reader, self.globals.len(), "a global is unknown")?),
-            _ => return Err(kind.malformed("an export is of an unknown kind")),
+            _ => return Err(kind.malformed("an export is of an unknown kind").into()),
         };
         ensure(self.exports.insert(name, item).is_none(), begin.invalid("two exports have one name"))
     }
@@ -317,7 +317,7 @@ impl Module {
         let ty = match (kind & 3, kind & 4) {
             (0, _) => RefType::Func,
             (_, 0) if reader.byte()? == 0 => RefType::Func,
-            (_, 0) => return Err(reader.malformed("an element segment has elements of an unknown kind")),
+            (_, 0) => return Err(reader.malformed("an element segment has elements of an unknown kind").into()),
             _ => reader.ref_type()?,
         };
         let is_right = table.is_none_or(|table| table == ty);
@@ -340,7 +340,7 @@ impl Module {
         let mut operands = Operands::default();
         for body in bodies {
             let function = translate::function(self, self.code.len() as u32, body, &mut operands)?;
-            self.code.push(lower(function, self.config));
+            self.code.push(Lazy::new(function));
         }
         Ok(())
     }
@@ -355,7 +355,7 @@ impl Module {
             let mode = match self.memories.get(number as usize) {
                 _ if kind == 1 => Mode::Passive,
                 Some(ty) => Mode::Active(number, self.constant(it, ty.index_ty().ty())?),
-                None => return Err(begin.invalid("a memory is unknown")),
+                None => return Err(begin.invalid("a memory is unknown").into()),
             };
             Ok(Data { mode, bytes: it.bytes()?.to_vec() })
         })?;
@@ -374,11 +374,11 @@ impl Module {
         }
         reader.byte()?;
         match (&types[..], &terms[..]) {
-            ([ty], _) if *ty != wanted => Err(begin.invalid("a constant expression has another type")),
+            ([ty], _) if *ty != wanted => Err(begin.invalid("a constant expression has another type").into()),
             ([_], [Term::Value(value)]) => Ok(Constant::Value(*value)),
             ([_], [Term::Function(function)]) => Ok(Constant::Function(*function)),
             ([_], _) => Ok(Constant::Terms(terms)),
-            _ => Err(begin.invalid("a constant expression doesn't give one value")),
+            _ => Err(begin.invalid("a constant expression doesn't give one value").into()),
         }
     }
 
@@ -406,8 +406,8 @@ impl Module {
             0xd0 => (reader.ref_type()?.into(), Term::Value(RawRef::null().into())),
             0xd2 => (ValType::FuncRef, Term::Function(self.known_function(reader)?)),
             0xfd if reader.u32()? == 12 => (ValType::V128, Term::Value(reader.v128()?.into())),
-            0xfb => return Err(at.unknown(proposals::of_instruction(0xfb), "an instruction is unknown")),
-            _ => return Err(at.invalid("a constant expression has another instruction")),
+            0xfb => return Err(at.unknown(proposals::of_instruction(0xfb), "an instruction is unknown").into()),
+            _ => return Err(at.invalid("a constant expression has another instruction").into()),
         })
     }
 }

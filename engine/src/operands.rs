@@ -50,6 +50,7 @@ impl Operands {
         self.types.len()
     }
 
+    #[inline(always)]
     pub fn push(&mut self, ty: Option<ValType>, place: Place) {
         let (height, mut local, mut before) = (self.len(), None, 0);
         if let Place::Local(it) = place {
@@ -72,14 +73,18 @@ impl Operands {
     }
 
     /// Where the last one lies.
+    #[inline(always)]
     pub fn place(&self) -> Place {
         self.loose.last().filter(|it| it.height + 1 == self.len()).map_or(Place::Own, |it| it.place)
     }
 
     /// The type of the last one, which is dropped.
+    #[inline(always)]
     pub fn pop(&mut self) -> Option<ValType> {
-        let ty = self.types.last().copied().flatten();
-        self.truncate(self.len().saturating_sub(1));
+        let ty = self.types.pop().flatten();
+        if let Some(it) = self.loose.pop_if(|it| it.height >= self.types.len()) {
+            self.forget(it);
+        }
         ty
     }
 
@@ -92,12 +97,17 @@ impl Operands {
     /// Those from a height on lie in their own slots.
     fn own_from(&mut self, height: usize) {
         while let Some(it) = self.loose.pop_if(|it| it.height >= height) {
-            if let Some(local) = it.local {
-                let is_lent = u32::from(it.place != Place::Own);
-                self.last[usize::from(local)] = it.before;
-                self.uses[usize::from(local)] -= is_lent;
-                self.lent -= is_lent;
-            }
+            self.forget(it);
+        }
+    }
+
+    #[inline(always)]
+    fn forget(&mut self, Loose { place, local, before, .. }: Loose) {
+        if let Some(local) = local {
+            let is_lent = u32::from(place != Place::Own);
+            self.last[usize::from(local)] = before;
+            self.uses[usize::from(local)] -= is_lent;
+            self.lent -= is_lent;
         }
     }
 
@@ -125,10 +135,16 @@ impl Operands {
         settled
     }
 
+    /// Whether some lie in a local, or in any.
+    #[inline(always)]
+    pub fn has_lent(&self, local: Option<u16>) -> bool {
+        local.map_or(self.lent, |it| self.uses[usize::from(it)]) > 0
+    }
+
     /// Those that lie in a local, or in any, get slots of their own: their heights, the greatest first, and where they lie.
     pub fn settle_locals(&mut self, local: Option<u16>) -> Vec<(usize, Place)> {
         let (mut settled, mut at) = (vec![], local.map_or(self.loose.len(), |it| self.last[usize::from(it)] + 1));
-        while local.map_or(self.lent, |it| self.uses[usize::from(it)]) > 0 {
+        while self.has_lent(local) {
             at -= 1;
             let it = &mut self.loose[at];
             if let Place::Local(lent) = it.place {

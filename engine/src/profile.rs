@@ -177,7 +177,8 @@ impl Inner {
     /// A piece of the function that runs begins.
     pub fn begin_piece(&mut self, piece: u32, at: &Activation) {
         let Self { fuel, instances, stack, recorder, .. } = self;
-        let body = &instances[at.instance].module.code[at.frame.function];
+        let module = &instances[at.instance].module;
+        let body = module.code[at.frame.function].body(module.config);
         let depth = stack.as_mut().map_or(0, |it| it.lend().frames.len());
         recorder.begin(at.frame.function, body, piece, depth, fuel.get_fuel().unwrap_or(0));
     }

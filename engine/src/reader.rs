@@ -36,35 +36,43 @@ impl fmt::Display for Refusal {
 
 impl std::error::Error for Refusal {}
 
-pub(crate) type Read<T> = Result<T, Refusal>;
+/// What was read. A refusal lies apart, so that this is small.
+pub(crate) type Read<T> = Result<T, Box<Refusal>>;
 
 /// Refuses what doesn't hold.
+#[inline(always)]
 pub(crate) fn ensure(holds: bool, refusal: Refusal) -> Read<()> {
-    if holds { Ok(()) } else { Err(refusal) }
+    if holds { Ok(()) } else { refuse(refusal) }
+}
+
+#[cold]
+#[inline(never)]
+fn refuse(refusal: Refusal) -> Read<()> {
+    Err(refusal.into())
 }
 
 /// The unread bytes of a file, or of a part of it.
 #[derive(Clone, Copy)]
 pub(crate) struct Reader<'a> {
+    /// The file up to the end of the part.
     file: &'a [u8],
     /// The place of the next byte in the file.
     pub at: usize,
-    end: usize,
     /// Whether floats are refused.
     pub is_strict: bool,
 }
 
 impl<'a> Reader<'a> {
     pub fn new(file: &'a [u8], is_strict: bool) -> Self {
-        Self { file, at: 0, end: file.len(), is_strict }
+        Self { file, at: 0, is_strict }
     }
 
     pub fn is_empty(&self) -> bool {
-        self.at == self.end
+        self.at == self.file.len()
     }
 
     pub fn len(&self) -> usize {
-        self.end - self.at
+        self.file.len() - self.at
     }
 
     pub fn malformed(&self, what: &'static str) -> Refusal {
@@ -91,15 +99,33 @@ impl<'a> Reader<'a> {
     }
 
     pub fn peek(&self) -> Option<u8> {
-        self.file[self.at..self.end].first().copied()
+        self.file.get(self.at).copied()
     }
 
+    #[inline(always)]
     pub fn byte(&mut self) -> Read<u8> {
-        Ok(self.take(1)?[0])
+        let byte = self.peek().unwrap_or_default();
+        ensure(!self.is_empty(), self.malformed("the file or the section ends too soon"))?;
+        self.at += 1;
+        Ok(byte)
     }
 
-    /// A number of so many bits in LEB128, of at most as many bytes as they need.
+    /// A number of so many bits in LEB128. Most have one byte.
+    #[inline(always)]
     fn leb128(&mut self, bits: u32, is_signed: bool) -> Read<u64> {
+        match self.peek() {
+            Some(byte) if byte < 0x80 => {
+                self.at += 1;
+                let signed = i64::from((byte << 1).cast_signed() >> 1);
+                Ok(if is_signed { signed.cast_unsigned() } else { byte.into() })
+            }
+            _ => self.long_leb128(bits, is_signed),
+        }
+    }
+
+    /// The same, of at most as many bytes as the bits need.
+    #[inline(never)]
+    fn long_leb128(&mut self, bits: u32, is_signed: bool) -> Read<u64> {
         let (mut value, mut shift) = (0, 0);
         loop {
             let begin = *self;
@@ -156,7 +182,7 @@ impl<'a> Reader<'a> {
         let len = self.u32()? as usize;
         let at = self.at;
         self.take(len)?;
-        Ok(Reader { at, end: self.at, ..*self })
+        Ok(Reader { file: &self.file[..self.at], at, ..*self })
     }
 
     pub fn bytes(&mut self) -> Read<&'a [u8]> {
@@ -166,7 +192,7 @@ impl<'a> Reader<'a> {
 
     pub fn name(&mut self) -> Read<&'a str> {
         let begin = *self;
-        str::from_utf8(self.bytes()?).or(Err(begin.malformed("a name isn't UTF-8")))
+        str::from_utf8(self.bytes()?).map_err(|_| begin.malformed("a name isn't UTF-8").into())
     }
 
     /// A vector: its length, and then its items, which have at least a byte each.
@@ -181,13 +207,13 @@ impl<'a> Reader<'a> {
         Ok(match self.byte()? {
             0x7f => ValType::I32,
             0x7e => ValType::I64,
-            0x7c | 0x7d if self.is_strict => return Err(begin.unsupported("a type is one of floats")),
+            0x7c | 0x7d if self.is_strict => return Err(begin.unsupported("a type is one of floats").into()),
             0x7d => ValType::F32,
             0x7c => ValType::F64,
             0x7b => ValType::V128,
             0x70 => ValType::FuncRef,
             0x6f => ValType::ExternRef,
-            byte => return Err(begin.unknown(proposals::of_type(byte), "a type of values is unknown")),
+            byte => return Err(begin.unknown(proposals::of_type(byte), "a type of values is unknown").into()),
         })
     }
 
@@ -196,7 +222,7 @@ impl<'a> Reader<'a> {
         match self.byte()? {
             0x70 => Ok(RefType::Func),
             0x6f => Ok(RefType::Extern),
-            byte => Err(begin.unknown(proposals::of_type(byte), "a type of references is unknown")),
+            byte => Err(begin.unknown(proposals::of_type(byte), "a type of references is unknown").into()),
         }
     }
 
@@ -206,7 +232,7 @@ impl<'a> Reader<'a> {
         ensure(form == 0x60, begin.unknown(proposals::of_type(form), "a type isn't one of functions"))?;
         let (params, results) = (self.list(Self::val_type)?, self.list(Self::val_type)?);
         let refusal = begin.unsupported("a type has more than 1,000 parameters or results");
-        FuncType::new(params, results).or(Err(refusal))
+        FuncType::new(params, results).map_err(|_| refusal.into())
     }
 
     /// Limits: their flags, the least and the greatest size. Flag 0 is for a greatest size, 2 for addresses of 64 bits.
@@ -231,7 +257,7 @@ impl<'a> Reader<'a> {
             builder.page_size_log2(self.u32()?.try_into().unwrap_or(u8::MAX));
         }
         let refusal = begin.invalid("a memory has a size beyond its addresses or an unknown size of pages");
-        builder.build().or(Err(refusal))
+        builder.build().map_err(|_| refusal.into())
     }
 
     pub fn table_type(&mut self) -> Read<TableType> {
@@ -249,7 +275,7 @@ impl<'a> Reader<'a> {
         let mutability = match self.byte()? {
             0 => Mutability::Const,
             1 => Mutability::Var,
-            _ => return Err(self.malformed("a global is neither constant nor mutable")),
+            _ => return Err(self.malformed("a global is neither constant nor mutable").into()),
         };
         Ok(GlobalType::new(content, mutability))
     }

@@ -22,8 +22,8 @@ pub enum ResumableCall<R> {
 
 /// A call that waits for fuel.
 ///
-/// It keeps the values of its frames and what it needs of its store, but no stack, so that many can wait. If it is dropped,
-/// it doesn't go on.
+/// It keeps the values of its frames and what it needs of its store, but no stack, so that many can wait. Meanwhile
+/// other calls can run in the store, in the same instance too. If it is dropped, it doesn't go on.
 pub struct OutOfFuel<R> {
     owner: Arc<Owner>,
     calls: Calls,
@@ -39,11 +39,11 @@ pub struct OutOfFuel<R> {
 type Read<R> = Box<dyn FnOnce(&[RawVal]) -> R + Send>;
 
 impl Func {
-    /// Calls it as [`Func::call`] does, but a lack of fuel is no error.
+    /// Calls it as [`Func::call`] does, but a guest's lack of fuel is no error.
     ///
     /// # Errors
     ///
-    /// If the arguments aren't of its type, and if the guest stops for another reason.
+    /// If the arguments aren't of its type, and for the reasons of [`TypedFunc::call_resumable`].
     pub fn call_resumable(
         &self,
         mut context: impl AsContextMut,
@@ -57,11 +57,14 @@ impl Func {
 }
 
 impl<P: WasmValues, R: WasmValues + 'static> TypedFunc<P, R> {
-    /// Calls it as [`TypedFunc::call`] does, but a lack of fuel is no error.
+    /// Calls it as [`TypedFunc::call`] does, but a guest's lack of fuel is no error.
     ///
     /// # Errors
     ///
-    /// If the guest stops for another reason.
+    /// If the guest stops for another reason. One of them is a function of the host that returns an error, also
+    /// [`TrapCode::OutOfFuel`], which [`Caller::charge_bytes`](crate::Caller::charge_bytes) and a call of a guest
+    /// without fuel give it: then the call is over. A function that shouldn't end it sees to the fuel itself
+    /// ([`Caller::set_fuel`](crate::Caller::set_fuel)).
     ///
     /// # Examples
     ///
@@ -131,7 +134,8 @@ fn finish<T, R>(
 /// The frames and values of calls.
 fn saved(inner: &mut Inner, calls: &Calls, base: usize, floor: usize) -> (Vec<Frame>, Vec<RawVal>) {
     let Frame { function, base: last, .. } = calls.at.frame;
-    let top = last + inner.instances[calls.at.instance].module.code[function].slots;
+    let module = &inner.instances[calls.at.instance].module;
+    let top = last + module.code[function].body(module.config).slots;
     let stack = inner.stack();
     (stack.frames[floor..].to_vec(), stack.values[base..top].to_vec())
 }
@@ -141,7 +145,7 @@ impl<R> OutOfFuel<R> {
     ///
     /// # Errors
     ///
-    /// If the guest stops for another reason.
+    /// If the guest stops for another reason, as [`TypedFunc::call_resumable`] says.
     pub fn resume(self, mut context: impl AsContextMut) -> Result<ResumableCall<R>, Error> {
         let store = context.as_context_mut().store;
         store.inner.check(&self.owner);

@@ -8,8 +8,8 @@ use crate::engine::Engine;
 use crate::error::Error;
 use crate::handle::{Dropped, Kept, Owner};
 use crate::library::{
-    ElementSegment, Fuel, FuelCostsProvider, Global, LimiterError, Memory, ResourceLimiter, ResourceLimiterRef, Table,
-    TrapCode,
+    ElementSegment, Fuel, FuelCostsProvider, Global, LimiterError, Memory, MemoryError, ResourceLimiter,
+    ResourceLimiterRef, Table, TableError, TrapCode,
 };
 use crate::limits;
 use crate::module::Module;
@@ -17,9 +17,41 @@ use crate::profile::Recorder;
 use crate::references::References;
 use crate::stack::{Stack, StackLimits};
 use crate::trace::Trace;
+use std::mem;
 use std::sync::{Arc, Weak};
 
 /// Two caps, on the bytes of all memories and on the elements of all tables of a store: what is left of each.
+///
+/// A memory or a table takes of them what it has when it is made, and what it grows by. A module's are made when it is
+/// instantiated, so caps are set before ([`Store::set_caps`]). A page of a memory has 65,536 bytes, unless its type
+/// says otherwise, and a module that clang has made has a table of one element.
+///
+/// What would exceed a cap isn't made: `memory.grow` and `table.grow` give -1 to a guest, and the host and an
+/// instantiation get the error [`TrapCode::GrowthOperationLimited`].
+///
+/// # Examples
+///
+/// ```
+/// use engine::{Caps, Engine, Linker, Module, Store, TrapCode};
+///
+/// const PAGE: usize = 65_536;
+/// let engine = Engine::default();
+/// # let wasm = engine::guests::PLAIN;
+/// let module = Module::new(&engine, wasm)?;
+/// let mut store = Store::new(&engine, ());
+/// store.set_caps(Caps { bytes: 2 * PAGE, ..Caps::default() });
+/// // The module has a memory of one page.
+/// let instance = Linker::new(&engine).instantiate(&mut store, &module)?;
+/// assert_eq!(store.caps().bytes, PAGE);
+/// let memory = instance.get_memory(&store, "memory").unwrap();
+/// memory.grow(&mut store, 1)?;
+/// let refused = memory.grow(&mut store, 1).unwrap_err();
+/// assert_eq!(refused.as_trap_code(), Some(TrapCode::GrowthOperationLimited));
+/// # Ok::<(), engine::Error>(())
+/// ```
+#[doc(alias = "StoreLimits")]
+#[doc(alias = "ResourceLimiter")]
+#[doc(alias = "limiter")]
 #[derive(Clone, Copy, Debug, PartialEq, Eq)]
 pub struct Caps {
     /// How many bytes memories may still take.
@@ -35,24 +67,48 @@ impl Default for Caps {
     }
 }
 
-impl Caps {
-    pub(crate) fn lent(&mut self) -> ResourceLimiterRef<'_> {
+/// The caps of a store, as the library asks for them. What it is allowed can still fail, by the maximum of a table, by
+/// fuel or by the system; then it doesn't count.
+#[derive(Default)]
+pub(crate) struct Limiter {
+    pub caps: Caps,
+    /// What was taken last.
+    taken: usize,
+}
+
+impl Limiter {
+    pub fn lent(&mut self) -> ResourceLimiterRef<'_> {
         (self as &mut dyn ResourceLimiter).into()
     }
 }
 
-/// Takes what is added, if that much is left.
-fn take(left: &mut usize, from: usize, to: usize) -> Result<bool, LimiterError> {
-    Ok(left.checked_sub(to - from).map(|rest| *left = rest).is_some())
+/// Takes this much, if it is left, and notes how much was taken.
+fn take(left: &mut usize, taken: &mut usize, added: usize) -> bool {
+    let rest = left.checked_sub(added);
+    *taken = rest.map_or(0, |_| added);
+    rest.map(|rest| *left = rest).is_some()
+}
+
+/// Adds to what is left. A cap may have been set to all that there is meanwhile.
+fn give(left: &mut usize, freed: usize) {
+    *left = left.saturating_add(freed);
 }
 
 #[rustfmt::skip]
-impl ResourceLimiter for Caps {
+impl ResourceLimiter for Limiter {
     fn memory_growing(&mut self, from: usize, to: usize, _most: Option<usize>) -> Result<bool, LimiterError> {
-        take(&mut self.bytes, from, to)
+        Ok(take(&mut self.caps.bytes, &mut self.taken, to - from))
     }
     fn table_growing(&mut self, from: usize, to: usize, _most: Option<usize>) -> Result<bool, LimiterError> {
-        take(&mut self.elements, from, to)
+        Ok(take(&mut self.caps.elements, &mut self.taken, to - from))
+    }
+    fn memory_grow_failed(&mut self, _error: &MemoryError) -> Result<(), LimiterError> {
+        give(&mut self.caps.bytes, mem::take(&mut self.taken));
+        Ok(())
+    }
+    fn table_grow_failed(&mut self, _error: &TableError) -> Result<(), LimiterError> {
+        give(&mut self.caps.elements, mem::take(&mut self.taken));
+        Ok(())
     }
     fn instances(&self) -> usize { usize::MAX }
     fn tables(&self) -> usize { limits::TABLES }
@@ -60,6 +116,9 @@ impl ResourceLimiter for Caps {
 }
 
 /// What a tenant has: fuel, caps, its instances with their memories and tables, and data of the host.
+///
+/// A tenant is one of those whose modules a host runs, such as a customer, a user or a plugin. A store stays usable
+/// after a call that has ended by an error.
 ///
 /// What one instance imports from another one, or is given of it, is of one store. The handles of a store's items
 /// ([`Instance`](crate::Instance), [`Memory`](crate::Memory), [`Func`](crate::Func) ..) go with that store, and their
@@ -75,7 +134,7 @@ pub struct Store<T> {
 pub(crate) struct Inner {
     pub engine: Engine,
     pub fuel: Fuel,
-    pub caps: Caps,
+    pub limiter: Limiter,
     pub instances: Arena<Entity>,
     pub items: Items,
     pub references: References,
@@ -117,12 +176,12 @@ pub(crate) struct Entity {
 }
 
 impl<T> Store<T> {
-    /// A store with data of the host. It has no fuel yet, and the caps of [`Caps::default`].
+    /// A store with data of the host. It has no fuel yet ([`Store::set_fuel`]), and the caps of [`Caps::default`].
     pub fn new(engine: &Engine, data: T) -> Store<T> {
         let inner = Inner {
             engine: engine.clone(),
             fuel: Fuel::new(engine.is_metered(), FuelCostsProvider::default()),
-            caps: Caps::default(),
+            limiter: Limiter::default(),
             instances: Arena::default(),
             items: Items::default(),
             references: References::default(),
@@ -158,26 +217,56 @@ impl<T> Store<T> {
         self.data
     }
 
-    /// The fuel that is left. An engine that doesn't [consume fuel](crate::Config::consume_fuel) has none.
+    /// The fuel that is left. A store has none at first.
+    ///
+    /// What a call has used is what was left before it, less what is left after it. A call that has ended out of fuel
+    /// leaves what didn't suffice for the next piece of code, which needn't be 0.
+    ///
+    /// # Errors
+    ///
+    /// If the engine doesn't [consume fuel](crate::Config::consume_fuel).
+    ///
+    /// # Examples
+    ///
+    /// ```
+    /// # use engine::{Config, Engine, Linker, Module, Store};
+    /// # let engine = Engine::new(Config::default().consume_fuel(true));
+    /// # let module = Module::new(&engine, engine::guests::PLAIN)?;
+    /// # let mut store = Store::new(&engine, ());
+    /// # let instance = Linker::new(&engine).instantiate(&mut store, &module)?;
+    /// let sum = instance.get_typed_func::<i32, i32>(&store, "sum")?;
+    /// store.set_fuel(1000)?;
+    /// sum.call(&mut store, 4)?;
+    /// let used = 1000 - store.get_fuel()?;
+    /// assert!(used > 0);
+    /// # Ok::<(), engine::Error>(())
+    /// ```
+    #[doc(alias = "fuel_consumed")]
     pub fn get_fuel(&self) -> Result<u64, Error> {
         StoreContext::from(self).get_fuel()
     }
 
     /// Sets the fuel that is left.
+    ///
+    /// # Errors
+    ///
+    /// If the engine doesn't [consume fuel](crate::Config::consume_fuel).
     pub fn set_fuel(&mut self, fuel: u64) -> Result<(), Error> {
         StoreContextMut::from(self).set_fuel(fuel)
     }
 
-    /// What memories and tables may still take.
+    /// What memories and tables may still take. What was dropped is freed first, for which the store is borrowed to be
+    /// changed.
     pub fn caps(&mut self) -> Caps {
         self.collect();
-        self.inner.caps
+        self.inner.limiter.caps
     }
 
-    /// Sets what memories and tables may take from now on.
+    /// Sets what memories and tables may take from now on. What they have already doesn't count.
+    #[doc(alias = "limiter")]
     pub fn set_caps(&mut self, caps: Caps) {
         self.collect();
-        self.inner.caps = caps;
+        self.inner.limiter.caps = caps;
     }
 
     /// Limits the stack of the calls that begin from now on. It has no more than [`StackLimits::default`].
@@ -213,11 +302,11 @@ impl Inner {
         match kept {
             Kept::Memory(number) => {
                 let memory = self.items.memories.remove(number);
-                self.caps.bytes += memory.map_or(0, |it| it.data_size());
+                give(&mut self.limiter.caps.bytes, memory.map_or(0, |it| it.data_size()));
             }
             Kept::Table(number) => {
                 let table = self.items.tables.remove(number);
-                self.caps.elements += table.map_or(0, |it| it.size() as usize);
+                give(&mut self.limiter.caps.elements, table.map_or(0, |it| it.size() as usize));
             }
             Kept::Global(number) => drop(self.items.globals.remove(number)),
             Kept::Instance(_) => {}

@@ -8,7 +8,8 @@ use crate::stack::Frame;
 use crate::store::{Inner, Store};
 use std::sync::Arc;
 
-/// A function that was open: its module, and its number in the module.
+/// A function that was open: its module, and its number in the module, to which [`Module::function_names`] may have a
+/// name.
 #[derive(Clone)]
 pub struct TraceFrame {
     /// The module.
@@ -53,8 +54,30 @@ impl Inner {
 }
 
 impl<T> Store<T> {
-    /// The functions that were open when the last call of the host ended early, the innermost one first, and at most 100 of
-    /// them. There are none after a call that returned.
+    /// The functions that were open when the last call of the host ended early, the innermost one first, and at most
+    /// 100 of them. There are none after a call that returned.
+    ///
+    /// # Examples
+    ///
+    /// Functions have names where the module has a section of names ([`Module::function_names`]):
+    ///
+    /// ```
+    /// # use engine::{Engine, Linker, Module, Store};
+    /// # let engine = Engine::default();
+    /// # let module = Module::new(&engine, engine::guests::PLAIN)?;
+    /// # let mut store = Store::new(&engine, ());
+    /// # let instance = Linker::new(&engine).instantiate(&mut store, &module)?;
+    /// let zero = instance.get_typed_func::<i32, i32>(&store, "zero")?;
+    /// assert!(zero.call(&mut store, 0).is_err());
+    /// for frame in store.backtrace() {
+    ///     match frame.module.function_names().get(&frame.function) {
+    ///         Some(name) => println!("in {name}"),
+    ///         None => println!("in function {}", frame.function),
+    ///     }
+    /// }
+    /// # assert_eq!(store.backtrace().len(), 1);
+    /// # Ok::<(), engine::Error>(())
+    /// ```
     pub fn backtrace(&self) -> Vec<TraceFrame> {
         let module = |inner: &Arc<module::Module>| Module { engine: self.engine().clone(), inner: inner.clone() };
         let frames = self.inner.trace.frames.iter();

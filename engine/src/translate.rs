@@ -46,6 +46,12 @@ impl Function {
 /// The first of the slots of constants while a function is translated.
 const CONSTANTS: u16 = 0x8000;
 
+/// How many constants are searched one after another.
+const FEW: usize = 32;
+
+/// In place of a jump where there is none.
+const NO_JUMP: u32 = u32::MAX;
+
 /// What a block is, with the place that a loop begins at or the test that an `if` begins with.
 #[derive(Clone, Copy)]
 enum Kind {
@@ -64,8 +70,8 @@ struct Block<'m> {
     was_dead: bool,
     /// Whether operands may be missing, since a jump came before.
     is_open: bool,
-    /// The jumps to the end.
-    exits: Vec<usize>,
+    /// The last jump to the end. Each has the one before it in `imm`, until the place of the end is known.
+    exits: u32,
 }
 
 struct Translator<'m, 'b> {
@@ -74,8 +80,10 @@ struct Translator<'m, 'b> {
     /// Where the present instruction begins.
     at: usize,
     locals: Vec<ValType>,
-    /// The number of each constant.
-    numbers: HashMap<u128, u16>,
+    /// The number of each constant, if there are many.
+    numbers: HashMap<u128, usize>,
+    /// Constants that came lately, by a part of their bits.
+    recent: [u16; 128],
     operands: &'m mut Operands,
     blocks: Vec<Block<'m>>,
     code: Vec<Op>,
@@ -99,13 +107,15 @@ pub(crate) fn function(module: &Module, number: u32, mut reader: Reader, operand
         at: reader.at,
         locals,
         numbers: HashMap::new(),
+        recent: [0; 128],
         operands,
         blocks: vec![],
-        code: vec![Op::of(Code::fuel, 1)],
+        code: Vec::with_capacity(reader.len() / 4 + 1),
         made: Function { params: usize::from(ty.len_params()), ..Function::default() },
         last: None,
         fuel: Some(0),
     };
+    it.code.push(Op::of(Code::fuel, 1));
     it.open(Kind::Block, (&[], ty.results()))?;
     while !it.blocks.is_empty() {
         it.at = it.reader.at;
@@ -156,6 +166,7 @@ impl<'m> Translator<'m, '_> {
             (op.d, op.a, op.b, op.c) = (moved(op.d), moved(op.a), moved(op.b), moved(op.c));
         }
         self.code[0].imm += price(locals + constants - params);
+        self.code.shrink_to_fit();
         let slots = (locals + constants + self.operands.most).max(results);
         Function { zeros: locals - params, slots, code: self.code, ..self.made }
     }
@@ -164,6 +175,7 @@ impl<'m> Translator<'m, '_> {
         Refusal { kind: RefusalKind::Invalid, offset: self.at, what }
     }
 
+    #[inline(always)]
     fn block(&mut self) -> &mut Block<'m> {
         self.blocks.last_mut().expect("the body has ended")
     }
@@ -173,6 +185,7 @@ impl<'m> Translator<'m, '_> {
     }
 
     /// An instruction that costs so many units of fuel.
+    #[inline(always)]
     fn emit_for(&mut self, op: Op, units: u32) {
         if !self.block().is_dead {
             self.pay(units);
@@ -181,6 +194,7 @@ impl<'m> Translator<'m, '_> {
     }
 
     /// So many units of fuel for what comes next.
+    #[inline(always)]
     fn pay(&mut self, units: u32) {
         if self.block().is_dead {
             return;
@@ -213,6 +227,7 @@ impl<'m> Translator<'m, '_> {
         (self.locals.len() + height) as u16
     }
 
+    #[inline(always)]
     fn push_at(&mut self, ty: Option<ValType>, place: Place) -> Read<u16> {
         self.operands.push(ty, place);
         self.is_bounded().map(|()| self.own(self.operands.len() - 1))
@@ -229,6 +244,7 @@ impl<'m> Translator<'m, '_> {
     }
 
     /// An operand of any type: its type, and its slot.
+    #[inline(always)]
     fn pop_any(&mut self) -> Read<(Option<ValType>, u16)> {
         let (height, is_open) = (self.block().height, self.block().is_open);
         if self.operands.len() == height {
@@ -238,6 +254,7 @@ impl<'m> Translator<'m, '_> {
         Ok((self.operands.pop(), slot))
     }
 
+    #[inline(always)]
     fn pop(&mut self, wanted: ValType) -> Read<u16> {
         let (ty, slot) = self.pop_any()?;
         ensure(ty.is_none_or(|ty| ty == wanted), self.invalid("an operand has another type")).map(|()| slot)
@@ -263,6 +280,7 @@ impl<'m> Translator<'m, '_> {
     }
 
     /// An instruction with a result.
+    #[inline(always)]
     fn result(&mut self, op: Op, ty: Option<ValType>) -> Read<()> {
         let d = self.push_at(ty, Place::Own)?;
         self.emit(Op { d, ..op });
@@ -292,15 +310,32 @@ impl<'m> Translator<'m, '_> {
 
     /// The slot of a constant.
     fn constant_slot(&mut self, bits: u128) -> Read<u16> {
-        let next = self.made.constants.len() as u16;
-        let number = *self.numbers.entry(bits).or_insert(next);
-        if number == next {
-            let refusal = self.reader.unsupported("a function has too many constants");
-            ensure(usize::from(next) < limits::CONSTANTS, refusal)?;
-            let low = bits as u64;
-            self.made.constants.push(if bits > low.into() { library::V128::from(bits).into() } else { low.into() });
+        let is_it = |it: &RawVal| library::V128::from(*it).as_u128() == bits;
+        let recent = (bits as u32).wrapping_mul(0x9e37_79b9) as usize >> 25;
+        let constants = &self.made.constants;
+        if constants.get(usize::from(self.recent[recent])).is_some_and(is_it) {
+            return Ok(self.recent[recent]);
         }
-        Ok(number)
+        let found = match self.numbers.is_empty() {
+            true => constants.iter().position(is_it),
+            false => self.numbers.get(&bits).copied(),
+        };
+        self.recent[recent] = found.map_or_else(|| self.new_constant(bits), |number| Ok(number as u16))?;
+        Ok(self.recent[recent])
+    }
+
+    /// The slot of a constant that has none yet. Of the first ones the numbers aren't kept apart.
+    fn new_constant(&mut self, bits: u128) -> Read<u16> {
+        let (low, constants) = (bits as u64, &mut self.made.constants);
+        let refusal = self.reader.unsupported("a function has too many constants");
+        ensure(constants.len() < limits::CONSTANTS, refusal)?;
+        constants.push(if bits > low.into() { library::V128::from(bits).into() } else { low.into() });
+        if constants.len() > FEW {
+            let first = if self.numbers.is_empty() { 0 } else { constants.len() - 1 };
+            let new = constants.iter().enumerate().skip(first);
+            self.numbers.extend(new.map(|(number, it)| (library::V128::from(*it).as_u128(), number)));
+        }
+        Ok(constants.len() as u16 - 1)
     }
 
     fn constant(&mut self, ty: ValType, bits: impl Into<u128>) -> Read<()> {
@@ -319,7 +354,11 @@ impl<'m> Translator<'m, '_> {
     }
 
     /// Copies the last operands to their own slots.
+    #[inline(always)]
     fn settle_last(&mut self, count: usize) {
+        if count == 0 {
+            return;
+        }
         let operands = self.operands.settle_last(count);
         self.settle(operands);
     }
@@ -338,7 +377,11 @@ impl<'m> Translator<'m, '_> {
     }
 
     /// Copies the operands that lie in a local, or in any, to their own slots. Returns whether there was one.
+    #[inline(always)]
     fn settle_locals(&mut self, local: Option<u16>) -> bool {
+        if !self.operands.has_lent(local) {
+            return false;
+        }
         let operands = self.operands.settle_locals(local);
         let any = !operands.is_empty();
         self.settle(operands);
@@ -350,7 +393,7 @@ impl<'m> Translator<'m, '_> {
     fn open(&mut self, kind: Kind, (params, results): (&'m [ValType], &'m [ValType])) -> Read<()> {
         let is_dead = self.blocks.last().is_some_and(|it| it.is_dead);
         let height = self.operands.len() - params.len();
-        let (was_dead, is_open, exits) = (is_dead, false, vec![]);
+        let (was_dead, is_open, exits) = (is_dead, false, NO_JUMP);
         self.blocks.push(Block { kind, params, results, height, is_dead, was_dead, is_open, exits });
         let refusal = self.reader.unsupported("a function has too many blocks in each other");
         ensure(self.blocks.len() <= limits::BLOCKS, refusal)
@@ -406,7 +449,7 @@ impl<'m> Translator<'m, '_> {
     fn leave(&mut self, index: usize, exit: usize) {
         match self.blocks[index].kind {
             Kind::Loop(begin) => self.code[exit].imm = begin,
-            _ => self.blocks[index].exits.push(exit),
+            _ => self.code[exit].imm = std::mem::replace(&mut self.blocks[index].exits, exit as u32),
         }
     }
 
@@ -447,7 +490,7 @@ impl<'m> Translator<'m, '_> {
 
     fn begin_else(&mut self) -> Read<()> {
         let Kind::If(test) = self.block().kind else {
-            return Err(self.reader.malformed("an else has no if"));
+            return Err(self.reader.malformed("an else has no if").into());
         };
         self.close()?;
         self.block().kind = Kind::Block;
@@ -478,7 +521,10 @@ impl<'m> Translator<'m, '_> {
                     self.code[test].imm = label;
                 }
             }
-            block.exits.iter().for_each(|exit| self.code[*exit].imm = label);
+            let mut exit = block.exits;
+            while exit != NO_JUMP {
+                exit = std::mem::replace(&mut self.code[exit as usize].imm, label);
+            }
             self.push_all(block.results)?;
         }
         Ok(())
@@ -549,11 +595,10 @@ impl<'m> Translator<'m, '_> {
     // Instructions.
 
     fn instruction(&mut self) -> Read<()> {
-        let begin = self.reader;
         let first = u32::from(self.reader.byte()?);
         let opcode = if matches!(first, 0xfc | 0xfd) { first << 12 | self.reader.u32()?.min(0xfff) } else { first };
         if let Some((code, form)) = instructions::row(opcode) {
-            return self.of_the_library(Op::new(code), form);
+            return self.of_the_library(Op::new(*code), form);
         }
         match opcode {
             0x00..=0x05 | 0x0b..=0x0f => self.control(opcode),
@@ -569,11 +614,18 @@ impl<'m> Translator<'m, '_> {
             0xfc013..=0xfc016 => self.wide(opcode),
             0xfd00c => self.reader.v128().and_then(|value| self.constant(V128, value.as_u128())),
             0xfd00d => self.shuffle(),
-            _ => match floats::meaning(opcode) {
-                Some(_) if begin.is_strict => Err(begin.unsupported("an instruction is one on floats")),
-                Some(meaning) => self.of_floats(meaning),
-                None => Err(begin.unknown(proposals::of_instruction(opcode), "an instruction is unknown")),
-            },
+            _ => self.other(opcode),
+        }
+    }
+
+    /// An instruction of floats, or an unknown one.
+    fn other(&mut self, opcode: u32) -> Read<()> {
+        let mut at = self.reader;
+        at.at = self.at;
+        match floats::meaning(opcode) {
+            Some(_) if at.is_strict => Err(at.unsupported("an instruction is one on floats").into()),
+            Some(meaning) => self.of_floats(meaning),
+            None => Err(at.unknown(proposals::of_instruction(opcode), "an instruction is unknown").into()),
         }
     }
 
@@ -583,7 +635,7 @@ impl<'m> Translator<'m, '_> {
                 let bits = self.reader.float(if ty == F32 { 4 } else { 8 })?;
                 self.constant(ty, bits)
             }
-            Meaning::Moves(code, form) => self.of_the_library(Op::new(code), form),
+            Meaning::Moves(code, form) => self.of_the_library(Op::new(code), &form),
             Meaning::Reinterprets(from, to) => {
                 self.check(&[from])?;
                 self.operands.know(&[to]);
@@ -603,7 +655,7 @@ impl<'m> Translator<'m, '_> {
                 self.push_at(Some(ty), Place::Own).map(drop)
             }
             Meaning::Computes(lane, form) => {
-                self.of_the_library(Op { lane, ..Op::of(Code::float, self.at as u32) }, form)?;
+                self.of_the_library(Op { lane, ..Op::of(Code::float, self.at as u32) }, &form)?;
                 // What follows isn't reached, but has its operands.
                 self.block().is_dead = true;
                 Ok(())
@@ -827,8 +879,8 @@ impl<'m> Translator<'m, '_> {
         self.plain(Op::of(Code::shuffle, self.made.shuffles.len() as u32 - 1), &[V128, V128], Some(V128))
     }
 
-    fn of_the_library(&mut self, op: Op, form: Form) -> Read<()> {
-        match form {
+    fn of_the_library(&mut self, op: Op, form: &Form) -> Read<()> {
+        match *form {
             Form::Plain(operands, result) => self.plain(op, operands, Some(result)),
             Form::Lane(lanes, operands, result) => {
                 let lane = self.lane(lanes)?;

@@ -307,57 +307,77 @@ fn limits_of_a_function() {
     assert!(!is_refused(16_000, &all));
 }
 
-/// The processor time that it takes to read a module, as Linux counts it; elsewhere the time of the clock.
-fn time_of(wasm: &Wasm) -> Duration {
+/// The processor time that it takes to read a module and to call its first function with little fuel, as Linux counts
+/// it; elsewhere the time of the clock.
+fn time_of(bytes: &[u8]) -> Duration {
     let now = || {
         thread::yield_now();
         let line = std::fs::read_to_string("/proc/thread-self/schedstat").ok();
         let nanoseconds = line.and_then(|it| it.split(' ').next()?.parse().ok());
         nanoseconds.map_or_else(|| std::time::UNIX_EPOCH.elapsed().unwrap(), Duration::from_nanos)
     };
-    let bytes = wasm.bytes();
     let begun = now();
-    assert!(Module::new(&ENGINE, &bytes).is_ok());
+    let module = Module::new(&ENGINE, bytes).unwrap();
+    let mut store = store(20_000);
+    let function = instance(&module, &mut store).unwrap().get_func(&store, "f").unwrap();
+    let args = vec![Val::from(0_i32); function.ty(&store).params().len()];
+    let _ = function.call(&mut store, &args);
     now() - begun
 }
 
-/// Code of about 100 KB takes at most some times as long as plain code: no instruction makes a long list again and again.
-/// In a release it is ten times; tests are built with less optimization.
-#[test]
-fn hostile_functions_are_read_in_time() {
-    let many = |code: &[u8]| code.repeat(100_000 / code.len());
+/// Hostile code of about a megabyte, each by a name. Type 1 is from 1,000 operands to as many results, and type 2 from
+/// nothing to them.
+fn hostile() -> Vec<(&'static str, Wasm)> {
+    let many = |code: &[u8]| code.repeat(1_000_000 / code.len());
     let (zeros, gets) = ([0x41, 0].repeat(1000), [0x20, 0].repeat(15_000));
-    let (drops, labels) = (|count| [0x1a].repeat(count), [&[0x0e][..], &leb(50_000), &[0; 50_001]].concat());
-    // From 1,000 operands to as many results: types 1, and from nothing 2.
+    let (drops, labels) = (|count| [0x1a].repeat(count), [&[0x0e][..], &leb(65_000), &[0; 65_001]].concat());
     let ty = |params: &[u8], results: &[u8]| [vec![0x60], sized(params), sized(results)].concat();
     let wasm = |params: &[u8], code: &[&[u8]]| {
         let wasm = Wasm::default().function(params, &[], &[], &code.concat());
         wasm.item(1, ty(&[I32; 1000], &[I32; 1000])).item(1, ty(&[], &[I32; 1000]))
     };
     let in_block = |code: &[&[u8]]| wasm(&[I32], &[&[0x02, 2], &code.concat(), &[0x0b], &drops(1000)]);
-    let each: Vec<u8> = (0..15_000).flat_map(|it| [vec![0x20], leb(it)].concat()).collect();
-    let set: Vec<u8> = (0..15_000).flat_map(|it| [vec![0x41, 0, 0x21], leb(it)].concat()).collect();
-    let plain = time_of(&wasm(&[I32, I32], &[&many(&[0x20, 0, 0x20, 1, 0x6a, 0x21, 1])]));
-    for (name, wasm) in [
+    let each = |first: &[u8], count: u64| (0..count).flat_map(|it| [first, &leb(it)].concat()).collect::<Vec<u8>>();
+    let chosen = [&zeros[..], &[0x41, 0], &labels].concat();
+    let given_back = sized(&[&[0][..], &each(&[0x20], 1000), &[0x0b]].concat());
+    vec![
         ("a local set over many operands", wasm(&[I32], &[&gets, &many(&[0x20, 0, 0x21, 0]), &drops(15_000)])),
         (
             "each local set below many operands",
-            wasm(&[I32; 0], &[]).function(&[], &[], &[(15_000, I32)], &[&each[..], &set, &drops(15_000)].concat()),
+            wasm(&[I32; 0], &[]).function(
+                &[],
+                &[],
+                &[(15_000, I32)],
+                &[each(&[0x20], 15_000), each(&[0x41, 0, 0x21], 15_000), drops(15_000)].concat(),
+            ),
         ),
         ("blocks over many operands", wasm(&[I32], &[&gets, &many(&[0x02, 0x40, 0x0b]), &drops(15_000)])),
         ("blocks with 1,000 operands", wasm(&[], &[&zeros, &many(&[0x02, 1, 0x0b]), &drops(1000)])),
         ("choices with 1,000 operands", wasm(&[], &[&zeros, &many(&[0x41, 0, 0x04, 1, 0x0b]), &drops(1000)])),
         ("jumps with 1,000 operands", in_block(&[&zeros, &many(&[0x20, 0, 0x0d, 0])])),
         ("jumps with 1,000 operands that lie in a local", in_block(&[&gets[..2000], &many(&[0x20, 0, 0x0d, 0])])),
-        (
-            "a table of labels with 1,000 operands",
-            in_block(&[&zeros, &[0x41, 0], &labels, &zeros, &[0x41, 0], &labels]),
-        ),
+        ("tables of labels with 1,000 operands", in_block(&[&chosen.repeat(15)])),
         ("jumps with 1,000 operands that aren't reached", in_block(&[&[0x00], &many(&[0x0c, 0])])),
         ("blocks with 1,000 operands that aren't reached", in_block(&[&[0x00], &many(&[0x02, 1, 0x0b])])),
-    ] {
-        let time = time_of(&wasm);
-        assert!(time < plain * 50 + Duration::from_millis(20), "{name}: {time:?}, and plain code {plain:?}");
+        (
+            "calls with 1,000 operands that aren't reached",
+            in_block(&[&[0x00], &many(&[0x10, 1])]).item(3, leb(1)).item(10, given_back),
+        ),
+    ]
+}
+
+/// Each is read, and made ready at its first call, in less than a second a megabyte, since no instruction makes a long list
+/// again and again. `--nocapture` shows the times.
+#[test]
+fn hostile_functions_are_read_in_time() {
+    let plain = [0x20, 0, 0x20, 1, 0x6a, 0x21, 1].repeat(1_000_000 / 7);
+    let plain = time_of(&Wasm::default().function(&[I32, I32], &[], &[], &plain).bytes());
+    println!("plain code: {plain:?}");
+    for (name, wasm) in hostile() {
+        let bytes = wasm.bytes();
+        let time = time_of(&bytes);
+        println!("{name}: {time:?}, {} bytes", bytes.len());
+        assert!(time < Duration::from_micros(bytes.len() as u64), "{name}: {time:?}, and plain code {plain:?}");
     }
 }
 
@@ -629,6 +649,21 @@ fn growths_in_a_loop_end_by_fuel() {
 }
 
 #[test]
+fn a_growth_that_fails_takes_nothing_of_the_caps() {
+    let caps = Caps { bytes: 1 << 20, elements: 100 };
+    // Beyond the maximum of a table.
+    let table = Wasm::default().function(&[], &[], &[], &[0xd0, FUNC, 0x41, 9, 0xfc, 15, 0, 0x1a]).table(&[1, 0, 4]);
+    let mut store = store_with(SOME, caps);
+    called(&table, &mut store, &[]).unwrap();
+    assert_eq!(store.caps(), caps);
+    // Without the fuel for a page.
+    let memory = Wasm::default().function(&[], &[], &[], &[0x41, 1, 0x40, 0, 0x1a]).memory(&[0, 0]);
+    let mut store = store_with(1000, caps);
+    assert_eq!(called(&memory, &mut store, &[]), out_of_fuel());
+    assert_eq!(store.caps(), caps);
+}
+
+#[test]
 fn bulk_instructions_in_a_loop_end_by_fuel() {
     let len = [0x41, 0x80, 0x80, 0x04]; // 65,536
     for code in [
@@ -643,16 +678,37 @@ fn bulk_instructions_in_a_loop_end_by_fuel() {
     }
 }
 
+/// The fuel that the instantiation of a module and a call of its function use.
+fn used(wasm: Wasm) -> u64 {
+    let mut store = store(SOME);
+    called(&wasm, &mut store, &[]).unwrap();
+    SOME - store.get_fuel().unwrap()
+}
+
 #[test]
 fn what_a_bulk_instruction_costs() {
-    let used = |len: u8| {
+    let bytes = |len: u8| {
         let code = [&[0x41, 0, 0x41, 7, 0x41][..], &[len | 0x80, 1], &[0xfc, 11, 0]].concat();
-        let mut store = store(SOME);
-        called(&Wasm::default().function(&[], &[], &[], &code).memory(&[0, 1]), &mut store, &[]).unwrap();
-        SOME - store.get_fuel().unwrap()
+        used(Wasm::default().function(&[], &[], &[], &code).memory(&[0, 1]))
     };
     // 128 and 192 bytes, of which 64 cost one unit.
-    assert_eq!(used(64) - used(0), 1);
+    assert_eq!(bytes(64) - bytes(0), 1);
+    let elements = |len: u8| {
+        let code = [0x41, 0, 0xd0, FUNC, 0x41, len, 0xfc, 17, 0];
+        used(Wasm::default().function(&[], &[], &[], &code).table(&[0, 63]))
+    };
+    // 252 bytes.
+    assert_eq!(elements(63) - elements(0), 3);
+    let pages = |count: u8| {
+        let code = [0x41, count, 0x40, 0, 0x1a];
+        used(Wasm::default().function(&[], &[], &[], &code).memory(&[0, 0]))
+    };
+    assert_eq!(pages(3) - pages(0), 3 * 1024);
+    let segment = |len: u8| {
+        let data = [&[0, 0x41, 0, 0x0b, len][..], &vec![7; len.into()]].concat();
+        used(Wasm::default().function(&[], &[], &[], &[]).memory(&[0, 1]).item(11, data))
+    };
+    assert_eq!([segment(63), segment(64), segment(127)].map(|it| it - segment(0)), [0, 1, 1]);
 }
 
 #[test]

@@ -1,5 +1,5 @@
 /* Runs the first script of README, and instructions on values and on an array. It is C and C++. */
-#include "wasmi_core.h"
+#include "wasmi_oracle.h"
 #include <inttypes.h>
 #include <stdio.h>
 #include <string.h>

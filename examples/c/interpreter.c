@@ -4,6 +4,7 @@
 #include "wasmi_memory.h"
 #include <inttypes.h>
 #include <stdio.h>
+#include <stdlib.h>
 
 enum { PAGE = 65536, REGION = 4 * PAGE, STACK = 32, LOCALS = 2, ELEMENTS = 4, DEPTH = 8, FUNCTIONS = 2 };
 
@@ -181,6 +182,12 @@ static const instruction division[] = {
     {CONSTANT, 7}, {CONSTANT, 0}, {BINARY, WASMI_BINARY_I32_DIV_S}, {END, 0}};
 static const instruction load_past_the_end[] = {{CONSTANT, REGION - 3}, {LOAD, WASMI_LOAD_LOAD_U32}, {END, 0}};
 
+/* Gives a guest fuel; its meter is on. */
+static void refuel(guest *guest, uint64_t fuel) {
+    if (wasmi_fuel_set(&guest->meter, fuel) != WASMI_DONE)
+        abort();
+}
+
 /* Runs a function of a guest, which may call another one, and prints how it ends and what it has then. */
 static void report(guest *guest, const char *name, const instruction *first, const instruction *second) {
     guest->functions[0] = first;
@@ -205,9 +212,9 @@ int main(void) {
         printf("guest %d: status %d\n", i, make(&guests[i], 4000));
     }
     report(&guests[0], "sum of squares", sum_of_squares, bits);
-    wasmi_fuel_set(&guests[1].meter, 10);
+    refuel(&guests[1], 10);
     report(&guests[1], "growths by 3 and by 2 without fuel", greedy, bits);
-    wasmi_fuel_set(&guests[1].meter, 4000);
+    refuel(&guests[1], 4000);
     report(&guests[1], "growths by 3 and by 2", greedy, bits);
     report(&guests[0], "growths beyond the type and the quota", greedy, bits);
     report(&guests[1], "a call", call_of_one, bits);

@@ -2,7 +2,7 @@
    a quota of ten pages. No guest and no memory is denied, and the process takes no more memory for all than for the first
    thousand. It is C and C++. */
 #define _DEFAULT_SOURCE
-#include "wasmi_memory.h"
+#include "wasmi_status.h"
 #include <inttypes.h>
 #include <stdio.h>
 #include <string.h>
@@ -37,7 +37,7 @@ static void guests(void) {
     uint64_t denied = 0;
     long first = 0;
     memset(&pool, 0, sizeof pool);
-    wasmi_pool_new(&pool, (uint64_t)LIVING * PAGE, 0);
+    denied += wasmi_pool_new(&pool, (uint64_t)LIVING * PAGE, 0) != WASMI_DONE;
     for (uint64_t guest = 0; guest < ALL; guest++) {
         if (guest >= LIVING)
             denied += wasmi_pool_remove(&pool, (size_t)(guest - LIVING)) != WASMI_DONE;
@@ -47,7 +47,7 @@ static void guests(void) {
     }
     printf("guests: %d, denied: %" PRIu64 ", %" PRIu64 " bytes are held\n", ALL, denied,
            wasmi_pool_totals(&pool).bytes.lo);
-    printf("a guest that is gone: status %d\n", wasmi_pool_remove(&pool, 0));
+    printf("a guest that is gone: %s\n", wasmi_status_name(wasmi_pool_remove(&pool, 0)));
     printf("memory since guest %d: %s\n", FIRST, peak() - first < 1024 ? "no more" : "more");
     wasmi_pool_drop(&pool);
 }
@@ -85,7 +85,7 @@ int main(void) {
 
 /* It prints:
 guests: 100000, denied: 0, 655360 bytes are held
-a guest that is gone: status 29
+a guest that is gone: NO_TENANT
 memory since guest 10000: no more
 memories: 100000, denied: 0, 655360 bytes are held
 an end: status 0

@@ -1,10 +1,13 @@
 /* A guest memory in a reserved region of address space: it is grown in place across calls, under fuel and a limit, and
    refused in each way; then under a limiter of one's own. It is C and C++. */
+#define _DEFAULT_SOURCE
 #include "wasmi_memory.h"
 #include <inttypes.h>
 #include <stdio.h>
+#include <stdlib.h>
 #include <string.h>
 #include <sys/mman.h>
+#include <unistd.h>
 
 #define PAGE ((size_t)65536)
 
@@ -19,6 +22,12 @@ static void said(const char *name, uint8_t status, uint64_t number) {
            number, memory.size / PAGE, meter.left, quota.held_bytes / PAGE);
 }
 
+/* Sets the fuel that is left; the meter is on. */
+static void refuel(uint64_t amount) {
+    if (wasmi_fuel_set(&meter, amount) != WASMI_DONE)
+        abort();
+}
+
 static void grow(const char *name, uint64_t pages) {
     uint64_t number = 0;
     uint8_t status = wasmi_memory_grow(&memory, region, reserved, pages, &meter, &quota, &number);
@@ -28,13 +37,13 @@ static void grow(const char *name, uint64_t pages) {
 static void under_fuel_and_a_limit(void) {
     grow("grow by none", 0);
     grow("grow without fuel", 1);
-    wasmi_fuel_set(&meter, 40000);
+    refuel(40000);
     grow("grow by two", 2);
     grow("grow beyond the maximum", 62);
     grow("grow beyond the cap", 38);
     grow("grow up to the cap", 37);
     quota.cap_bytes = UINT64_MAX;
-    wasmi_fuel_set(&meter, 1000000);
+    refuel(1000000);
     reserved = 60 * PAGE;
     grow("grow in a short region", 24);
     reserved = 64 * PAGE;
@@ -96,6 +105,29 @@ static void settle(const char *name, uint64_t pages) {
     printf("%-24s asked %d, told %d\n", "", answers.asked, answers.told);
 }
 
+/* Fresh pages of the system are zeros: a growth over 256 MiB of them writes nothing, so they stay with the system. */
+static void fresh_pages(void) {
+    const size_t most = 4096 * PAGE, size = (size_t)sysconf(_SC_PAGESIZE);
+    wasmi_memory large = memory;
+    size_t touched = 0;
+    uint8_t *fresh = (uint8_t *)mmap(NULL, most, PROT_READ | PROT_WRITE, MAP_PRIVATE | MAP_ANONYMOUS, -1, 0);
+    unsigned char *resident = (unsigned char *)malloc(most / size);
+    uint64_t number = 0;
+    if (fresh == MAP_FAILED || resident == NULL || madvise(fresh, most, MADV_NOHUGEPAGE) < 0)
+        return;
+    large.maximum = 4096;
+    meter.is_on = 0;
+    uint8_t status = wasmi_memory_new(&large, fresh, most, &quota);
+    if (status == WASMI_DONE)
+        status = wasmi_memory_grow_zeroed(&large, fresh, most, 4095, &meter, &quota, &number);
+    if (mincore(fresh, most, resident) == 0)
+        for (size_t i = 0; i < most / size; i++)
+            touched += resident[i] & 1;
+    printf("%-24s status %d, %zu pages, %zu of them touched\n", "256 MiB of fresh pages", status, large.size / PAGE,
+           (touched * size + PAGE - 1) / PAGE);
+    free(resident);
+}
+
 int main(void) {
     region = (uint8_t *)mmap(NULL, reserved, PROT_READ | PROT_WRITE, MAP_PRIVATE | MAP_ANONYMOUS, -1, 0);
     if (region == MAP_FAILED)
@@ -114,7 +146,7 @@ int main(void) {
     fuel();
     forged();
     memory.size = PAGE;
-    wasmi_fuel_set(&meter, 3000);
+    refuel(3000);
     settle("one page, not permitted", 1);
     settle("two pages", 2);
     settle("two pages, no fuel", 2);
@@ -122,6 +154,7 @@ int main(void) {
     uint64_t pages = 0;
     uint8_t status = wasmi_memory_size(&memory, region, reserved, &pages);
     said("size", status, pages);
+    fresh_pages();
     return 0;
 }
 
@@ -157,4 +190,5 @@ two pages, no fuel       status 37, number     0,  3 pages, fuel 952, held 64
 beyond the maximum       status 33, number     0,  3 pages, fuel 952, held 64
                          asked 0, told 0
 size                     status  0, number     3,  3 pages, fuel 952, held 64
+256 MiB of fresh pages   status 0, 4096 pages, 1 of them touched
 */

@@ -3,6 +3,7 @@
 #include "wasmi_memory.h"
 #include <inttypes.h>
 #include <stdio.h>
+#include <stdlib.h>
 #include <string.h>
 
 enum { ROOM = 12, ITEMS = 3 };
@@ -22,13 +23,19 @@ static void said(const char *name, uint8_t status) {
     number = 0;
 }
 
+/* Sets the fuel that is left; the meter is on. */
+static void refuel(uint64_t amount) {
+    if (wasmi_fuel_set(&meter, amount) != WASMI_DONE)
+        abort();
+}
+
 static uint8_t grown(uint64_t delta, size_t room) {
     return wasmi_table_grow(&table, elements, room, delta, 7, &meter, &quota, &number);
 }
 
 static void growths(void) {
     said("grow without fuel", grown(2, ROOM));
-    wasmi_fuel_set(&meter, 100);
+    refuel(100);
     said("grow by two", grown(2, ROOM));
     said("grow in a short region", grown(2, 7));
     said("grow beyond the maximum", grown(7, ROOM));
@@ -49,7 +56,7 @@ static void writes(void) {
     said("copy from another", wasmi_table_copy_from(&table, elements, ROOM, &other, others, ROOM, &init, &meter, &number));
     other.type = WASMI_TYPE_EXTERNREF;
     said("copy of another type", wasmi_table_copy_from(&table, elements, ROOM, &other, others, ROOM, &init, &meter, &number));
-    wasmi_fuel_set(&meter, 0);
+    refuel(0);
     said("fill without fuel", wasmi_table_fill(&table, elements, ROOM, &up, 9, &meter, &number));
 }
 
@@ -88,7 +95,7 @@ int main(void) {
     printf("%-24s status %d\n", "get past the end", wasmi_table_get(&table, elements, ROOM, 6, &found));
     printf("%-24s status %d, ", "get", wasmi_table_get(&table, elements, ROOM, 5, &found));
     printf("reference %" PRIu32 "\n", found);
-    wasmi_fuel_set(&meter, 10);
+    refuel(10);
     settled("settle two", 2);
     settled("settle beyond", 5);
     table.size = ROOM + 1;

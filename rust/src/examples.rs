@@ -1,4 +1,5 @@
-//! The examples of the docs of proved items, by the module and the item: `tools/rust` names each at its item.
+//! The examples of the docs of items, by the module and the item: `tools/rust` names each at its proved item, and those of `root` stand at items
+//! of this crate's own files.
 macro_rules! examples {
     (budget Pool) => {
         r#"# Examples
@@ -203,6 +204,194 @@ assert_eq!(memory::grow(ty, &mut size, &mut region, 2, &mut fuel, &mut limiter)?
 assert_eq!((size, region), (4, [0, 0, 0, 0, 9]));
 assert!(memory::grow(ty, &mut size, &mut region, 2, &mut fuel, &mut limiter).is_err());
 # Ok::<(), wasmi_core_proved::MemoryError>(())
+```
+"#
+    };
+    (root FuncType) => {
+        r#"# Examples
+
+```
+use wasmi_core_proved::{FuncType, FuncTypeError, ValType};
+
+let ty = FuncType::new([ValType::I32, ValType::I64], [ValType::V128])?;
+assert_eq!(ty.params(), [ValType::I32, ValType::I64]);
+assert_eq!(ty.len_results(), 1);
+assert_eq!(ty.clone(), ty);
+
+let long = FuncType::new([ValType::I32; 1001], []);
+assert!(matches!(long, Err(FuncTypeError::TooManyFunctionParams)));
+# Ok::<(), FuncTypeError>(())
+```
+"#
+    };
+    (root ImmLaneIdx) => {
+        r#"# Examples
+
+```
+use wasmi_core_proved::simd::{ImmLaneIdx4, i32x4_extract_lane, i32x4_splat};
+
+let lane = ImmLaneIdx4::try_from(3).ok().expect("it is below 4");
+assert_eq!(i32x4_extract_lane(i32x4_splat(7), lane), 7);
+assert!(ImmLaneIdx4::try_from(4).is_err());
+```
+"#
+    };
+    (root Memory) => {
+        r#"# Examples
+
+```
+use wasmi_core_proved::{
+    Fuel, FuelCostsProvider, Memory, MemoryError, MemoryType, ResourceLimiterRef,
+};
+
+let mut builder = MemoryType::builder();
+builder.min(1).max(Some(3));
+let mut limiter = ResourceLimiterRef::default();
+let mut memory = Memory::new(builder.build()?, &mut limiter)?;
+
+memory.write(65_532, &[1, 2, 3, 4])?;
+let mut bytes = [0; 2];
+memory.read(65_534, &mut bytes)?;
+assert_eq!(bytes, [3, 4]);
+assert!(memory.write(65_533, &bytes[..]).is_ok());
+assert!(matches!(memory.write(65_535, &bytes[..]), Err(MemoryError::OutOfBoundsAccess)));
+
+// A page costs 1,024 units of fuel at the default prices.
+let mut fuel = Fuel::new(true, FuelCostsProvider::default());
+fuel.set_fuel(1500).expect("the meter is on");
+assert_eq!(memory.grow(1, Some(&mut fuel), &mut limiter)?, 1);
+let refused = memory.grow(1, Some(&mut fuel), &mut limiter);
+assert!(matches!(refused, Err(MemoryError::OutOfFuel { required_fuel: 1024 })));
+assert_eq!(memory.size(), 2);
+# Ok::<(), MemoryError>(())
+```
+
+Bytes are filled, copied and initialized:
+
+```
+use wasmi_core_proved::{Memory, MemoryError, MemoryType, ResourceLimiterRef};
+
+let mut builder = MemoryType::builder();
+builder.min(1);
+let ty = builder.build()?;
+let mut memory = Memory::new(ty, &mut ResourceLimiterRef::default())?;
+
+memory.fill(65_530, 7, 6, None)?;
+memory.init(&[1, 2, 3, 4], 0, 1, 3, None)?;
+memory.copy_within(1, 0, 3, None)?;
+assert_eq!(memory.data()[..5], [2, 2, 3, 4, 0]);
+
+let mut other = Memory::new(ty, &mut ResourceLimiterRef::default())?;
+Memory::copy(&mut other, 0, &memory, 65_535, 1, None)?;
+assert_eq!(other.data()[..2], [7, 0]);
+
+let past = Memory::copy(&mut other, 0, &memory, 65_535, 2, None);
+assert!(matches!(past, Err(MemoryError::OutOfBoundsAccess)));
+# Ok::<(), MemoryError>(())
+```
+"#
+    };
+    (root ResourceLimiter) => {
+        r#"# Examples
+
+```
+use wasmi_core_proved::{
+    LimiterError, Memory, MemoryError, MemoryType, ResourceLimiter, ResourceLimiterRef,
+};
+
+/// Permits memories of so many bytes, and no tables.
+struct AtMost(usize);
+
+impl ResourceLimiter for AtMost {
+    fn memory_growing(
+        &mut self,
+        _current: usize,
+        desired: usize,
+        _maximum: Option<usize>,
+    ) -> Result<bool, LimiterError> {
+        Ok(desired <= self.0)
+    }
+    fn table_growing(
+        &mut self,
+        _current: usize,
+        _desired: usize,
+        _maximum: Option<usize>,
+    ) -> Result<bool, LimiterError> {
+        Ok(false)
+    }
+    fn instances(&self) -> usize {
+        1
+    }
+    fn tables(&self) -> usize {
+        0
+    }
+    fn memories(&self) -> usize {
+        1
+    }
+}
+
+let mut most = AtMost(100_000);
+let mut limiter = ResourceLimiterRef::from(&mut most as &mut dyn ResourceLimiter);
+let mut builder = MemoryType::builder();
+builder.min(1);
+let mut memory = Memory::new(builder.build()?, &mut limiter)?;
+let refused = memory.grow(1, None, &mut limiter);
+assert!(matches!(refused, Err(MemoryError::OutOfBoundsGrowth)));
+# Ok::<(), MemoryError>(())
+```
+"#
+    };
+    (root Table) => {
+        r#"# Examples
+
+```
+use wasmi_core_proved::{
+    RawRef, RefType, ResourceLimiterRef, Table, TableError, TableType, TypedRawRef,
+};
+
+let mut limiter = ResourceLimiterRef::default();
+let null = TypedRawRef::null(RefType::Func);
+let mut table = Table::new(TableType::new(RefType::Func, 2, Some(4)), null, &mut limiter)?;
+
+let third = TypedRawRef::new(RawRef::from(3), RefType::Func);
+assert_eq!(table.grow(1, third, None, &mut limiter)?, 2);
+table.copy_within(0, 1, 2, None)?;
+assert_eq!(table.get(1).map(|element| u32::from(element.raw())), Some(3));
+assert!(table.get(3).is_none());
+
+let other = TypedRawRef::null(RefType::Extern);
+assert!(matches!(table.set(0, other), Err(TableError::ElementTypeMismatch)));
+let refused = table.grow(2, null, None, &mut limiter);
+assert!(matches!(refused, Err(TableError::GrowOutOfBounds)));
+# Ok::<(), TableError>(())
+```
+"#
+    };
+    (root Trap) => {
+        r#"# Examples
+
+```
+use std::fmt;
+use wasmi_core_proved::{HostError, Trap, TrapCode};
+
+#[derive(Debug)]
+struct NoSuchFile(String);
+
+impl fmt::Display for NoSuchFile {
+    fn fmt(&self, f: &mut fmt::Formatter<'_>) -> fmt::Result {
+        write!(f, "no file {}", self.0)
+    }
+}
+impl HostError for NoSuchFile {}
+
+let trap = Trap::from(NoSuchFile("a.txt".into()));
+assert_eq!(trap.to_string(), "no file a.txt");
+assert!(trap.downcast_ref::<NoSuchFile>().is_some());
+assert_eq!(trap.trap_code(), None);
+
+let trap = Trap::from(TrapCode::IntegerDivisionByZero);
+assert_eq!(trap.trap_code(), Some(TrapCode::IntegerDivisionByZero));
+assert_eq!(Trap::i32_exit(3).i32_exit_status(), Some(3));
 ```
 "#
     };

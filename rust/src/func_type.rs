@@ -4,7 +4,7 @@ use crate::ValType;
 use crate::proved::types::{FuncType as Proved, FuncTypeError as Refusal};
 use crate::rattle::TryClone;
 use core::error::Error;
-use core::fmt::{self, Debug, Display};
+use core::fmt::{Debug, Display};
 
 /// How many parameters, or results, a function has at most.
 const MOST: usize = 1_000;
@@ -20,13 +20,12 @@ pub enum FuncTypeError {
     TooManyFunctionResults,
 }
 
-impl Display for FuncTypeError {
-    fn fmt(&self, f: &mut fmt::Formatter<'_>) -> fmt::Result {
-        match self {
-            Self::TooManyFunctionParams => Display::fmt(&Refusal::TooManyFunctionParams, f),
-            Self::TooManyFunctionResults => Display::fmt(&Refusal::TooManyFunctionResults, f),
-        }
-    }
+shown! {
+    Display for FuncTypeError: |it| match it {
+        Self::TooManyFunctionParams => Refusal::TooManyFunctionParams,
+        Self::TooManyFunctionResults => Refusal::TooManyFunctionResults,
+    };
+    Debug for FuncType: |it| it.0;
 }
 
 impl Error for FuncTypeError {}
@@ -36,20 +35,7 @@ impl Error for FuncTypeError {}
 /// Up to 21 types stand in the value itself; more are shared by its clones, so a clone takes no
 /// memory.
 ///
-/// # Examples
-///
-/// ```
-/// use wasmi_core_proved::{FuncType, FuncTypeError, ValType};
-///
-/// let ty = FuncType::new([ValType::I32, ValType::I64], [ValType::V128])?;
-/// assert_eq!(ty.params(), [ValType::I32, ValType::I64]);
-/// assert_eq!(ty.len_results(), 1);
-/// assert_eq!(ty.clone(), ty);
-///
-/// let long = FuncType::new([ValType::I32; 1001], []);
-/// assert!(matches!(long, Err(FuncTypeError::TooManyFunctionParams)));
-/// # Ok::<(), FuncTypeError>(())
-/// ```
+#[doc = examples!(root FuncType)]
 #[doc = docs!(types FuncType.contract)]
 #[derive(PartialOrd, Ord, Eq, Hash)]
 #[allow(clippy::derived_hash_with_manual_eq)]
@@ -96,19 +82,7 @@ impl FuncType {
         }
     }
 
-    methods! {
-        types FuncType:
-        #[must_use]
-        fn params(&self) -> &[ValType];
-        #[must_use]
-        fn results(&self) -> &[ValType];
-        #[must_use]
-        fn len_params(&self) -> u16;
-        #[must_use]
-        fn len_results(&self) -> u16;
-        #[must_use]
-        fn params_results(&self) -> (&[ValType], &[ValType]);
-    }
+    methods!(types FuncType: params results len_params len_results params_results);
 }
 
 /// Whether an iterator says that it has more types than a function takes.
@@ -131,11 +105,5 @@ impl Clone for FuncType {
     #[inline]
     fn clone(&self) -> Self {
         Self(self.0.try_clone().expect("a list is shared, not copied"))
-    }
-}
-
-impl Debug for FuncType {
-    fn fmt(&self, f: &mut fmt::Formatter<'_>) -> fmt::Result {
-        Debug::fmt(&self.0, f)
     }
 }

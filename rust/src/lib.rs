@@ -130,7 +130,7 @@ mod docs;
 #[macro_use]
 mod examples;
 #[macro_use]
-mod methods;
+mod forms;
 mod debug;
 mod float;
 mod func_type;

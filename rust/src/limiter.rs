@@ -2,135 +2,77 @@
 
 use crate::proved::meter::ResourceLimiter as Limits;
 use crate::{LimiterError, MemoryError, TableError};
-use core::fmt;
+use core::fmt::Debug;
 
-/// Decides which memories and tables may be made and may grow. A creation asks with a current size of
-/// 0.
-///
-/// # What the answers mean
-///
-/// To a question `Ok(true)` permits, and nothing else does. After `Ok(false)` a creation returns
-/// `ResourceLimiterDeniedAllocation`, and a growth returns [`MemoryError::OutOfBoundsGrowth`] or
-/// [`TableError::GrowOutOfBounds`]. After `Err` both return `ResourceLimiterDeniedAllocation`. In
-/// these cases nothing has changed and no notice follows.
-///
-/// A notice follows a permission if the creation or growth then fails. After `Ok(())` the call
-/// returns the error that the notice named. After `Err` it returns
-/// `ResourceLimiterDeniedAllocation` instead.
-///
-/// # In contracts
-///
-/// A clause speaks of a limiter by its [`rules`](crate::machine::ResourceLimiter#contract): which
-/// answers it may give in each of its states, and which state it has afterwards. Nothing was proved
-/// of a limiter that is written in Rust, so read them as "whatever it does". What a call does with
-/// the answers holds of each limiter that returns; after a panic of one, nothing is promised.
-///
-/// # Examples
-///
-/// ```
-/// use wasmi_core_proved::{
-///     LimiterError, Memory, MemoryError, MemoryType, ResourceLimiter, ResourceLimiterRef,
-/// };
-///
-/// /// Permits memories of so many bytes, and no tables.
-/// struct AtMost(usize);
-///
-/// impl ResourceLimiter for AtMost {
-///     fn memory_growing(
-///         &mut self,
-///         _current: usize,
-///         desired: usize,
-///         _maximum: Option<usize>,
-///     ) -> Result<bool, LimiterError> {
-///         Ok(desired <= self.0)
-///     }
-///     fn table_growing(
-///         &mut self,
-///         _current: usize,
-///         _desired: usize,
-///         _maximum: Option<usize>,
-///     ) -> Result<bool, LimiterError> {
-///         Ok(false)
-///     }
-///     fn instances(&self) -> usize {
-///         1
-///     }
-///     fn tables(&self) -> usize {
-///         0
-///     }
-///     fn memories(&self) -> usize {
-///         1
-///     }
-/// }
-///
-/// let mut most = AtMost(100_000);
-/// let mut limiter = ResourceLimiterRef::from(&mut most as &mut dyn ResourceLimiter);
-/// let mut builder = MemoryType::builder();
-/// builder.min(1);
-/// let mut memory = Memory::new(builder.build()?, &mut limiter)?;
-/// let refused = memory.grow(1, None, &mut limiter);
-/// assert!(matches!(refused, Err(MemoryError::OutOfBoundsGrowth)));
-/// # Ok::<(), MemoryError>(())
-/// ```
-pub trait ResourceLimiter {
-    /// May a memory grow from `current` to `desired` bytes? `maximum`, in bytes, is the most that
-    /// its type allows. `Ok(true)` permits; `Ok(false)` and `Err` deny.
-    ///
-    /// `current` isn't above `desired`.
-    ///
-    /// # Errors
-    ///
-    /// An implementation's own. The call then returns `ResourceLimiterDeniedAllocation`.
-    fn memory_growing(
-        &mut self,
-        current: usize,
-        desired: usize,
-        maximum: Option<usize>,
-    ) -> Result<bool, LimiterError>;
+// A limiter's questions, notices and numbers: as members of the trait, and passed on by `Dyn`.
+macro_rules! limits {
+    ($(#[$docs:meta])* [$($asked:ident $asks:expr;)*] [$($told:ident $error:ident $tells:expr;)*] [$($number:ident $of:literal;)*]) => {
+        $(#[$docs])*
+        pub trait ResourceLimiter {
+            $(
+                #[doc = $asks]
+                fn $asked(&mut self, current: usize, desired: usize, maximum: Option<usize>) -> Result<bool, LimiterError>;
+            )*
+            $(
+                #[doc = $tells]
+                #[allow(unused_variables)]
+                fn $told(&mut self, error: &$error) -> Result<(), LimiterError> {
+                    Ok(())
+                }
+            )*
+            $(
+                #[doc = concat!("The greatest number of ", $of, " of a store. Nothing in this library calls it.")]
+                fn $number(&self) -> usize;
+            )*
+        }
 
-    /// May a table grow from `current` to `desired` elements? `maximum` is the most that its type
-    /// allows. `Ok(true)` permits; `Ok(false)` and `Err` deny.
-    ///
-    /// `current` isn't above `desired`.
-    ///
-    /// # Errors
-    ///
-    /// An implementation's own. The call then returns `ResourceLimiterDeniedAllocation`.
-    fn table_growing(
-        &mut self,
-        current: usize,
-        desired: usize,
-        maximum: Option<usize>,
-    ) -> Result<bool, LimiterError>;
+        impl Limits for Dyn<'_> {
+            $(fn $asked(&mut self, current: usize, desired: usize, maximum: Option<usize>) -> Result<bool, LimiterError> {
+                self.0.$asked(current, desired, maximum)
+            })*
+            $(fn $told(&mut self, error: &$error) -> Result<(), LimiterError> {
+                self.0.$told(error)
+            })*
+            $(fn $number(&self) -> usize {
+                self.0.$number()
+            })*
+        }
+    };
+}
 
-    /// A memory was permitted to grow and did not, because of this error. After `Ok(())`, which it
-    /// returns unless an implementation has another body, the call returns this error.
+limits! {
+    /// Decides which memories and tables may be made and may grow. A creation asks with a current size of
+    /// 0.
     ///
-    /// # Errors
+    /// # What the answers mean
     ///
-    /// An implementation's own. The call then returns `ResourceLimiterDeniedAllocation`.
-    fn memory_grow_failed(&mut self, _error: &MemoryError) -> Result<(), LimiterError> {
-        Ok(())
-    }
-
-    /// A table was permitted to grow and did not, because of this error. After `Ok(())`, which it
-    /// returns unless an implementation has another body, the call returns this error.
+    /// To a question `Ok(true)` permits, and nothing else does. After `Ok(false)` a creation returns
+    /// `ResourceLimiterDeniedAllocation`, and a growth returns [`MemoryError::OutOfBoundsGrowth`] or
+    /// [`TableError::GrowOutOfBounds`]. After `Err` both return `ResourceLimiterDeniedAllocation`. In
+    /// these cases nothing has changed and no notice follows.
     ///
-    /// # Errors
+    /// A notice follows a permission if the creation or growth then fails. After `Ok(())` the call
+    /// returns the error that the notice named. After `Err` it returns
+    /// `ResourceLimiterDeniedAllocation` instead. Unless an implementation has another body, a notice
+    /// returns `Ok(())`.
     ///
-    /// An implementation's own. The call then returns `ResourceLimiterDeniedAllocation`.
-    fn table_grow_failed(&mut self, _error: &TableError) -> Result<(), LimiterError> {
-        Ok(())
-    }
-
-    /// The greatest number of instances of a store. Nothing in this library calls it.
-    fn instances(&self) -> usize;
-
-    /// The greatest number of tables of a store. Nothing in this library calls it.
-    fn tables(&self) -> usize;
-
-    /// The greatest number of linear memories of a store. Nothing in this library calls it.
-    fn memories(&self) -> usize;
+    /// # In contracts
+    ///
+    /// A clause speaks of a limiter by its [`rules`](crate::machine::ResourceLimiter#contract): which
+    /// answers it may give in each of its states, and which state it has afterwards. Nothing was proved
+    /// of a limiter that is written in Rust, so read them as "whatever it does". What a call does with
+    /// the answers holds of each limiter that returns; after a panic of one, nothing is promised.
+    ///
+    #[doc = examples!(root ResourceLimiter)]
+    [
+        memory_growing docs!(meter ResourceLimiter.memory_growing);
+        table_growing docs!(meter ResourceLimiter.table_growing);
+    ]
+    [
+        memory_grow_failed MemoryError docs!(meter ResourceLimiter.memory_grow_failed);
+        table_grow_failed TableError docs!(meter ResourceLimiter.table_grow_failed);
+    ]
+    [instances "instances"; tables "tables"; memories "linear memories";]
 }
 
 /// A borrowed limiter, or none, which permits all that the types allow.
@@ -139,10 +81,8 @@ pub trait ResourceLimiter {
 #[derive(Default)]
 pub struct ResourceLimiterRef<'a>(Option<&'a mut dyn ResourceLimiter>);
 
-impl fmt::Debug for ResourceLimiterRef<'_> {
-    fn fmt(&self, f: &mut fmt::Formatter<'_>) -> fmt::Result {
-        f.write_str("ResourceLimiterRef(...)")
-    }
+shown! {
+    Debug for ResourceLimiterRef<'_>: |_it| format_args!("ResourceLimiterRef(...)");
 }
 
 impl<'a> From<&'a mut dyn ResourceLimiter> for ResourceLimiterRef<'a> {
@@ -164,56 +104,21 @@ impl ResourceLimiterRef<'_> {
 /// A limiter behind a pointer, which the proved functions take as one of a known size.
 pub(crate) struct Dyn<'a>(pub(crate) &'a mut dyn ResourceLimiter);
 
-impl Limits for Dyn<'_> {
-    fn memory_growing(
-        &mut self,
-        current: usize,
-        desired: usize,
-        maximum: Option<usize>,
-    ) -> Result<bool, LimiterError> {
-        self.0.memory_growing(current, desired, maximum)
-    }
-    fn table_growing(
-        &mut self,
-        current: usize,
-        desired: usize,
-        maximum: Option<usize>,
-    ) -> Result<bool, LimiterError> {
-        self.0.table_growing(current, desired, maximum)
-    }
-    fn memory_grow_failed(&mut self, error: &MemoryError) -> Result<(), LimiterError> {
-        self.0.memory_grow_failed(error)
-    }
-    fn table_grow_failed(&mut self, error: &TableError) -> Result<(), LimiterError> {
-        self.0.table_grow_failed(error)
-    }
-    fn instances(&self) -> usize {
-        self.0.instances()
-    }
-    fn tables(&self) -> usize {
-        self.0.tables()
-    }
-    fn memories(&self) -> usize {
-        self.0.memories()
-    }
-}
-
 /// A call of a proved function with the limiter that is lent, or with none.
 macro_rules! with {
-    ($limiter:ident => $call:expr) => {
+    ($limiter:ident => $call:expr) => {{
+        use crate::proved::meter::{NoLimits, ResourceLimiterRef as Lent};
         match $limiter.as_resource_limiter() {
             Some(limiter) => {
                 let mut limiter = crate::limiter::Dyn(limiter);
-                let $limiter = &mut crate::proved::meter::ResourceLimiterRef::from(&mut limiter);
+                let $limiter = &mut Lent::from(&mut limiter);
                 $call
             }
             None => {
-                let $limiter = &mut crate::proved::meter::ResourceLimiterRef::<
-                    crate::proved::meter::NoLimits,
-                >::default();
+                let $limiter = &mut Lent::<NoLimits>::default();
                 $call
             }
         }
-    };
+    }};
 }
 pub(crate) use with;

@@ -21,15 +21,14 @@ pub use list::Vec;
 
 pub mod alloc {
     //! Allocators and what they refuse.
+    use core::fmt::Display;
 
     /// Memory was refused.
     #[derive(Clone, Copy, Debug, PartialEq, Eq)]
     pub struct AllocError;
 
-    impl core::fmt::Display for AllocError {
-        fn fmt(&self, f: &mut core::fmt::Formatter<'_>) -> core::fmt::Result {
-            f.write_str("out of memory")
-        }
+    shown! {
+        Display for AllocError: |_it| "out of memory";
     }
 
     impl core::error::Error for AllocError {}

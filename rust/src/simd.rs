@@ -30,41 +30,9 @@ instructions!(lanewise simd);
 instructions!(vector_access simd);
 instructions!(widening simd);
 
-// Lanes of floats as bits.
+// Signs of lanes of floats.
 macro_rules! floats {
-    ($($float:ty, $index:ty: $splat:ident $extract:ident $replace:ident $abs:ident $neg:ident
-        by $splat_bits:ident $extract_bits:ident $replace_bits:ident $signed:ty,
-        called $splat_name:literal $extract_name:literal $replace_name:literal $abs_name:literal $neg_name:literal;)*) => { $(
-        /// The float in each lane.
-        ///
-        #[doc = concat!("Its bits are as in [`", stringify!($splat_bits), "`], which is proved; that floats become bits and back isn't.")]
-        #[doc(alias = $splat_name)]
-        #[must_use]
-        #[inline]
-        pub fn $splat(value: $float) -> V128 {
-            $splat_bits(value.to_bits().cast_signed())
-        }
-
-        /// The float of a lane.
-        ///
-        #[doc = concat!("Its bits are as in [`", stringify!($extract_bits), "`], which is proved; that floats become bits and back isn't.")]
-        #[doc(alias = $extract_name)]
-        #[must_use]
-        #[inline]
-        pub fn $extract(v128: V128, lane: $index) -> $float {
-            <$float>::from_bits($extract_bits(v128, lane).cast_unsigned())
-        }
-
-        /// The vector with a float in a lane.
-        ///
-        #[doc = concat!("Its bits are as in [`", stringify!($replace_bits), "`], which is proved; that floats become bits and back isn't.")]
-        #[doc(alias = $replace_name)]
-        #[must_use]
-        #[inline]
-        pub fn $replace(v128: V128, lane: $index, item: $float) -> V128 {
-            $replace_bits(v128, lane, item.to_bits().cast_signed())
-        }
-
+    ($($abs:ident $neg:ident by $splat:ident $signed:ty, called $abs_name:literal $neg_name:literal;)*) => { $(
         /// The lanes without their signs.
         ///
         /// It is [`v128_and`] with a mask of the signs, and no contract speaks of floats.
@@ -72,7 +40,7 @@ macro_rules! floats {
         #[must_use]
         #[inline]
         pub fn $abs(v128: V128) -> V128 {
-            v128_and(v128, $splat_bits(<$signed>::MAX))
+            v128_and(v128, $splat(<$signed>::MAX))
         }
 
         /// The lanes with the other signs.
@@ -82,17 +50,13 @@ macro_rules! floats {
         #[must_use]
         #[inline]
         pub fn $neg(v128: V128) -> V128 {
-            v128_xor(v128, $splat_bits(<$signed>::MIN))
+            v128_xor(v128, $splat(<$signed>::MIN))
         }
     )* };
 }
 floats! {
-    f32, ImmLaneIdx4: f32x4_splat f32x4_extract_lane f32x4_replace_lane f32x4_abs f32x4_neg
-        by i32x4_splat i32x4_extract_lane i32x4_replace_lane i32,
-        called "f32x4.splat" "f32x4.extract_lane" "f32x4.replace_lane" "f32x4.abs" "f32x4.neg";
-    f64, ImmLaneIdx2: f64x2_splat f64x2_extract_lane f64x2_replace_lane f64x2_abs f64x2_neg
-        by i64x2_splat i64x2_extract_lane i64x2_replace_lane i64,
-        called "f64x2.splat" "f64x2.extract_lane" "f64x2.replace_lane" "f64x2.abs" "f64x2.neg";
+    f32x4_abs f32x4_neg by i32x4_splat i32, called "f32x4.abs" "f32x4.neg";
+    f64x2_abs f64x2_neg by i64x2_splat i64, called "f64x2.abs" "f64x2.neg";
 }
 
 // Indices of lanes are counted by a `u8`: the proved ones are counted by a `usize`, as arrays are.
@@ -102,15 +66,7 @@ floats! {
 /// `N` is 2, 4, 8, 16 or 32 in the instructions of [`simd`](crate::simd). Another `N` above 0 is cut
 /// to a power of two, as in the crate `wasmi_core`. Contracts see the number.
 ///
-/// # Examples
-///
-/// ```
-/// use wasmi_core_proved::simd::{ImmLaneIdx4, i32x4_extract_lane, i32x4_splat};
-///
-/// let lane = ImmLaneIdx4::try_from(3).ok().expect("it is below 4");
-/// assert_eq!(i32x4_extract_lane(i32x4_splat(7), lane), 7);
-/// assert!(ImmLaneIdx4::try_from(4).is_err());
-/// ```
+#[doc = examples!(root ImmLaneIdx)]
 #[derive(Debug, Copy, Clone, PartialEq, Eq)]
 pub struct ImmLaneIdx<const N: u8>(u8);
 

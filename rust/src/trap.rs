@@ -5,7 +5,7 @@ use crate::proved::types::{HostError as Plain, Trap as Proved};
 use alloc::boxed::Box;
 use alloc::string::String;
 use core::any::Any;
-use core::fmt::{self, Debug, Display};
+use core::fmt::{Debug, Display};
 
 /// An error of the host, which a [`Trap`] can carry and give back by its type.
 ///
@@ -51,48 +51,12 @@ impl dyn HostError {
 /// The error in a trap.
 struct Host(Box<dyn HostError>);
 
-impl Debug for Host {
-    fn fmt(&self, f: &mut fmt::Formatter<'_>) -> fmt::Result {
-        Debug::fmt(&self.0, f)
-    }
-}
-
-impl Display for Host {
-    fn fmt(&self, f: &mut fmt::Formatter<'_>) -> fmt::Result {
-        Display::fmt(&self.0, f)
-    }
-}
-
 impl Plain for Host {}
 
 /// Why a call of WebAssembly code or of the host ended early: a [`TrapCode`], an exit with a status, a
 /// message, or a [`HostError`].
 ///
-/// # Examples
-///
-/// ```
-/// use std::fmt;
-/// use wasmi_core_proved::{HostError, Trap, TrapCode};
-///
-/// #[derive(Debug)]
-/// struct NoSuchFile(String);
-///
-/// impl fmt::Display for NoSuchFile {
-///     fn fmt(&self, f: &mut fmt::Formatter<'_>) -> fmt::Result {
-///         write!(f, "no file {}", self.0)
-///     }
-/// }
-/// impl HostError for NoSuchFile {}
-///
-/// let trap = Trap::from(NoSuchFile("a.txt".into()));
-/// assert_eq!(trap.to_string(), "no file a.txt");
-/// assert!(trap.downcast_ref::<NoSuchFile>().is_some());
-/// assert_eq!(trap.trap_code(), None);
-///
-/// let trap = Trap::from(TrapCode::IntegerDivisionByZero);
-/// assert_eq!(trap.trap_code(), Some(TrapCode::IntegerDivisionByZero));
-/// assert_eq!(Trap::i32_exit(3).i32_exit_status(), Some(3));
-/// ```
+#[doc = examples!(root Trap)]
 #[doc = docs!(types Trap.contract)]
 pub struct Trap(Box<Proved<Host>>);
 
@@ -161,13 +125,7 @@ impl Trap {
         Self(Box::new(Proved::i32_exit(status)))
     }
 
-    methods! {
-        types Trap:
-        #[must_use]
-        fn i32_exit_status(&self) -> Option<i32>;
-        #[must_use]
-        fn trap_code(&self) -> Option<TrapCode>;
-    }
+    methods!(types Trap: i32_exit_status trap_code);
 }
 
 impl From<TrapCode> for Trap {
@@ -188,16 +146,11 @@ where
     }
 }
 
-impl Debug for Trap {
-    fn fmt(&self, f: &mut fmt::Formatter<'_>) -> fmt::Result {
-        Debug::fmt(&self.0, f)
-    }
-}
-
-impl Display for Trap {
-    fn fmt(&self, f: &mut fmt::Formatter<'_>) -> fmt::Result {
-        Display::fmt(&self.0, f)
-    }
+shown! {
+    Debug for Host: |it| it.0;
+    Display for Host: |it| it.0;
+    Debug for Trap: |it| it.0;
+    Display for Trap: |it| it.0;
 }
 
 #[cfg(feature = "std")]

@@ -35,43 +35,29 @@ pub trait WriteAs<T> {
     fn write_as(&mut self, value: T);
 }
 
-macro_rules! read {
-    ($($ty:ty),*) => { $(
-        impl ReadAs<$ty> for RawVal {
+macro_rules! write {
+    ($($ty:ty),*) => { $(impl WriteAs<$ty> for RawVal {
+        #[inline]
+        fn write_as(&mut self, value: $ty) {
+            Write::write_as(self, value);
+        }
+    })* };
+}
+macro_rules! read_and_write {
+    ($($ty:ty),*) => {
+        $(impl ReadAs<$ty> for RawVal {
             #[inline]
             fn read_as(&self) -> $ty {
                 Read::read_as(self)
             }
-        }
-    )* };
+        })*
+        write!($($ty),*);
+    };
 }
-read!(i8, i16, i32, i64, u8, u16, u32, u64, bool, RawVal, RawRef);
+read_and_write! { i8, i16, i32, i64, u8, u16, u32, u64, bool, RawVal, RawRef }
 #[cfg(feature = "simd")]
-read!(V128);
-
-macro_rules! write {
-    ($($ty:ty),*) => { $(
-        impl WriteAs<$ty> for RawVal {
-            #[inline]
-            fn write_as(&mut self, value: $ty) {
-                Write::write_as(self, value);
-            }
-        }
-    )* };
-}
-write!(i8, i16, i32, i64, u8, u16, u32, u64, bool, RawVal, RawRef);
-write!(
-    NonZero<i8>,
-    NonZero<i16>,
-    NonZero<i32>,
-    NonZero<i64>,
-    NonZero<u8>,
-    NonZero<u16>,
-    NonZero<u32>,
-    NonZero<u64>
-);
-#[cfg(feature = "simd")]
-write!(V128);
+read_and_write! { V128 }
+write! { NonZero<i8>, NonZero<i16>, NonZero<i32>, NonZero<i64>, NonZero<u8>, NonZero<u16>, NonZero<u32>, NonZero<u64> }
 
 /// A number whose bits are shifted, or a vector the bits of whose lanes are, by a [`ShiftAmount`].
 pub trait IntoShiftAmount {
@@ -100,9 +86,7 @@ macro_rules! amounts {
         }
     )* };
 }
-amounts!(
-    i8, u8, i16, u16, i32, u32, i64, u64, i128, u128, [u8; 16], [u16; 8], [u32; 4], [u64; 2]
-);
+amounts! { i8, u8, i16, u16, i32, u32, i64, u64, i128, u128, [u8; 16], [u16; 8], [u32; 4], [u64; 2] }
 
 impl From<FuelError> for TableError {
     /// [`TableError::OutOfFuel`] with the same amount.
@@ -148,33 +132,19 @@ impl Global {
 }
 
 macro_rules! printed {
-    ($($ty:ident |$it:ident| $($name:literal: $value:expr),*;)*) => { $(impl Debug for $ty {
+    ($($ty:ident |$it:ident| $form:ident $(($($field:tt)*))*;)*) => { $(impl Debug for $ty {
         fn fmt(&self, f: &mut Formatter<'_>) -> Result {
             let $it = self;
-            f.debug_struct(stringify!($ty))$(.field($name, &$value))*.finish()
+            f.$form(stringify!($ty))$(.field($($field)*))*.finish()
         }
     })* };
 }
 printed! {
-    RawVal |it| "lo64": it.lo, "hi64": it.hi;
-    TypedRawVal |it| "ty": it.ty, "value": it.raw;
-    FuelCostsProvider |it| "bytes_copied_per_fuel": it.costs().bytes_copied_per_fuel,
-        "fuel_per_bytes_translated": it.costs().fuel_per_bytes_translated,
-        "fuel_per_bytes_validated": it.costs().fuel_per_bytes_validated;
-}
-
-impl Debug for V128 {
-    fn fmt(&self, f: &mut Formatter<'_>) -> Result {
-        f.debug_tuple("V128")
-            .field(&self.as_u128().to_le_bytes())
-            .finish()
-    }
-}
-
-impl Debug for ShiftAmount {
-    fn fmt(&self, f: &mut Formatter<'_>) -> Result {
-        f.debug_tuple("ShiftAmount")
-            .field(&u8::from(*self))
-            .finish()
-    }
+    RawVal |it| debug_struct ("lo64", &it.lo) ("hi64", &it.hi);
+    TypedRawVal |it| debug_struct ("ty", &it.ty) ("value", &it.raw);
+    FuelCostsProvider |it| debug_struct ("bytes_copied_per_fuel", &it.costs().bytes_copied_per_fuel)
+        ("fuel_per_bytes_translated", &it.costs().fuel_per_bytes_translated)
+        ("fuel_per_bytes_validated", &it.costs().fuel_per_bytes_validated);
+    V128 |it| debug_tuple (&it.as_u128().to_le_bytes());
+    ShiftAmount |it| debug_tuple (&u8::from(*it));
 }

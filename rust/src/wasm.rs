@@ -25,55 +25,10 @@ use crate::TrapCode;
 instructions!(accesses wasm);
 instructions!(scalar wasm);
 
-// Floats as bits: loads, stores, and what the specification does to bits alone.
+// What the specification does to the bits of floats alone.
 macro_rules! floats {
-    ($($float:ty, $signed:ty: $load:ident $load_at:ident $store:ident $store_at:ident by $load_bits:ident $load_bits_at:ident $store_bits:ident $store_bits_at:ident,
-        $abs:ident $neg:ident $copysign:ident $to:ident $from:ident by $and:ident $or:ident $xor:ident,
-        called $load_name:literal $store_name:literal $abs_name:literal $neg_name:literal $copysign_name:literal $to_name:literal $from_name:literal;)*) => { $(
-        #[doc = concat!("Loads a float: the bits are those of [`", stringify!($load_bits), "`], which is proved.")]
-        ///
-        /// # Errors
-        ///
-        /// [`MemoryOutOfBounds`](TrapCode::MemoryOutOfBounds) if the bytes end past the memory.
-        #[doc(alias = $load_name)]
-        #[inline]
-        pub fn $load(memory: &[u8], ptr: u64, offset: u64) -> Result<$float, TrapCode> {
-            $load_bits(memory, ptr, offset).map(<$float>::from_bits)
-        }
-
-        #[doc = concat!("Loads a float at an address: the bits are those of [`", stringify!($load_bits_at), "`], which is proved.")]
-        ///
-        /// # Errors
-        ///
-        /// [`MemoryOutOfBounds`](TrapCode::MemoryOutOfBounds) if the bytes end past the memory.
-        #[inline]
-        pub fn $load_at(memory: &[u8], address: usize) -> Result<$float, TrapCode> {
-            $load_bits_at(memory, address).map(<$float>::from_bits)
-        }
-
-        #[doc = concat!("Stores a float: the bits are stored by [`", stringify!($store_bits), "`], which is proved.")]
-        ///
-        /// # Errors
-        ///
-        /// [`MemoryOutOfBounds`](TrapCode::MemoryOutOfBounds) if the bytes would end past the memory; then nothing is
-        /// written.
-        #[doc(alias = $store_name)]
-        #[inline]
-        pub fn $store(memory: &mut [u8], ptr: u64, offset: u64, value: $float) -> Result<(), TrapCode> {
-            $store_bits(memory, ptr, offset, value.to_bits())
-        }
-
-        #[doc = concat!("Stores a float at an address: the bits are stored by [`", stringify!($store_bits_at), "`], which is proved.")]
-        ///
-        /// # Errors
-        ///
-        /// [`MemoryOutOfBounds`](TrapCode::MemoryOutOfBounds) if the bytes would end past the memory; then nothing is
-        /// written.
-        #[inline]
-        pub fn $store_at(memory: &mut [u8], address: usize, value: $float) -> Result<(), TrapCode> {
-            $store_bits_at(memory, address, value.to_bits())
-        }
-
+    ($($float:ty, $signed:ty: $abs:ident $neg:ident $copysign:ident $to:ident $from:ident by $and:ident $or:ident $xor:ident,
+        called $abs_name:literal $neg_name:literal $copysign_name:literal $to_name:literal $from_name:literal;)*) => { $(
         /// The float without its sign, by its bits; no contract speaks of floats.
         #[doc(alias = $abs_name)]
         #[must_use]
@@ -116,10 +71,8 @@ macro_rules! floats {
     )* };
 }
 floats! {
-    f32, i32: load_f32 load_f32_at store_f32 store_f32_at by load_u32 load_u32_at store32 store32_at,
-        f32_abs f32_neg f32_copysign i32_reinterpret_f32 f32_reinterpret_i32 by i32_bitand i32_bitor i32_bitxor,
-        called "f32.load" "f32.store" "f32.abs" "f32.neg" "f32.copysign" "i32.reinterpret_f32" "f32.reinterpret_i32";
-    f64, i64: load_f64 load_f64_at store_f64 store_f64_at by load_u64 load_u64_at store64 store64_at,
-        f64_abs f64_neg f64_copysign i64_reinterpret_f64 f64_reinterpret_i64 by i64_bitand i64_bitor i64_bitxor,
-        called "f64.load" "f64.store" "f64.abs" "f64.neg" "f64.copysign" "i64.reinterpret_f64" "f64.reinterpret_i64";
+    f32, i32: f32_abs f32_neg f32_copysign i32_reinterpret_f32 f32_reinterpret_i32 by i32_bitand i32_bitor i32_bitxor,
+        called "f32.abs" "f32.neg" "f32.copysign" "i32.reinterpret_f32" "f32.reinterpret_i32";
+    f64, i64: f64_abs f64_neg f64_copysign i64_reinterpret_f64 f64_reinterpret_i64 by i64_bitand i64_bitor i64_bitxor,
+        called "f64.abs" "f64.neg" "f64.copysign" "i64.reinterpret_f64" "f64.reinterpret_i64";
 }

@@ -164,6 +164,9 @@ fn segments_and_function_types() {
     refuses_each(|steps| {
         steps.step(|| machine::ElementSegment::new(RefType::Func, items.clone()));
         steps.step(|| ElementSegment::new(RefType::Func, items.clone()).size());
+        // As many items, of which the iterator doesn't say how many they are.
+        let kept = items.clone().filter(|_| true);
+        steps.step(|| ElementSegment::new(RefType::Func, kept).size());
         let types = |count| std::iter::repeat_n(ValType::I64, count);
         steps.step(|| FuncType::new(types(11), types(10)).map(|ty| ty.clone().len_params()));
     });

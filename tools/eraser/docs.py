@@ -6,15 +6,18 @@ import re
 import urllib.parse
 
 from .source import Unknown
-from .tables import module_of, standard_name
+from .tables import ERRORS, METHOD_NAMES, ON_FLOATS, module_of, standard_name
 
 NAME = r"[^\s(){}\[\].,;:=λ→\"|]+"
 WORD = re.compile(rf"(\w+\.)?({NAME})")
 USE = re.compile(r"(?:ghost |pub )?use Rattle\.(\w+)\.specs\.?([\w.]*?)(?:\.?\{(.*)\}|\s+as\s+(\w+))?;?", re.S)
 DECLARED = re.compile(rf"^(?: *(?:(?:abbrev|unfoldable|opaque|pub|record|data) )+| +(?=[A-Z]\w* : ))({NAME})(?= |$)", re.M)
 NAMED = re.compile(r"docs!\((\w+) ([\w.]+)\)")
-# The rows of methods in rust/src that get the docs of the proved ones.
-METHODS, METHOD = re.compile(r"methods! \{\n +(\w+) (\w+):\n(.*?)\n    \}\n", re.S), re.compile(r"^ +fn (\w+)\(", re.M)
+# The functions of a type in rust/src that pass on to the proved ones, and the head of one of these.
+METHODS = re.compile(r"methods!\((\w+) (\w+):([\w\s]+)\);")
+METHOD = re.compile(r"pub fn \w+(?:<.*?>)?\(([^)]*)\)((?: -> .*)?)$")
+GIVEN = re.compile(r"(\w+): ([^,]+)")
+BORROWED = re.compile(r"\b(ElementSegmentRef|ResourceLimiterRef)\b(?:<L>)?")
 # The instructions of a module that rust/src exports, and the functions of a module's text with their attributes, parameters and results.
 EXPORTED = re.compile(r"^instructions!\((\w+) (\w+)\);", re.M)
 INSTRUCTION = re.compile(r"^    #\[(?:must_use|inline.*)\]\n(?:    #\[.*\]\n)*    pub fn (\w+)\(([^)]*)\) -> (.*) \{$", re.M)
@@ -90,10 +93,9 @@ class Specs:
         return f"{said}\n\n<pre><code>{chr(10).join(rows)}\n</code></pre>\n"
 
 
-def docs_of(text, path):
-    """The docs of an item of a crate's generated text, named as ITEM, TYPE.FUNCTION or TYPE.contract."""
+def places(lines, path):
+    """The lines where an item begins that is named as ITEM, TYPE.FUNCTION or TYPE.contract."""
     owner, _, name = path.removesuffix(".contract").partition(".")
-    lines = text.split("\n")
     heads = rf" *(?:pub )?(?:const )?(?:fn|struct|enum|trait) {owner}\b"
     if name:
         heads = rf" *(?:pub )?trait {owner}\b| *impl\b.*\b{owner}(?:<[^>]*>)? (?:\{{|where)"
@@ -102,27 +104,68 @@ def docs_of(text, path):
             end = lines.index(re.match(" *", lines[n])[0] + "}", n)
             n = next((k for k in range(n, end) if re.match(rf" *(?:pub )?(?:const )?fn {name}\b", lines[k])), None)
         if n is not None:
-            first = n
-            while lines[first - 1].lstrip().startswith(("///", "#[")):
-                first -= 1
-            docs = [line.strip()[3:].removeprefix(" ") for line in lines[first:n] if "///" in line]
-            if path.endswith(".contract"):
-                docs = docs[next((k for k, line in enumerate(docs) if line in ("# Contract", "# Model")), len(docs)):]
-            if docs:
-                return "\n".join(docs)
+            yield n
+
+
+def above(lines, n):
+    """The docs and attributes of an item that begins in a line."""
+    first = n
+    while lines[first - 1].lstrip().startswith(("///", "#[")):
+        first -= 1
+    return [line.strip() for line in lines[first:n]]
+
+
+def docs_of(text, path):
+    """The docs of an item of a crate's generated text."""
+    lines = text.split("\n")
+    for n in places(lines, path):
+        docs = [line[3:].removeprefix(" ") for line in above(lines, n) if "///" in line]
+        if path.endswith(".contract"):
+            docs = docs[next((k for k, line in enumerate(docs) if line in ("# Contract", "# Model")), len(docs)):]
+        if docs:
+            return "\n".join(docs)
     raise Unknown(f"no docs of {path}, which rust/src includes")
 
 
-def included(crates, api):
-    """The text of docs.rs: an arm of the macro `docs` for each item that the files of the API name."""
-    arms = {}
-    over_lanes = [(part, name) for part, _, functions in instructions(crates, api) for name, given, _ in functions if "ImmLaneIdx" in given]
-    for text in (path.read_text() for path in sorted(api.glob("*.rs"))):
-        named = NAMED.findall(text)
-        named += [(place, f"{item}.{method}") for place, item, rows in METHODS.findall(text) for method in METHOD.findall(rows)]
-        for place, name in named + over_lanes:
-            arms[place, name] = f'    ({place} {name}) => {{ r####"{docs_of(crates[place], name)}\n"#### }};\n'
-    return f"//! The docs of proved items, by the module and the item.\nmacro_rules! docs {{\n{''.join(arms[it] for it in sorted(arms))}}}\n"
+def passed_on(crates, standard, part, item, name):
+    """A function of a type of rust/src that passes on to that of the proved type, `Proved`, which its field `0` has."""
+    lines = crates[part].split("\n")
+    n = next(places(lines, f"{item}.{name}"))
+    head = " ".join(" ".join(lines[n:]).partition(" {")[0].split()).replace("( ", "(").replace(", )", ")")
+    head = re.sub(rf"\b{item}\b(?:<\w>)?|\bMemory<'r>", "Self", BORROWED.sub(r"\1<'_>", head)).replace("'r ", "'static ")
+    given, result = METHOD.match(head).groups()
+    arguments = [re.sub(r"(\w+): (?:(&(?:mut )?)Self$)?.*", lambda it: f"{it[2]}{it[1]}.0" if it[2] else it[1], it) for it in given.split(", ")]
+    is_method = arguments[0].endswith("self")
+    body = f"{'self.0.' if is_method else 'Proved::'}{name}({', '.join(arguments[is_method:])})"
+    body = f"with!(limiter => {body})" if "limiter" in given else body
+    called = METHOD_NAMES.get(f"{item}.{name}", f"{item.removeprefix('Linear').lower()}.{name}")
+    marks = [f'doc(alias = "{called}")'] * (called in standard) + ["must_use"] * ("#[must_use]" in above(lines, n)) + ["inline"]
+    marks = [f"        #[{mark}]\n" for mark in [f"doc = docs!({part} {item}.{name})", *marks]]
+    return f"""\
+    ({part} {item} {name}) => {{
+{"".join(marks)}        pub fn {name}({given}){result} {{
+            {body}{".map(Self)" * ("Result<Self" in result)}
+        }}
+    }};
+"""
+
+
+def included(crates, api, standard):
+    """The text of docs.rs: an arm of the macro `docs` for each item that the files of the API name, and the methods that pass on."""
+    texts = [path.read_text() for path in sorted(api.glob("*.rs"))]
+    passing = [(part, item, name) for text in texts for part, item, names in METHODS.findall(text) for name in names.split()]
+    named = [it for text in texts for it in NAMED.findall(text)] + [(part, f"{item}.{name}") for part, item, name in passing]
+    named += [(part, name) for part, _, functions in instructions(crates, api) for name, given, _ in functions if "ImmLaneIdx" in given]
+    arms = [f'    ({part} {name}) => {{ r####"{docs_of(crates[part], name)}\n"#### }};\n' for part, name in sorted(set(named))]
+    return f"""//! The docs of proved items, by the module and the item, and methods that pass on to them.
+macro_rules! docs {{
+{"".join(arms)}}}
+
+/// Functions of a type that pass on to those of the proved one, `Proved`, which is its field `0`.
+macro_rules! methods {{
+    ($part:ident $item:ident: $($name:ident)*) => {{ $(methods! {{ $part $item $name }})* }};
+{"".join(passed_on(crates, standard, *it) for it in sorted(passing))}}}
+"""
 
 
 def over_lanes(part, file, name, given, result):
@@ -138,6 +181,32 @@ def over_lanes(part, file, name, given, result):
 {mark}        #[inline]
         pub fn {name}({" ".join(given.split())}) -> {result} {{
             crate::proved::{part}::{file}::{name}({", ".join(passed)})
+        }}
+"""
+
+
+def on_floats(name, given, result, standard):
+    """The function on floats that passes on their bits to that of an instruction on integers, or no text."""
+    own, width = ON_FLOATS.get(name), re.search("32|64|$", name)[0]
+    if not own:
+        return ""
+    integer, number, is_signed = f"{'i' if name.startswith('i') else 'u'}{width}", f"f{width}", name.startswith("i")
+    given = re.sub(rf"\b(value|item): {integer}", rf"\1: {number}", " ".join(given.split()))
+    bits = f".to_bits(){'.cast_signed()' * is_signed}"
+    call = f"{name}({', '.join(it + bits * (ty == number) for it, ty in GIVEN.findall(given))})"
+    body = call
+    if result == integer:
+        body = f"{number}::from_bits({call}.cast_unsigned())"
+    elif f"<{integer}," in result:
+        body = f"{call}.map({number}::from_bits)"
+    errors = ERRORS["IsStore " if "store" in name else "result ≡ loaded "].replace("`MemoryOutOfBounds`", "[`MemoryOutOfBounds`](TrapCode::MemoryOutOfBounds)")
+    marks = f"        ///\n        /// # Errors\n        ///\n        /// {errors}\n" if "Result" in result else "        #[must_use]\n"
+    marks += f'        #[doc(alias = "{standard_name(own)}")]\n' * (standard_name(own) in standard)
+    return f"""\
+        /// [`{name}`] of the bits of a float: that one is proved; that floats become bits and back isn't.
+{marks}        #[inline]
+        pub fn {own}({given}) -> {result.replace(integer, number)} {{
+            {body}
         }}
 """
 
@@ -161,6 +230,7 @@ def exports(crates, api, standard):
                 lines.append(f'        #[doc(alias = "{standard_name(name)}")]\n')
             is_over_lanes = "ImmLaneIdx" in given
             lines.append(over_lanes(part, file, name, given, result) if is_over_lanes else f"        pub use crate::proved::{part}::{file}::{name};\n")
+            lines.append(on_floats(name, given, result, standard))
         lines.append("    };\n")
     return f"""
 /// Exports the instructions of a module. Those with the index of a lane are functions over the crate's own indices.

@@ -35,6 +35,7 @@ REQUIRES = {
     "sized: IsSized ty size": ("is_sized(ty, size)", NO_SUCH_SIZE),
     "lent: IsSome (loan self)": ("self.limiter.is_some()", "the reference lends no limiter"),
     "within: size.old ≤ length region.old": ("*size <= region.len()", "the size is above the length of the region"),
+    "within: size.old ≤ length region.now": ("*size <= region.len()", "the size is above the length of the region"),
     "totals: HoldsTotals (L.Reserving.holdings limiter.old) machine.old":
         ("u128::from(limiter.held_bytes()) == machine.total_bytes()"
          " && u128::from(limiter.held_elements()) == machine.total_elements()",
@@ -113,7 +114,13 @@ LEGENDS = {
 # Structs whose fields contracts see, and Rust hides.
 HIDDEN_FIELDS = {"GlobalType", "RawVal", "TypedRawRef", "TypedRawVal"}
 # Instructions that upstream calls otherwise than the standard.
-STANDARD_NAMES = {"load_u32": "i32.load", "load_u64": "i64.load", "store32": "i32.store", "store64": "i64.store"}
+STANDARD_NAMES = {"load_u32": "i32.load", "load_u64": "i64.load", "store32": "i32.store", "store64": "i64.store",
+                  "load_f32": "f32.load", "load_f64": "f64.load", "store_f32": "f32.store", "store_f64": "f64.store"}
+# The instructions on integers that are ones on the bits of floats, too, with what they are called there.
+ON_FLOATS = {f"{its}{width}{at}": f"{own}{width}{at}" for its, own in (("load_u", "load_f"), ("store", "store_f")) for width in (32, 64) for at in ("", "_at")}
+ON_FLOATS |= {f"i{its}": f"f{its}" for shape in ("32x4", "64x2") for its in (f"{shape}_splat", f"{shape}_extract_lane", f"{shape}_replace_lane")}
+# Methods that pass on, and have another name than their instruction.
+METHOD_NAMES = {"LinearMemory.copy_within": "memory.copy", "ElementSegment.drop_items": "elem.drop"}
 # Instructions of the wide-arithmetic proposal, which the engine and V8's list lack.
 PROPOSED = {"i64.add128", "i64.sub128", "i64.mul_wide_s", "i64.mul_wide_u"}
 

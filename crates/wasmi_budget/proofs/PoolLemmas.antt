@@ -8,7 +8,7 @@ use Rattle.wasmi_meter.specs.Capped.{amount_of, amounts_of, IsWithin, Asked, Not
 use Rattle.wasmi_meter.specs.Limiter.{Question, Answer, Failure, NoticeAnswer, optional_rules}
 use Rattle.wasmi_meter.proofs.CappedLemmas.{KeepsCaps, caps_kept, others_kept, asked_is_within, noticed_is_within}
 use Rattle.wasmi_machine.specs.State.{World, Turn, world, State, total, HoldsTotals}
-use Rattle.wasmi_machine.specs.Steps.{Run, IsRunOf}
+use Rattle.wasmi_machine.specs.Steps.{Run, IsRunOf, RepliesWith}
 use Rattle.wasmi_machine.specs.Determinism.{IsDeterministic, AcceptsNotices}
 use Rattle.wasmi_machine.proofs.DeterminismLemmas.{capped_unique}
 use Rattle.wasmi_machine.proofs.HoldingLemmas.{run_keeps, totals_are_held}
@@ -333,6 +333,15 @@ module _ (pool now : PoolValue) (same : pool ≡ now) (index : ℕ) (tenant tena
       subst (λ p. RunsTenant p index calls replies (record pool { machines = machines' })) same
       (subst (λ machines. RunsTenant pool index calls replies (record pool { machines = machines })) (sym ran.after)
       (given_runs pool index (world ran.machine tenant) its_own (world ran.machine' tenant') calls replies ran.ran))
+
+-- after one call a tenant that held what its machine had holds what that has then
+pub step_holds : (w w' : World Tenant) (call : Call) (reply : Reply) → HoldsTotals (holdings w.limiter) w.state
+    → RepliesWith (optional_rules tenant_rules) call (lent w) reply (lent w') → HoldsTotals (holdings w'.limiter) w'.state
+step_holds w w' call reply held (charge, written, step) =
+    let after = totals_are_held tenant_rules holdings
+    (record { reserves = asked_reserves capped_tenant; gives_back = noticed_gives_back capped_tenant }) w.state w.limiter
+    held (record { call = call; reply = reply; charge = charge; written = written } ∷ []) (lent w') (lent w', step, refl) in
+    subst (λ tenant. HoldsTotals (holdings tenant) w'.state) (sym (same_Some w'.limiter after.0 after.1)) after.2
 
 -- a run keeps the pool within its caps
 pub runs_within : (pool : PoolValue) (index : ℕ) (calls : List Call) (replies : List Reply) (pool' : PoolValue)

@@ -1,5 +1,5 @@
 //! The pool.
-ghost use Rattle.std.specs.Prelude.{◌≡◌, ◌↔◌, length, [], None, IsTrue, IfOk, IfErr, OnErr, IsErrOf, MatchOption};
+ghost use Rattle.std.specs.Prelude.{◌≡◌, ◌↔◌, ◌∷◌, length, [], None, IsTrue, IfOk, IfErr, OnErr, IsErrOf, MatchOption};
 ghost use Rattle.std.specs.Option.{option_map, option_copied};
 ghost use Rattle.wasmi_meter.specs.declared.limiter.Kind.TheVariants.{Bytes, Elements};
 ghost use Rattle.wasmi_meter.specs.Capped.{amounts_of};
@@ -134,6 +134,31 @@ impl<'r> Pool<'r> {
         let replies = self.tenants.run(index, calls, &mut tenant)?;
         self.held_by_all = tenant.held_by_all();
         Ok(replies)
+    }
+
+    /// Executes one call on the machine of a tenant, as `run` executes a list of it alone. It takes
+    /// no memory for the reply. It costs a search among the indices of the tenants, none where no
+    /// tenant before this one was removed, and what the call costs.
+    ///
+    /// # Errors
+    ///
+    /// `NoTenant` if no tenant has the index, and no other. Then no call was executed.
+    #[inline(always)]
+    pub fn step(&mut self, index: usize, call: &Call) -> Result<Reply, PoolError>
+        ensures ran { IfOk result
+            (λ reply. RunsTenant self.old index (call.now ∷ []) (reply ∷ []) self.new) }
+        ensures refused { IfErr result (λ error. (error ≡ PoolError.NoTenant)
+            × (machine_of self.old index ≡ None) × (self.new ≡ self.old)) }
+        ensures within { IsWithinCaps self.new }
+    {
+        let Some(mut tenant) = self.tenant(index) else {
+            return Err(PoolError::NoTenant);
+        };
+        let Some(reply) = self.tenants.step(index, call, &mut tenant) else {
+            return Err(PoolError::NoTenant);
+        };
+        self.held_by_all = tenant.held_by_all();
+        Ok(reply)
     }
 
     /// The machine of a tenant, if one has the index.

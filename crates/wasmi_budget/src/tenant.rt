@@ -1,5 +1,5 @@
 //! One machine of a pool, with what it has, and its limiter.
-ghost use Rattle.std.specs.Prelude.{◌≡◌, ◌<◌, ◌^◌, None, Some, IfOk, OnErr};
+ghost use Rattle.std.specs.Prelude.{◌≡◌, ◌<◌, ◌^◌, ◌∷◌, [], None, Some, IfOk, OnErr};
 ghost use Rattle.wasmi_meter.specs.declared.limiter.Kind.{Kind};
 ghost use Rattle.wasmi_meter.specs.Capped.{amounts_of, held_together};
 ghost use Rattle.wasmi_meter.specs.Limiter.{optional_rules};
@@ -104,4 +104,28 @@ impl<'r> CountedMachine<'r> {
         self.held = tenant.holdings.held();
         Ok(replies)
     }
+
+    /// Executes one call, as `run` executes each of a list. It takes no memory for the reply.
+    #[inline(always)]
+    pub(crate) fn step(&mut self, call: &Call, tenant: &mut Tenant) -> Reply
+        requires totals { HoldsTotals (holdings tenant.old) self.old }
+        ensures run { IsRunOf (optional_rules tenant_rules) (call.now ∷ [])
+            (world self.old (Some tenant.old)) (result ∷ []) (world self.new (Some tenant.new)) }
+        ensures held { HoldsTotals (holdings tenant.new) self.new }
+    {
+        let reply = step_holding(&mut self.machine, call, tenant);
+        self.held = tenant.holdings.held();
+        reply
+    }
+}
+
+/// Executes one call under a tenant that holds what the machine has, and does so again afterwards.
+#[inline(always)]
+fn step_holding(machine: &mut Machine, call: &Call, tenant: &mut Tenant) -> Reply
+    requires totals { HoldsTotals (holdings tenant.old) machine.old }
+    ensures run { IsRunOf (optional_rules tenant_rules) (call.now ∷ [])
+        (world machine.old (Some tenant.old)) (result ∷ []) (world machine.new (Some tenant.new)) }
+    ensures held { HoldsTotals (holdings tenant.new) machine.new }
+{
+    machine.step_lending(call, tenant)
 }

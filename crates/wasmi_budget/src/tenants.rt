@@ -11,11 +11,16 @@ use std::alloc::Global as Allocator;
 use std::marker::Model;
 use wasmi_machine::{Call, Reply};
 
-/// The place of an index among rising ones, if it is one of them.
+/// The place of an index among rising ones, if it is one of them. It is found without a search
+/// where no machine before it was removed.
+#[inline(always)]
 fn place_of(indices: &[usize], index: usize) -> Option<usize>
     requires rises { Rises indices.now }
     ensures found { IsPlace indices.now index result }
 {
+    if index < indices.len() && indices[index] == index {
+        return Some(index);
+    }
     indices.binary_search(&index).ok()
 }
 
@@ -122,5 +127,21 @@ impl<'r> Tenants<'r> {
         let machine = &mut self.machines[place];
         let replies = machine.run(calls, tenant)?;
         Ok(replies)
+    }
+
+    /// Executes one call on the machine at an index, if there is one, under a tenant that holds
+    /// what the machine has.
+    #[inline(always)]
+    pub(crate) fn step(&mut self, index: usize, call: &Call, tenant: &mut Tenant) -> Option<Reply>
+        requires totals { (s : State) → slice_index_or self.old index None ≡ Some s
+            → HoldsTotals (holdings tenant.old) s }
+        ensures stepped { MatchOption result
+            ((slice_index_or self.old index None ≡ None) × (self.new ≡ self.old)
+            × (tenant.new ≡ tenant.old))
+            (λ reply. RunsMachine self.old index tenant.old (call.now ∷ []) (reply ∷ []) self.new
+            tenant.new) }
+    {
+        let place = place_of(&self.indices, index)?;
+        Some(self.machines[place].step(call, tenant))
     }
 }

@@ -1,5 +1,5 @@
 -- What the calls on a memory do to what lies with C.
-use Rattle.std.specs.Prelude.{◌≡◌, ◌+◌, ◌/◌, ◌⊎◌, ℕ, List, take, drop, length, Option, Some, None}
+use Rattle.std.specs.Prelude.{◌≡◌, ◌+◌, ◌/◌, ◌⊎◌, ℕ, List, take, drop, length, nat_eq, if◌then◌else◌, Option, Some, None}
 use Rattle.wasmi_types.specs.Access.{at, overwrite}
 use Rattle.wasmi_meter.specs.declared.error.MemoryError.{MemoryError}
 use Rattle.wasmi_meter.specs.declared.error.MemoryError.TheVariants as error
@@ -10,7 +10,7 @@ use Rattle.wasmi_store.specs.Buffer.{Lent}
 use Rattle.wasmi_store.specs.Growth.{Growth, metered}
 use Rattle.wasmi_store.specs.Write.{filled, copied, BulkWrites}
 use Rattle.wasmi_store.specs.Memory.{MemoryValue, MakesMemory, growth_of, pages_of, MemoryTypeValue, IsValid, named_type, page_bytes, in_bounds}
-use Rattle.wasmi_region.specs.Memory.{memory_in, made_in}
+use Rattle.wasmi_region.specs.Memory.{memory_in, made_in, zeroed}
 use Rattle.wasmi_c.specs.Host.{memory_growth}
 use Rattle.wasmi_c.specs.Numbers.{settings_of, IsState, MeteredRegion, Placed, placed}
 use Rattle.wasmi_c.specs.Placement.{Placement, AsksAs, ByType, ByTypes, EndsBy, MakesAs, WritesAs}
@@ -58,6 +58,10 @@ MakesEmbedded a l status a' l' =
     (IsNoType a.numbers × (status ≡ INVALID_STATE) × (a' ≡ a) × (l' ≡ l))
     ⊎ ((ty : MemoryTypeValue) × (named_type (settings_of a.numbers) ≡ Some ty) × IsValid ty
     × MakesAs of_memory (λ made. MakesMemory (optional_rules quota_rules) (Lent a.region) ty l made l') ty a status a')
+
+-- a region with zeros in front where a memory of such a size was made, by the status of the call; else as it was
+abbrev pub made_over : List ℕ → ℕ → ℕ → List ℕ
+made_over region size status = if nat_eq status DONE then zeroed region 0 size else region
 
 -- numbers that stand for no memory on any region: no page has the size 2^255, and there are no bytes
 abbrev pub ended_memory : MemoryNumbers → MemoryNumbers

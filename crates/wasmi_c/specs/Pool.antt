@@ -8,10 +8,10 @@ use Rattle.wasmi_machine.specs.declared.calls.Reply.{Reply}
 use Rattle.wasmi_budget.specs.Pool.{PoolValue, AddsTenant, IsWithinCaps, RemovesTenant, RunsTenant, machine_of, total_of}
 use Rattle.wasmi_grammar.specs.Lines.{WritesScript}
 use Rattle.wasmi_grammar.specs.declared.script.Script.{Script}
-use Rattle.wasmi_c.specs.Machine.Calls.{ReadsOut, totals_in, RefusesLines, RunsScriptBy, no_header}
+use Rattle.wasmi_c.specs.Machine.Calls.{ReadsOut, totals_in, RefusesLines, RunsScriptBy, no_header, word_after}
 use Rattle.wasmi_c.specs.Machine.CallStructs.{call_of}
 use Rattle.wasmi_c.specs.Machine.NewMachines.{meter_with}
-use Rattle.wasmi_c.specs.Machine.Replies.{only, with_number, reply_struct}
+use Rattle.wasmi_c.specs.Machine.Replies.{only, with_number, reply_struct, status_of}
 use Rattle.wasmi_c.specs.declared.status.TheConstants.{DONE, HAS_POOL, NO_CALL, NO_POOL, NO_ROOM, NO_TENANT}
 use Rattle.wasmi_c.specs.declared.machine.call_struct.CallStruct.{CallStruct}
 use Rattle.wasmi_c.specs.declared.machine.limits.Limits.{Limits}
@@ -51,10 +51,30 @@ RemovesByStatus tenant status pool pool' =
     ((machine_of pool tenant ≡ None) × (status ≡ NO_TENANT) × (pool' ≡ pool))
     ⊎ ((s : State) × RemovesTenant pool tenant s pool' × (status ≡ DONE))
 
--- a run of one call on a tenant's machine has a reply, given as a struct; or it is refused, and the pool is the same
+-- a run of one call on a tenant's machine has a reply; or there is no such tenant, and the pool is the same
+abbrev pub CallsTenant : ℕ → Call → PoolValue → PoolValue → Type 0 → (Reply → Type 0) → Type 0
+CallsTenant tenant call pool pool' Refused Replied = ((machine_of pool tenant ≡ None) × Refused × (pool' ≡ pool))
+    ⊎ ((full : Reply) × RunsTenant pool tenant (call ∷ []) (full ∷ []) pool' × Replied full)
+
+-- a call on a tenant's machine is replied to with a struct
 unfoldable pub TenantReplies : ℕ → Call → ReplyStruct → PoolValue → PoolValue → Type 0
-TenantReplies tenant call reply pool pool' = (RefusesTenant tenant pool reply × (pool' ≡ pool))
-    ⊎ ((full : Reply) × RunsTenant pool tenant (call ∷ []) (full ∷ []) pool' × (reply ≡ reply_struct full))
+TenantReplies tenant call reply pool pool' = CallsTenant tenant call pool pool'
+    (reply ≡ only NO_TENANT)
+    (λ full. reply ≡ reply_struct full)
+
+-- a call on a tenant's machine is replied to with a status and a word; where there is no call, the pool and the word stay
+unfoldable pub TenantRepliesInWord : ℕ → Option Call → ℕ → ℕ × ℕ → PoolValue → PoolValue → Type 0
+TenantRepliesInWord tenant called word left pool pool' = MatchOption called
+    ((left ≡ (NO_CALL, word)) × (pool' ≡ pool))
+    (λ call. CallsTenant tenant call pool pool'
+    (left ≡ (NO_TENANT, word))
+    (λ full. left ≡ (status_of full, word_after full word)))
+
+-- a call on a tenant's machine is replied to with a status; where there is no call, the pool stays
+unfoldable pub TenantRepliesInStatus : ℕ → Option Call → ℕ → PoolValue → PoolValue → Type 0
+TenantRepliesInStatus tenant called status pool pool' = MatchOption called
+    ((status ≡ NO_CALL) × (pool' ≡ pool))
+    (λ call. CallsTenant tenant call pool pool' (status ≡ NO_TENANT) (λ full. status ≡ status_of full))
 
 -- so the call that numbers stand for; where they stand for none, the pool is the same
 abbrev pub TenantRepliesToStruct : ℕ → CallStruct → ReplyStruct → PoolValue → PoolValue → Type 0

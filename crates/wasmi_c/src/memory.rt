@@ -5,9 +5,9 @@ ghost use Rattle.wasmi_meter.specs.Capped.{quota_rules};
 ghost use Rattle.wasmi_meter.specs.Limiter.{optional_rules};
 ghost use Rattle.wasmi_store.specs.Buffer.{Lent};
 ghost use Rattle.wasmi_store.specs.Memory.{IsSized, MakesMemory, MemoryTypeValue, in_bounds, minimum_bytes, named_type, page_bytes};
-ghost use Rattle.wasmi_region.specs.Memory.{made_in, memory_in};
+ghost use Rattle.wasmi_region.specs.Memory.{made_in, made_in_zeros, memory_in, zeroed};
 ghost use Rattle.wasmi_c.specs.Host.{is_about, memory_growth};
-ghost use Rattle.wasmi_c.specs.MemoryCalls.{AsksEmbedded, CopiesBytesEmbedded, CountsEmbedded, EndsMemory, IsNoType, MakesEmbedded, ReadsEmbedded, WritesBytesEmbedded, WritesEmbedded, by_pages, copied_range, filled_range, of_memory};
+ghost use Rattle.wasmi_c.specs.MemoryCalls.{AsksEmbedded, CopiesBytesEmbedded, CountsEmbedded, EndsMemory, IsNoType, MakesEmbedded, ReadsEmbedded, WritesBytesEmbedded, WritesEmbedded, by_pages, copied_range, filled_range, made_over, of_memory};
 ghost use Rattle.wasmi_c.specs.Placement.{GrowsAs, GrowsBy, IsNone, SettlesBy, status_of, written_number};
 ghost use Rattle.wasmi_c.specs.Numbers.{embedded, limiter_of, metered_region, placed, settings_of, IsState, KeepsQuota};
 
@@ -20,6 +20,7 @@ use crate::status::{
 use wasmi_meter::{Kind, MemoryError, ResourceLimiter, ResourceLimiterRef};
 use wasmi_region::memory as region_memory;
 use wasmi_store::MemoryType;
+use wasmi_store::range::fill_range;
 
 /// The binary logarithm of the size of a page that no memory has.
 const NO_PAGE_SIZE: u8 = 255;
@@ -63,6 +64,46 @@ pub fn make(memory: &mut MemoryNumbers, region: &mut [u8], quota: &mut QuotaNumb
     }
 }
 
+/// Makes a memory as [`make`] does, at the front of a region whose bytes up to the minimum are zeros
+/// already, and writes no byte of it. Where they aren't zeros, the memory has what stands there.
+pub fn make_zeroed(memory: &mut MemoryNumbers, region: &[u8], quota: &mut QuotaNumbers) -> u8
+    ensures made { MakesEmbedded (placed memory.old region.now) (limiter_of quota.old) result
+        (placed memory.new (made_over region.now memory.new.size result))
+        (limiter_of quota.new) }
+    ensures quota { KeepsQuota quota.old quota.new }
+    ensures invalid { IsNoType memory.old → quota.new ≡ quota.old }
+    ensures unasked { (ty : MemoryTypeValue) → named_type (settings_of memory.old) ≡ Some ty
+        → 2 ^ 64 ≤ minimum_bytes ty → quota.new ≡ quota.old }
+{
+    let Some(ty) = memory.ty() else {
+        return INVALID_STATE;
+    };
+    match make_zeroed_under(ty, region, quota) {
+        Ok(size) => {
+            memory.size = size;
+            DONE
+        }
+        Err(error) => memory_status(error),
+    }
+}
+
+/// Makes a memory of this type under a limiter in zeros, as [`wasmi_region::memory::make_zeroed`]
+/// does.
+pub fn make_zeroed_under<L: ResourceLimiter>(
+    ty: MemoryType,
+    region: &[u8],
+    limiter: &mut L,
+) -> Result<usize, MemoryError>
+    ensures made { MakesMemory (optional_rules L.rules) (Lent region.now) ty
+        (Some limiter.old) (made_in_zeros ty region.now result) (Some limiter.new) }
+    ensures sized { IfOk result (λ size. IsSized ty size × (size ≤ length region.now)) }
+{
+    let mut lent = ResourceLimiterRef::from(limiter);
+    let made = region_memory::make_zeroed(ty, region, &mut lent);
+    let _limiter = lent.into_limiter();
+    made
+}
+
 /// Grows a memory of this type under a limiter.
 pub fn grow_under<L: ResourceLimiter>(
     memory: &mut MemoryNumbers,
@@ -78,10 +119,34 @@ pub fn grow_under<L: ResourceLimiter>(
         (embedded memory.old region.old meter.old (Some limiter.old) number.old) result
         (embedded memory.new region.new meter.new (Some limiter.new) number.new) }
 {
+    let old_size = memory.size;
+    let status = grow_zeroed_under(memory, ty, region, pages, meter, limiter, number);
+    fill_range(region, old_size, memory.size, 0);
+    status
+}
+
+/// Grows a memory of this type under a limiter into bytes that are zeros, of which it writes none.
+pub fn grow_zeroed_under<L: ResourceLimiter>(
+    memory: &mut MemoryNumbers,
+    ty: MemoryType,
+    region: &[u8],
+    pages: u64,
+    meter: &mut MeterNumbers,
+    limiter: &mut L,
+    number: &mut u64,
+) -> u8
+    requires state { IsState memory.old region.now ty }
+    ensures grown { GrowsAs of_memory L.rules (by_pages pages) ty
+        (embedded memory.old region.now meter.old (Some limiter.old) number.old) result
+        (embedded memory.new (zeroed region.now memory.old.size memory.new.size) meter.new
+        (Some limiter.new) number.new) }
+    ensures larger { memory.old.size ≤ memory.new.size }
+    ensures within { memory.new.size ≤ length region.now }
+{
     let mut fuel = meter.fuel();
     let mut size = memory.size;
     let mut lent = ResourceLimiterRef::from(limiter);
-    let grown = region_memory::grow(ty, &mut size, region, pages, &mut fuel, &mut lent);
+    let grown = region_memory::grow_zeroed(ty, &mut size, region, pages, &mut fuel, &mut lent);
     let _limiter = lent.into_limiter();
     memory.size = size;
     meter.store_left(&fuel);
@@ -114,6 +179,30 @@ pub fn grow(
 {
     type_or_return!(ty, memory, region);
     grow_under(memory, ty, region, pages, meter, quota, number)
+}
+
+/// Grows a memory as [`grow`] does, into bytes of the region that are zeros already, and writes no
+/// byte of it. Where they aren't zeros, the memory has what stands there.
+pub fn grow_zeroed(
+    memory: &mut MemoryNumbers,
+    region: &[u8],
+    pages: u64,
+    meter: &mut MeterNumbers,
+    quota: &mut QuotaNumbers,
+    number: &mut u64,
+) -> u8
+    ensures grown { GrowsBy of_memory quota_rules (by_pages pages)
+        (embedded memory.old region.now meter.old (limiter_of quota.old) number.old) result
+        (embedded memory.new (zeroed region.now memory.old.size memory.new.size) meter.new
+        (limiter_of quota.new) number.new) }
+    ensures quota { KeepsQuota quota.old quota.new }
+    ensures invalid { IsNone of_memory memory.old region.now → quota.new ≡ quota.old }
+    ensures unasked { (ty : MemoryTypeValue) → IsState memory.old region.now ty
+        → (pages ≡ 0) ⊎ (in_bounds ty (memory.old.size / page_bytes ty.page + pages) ≡ false)
+        → quota.new ≡ quota.old }
+{
+    type_or_return!(ty, memory, region);
+    grow_zeroed_under(memory, ty, region, pages, meter, quota, number)
 }
 
 /// Ends a memory: the quota gives up its bytes, and the numbers stand for no memory from then on. If

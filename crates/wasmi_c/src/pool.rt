@@ -1,8 +1,13 @@
 //! A pool of machines under common caps that C holds by a handle, or none. A call takes the pool
 //! out and puts it back. `include/wasmi_machine.h` says which statuses calls return, in which order.
-ghost use Rattle.std.specs.Prelude.{◌≡◌, IfErr, IfOk, Some, None, is_some, MatchOption};
-ghost use Rattle.wasmi_machine.specs.declared.calls.Call.TheVariants.{Write};
-ghost use Rattle.wasmi_c.specs.Machine.Calls.{ActsOnHeld};
+ghost use Rattle.std.specs.Prelude.{◌≡◌, ◌∷◌, [], IfErr, IfOk, Some, None, is_some, MatchOption};
+ghost use Rattle.wasmi_budget.specs.Pool.{tenant_rules};
+ghost use Rattle.wasmi_budget.specs.declared.tenant.Tenant.{Tenant};
+ghost use Rattle.wasmi_machine.specs.State.{world};
+ghost use Rattle.wasmi_machine.specs.Steps.{RepliesWith};
+ghost use Rattle.wasmi_machine.specs.declared.calls.Call.TheVariants.{GetFuel, GrowMemory, Load, Store, Write};
+ghost use Rattle.wasmi_meter.specs.Limiter.{optional_rules};
+ghost use Rattle.wasmi_c.specs.Machine.Calls.{ActsOnHeld, item_load, item_store, vector_binary};
 ghost use Rattle.wasmi_c.specs.Machine.Replies.{only};
 ghost use Rattle.wasmi_c.specs.Pool.{KeepsCaps, MakesPool, TenantRepliesToStruct};
 ghost use Rattle.wasmi_c.specs.declared.status.TheConstants.{NO_POOL};
@@ -10,17 +15,22 @@ ghost use Rattle.wasmi_c.specs.declared.status.TheConstants.{NO_POOL};
 mod pool_box;
 
 use crate::held_box::HeldBox;
-use crate::machine::call_struct::CallStruct;
-use crate::machine::limited_machine::{headless, read_out, write_out};
+use crate::machine::call_struct::{
+    BINARY, CallStruct, LOAD, STORE, item_load_numbered, item_store_numbered,
+    vector_binary_numbered,
+};
+use crate::machine::limited_machine::{headless, leave, read_out, write_out};
 use crate::machine::limits::{Limits, Totals};
 use crate::machine::reply_struct::ReplyStruct;
 use crate::pool::pool_box::PoolBox;
 use crate::status::{DONE, HAS_POOL, NO_CALL, NO_POOL, NO_ROOM, NO_TENANT};
 use std::alloc::Global;
 use std::marker::Model;
-use std::{mem, slice};
+use std::mem;
 use wasmi_budget::{Pool, PoolError};
 use wasmi_machine::{Call, Machine, Reply};
+use wasmi_ops::{LoadOp, StoreOp};
+use wasmi_raw::RawVal;
 
 /// What a call on the pool of a handle returns; or what is returned where there is none.
 #[macro_export]
@@ -134,7 +144,7 @@ impl Model for TenantPool {
 
 impl TenantPool {
     ghost use Rattle.wasmi_budget.specs.Pool.{IsWithinCaps, RunsTenant};
-    ghost use Rattle.wasmi_c.specs.Pool.{AddsNewTenant, RefusesTenant, RemovesByStatus, RunsTenantLines, TenantReadsOut, TenantReplies, TenantRepliesToCopy, pool_totals, tenant_totals};
+    ghost use Rattle.wasmi_c.specs.Pool.{AddsNewTenant, RefusesTenant, RemovesByStatus, RunsTenantLines, TenantReadsOut, TenantReplies, TenantRepliesInStatus, TenantRepliesInWord, TenantRepliesToCopy, pool_totals, tenant_totals};
 
     /// Does nothing: its contract says that the pool is within its caps.
     pub fn show_within(&self)
@@ -167,25 +177,183 @@ impl TenantPool {
     }
 
     /// Replies to the call that numbers stand for, if there is one, on the machine of a tenant.
+    #[inline(always)]
+    #[tactic(auto, unfolding(crate::specs::Machine::CallStructs::call_of))]
     pub fn reply_to_struct(&mut self, tenant: usize, numbers: &CallStruct) -> ReplyStruct
         ensures step { TenantRepliesToStruct tenant numbers.now result self.old self.new }
         ensures caps { self.new.caps ≡ self.old.caps }
     {
+        let (memory, ptr, offset) = (numbers.index, numbers.ptr, numbers.offset);
+        // These read their own fields alone: to make a `Call` of all takes longer than the call.
+        if numbers.kind == LOAD
+            && let Some(op) = item_load_numbered(numbers.op)
+        {
+            return self.load_reply(tenant, op, memory, ptr, offset);
+        }
+        if numbers.kind == STORE
+            && let Some(op) = item_store_numbered(numbers.op)
+        {
+            return self.store_reply(tenant, op, memory, ptr, offset, numbers.value);
+        }
+        if numbers.kind == BINARY
+            && let Some(op) = vector_binary_numbered(numbers.op)
+        {
+            let (dst, a, b) = (numbers.dst, numbers.a, numbers.b);
+            return self.reply(tenant, &Call::Binary { op, dst, a, b });
+        }
         match &numbers.call() {
-            Some(call) => self.reply(tenant, call),
+            Some(call) => self.reply(tenant, call).by_fields(),
             None => ReplyStruct::only(NO_CALL),
         }
     }
 
+    /// Loads an item from a memory of a tenant.
+    #[inline(always)]
+    #[tactic(auto, unfolding(crate::specs::Pool::TenantReplies))]
+    fn load_reply(
+        &self,
+        tenant: usize,
+        op: LoadOp,
+        memory: usize,
+        ptr: u64,
+        offset: u64,
+    ) -> ReplyStruct
+        ensures { TenantReplies tenant (Load op memory ptr offset) result self.now self.now }
+    {
+        match self.pool.machine(tenant) {
+            Some(machine) => {
+                ReplyStruct::from_common(load_item(machine, op, memory, ptr, offset))
+            }
+            None => ReplyStruct::only(NO_TENANT),
+        }
+    }
+
+    /// Stores an item to a memory of a tenant.
+    #[inline(always)]
+    fn store_reply(
+        &mut self,
+        tenant: usize,
+        op: StoreOp,
+        memory: usize,
+        ptr: u64,
+        offset: u64,
+        value: RawVal,
+    ) -> ReplyStruct
+        ensures step { TenantReplies tenant (Store op memory ptr offset value) result self.old
+            self.new }
+        ensures caps { self.new.caps ≡ self.old.caps }
+    {
+        let call = Call::Store {
+            op,
+            memory,
+            ptr,
+            offset,
+            value,
+        };
+        self.reply(tenant, &call)
+    }
+
     /// Replies to one call on the machine of a tenant.
+    #[inline(always)]
     #[tactic(auto, unfolding(crate::specs::Pool::TenantReplies))]
     fn reply(&mut self, tenant: usize, call: &Call) -> ReplyStruct
         ensures step { TenantReplies tenant call.now result self.old self.new }
         ensures caps { self.new.caps ≡ self.old.caps }
     {
-        match self.run(tenant, slice::from_ref(call)) {
-            Ok(replies) => ReplyStruct::from_reply(&replies[0]),
-            Err(refusal) => refusal,
+        match self.pool.step(tenant, call) {
+            Ok(reply) => ReplyStruct::from_common(reply),
+            Err(_) => ReplyStruct::only(NO_TENANT),
+        }
+    }
+
+    /// Loads an item from a memory of a tenant by the load that has the number, if there is one.
+    #[inline(always)]
+    #[tactic(auto, unfolding(crate::specs::Pool::TenantRepliesInWord))]
+    pub fn load(
+        &self,
+        tenant: usize,
+        number: u16,
+        memory: usize,
+        ptr: u64,
+        offset: u64,
+        value: &mut u64,
+    ) -> u8
+        ensures { TenantRepliesInWord tenant (item_load number memory ptr offset) value.old
+            (result, value.new) self.now self.now }
+    {
+        let Some(op) = item_load_numbered(number) else {
+            return NO_CALL;
+        };
+        match self.pool.machine(tenant) {
+            Some(machine) => leave(load_item(machine, op, memory, ptr, offset), value),
+            None => NO_TENANT,
+        }
+    }
+
+    /// Tells the fuel that is left on the machine of a tenant.
+    #[inline(always)]
+    #[tactic(auto, unfolding(crate::specs::Pool::TenantRepliesInWord))]
+    pub fn fuel_left(&self, tenant: usize, left: &mut u64) -> u8
+        ensures { TenantRepliesInWord tenant (Some GetFuel) left.old (result, left.new) self.now
+            self.now }
+    {
+        match self.pool.machine(tenant) {
+            Some(machine) => leave(fuel_reply(machine), left),
+            None => NO_TENANT,
+        }
+    }
+
+    /// Stores an item to a memory of a tenant by the store that has the number, if there is one.
+    #[inline(always)]
+    #[tactic(auto, unfolding(crate::specs::Pool::TenantRepliesInStatus))]
+    pub fn store(
+        &mut self,
+        tenant: usize,
+        number: u16,
+        memory: usize,
+        ptr: u64,
+        offset: u64,
+        value: u64,
+    ) -> u8
+        ensures step { TenantRepliesInStatus tenant (item_store number memory ptr offset value)
+            result self.old self.new }
+        ensures caps { self.new.caps ≡ self.old.caps }
+    {
+        let Some(op) = item_store_numbered(number) else {
+            return NO_CALL;
+        };
+        let value = RawVal { lo: value, hi: 0 };
+        self.store_reply(tenant, op, memory, ptr, offset, value)
+            .status
+    }
+
+    /// Executes the instruction on two vectors that has the number, if there is one, on the machine
+    /// of a tenant.
+    #[inline(always)]
+    #[tactic(auto, unfolding(crate::specs::Pool::TenantRepliesInStatus))]
+    pub fn binary(&mut self, tenant: usize, number: u16, dst: u8, a: u8, b: u8) -> u8
+        ensures step { TenantRepliesInStatus tenant (vector_binary number dst a b) result self.old
+            self.new }
+        ensures caps { self.new.caps ≡ self.old.caps }
+    {
+        let Some(op) = vector_binary_numbered(number) else {
+            return NO_CALL;
+        };
+        let call = Call::Binary { op, dst, a, b };
+        self.reply(tenant, &call).status
+    }
+
+    /// Grows a memory of a tenant by so many pages, and leaves a status and a word of the reply.
+    #[inline(always)]
+    #[tactic(auto, unfolding(crate::specs::Pool::TenantRepliesInWord))]
+    pub fn grow(&mut self, tenant: usize, memory: usize, pages: u64, number: &mut u64) -> u8
+        ensures step { TenantRepliesInWord tenant (Some (GrowMemory memory pages)) number.old
+            (result, number.new) self.old self.new }
+        ensures caps { self.new.caps ≡ self.old.caps }
+    {
+        match self.pool.step(tenant, &Call::GrowMemory { memory, pages }) {
+            Ok(reply) => leave(reply, number),
+            Err(_) => NO_TENANT,
         }
     }
 
@@ -282,5 +450,33 @@ impl TenantPool {
     {
         let held = self.pool.held_by_all();
         Totals::from_amounts(DONE, u128::from(held.bytes), u128::from(held.elements))
+    }
+}
+
+/// The reply of a machine to the load of an item, which reaches no limiter.
+#[inline(always)]
+fn load_item(machine: &Machine, op: LoadOp, memory: usize, ptr: u64, offset: u64) -> Reply
+    ensures { (tenant : Tenant) → RepliesWith (optional_rules tenant_rules)
+        (Load op memory ptr offset) (world machine.now (Some tenant)) result
+        (world machine.now (Some tenant)) }
+{
+    let Some(memory) = machine.memory(memory) else {
+        return Reply::NoSuch;
+    };
+    match op.load(memory.data(), ptr, offset) {
+        Ok(raw) => Reply::Value(raw),
+        Err(trap) => Reply::Trap(trap),
+    }
+}
+
+/// The reply of a machine to the question for the fuel that is left, which reaches no limiter.
+#[inline(always)]
+fn fuel_reply(machine: &Machine) -> Reply
+    ensures { (tenant : Tenant) → RepliesWith (optional_rules tenant_rules) GetFuel
+        (world machine.now (Some tenant)) result (world machine.now (Some tenant)) }
+{
+    match machine.fuel().get_fuel() {
+        Ok(amount) => Reply::Number(amount),
+        Err(error) => Reply::Fuel(error),
     }
 }

@@ -4,7 +4,7 @@ ghost use Rattle.wasmi_machine.specs.declared.calls.Call.TheVariants.{GetFuel, G
 ghost use Rattle.wasmi_c.specs.Machine.Calls.{RepliesInStatus, RepliesInWord, item_load, item_store, vector_binary, ActsOnHeld, OnHeld, ReadsOut, RepliesToCopy, RepliesToSegment, RepliesToStruct, PaysFuel, no_totals, totals_of, RunsLines};
 ghost use Rattle.wasmi_c.specs.Machine.NewMachines.{IsNewMachine, MakesMachine, MakesWithAnswers};
 ghost use Rattle.wasmi_c.specs.Machine.Replies.{only};
-ghost use Rattle.wasmi_c.specs.Pool.{AddsNewTenant, KeepsCaps, MakesPool, RemovesByStatus, RunsTenantLines, TenantReadsOut, TenantRepliesToCopy, TenantRepliesToStruct, no_pool_totals, pool_totals, tenant_totals};
+ghost use Rattle.wasmi_c.specs.Pool.{AddsNewTenant, KeepsCaps, MakesPool, RemovesByStatus, RunsTenantLines, TenantReadsOut, TenantRepliesInStatus, TenantRepliesInWord, TenantRepliesToCopy, TenantRepliesToStruct, no_pool_totals, pool_totals, tenant_totals};
 ghost use Rattle.wasmi_c.specs.declared.status.TheConstants.{NO_MACHINE, NO_POOL};
 ghost use Rattle.wasmi_c.specs.declared.machine.reply_struct.ReplyStruct.{ReplyStruct};
 
@@ -242,6 +242,94 @@ pub extern "C" fn wasmi_pool_call(
     ensures caps { KeepsCaps handle.old.pool.held handle.new.pool.held }
 {
     handle.call(alloc, tenant, call)
+}
+
+#[unsafe(no_mangle)]
+pub extern "C" fn wasmi_pool_load(
+    alloc: Global,
+    handle: &mut PoolHandle,
+    tenant: usize,
+    op: u16,
+    memory: usize,
+    ptr: u64,
+    offset: u64,
+    value: &mut u64,
+) -> u8
+    ensures step { ActsOnHeld {R = ℕ × ℕ} (NO_POOL, value.old)
+        handle.old.pool.held (result, value.new) handle.new.pool.held
+        (TenantRepliesInWord tenant (item_load op memory ptr offset) value.old
+        (result, value.new)) }
+    ensures caps { KeepsCaps handle.old.pool.held handle.new.pool.held }
+{
+    on_pool!(handle, alloc, NO_POOL, pool => pool.load(tenant, op, memory, ptr, offset, value))
+}
+
+#[unsafe(no_mangle)]
+pub extern "C" fn wasmi_pool_store(
+    alloc: Global,
+    handle: &mut PoolHandle,
+    tenant: usize,
+    op: u16,
+    memory: usize,
+    ptr: u64,
+    offset: u64,
+    value: u64,
+) -> u8
+    ensures step { ActsOnHeld NO_POOL handle.old.pool.held result handle.new.pool.held
+        (TenantRepliesInStatus tenant (item_store op memory ptr offset value) result) }
+    ensures caps { KeepsCaps handle.old.pool.held handle.new.pool.held }
+{
+    on_pool!(handle, alloc, NO_POOL, pool => pool.store(tenant, op, memory, ptr, offset, value))
+}
+
+#[unsafe(no_mangle)]
+pub extern "C" fn wasmi_pool_binary(
+    alloc: Global,
+    handle: &mut PoolHandle,
+    tenant: usize,
+    op: u16,
+    dst: u8,
+    a: u8,
+    b: u8,
+) -> u8
+    ensures step { ActsOnHeld NO_POOL handle.old.pool.held result handle.new.pool.held
+        (TenantRepliesInStatus tenant (vector_binary op dst a b) result) }
+    ensures caps { KeepsCaps handle.old.pool.held handle.new.pool.held }
+{
+    on_pool!(handle, alloc, NO_POOL, pool => pool.binary(tenant, op, dst, a, b))
+}
+
+#[unsafe(no_mangle)]
+pub extern "C" fn wasmi_pool_grow(
+    alloc: Global,
+    handle: &mut PoolHandle,
+    tenant: usize,
+    memory: usize,
+    pages: u64,
+    number: &mut u64,
+) -> u8
+    ensures step { ActsOnHeld {R = ℕ × ℕ} (NO_POOL, number.old)
+        handle.old.pool.held (result, number.new) handle.new.pool.held
+        (TenantRepliesInWord tenant (Some (GrowMemory memory pages)) number.old
+        (result, number.new)) }
+    ensures caps { KeepsCaps handle.old.pool.held handle.new.pool.held }
+{
+    on_pool!(handle, alloc, NO_POOL, pool => pool.grow(tenant, memory, pages, number))
+}
+
+#[unsafe(no_mangle)]
+pub extern "C" fn wasmi_pool_fuel_left(
+    alloc: Global,
+    handle: &mut PoolHandle,
+    tenant: usize,
+    left: &mut u64,
+) -> u8
+    ensures step { ActsOnHeld {R = ℕ × ℕ} (NO_POOL, left.old)
+        handle.old.pool.held (result, left.new) handle.new.pool.held
+        (TenantRepliesInWord tenant (Some GetFuel) left.old (result, left.new)) }
+    ensures caps { KeepsCaps handle.old.pool.held handle.new.pool.held }
+{
+    on_pool!(handle, alloc, NO_POOL, pool => pool.fuel_left(tenant, left))
 }
 
 #[unsafe(no_mangle)]

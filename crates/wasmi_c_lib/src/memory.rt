@@ -1,6 +1,6 @@
 //! Memories in regions of the caller's, and fuel meters.
 ghost use Rattle.std.specs.Prelude.{◌≡◌, ◌≤◌, ◌+◌, ◌/◌, ◌^◌, ◌⊎◌, false, Some};
-ghost use Rattle.wasmi_c.specs.MemoryCalls.{AsksEmbedded, CopiesBytesEmbedded, CountsEmbedded, EndsMemory, IsNoType, MakesEmbedded, ReadsEmbedded, WritesBytesEmbedded, WritesEmbedded, by_pages, copied_range, filled_range, of_memory};
+ghost use Rattle.wasmi_c.specs.MemoryCalls.{AsksEmbedded, CopiesBytesEmbedded, CountsEmbedded, EndsMemory, IsNoType, MakesEmbedded, ReadsEmbedded, WritesBytesEmbedded, WritesEmbedded, by_pages, copied_range, filled_range, made_over, of_memory};
 ghost use Rattle.wasmi_c.specs.Placement.{GrowsBy, IsNone, SettlesBy};
 ghost use Rattle.wasmi_c.specs.declared.status.TheConstants.{DONE};
 ghost use Rattle.wasmi_c.specs.Numbers.{limiter_of, KeepsQuota, embedded, IsState, metered_region, meter_of, placed, settings_of};
@@ -8,6 +8,7 @@ ghost use Rattle.wasmi_meter.specs.Capped.{quota_rules};
 ghost use Rattle.wasmi_store.specs.Memory.{MemoryTypeValue, in_bounds, minimum_bytes, named_type, page_bytes};
 ghost use Rattle.wasmi_c.specs.FuelCalls.{SetsFuel, TellsFuel, PaysFuel};
 ghost use Rattle.wasmi_meter.specs.Meter.{copy_cost};
+ghost use Rattle.wasmi_region.specs.Memory.{zeroed};
 
 use wasmi_c::{
     HostAnswers, MemoryNumbers, MeterNumbers, Question, QuotaNumbers, Range, fuel,
@@ -31,6 +32,23 @@ pub extern "C" fn wasmi_memory_new(
 }
 
 #[unsafe(no_mangle)]
+pub extern "C" fn wasmi_memory_new_zeroed(
+    memory: &mut MemoryNumbers,
+    region: &[u8],
+    quota: &mut QuotaNumbers,
+) -> u8
+    ensures made { MakesEmbedded (placed memory.old region.now) (limiter_of quota.old) result
+        (placed memory.new (made_over region.now memory.new.size result))
+        (limiter_of quota.new) }
+    ensures quota { KeepsQuota quota.old quota.new }
+    ensures invalid { IsNoType memory.old → quota.new ≡ quota.old }
+    ensures unasked { (ty : MemoryTypeValue) → named_type (settings_of memory.old) ≡ Some ty
+        → 2 ^ 64 ≤ minimum_bytes ty → quota.new ≡ quota.old }
+{
+    on_memory::make_zeroed(memory, region, quota)
+}
+
+#[unsafe(no_mangle)]
 pub extern "C" fn wasmi_memory_grow(
     memory: &mut MemoryNumbers,
     region: &mut [u8],
@@ -49,6 +67,28 @@ pub extern "C" fn wasmi_memory_grow(
         → quota.new ≡ quota.old }
 {
     on_memory::grow(memory, region, pages, meter, quota, number)
+}
+
+#[unsafe(no_mangle)]
+pub extern "C" fn wasmi_memory_grow_zeroed(
+    memory: &mut MemoryNumbers,
+    region: &[u8],
+    pages: u64,
+    meter: &mut MeterNumbers,
+    quota: &mut QuotaNumbers,
+    number: &mut u64,
+) -> u8
+    ensures grown { GrowsBy of_memory quota_rules (by_pages pages)
+        (embedded memory.old region.now meter.old (limiter_of quota.old) number.old) result
+        (embedded memory.new (zeroed region.now memory.old.size memory.new.size) meter.new
+        (limiter_of quota.new) number.new) }
+    ensures quota { KeepsQuota quota.old quota.new }
+    ensures invalid { IsNone of_memory memory.old region.now → quota.new ≡ quota.old }
+    ensures unasked { (ty : MemoryTypeValue) → IsState memory.old region.now ty
+        → (pages ≡ 0) ⊎ (in_bounds ty (memory.old.size / page_bytes ty.page + pages) ≡ false)
+        → quota.new ≡ quota.old }
+{
+    on_memory::grow_zeroed(memory, region, pages, meter, quota, number)
 }
 
 #[unsafe(no_mangle)]

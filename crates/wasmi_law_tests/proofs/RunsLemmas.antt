@@ -294,7 +294,7 @@ other_stays : (tenant other : ℕ) (call : Call) (reply : ReplyStruct) (pool poo
     → TenantReplies tenant call reply pool pool' → machine_of pool' other ≡ machine_of pool other
 unfolding TenantReplies
 other_stays tenant other call reply pool pool' apart (inl refused) =
-    ap (λ p. machine_of p other) refused.1
+    ap (λ p. machine_of p other) refused.2
 other_stays tenant other call reply pool pool' apart (inr (full, run, told)) =
     ap (λ p. machine_of p other) run.after
     ∙ get_or-set_other pool.machines tenant other (Some run.machine') None (λ same. apart (sym same))

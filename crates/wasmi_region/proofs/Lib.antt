@@ -1,3 +1,3 @@
 mod LawsLemmas
-mod MemoryLemmas
+pub mod MemoryLemmas
 mod TableLemmas

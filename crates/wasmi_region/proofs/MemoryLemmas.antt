@@ -2,12 +2,35 @@
 use Rattle.std.proofs.Common.{rules, Option, ◌≡◌, ℕ, ◌+◌, ◌-◌, ◌*◌, ◌/◌, ◌≤◌, List, ◌++◌, Bool, true, false, length, take, drop, replicate, refl, sym, ap, ◌∙◌, arith}
 use Rattle.std.specs.Prelude.{nat_le}
 use Rattle.std.proofs.lemmas.Bool.Decides.{nat_tests}
-use Rattle.std.proofs.lemmas.List.{take_at, drop_at, drop-drop, length-append, length-replicate, length-take-le, length-drop}
+use Rattle.std.proofs.Math.Nat.{sub_self}
+use Rattle.std.proofs.lemmas.List.{take-append-drop, take_at, drop_at, drop-drop, length-append, length-replicate, length-take-le, length-drop}
 use Rattle.wasmi_store.specs.Buffer.{with_zeros, fits_room}
 use Rattle.wasmi_store.specs.Growth.{IsAsked}
 use Rattle.wasmi_store.specs.Memory.{MemoryValue, memory_of, buffer_of, pages_of, growth_of, size_question, MemoryTypeValue, page_bytes, in_bounds, maximum_bytes}
-use Rattle.wasmi_region.specs.Memory.{memory_in}
+use Rattle.wasmi_region.specs.Memory.{memory_in, zeroed}
 use Rattle.wasmi_store.proofs.MemoryLemmas.{growth_asked}
+
+-- a region without a place for zeros is as it was
+pub zeroed_none : (region : List ℕ) (size : ℕ) → zeroed region size size ≡ region
+zeroed_none region size = rw (sub_self size) (search (rules, take-append-drop))
+
+-- zeros within a region leave its length, and what stands past them
+module _ (region : List ℕ) (start end : ℕ) (grows : start ≤ end) (within : end ≤ length region) where
+  abbrev front : List ℕ
+  front = take start region ++ replicate (end - start) 0
+
+  long : length front ≡ end
+  long = let first = length-take-le start region (omega arith) in simp (length-append, length-replicate, first) (omega arith)
+
+  split : zeroed region start end ≡ front ++ drop end region
+  split = search rules
+
+  pub zeroed_rest : drop end (zeroed region start end) ≡ drop end region
+  zeroed_rest = rw split (drop_at front (drop end region) end long)
+
+  pub zeroed_length : length (zeroed region start end) ≡ length region
+  zeroed_length =
+      let left = length-drop end region in rw split (length-append front (drop end region) ∙ omega (arith, long, left))
 
 module _ (ty : MemoryTypeValue) (region : List ℕ) (size : ℕ) (within : size ≤ length region) (pages : ℕ) where
   abbrev x : MemoryValue

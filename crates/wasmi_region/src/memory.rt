@@ -9,7 +9,7 @@ ghost use Rattle.wasmi_store.specs.Buffer.{Lent};
 ghost use Rattle.wasmi_store.specs.Growth.{metered_value, metered};
 ghost use Rattle.wasmi_store.specs.Write.{filled, copied, BulkWrites};
 ghost use Rattle.wasmi_store.specs.Memory.{IsSized, MakesMemory, GrowsMemory, page_bytes, in_bounds, maximum_bytes};
-ghost use Rattle.wasmi_region.specs.Memory.{memory_in, made_in};
+ghost use Rattle.wasmi_region.specs.Memory.{memory_in, made_in, made_in_zeros, zeroed};
 
 use wasmi_meter::{Fuel, MemoryError, ResourceLimiter, ResourceLimiterRef};
 use wasmi_store::MemoryType;
@@ -55,12 +55,33 @@ pub fn make<L: ResourceLimiter>(
     ensures refused { OnErr result (region.new ≡ region.old) }
     ensures len { length region.new ≡ length region.old }
 {
+    let size = make_zeroed(ty, region, limiter)?;
+    fill_range(region, 0, size, 0);
+    Ok(size)
+}
+
+/// Makes a memory as [`make`] does, at the front of a region whose bytes up to the minimum are zeros
+/// already, as fresh pages of the system are. It writes no byte: where they aren't zeros, the
+/// memory has what stands there.
+///
+/// # Errors
+///
+/// Those of [`make`].
+pub fn make_zeroed<L: ResourceLimiter>(
+    ty: MemoryType,
+    region: &[u8],
+    limiter: &mut ResourceLimiterRef<L>,
+) -> Result<usize, MemoryError>
+    ensures loan { KeepsLoan limiter.old limiter.new }
+    ensures made { MakesMemory (optional_rules L.rules) (Lent region.now) ty
+        (lent_limiter limiter.old) (made_in_zeros ty region.now result)
+        (lent_limiter limiter.new) }
+    ensures sized { IfOk result (λ size. IsSized ty size × (size ≤ length region.now)) }
+{
     let size = permitted_minimum(ty, limiter)?;
     if region.len() < size {
         return Err(tell(limiter, MemoryError::InvalidStaticBufferSize, DENIED));
     }
-    let front = &mut region[..size];
-    front.fill(0);
     Ok(size)
 }
 
@@ -71,7 +92,6 @@ pub fn make<L: ResourceLimiter>(
 /// # Errors
 ///
 /// Those of [`wasmi_store::LinearMemory::grow`] on a lent region.
-#[tactic(auto, using(std::proofs::lemmas::Bool::Decides::nat_tests))]
 pub fn grow<L: ResourceLimiter>(
     ty: MemoryType,
     size: &mut usize,
@@ -96,6 +116,44 @@ pub fn grow<L: ResourceLimiter>(
     ensures size { OnErr result (size.new ≡ size.old) }
 {
     let old_size = *size;
+    let old_pages = grow_zeroed(ty, size, region, additional, fuel, limiter)?;
+    fill_range(region, old_size, *size, 0);
+    Ok(old_pages)
+}
+
+/// Grows a memory as [`grow`] does, into bytes of the region that are zeros already, as fresh pages
+/// of the system are. It writes no byte: where they aren't zeros, the memory has what stands there.
+///
+/// # Errors
+///
+/// Those of [`grow`].
+#[tactic(auto, using(std::proofs::lemmas::Bool::Decides::nat_tests))]
+pub fn grow_zeroed<L: ResourceLimiter>(
+    ty: MemoryType,
+    size: &mut usize,
+    region: &[u8],
+    additional: u64,
+    fuel: &mut Fuel,
+    limiter: &mut ResourceLimiterRef<L>,
+) -> Result<u64, MemoryError>
+    requires sized { IsSized ty size.old }
+    requires within { size.old ≤ length region.now }
+    ensures loan { KeepsLoan limiter.old limiter.new }
+    ensures grown { GrowsMemory (optional_rules L.rules) additional
+        (metered_value (memory_in ty region.now size.old) (Some fuel.old)
+        (lent_limiter limiter.old)) result
+        (metered_value (memory_in ty (zeroed region.now size.old size.new) size.new)
+        (Some fuel.new) (lent_limiter limiter.new)) }
+    ensures sized { IsSized ty size.new }
+    ensures within { size.new ≤ length region.now }
+    ensures larger { size.old ≤ size.new }
+    ensures len { length (zeroed region.now size.old size.new) ≡ length region.now }
+    ensures rest { drop size.new (zeroed region.now size.old size.new)
+        ≡ drop size.new region.now }
+    ensures refused { OnErr result (zeroed region.now size.old size.new ≡ region.now) }
+    ensures size { OnErr result (size.new ≡ size.old) }
+{
+    let old_size = *size;
     let old_pages = ty.pages_in(old_size);
     if additional == 0 {
         return Ok(old_pages);
@@ -106,7 +164,6 @@ pub fn grow<L: ResourceLimiter>(
     let maximum = ty.maximum_size();
     let has_room = new_size <= region.len();
     decide_growth(old_size, new_size, maximum, has_room, fuel, limiter)?;
-    fill_range(region, old_size, new_size, 0);
     *size = new_size;
     Ok(old_pages)
 }

@@ -1,9 +1,9 @@
 //! Handlers of calls and returns within an instance.
 
-use crate::body::{Instruction, TYPE_BITS};
+use crate::body::{Instruction, Lazy, TYPE_BITS};
 use crate::execute::Exit;
 use crate::execute::handlers::{LAST, Way, control, or_trap};
-use crate::execute::state::{END, Outcome, Slots, State, next};
+use crate::execute::state::{Outcome, Slots, State, end, next, trapped};
 use crate::library::{RawVal, TrapCode};
 use crate::stack::{Frame, SLOTS};
 
@@ -30,10 +30,10 @@ control! { call_indirect |code, op, slots, state, last| match or_trap!(callee(op
     Err(exit) => leave(exit, code, state),
 } }
 
-control! { return_call |code, op, slots, state, last| replace(op.imm, op, slots, state) }
+control! { return_call |code, op, slots, state, last| replace(op.imm, code, op, slots, state) }
 
 control! { return_call_indirect |code, op, slots, state, last| match or_trap!(callee(op, slots, state)) {
-    Ok(callee) => replace(callee, op, slots, state),
+    Ok(callee) => replace(callee, code, op, slots, state),
     Err(exit) => leave(exit, code, state),
 } }
 
@@ -46,10 +46,17 @@ fn leave<'a>(exit: Exit, code: &'a [Instruction], state: &mut State<'a>) -> Outc
 
 /// Goes on in another function, whose frame takes the place of the present one.
 #[inline(always)]
-fn replace<'a>(callee: u32, op: &'a Instruction, slots: Slots<'a>, state: &mut State<'a>) -> Outcome {
-    let Some(body) = state.bodies.get(callee as usize) else { return END };
+fn replace<'a>(
+    callee: u32,
+    code: &'a [Instruction],
+    op: &'a Instruction,
+    slots: Slots<'a>,
+    state: &mut State<'a>,
+) -> Outcome {
+    let Some(lazy) = state.bodies.get(callee as usize) else { return end() };
+    let Some(body) = lazy.made() else { return make(code, slots, state, callee) };
     if state.frame.base + body.slots + SLOTS > state.values.len() {
-        return Outcome::Trap(TrapCode::StackOverflow);
+        return trapped(TrapCode::StackOverflow);
     }
     slots.copy(0, op.a, body.params);
     state.frame = Frame { function: callee as usize, next: 0, ..state.frame };
@@ -63,9 +70,9 @@ fn back<'a>(state: &mut State<'a>, last: u64) -> Outcome {
     if state.frames.len() == state.floor {
         return Outcome::Exit;
     }
-    let Some(frame) = state.frames.pop() else { return END };
-    let Some(body) = state.bodies.get(frame.function) else { return END };
-    let Some(slots) = Slots::at(state.values, frame.base) else { return END };
+    let Some(frame) = state.frames.pop() else { return end() };
+    let Some(body) = state.bodies.get(frame.function).and_then(Lazy::made) else { return end() };
+    let Some(slots) = Slots::at(state.values, frame.base) else { return end() };
     (state.frame, state.body) = (frame, body);
     next(body.code.get(frame.next..).unwrap_or_default(), slots, state, last)
 }
@@ -102,19 +109,28 @@ fn enter<'a>(
     slots: Slots<'a>,
     state: &mut State<'a>,
 ) -> Outcome {
-    let Some(body) = state.bodies.get(callee as usize) else { return END };
+    let Some(lazy) = state.bodies.get(callee as usize) else { return end() };
+    let Some(body) = lazy.made() else { return make(code, slots, state, callee) };
     let base = state.frame.base + usize::from(op.a);
     if state.frames.len() >= state.calls || base + body.slots + SLOTS > state.values.len() {
-        return Outcome::Trap(TrapCode::StackOverflow);
+        return trapped(TrapCode::StackOverflow);
     }
     if state.frames.len() == state.frames.capacity() {
         return grow(code, slots, state, 0);
     }
-    let Some(slots) = Slots::at(state.values, base) else { return END };
+    let Some(slots) = Slots::at(state.values, base) else { return end() };
     state.frames.push(Frame { next: state.place_of(code) + 1, ..state.frame });
     state.frame = Frame { function: callee as usize, next: 0, base };
     state.body = body;
     next(&body.code, slots, state, 0)
+}
+
+/// Makes what is executed of a function, and repeats the call.
+#[cold]
+#[inline(never)]
+fn make<'a>(code: &'a [Instruction], slots: Slots<'a>, state: &mut State<'a>, callee: u32) -> Outcome {
+    state.bodies[callee as usize].body(state.module.config);
+    next(code, slots, state, 0)
 }
 
 /// Makes room for more frames, and repeats the call.

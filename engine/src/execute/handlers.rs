@@ -4,7 +4,7 @@
 //! handed over. A handler is made for each way that occurs.
 
 use crate::body::Instruction;
-use crate::execute::state::{END, Handler, Outcome, Slots, State, next};
+use crate::execute::state::{Handler, Outcome, Slots, State, end, next};
 use crate::execute::{of_library, own};
 use crate::instructions::Code;
 use crate::library::{RawVal, ReadAs, V128, WriteAs};
@@ -72,7 +72,7 @@ macro_rules! handler {
             $state: &mut State<'a>,
             $last: u64,
         ) -> Outcome {
-            let [$op, _, ..] = code else { return END };
+            let [$op, _, ..] = code else { return end() };
             let last = $body;
             next(&code[1..], $slots, $state, last)
         }
@@ -89,7 +89,7 @@ macro_rules! control {
             $state: &mut State<'a>,
             $last: u64,
         ) -> Outcome {
-            let [$op, ..] = $code else { return END };
+            let [$op, ..] = $code else { return end() };
             $body
         }
     };
@@ -99,7 +99,7 @@ macro_rules! or_trap {
     ($it:expr) => {
         match $it {
             Ok(it) => it,
-            Err(trap) => return Outcome::Trap(trap),
+            Err(trap) => return trapped(trap),
         }
     };
 }
@@ -113,7 +113,7 @@ pub(super) fn branch_to<'a>(
     state: &mut State<'a>,
     last: u64,
 ) -> Outcome {
-    let [op, rest @ ..] = code else { return END };
+    let [op, rest @ ..] = code else { return end() };
     if is_taken { next(state.code(op.imm), slots, state, last) } else { next(rest, slots, state, last) }
 }
 

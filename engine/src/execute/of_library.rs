@@ -2,7 +2,7 @@
 
 use crate::body::Instruction;
 use crate::execute::handlers::{IMM, LAST, SLOT, Value, Way, branch_to, control, handler, or_trap, ways};
-use crate::execute::state::{END, Handler, Outcome, Slots, State, next};
+use crate::execute::state::{Handler, Outcome, Slots, State, end, next, trapped};
 use crate::instructions::{Code, instructions};
 use crate::library::{TrapCode, V128};
 
@@ -28,6 +28,13 @@ fn address_sum<const A: Way>(op: &Instruction, slots: Slots, last: u64) -> u64 {
 fn address_moved<const A: Way>(op: &Instruction, slots: Slots, last: u64) -> u64 {
     let a = Value::read::<A>(op.a, 0, slots, last);
     library::i32_add(a, op.low().cast_signed().into()).cast_unsigned().into()
+}
+
+/// Refuses an access at a sum of 32 bits whose bytes aren't all there. What the library tests follows from this, and the
+/// compiler leaves it out.
+#[inline(always)]
+fn bounded<const WIDTH: u64>(bytes: &[u8], address: u64, offset: u16) -> Result<(), TrapCode> {
+    if address + u64::from(offset) + WIDTH > bytes.len() as u64 { Err(TrapCode::MemoryOutOfBounds) } else { Ok(()) }
 }
 
 #[inline(always)]
@@ -120,15 +127,17 @@ macro_rules! branch {
 
 /// Loads and stores whose address is computed.
 macro_rules! accesses {
-    ($module:ident, $address:ident, { $($l:ident $lt:ident),* } { $($s:ident $st:ident),* }) => {
+    ($module:ident, $address:ident, { $($l:ident $lt:ident $lw:literal),* } { $($s:ident $st:ident $sw:literal),* }) => {
         mod $module {
             use super::*;
             $(handler!($l<TO, A> |op, slots, state, last| {
                 let address = $address::<A>(op, slots, last);
+                or_trap!(bounded::<$lw>(state.bytes, address, op.high()));
                 loaded!($l, TO, state.bytes, address, op.high().into(), op.d, slots)
             });)*
             $(handler!($s<B, A> |op, slots, state, last| {
                 let address = $address::<A>(op, slots, last);
+                or_trap!(bounded::<$sw>(state.bytes, address, op.high()));
                 or_trap!(library::$s(state.bytes, address, op.high().into(), slots.get(op.d)));
                 last
             });)*
@@ -228,8 +237,8 @@ macro_rules! handlers {
             }
         }
 
-        accesses!(sums, address_sum, { $($($l $lt),*),* } { $($($s $st),*),* });
-        accesses!(moves, address_moved, { $($($l $lt),*),* } { $($($s $st),*),* });
+        accesses!(sums, address_sum, { $($($l $lt $lw),*),* } { $($($s $st $sw),*),* });
+        accesses!(moves, address_moved, { $($($l $lt $lw),*),* } { $($($s $st $sw),*),* });
 
         /// Branches that compute what they depend on.
         mod branches {

@@ -4,7 +4,7 @@ use crate::body::Instruction;
 use crate::execute::Exit;
 use crate::execute::calls::{call, call_indirect, ret, ret_many, ret_one, return_call, return_call_indirect};
 use crate::execute::handlers::{LAST, SLOT, Value, Way, branch_to, control, handler, or_trap, ways};
-use crate::execute::state::{END, Handler, Outcome, Slots, State, next};
+use crate::execute::state::{Handler, Outcome, Slots, State, end, next, trapped};
 use crate::instructions::Code;
 use crate::library::{RawVal, ReadAs, TrapCode, TypedRawVal, simd, wasm};
 
@@ -161,7 +161,7 @@ handler! { shuffle |op, slots, state, last| {
 
 handler! { global_get<TO> |op, slots, state, last| {
     let (numbers, globals) = &state.globals;
-    let Some(global) = numbers.get(op.imm as usize).and_then(|it| globals.get(*it)) else { return END };
+    let Some(global) = numbers.get(op.imm as usize).and_then(|it| globals.get(*it)) else { return end() };
     let value = *global.get_raw();
     if TO == SLOT {
         slots.set(op.d, value);
@@ -171,7 +171,7 @@ handler! { global_get<TO> |op, slots, state, last| {
 
 handler! { global_set |op, slots, state, last| {
     let (numbers, globals) = &mut state.globals;
-    let Some(global) = numbers.get(op.imm as usize).and_then(|it| globals.get_mut(*it)) else { return END };
+    let Some(global) = numbers.get(op.imm as usize).and_then(|it| globals.get_mut(*it)) else { return end() };
     let value = TypedRawVal::new(global.ty().content(), slots.get(op.a));
     or_trap!(global.set(value).map_err(|_| TrapCode::UnreachableCodeReached));
     last
@@ -207,7 +207,7 @@ control! { fuel |code, op, slots, state, last| {
     next(code.get(1..).unwrap_or_default(), slots, state, last)
 } }
 
-control! { unreachable |code, op, slots, state, last| Outcome::Trap(TrapCode::UnreachableCodeReached) }
+control! { unreachable |code, op, slots, state, last| end() }
 control! { branch |code, op, slots, state, last| next(state.code(op.imm), slots, state, last) }
 
 control! { branch_if<UNLESS, A> |code, op, slots, state, last| {

@@ -1,7 +1,7 @@
 //! What handlers share, and how one hands over to the next.
 
 use crate::arena::Arena;
-use crate::body::{Body, Instruction};
+use crate::body::{Body, Instruction, Lazy};
 use crate::execute::Exit;
 use crate::library::{Fuel, Global, RawRef, RawVal, ReadAs, Table, TrapCode, WriteAs};
 use crate::module::Module;
@@ -95,7 +95,7 @@ pub(crate) struct State<'a> {
     /// How many there may be.
     pub calls: usize,
     pub module: &'a Module,
-    pub bodies: &'a [Body],
+    pub bodies: &'a [Lazy],
     /// The reference of the first function.
     pub first: u32,
     pub fuel: &'a mut Fuel,
@@ -126,8 +126,18 @@ pub(crate) enum Outcome {
 /// handlers share, and the last result.
 pub(crate) type Handler = for<'a> fn(&'a [Instruction], Slots<'a>, &mut State<'a>, u64) -> Outcome;
 
+/// The outcome of a trap. It is made apart, so that a handler does nothing for it in advance.
+#[cold]
+#[inline(never)]
+pub(crate) fn trapped(trap: TrapCode) -> Outcome {
+    Outcome::Trap(std::hint::black_box(trap))
+}
+
 /// Code never ends without an instruction that leads elsewhere.
-pub(crate) const END: Outcome = Outcome::Trap(TrapCode::UnreachableCodeReached);
+#[inline(always)]
+pub(crate) fn end() -> Outcome {
+    trapped(TrapCode::UnreachableCodeReached)
+}
 
 /// Executes the first of these instructions and those that follow. It comes last in a handler, so that it is a jump.
 #[cfg(all(jumps, not(debug_assertions)))]
@@ -135,7 +145,7 @@ pub(crate) const END: Outcome = Outcome::Trap(TrapCode::UnreachableCodeReached);
 pub(crate) fn next<'a>(code: &'a [Instruction], slots: Slots<'a>, state: &mut State<'a>, last: u64) -> Outcome {
     match code {
         [op, ..] => (op.handler)(code, slots, state, last),
-        [] => END,
+        [] => end(),
     }
 }
 
@@ -160,7 +170,7 @@ impl<'a> State<'a> {
         self.place = (code, slots, 0);
         loop {
             let (code, slots, last) = self.place;
-            let Some(op) = code.first() else { return END };
+            let Some(op) = code.first() else { return end() };
             match (op.handler)(code, slots, self, last) {
                 Outcome::Next => {}
                 outcome => return outcome,

@@ -79,11 +79,11 @@ fn body(code: Code, shape: Shape, handler: Handler, count: u32) -> Body {
 
 /// The height of the stack after a function, if the probe was reached.
 fn height(body: Body) -> Option<usize> {
-    let module = Module { code: vec![body], ..Module::default() };
+    let module = Module { code: vec![body.into()], ..Module::default() };
     let mut values = vec![RawVal::from(8_u64); SLOTS];
     let values = Cell::from_mut(&mut values[..]).as_slice_of_cells();
     let slots = Slots::at(values, 0).unwrap();
-    let body = &module.code[0];
+    let body = module.code[0].made().unwrap();
     let mut state = State {
         bytes: &mut vec![0; 1 << 18],
         body,
@@ -109,7 +109,7 @@ fn height(body: Body) -> Option<usize> {
 #[test]
 fn handlers_take_no_stack() {
     let opcodes = (0..0x100).chain(0xfc000..0xfc020).chain(0xfd000..0xfd120);
-    let codes = opcodes.filter_map(|it| instructions::row(it).map(|(code, _)| code)).chain(OWN);
+    let codes = opcodes.filter_map(|it| instructions::row(it).map(|(code, _)| *code)).chain(OWN);
     let (mut count, mut found) = (0, vec![]);
     for code in codes {
         for shape in [Shape::Plain, Shape::Sum, Shape::Moved, Shape::Branch] {

@@ -39,10 +39,15 @@ impl Draft {
 }
 
 impl Lowering<'_> {
+    /// Whether a slot is one of constants.
+    fn is_constant(&self, slot: u16) -> bool {
+        (self.first[0]..self.first[1]).contains(&slot)
+    }
+
     /// The slot of an operand. A constant gets one when it is first read.
     fn slot(&mut self, slot: u16) -> u16 {
-        let [constants, operands] = self.first;
-        if !(constants..operands).contains(&slot) {
+        let [constants, _] = self.first;
+        if !self.is_constant(slot) {
             return slot;
         }
         let index = usize::from(slot - constants);
@@ -54,11 +59,13 @@ impl Lowering<'_> {
     }
 
     pub fn encode(&mut self, draft: Draft) -> Instruction {
-        let [is_a, is_b, is_c] = draft.reads();
         let mut op = draft.op;
-        for (slot, is_read) in [(&mut op.a, is_a), (&mut op.b, is_b), (&mut op.c, is_c)] {
-            if is_read {
-                *slot = self.slot(*slot);
+        if [op.a, op.b, op.c].iter().any(|it| self.is_constant(*it)) {
+            let [is_a, is_b, is_c] = draft.reads();
+            for (slot, is_read) in [(&mut op.a, is_a), (&mut op.b, is_b), (&mut op.c, is_c)] {
+                if is_read {
+                    *slot = self.slot(*slot);
+                }
             }
         }
         let handler = draft.handler().unwrap_or(LEAVE);

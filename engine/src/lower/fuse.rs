@@ -98,8 +98,7 @@ impl Lowering<'_> {
             None => match test.filter(|it| it.op.code == Code::i32_eqz) {
                 Some(test) => {
                     let op = Op { code: Code::i32_ne, d: draft.op.d, imm: 0, ..test.op };
-                    self.last =
-                        Some(Draft { facts: op.code.facts(), op, shape: Shape::Plain, way: [SLOT, test.way[1], IMM] });
+                    self.last = Some(Draft { way: [SLOT, test.way[1], IMM], ..Draft::new(op) });
                 }
                 None => self.push_using(draft, 1, draft.op.a),
             },
@@ -185,7 +184,7 @@ impl Lowering<'_> {
         };
         let [a, c] = operands;
         let draft = Draft { op: Op { a, c, ..draft.op }, shape, way: [SLOT, way, SLOT], ..draft };
-        draft.handler().filter(|_| is_sum && fits).map(|_| draft)
+        draft.checked().filter(|_| is_sum && fits)
     }
 
     pub fn copy(&mut self, draft: Draft) {
@@ -217,7 +216,7 @@ impl Lowering<'_> {
     pub fn branch_if(&mut self, mut draft: Draft, unless: Way) {
         draft.way[0] = unless;
         let test = self.only_use(draft.op.a).filter(|it| it.shape == Shape::Plain);
-        let fused = test.and_then(|test| with_test(draft, test)).filter(|it| it.handler().is_some());
+        let fused = test.and_then(|test| with_test(draft, test)).and_then(Draft::checked);
         let fused = fused.or_else(|| self.with_count(draft));
         match fused {
             Some(fused) => self.last = Some(fused),
@@ -277,7 +276,7 @@ fn with_test(branch: Draft, test: Draft) -> Option<Draft> {
     let imm = branch.op.imm;
     let fused = |code, b, way| {
         let op = Op { code, b, imm, ..test.op };
-        Some(Draft { op, facts: Facts::NONE, shape: Shape::Branch, way })
+        Some(Draft { facts: Facts::NONE, shape: Shape::Branch, way, ..Draft::new(op) })
     };
     match test.op.code {
         Code::i32_eqz => {

@@ -22,6 +22,9 @@ mod docs;
 #[macro_use]
 #[path = "../../src/examples.rs"]
 mod examples;
+#[macro_use]
+#[path = "../../src/forms.rs"]
+mod forms;
 
 mod by_hand;
 #[allow(

@@ -345,6 +345,37 @@ mod pool {
             Ok(replies)
         }
 
+        /// Executes one call on the machine of a tenant, as `run` executes a list of it alone. It takes
+        /// no memory for the reply. It costs a search among the indices of the tenants, none where no
+        /// tenant before this one was removed, and what the call costs.
+        ///
+        /// # Errors
+        ///
+        /// [`NoTenant`](crate::pool::PoolError::NoTenant) if no tenant has the index, and no other. Then no call was executed.
+        ///
+        /// # Contract
+        ///
+        /// ```text
+        /// ensures ran: IfOk result
+        ///     (λ reply. RunsTenant self.old index (call.now ∷ []) (reply ∷ []) self.new)
+        /// ensures refused: IfErr result (λ error. (error ≡ PoolError.NoTenant)
+        ///     × (machine_of self.old index ≡ None) × (self.new ≡ self.old))
+        /// ensures within: IsWithinCaps self.new
+        /// ```
+        ///
+        /// Definitions: [`RunsTenant`](crate::specs::budget::PoolSpecs#RunsTenant), [`machine_of`](crate::specs::budget::PoolSpecs#machine_of), [`IsWithinCaps`](crate::specs::budget::PoolSpecs#IsWithinCaps).
+        #[inline(always)]
+        pub fn step(&mut self, index: usize, call: &Call) -> Result<Reply, PoolError> {
+            let Some(mut tenant) = self.tenant(index) else {
+                return Err(PoolError::NoTenant);
+            };
+            let Some(reply) = self.tenants.step(index, call, &mut tenant) else {
+                return Err(PoolError::NoTenant);
+            };
+            self.held_by_all = tenant.held_by_all();
+            Ok(reply)
+        }
+
         /// The machine of a tenant, if one has the index.
         ///
         /// # Contract
@@ -570,6 +601,42 @@ mod tenant {
             self.held = tenant.holdings.held();
             Ok(replies)
         }
+
+        /// Executes one call, as `run` executes each of a list. It takes no memory for the reply.
+        ///
+        /// # Contract
+        ///
+        /// ```text
+        /// requires totals: HoldsTotals (holdings tenant.old) self.old
+        /// ensures run: IsRunOf (optional_rules tenant_rules) (call.now ∷ [])
+        ///     (world self.old (Some tenant.old)) (result ∷ []) (world self.new (Some tenant.new))
+        /// ensures held: HoldsTotals (holdings tenant.new) self.new
+        /// ```
+        ///
+        /// Definitions: [`HoldsTotals`](crate::specs::machine::StateSpecs#HoldsTotals), [`holdings`](crate::specs::budget::PoolSpecs#holdings), [`IsRunOf`](crate::specs::machine::StepsSpecs#IsRunOf), [`optional_rules`](crate::specs::meter::LimiterSpecs#optional_rules), [`tenant_rules`](crate::specs::budget::PoolSpecs#tenant_rules), [`world`](crate::specs::machine::StateSpecs#world).
+        #[inline(always)]
+        pub(crate) fn step(&mut self, call: &Call, tenant: &mut Tenant) -> Reply {
+            let reply = step_holding(&mut self.machine, call, tenant);
+            self.held = tenant.holdings.held();
+            reply
+        }
+    }
+
+    /// Executes one call under a tenant that holds what the machine has, and does so again afterwards.
+    ///
+    /// # Contract
+    ///
+    /// ```text
+    /// requires totals: HoldsTotals (holdings tenant.old) machine.old
+    /// ensures run: IsRunOf (optional_rules tenant_rules) (call.now ∷ [])
+    ///     (world machine.old (Some tenant.old)) (result ∷ []) (world machine.new (Some tenant.new))
+    /// ensures held: HoldsTotals (holdings tenant.new) machine.new
+    /// ```
+    ///
+    /// Definitions: [`HoldsTotals`](crate::specs::machine::StateSpecs#HoldsTotals), [`holdings`](crate::specs::budget::PoolSpecs#holdings), [`IsRunOf`](crate::specs::machine::StepsSpecs#IsRunOf), [`optional_rules`](crate::specs::meter::LimiterSpecs#optional_rules), [`tenant_rules`](crate::specs::budget::PoolSpecs#tenant_rules), [`world`](crate::specs::machine::StateSpecs#world).
+    #[inline(always)]
+    fn step_holding(machine: &mut Machine, call: &Call, tenant: &mut Tenant) -> Reply {
+        machine.step_lending(call, tenant)
     }
 }
 mod tenants {
@@ -580,7 +647,8 @@ mod tenants {
     use crate::proved::machine::{Call, Reply};
     use crate::rattle::Vec;
 
-    /// The place of an index among rising ones, if it is one of them.
+    /// The place of an index among rising ones, if it is one of them. It is found without a search
+    /// where no machine before it was removed.
     ///
     /// # Contract
     ///
@@ -590,8 +658,11 @@ mod tenants {
     /// ```
     ///
     /// Definitions: [`Rises`](crate::specs::budget::TenantsSpecs#Rises), [`IsPlace`](crate::specs::budget::TenantsSpecs#IsPlace).
-    #[inline]
+    #[inline(always)]
     fn place_of(indices: &[usize], index: usize) -> Option<usize> {
+        if index < indices.len() && indices[index] == index {
+            return Some(index);
+        }
         indices.binary_search(&index).ok()
     }
 
@@ -731,6 +802,33 @@ mod tenants {
             let machine = &mut self.machines[place];
             let replies = machine.run(calls, tenant)?;
             Ok(replies)
+        }
+
+        /// Executes one call on the machine at an index, if there is one, under a tenant that holds
+        /// what the machine has.
+        ///
+        /// # Contract
+        ///
+        /// ```text
+        /// requires totals: (s : State) → slice_index_or self.old index None ≡ Some s
+        ///     → HoldsTotals (holdings tenant.old) s
+        /// ensures stepped: MatchOption result
+        ///     ((slice_index_or self.old index None ≡ None) × (self.new ≡ self.old)
+        ///     × (tenant.new ≡ tenant.old))
+        ///     (λ reply. RunsMachine self.old index tenant.old (call.now ∷ []) (reply ∷ []) self.new
+        ///     tenant.new)
+        /// ```
+        ///
+        /// Definitions: [`State`](crate::specs::machine::StateSpecs#State), [`HoldsTotals`](crate::specs::machine::StateSpecs#HoldsTotals), [`holdings`](crate::specs::budget::PoolSpecs#holdings), [`RunsMachine`](crate::specs::budget::PoolSpecs#RunsMachine).
+        #[inline(always)]
+        pub(crate) fn step(
+            &mut self,
+            index: usize,
+            call: &Call,
+            tenant: &mut Tenant,
+        ) -> Option<Reply> {
+            let place = place_of(&self.indices, index)?;
+            Some(self.machines[place].step(call, tenant))
         }
     }
 }

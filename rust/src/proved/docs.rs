@@ -1,4 +1,4 @@
-//! The docs of proved items, by the module and the item.
+//! The docs of proved items, by the module and the item, and methods that pass on to them.
 macro_rules! docs {
     (lanewise i16x8_extract_lane_s) => { r####"One lane, read signed.
 
@@ -109,6 +109,68 @@ ensures: result ≡ vector.shuffle a b s
 ```
 
 Definitions: [`shuffle`](crate::specs::lanewise::VectorTableSpecs#shuffle).
+"#### };
+    (meter ResourceLimiter.memory_grow_failed) => { r####"A memory was permitted to grow and did not, because of this error. After `Ok(())` the call
+returns this error.
+
+# Errors
+
+An implementation's own. The call then returns `ResourceLimiterDeniedAllocation`.
+
+# Contract
+
+```text
+ensures: rules.noticed self.old (MemoryFailure error.now) result self.new
+```
+
+Definitions: [`MemoryFailure`](crate::specs::meter::LimiterSpecs#MemoryFailure).
+"#### };
+    (meter ResourceLimiter.memory_growing) => { r####"May a memory grow from `current` to `desired` bytes? `maximum`, in bytes, is the most that
+its type allows. `Ok(true)` permits; `Ok(false)` and `Err` deny.
+
+# Errors
+
+An implementation's own. The call then returns `ResourceLimiterDeniedAllocation`.
+
+# Contract
+
+```text
+requires grows: current ≤ desired
+ensures asked: rules.asked self.old
+    (record { kind = Bytes; current = current; desired = desired; maximum = maximum })
+    result self.new
+```
+"#### };
+    (meter ResourceLimiter.table_grow_failed) => { r####"A table was permitted to grow and did not, because of this error. After `Ok(())` the call
+returns this error.
+
+# Errors
+
+An implementation's own. The call then returns `ResourceLimiterDeniedAllocation`.
+
+# Contract
+
+```text
+ensures: rules.noticed self.old (TableFailure error.now) result self.new
+```
+
+Definitions: [`TableFailure`](crate::specs::meter::LimiterSpecs#TableFailure).
+"#### };
+    (meter ResourceLimiter.table_growing) => { r####"May a table grow from `current` to `desired` elements? `maximum` is the most that its type
+allows. `Ok(true)` permits; `Ok(false)` and `Err` deny.
+
+# Errors
+
+An implementation's own. The call then returns `ResourceLimiterDeniedAllocation`.
+
+# Contract
+
+```text
+requires grows: current ≤ desired
+ensures asked: rules.asked self.old
+    (record { kind = Elements; current = current; desired = desired; maximum = maximum })
+    result self.new
+```
 "#### };
     (store ElementSegment.as_ref) => { r####"A shared reference to the segment.
 
@@ -1040,6 +1102,332 @@ Definitions: [`IsStore`](crate::specs::accesses::LoadStoreSpecs#IsStore), [`le_b
 "#### };
 }
 
+/// Functions of a type that pass on to those of the proved one, `Proved`, which is its field `0`.
+macro_rules! methods {
+    ($part:ident $item:ident: $($name:ident)*) => { $(methods! { $part $item $name })* };
+    (store ElementSegment as_ref) => {
+        #[doc = docs!(store ElementSegment.as_ref)]
+        #[must_use]
+        #[inline]
+        pub fn as_ref(&self) -> ElementSegmentRef<'_> {
+            self.0.as_ref()
+        }
+    };
+    (store ElementSegment drop_items) => {
+        #[doc = docs!(store ElementSegment.drop_items)]
+        #[doc(alias = "elem.drop")]
+        #[inline]
+        pub fn drop_items(&mut self) {
+            self.0.drop_items()
+        }
+    };
+    (store ElementSegment items) => {
+        #[doc = docs!(store ElementSegment.items)]
+        #[must_use]
+        #[inline]
+        pub fn items(&self) -> &[RawRef] {
+            self.0.items()
+        }
+    };
+    (store ElementSegment size) => {
+        #[doc = docs!(store ElementSegment.size)]
+        #[must_use]
+        #[inline]
+        pub fn size(&self) -> u32 {
+            self.0.size()
+        }
+    };
+    (store ElementSegment ty) => {
+        #[doc = docs!(store ElementSegment.ty)]
+        #[must_use]
+        #[inline]
+        pub fn ty(&self) -> RefType {
+            self.0.ty()
+        }
+    };
+    (store LinearMemory copy) => {
+        #[doc = docs!(store LinearMemory.copy)]
+        #[doc(alias = "memory.copy")]
+        #[inline]
+        pub fn copy(dst_memory: &mut Self, dst: u64, src_memory: &Self, src: u64, len: u64, fuel: Option<&mut Fuel>) -> Result<(), MemoryError> {
+            Proved::copy(&mut dst_memory.0, dst, &src_memory.0, src, len, fuel)
+        }
+    };
+    (store LinearMemory copy_within) => {
+        #[doc = docs!(store LinearMemory.copy_within)]
+        #[doc(alias = "memory.copy")]
+        #[inline]
+        pub fn copy_within(&mut self, dst: u64, src: u64, len: u64, fuel: Option<&mut Fuel>) -> Result<(), MemoryError> {
+            self.0.copy_within(dst, src, len, fuel)
+        }
+    };
+    (store LinearMemory data) => {
+        #[doc = docs!(store LinearMemory.data)]
+        #[must_use]
+        #[inline]
+        pub fn data(&self) -> &[u8] {
+            self.0.data()
+        }
+    };
+    (store LinearMemory data_mut) => {
+        #[doc = docs!(store LinearMemory.data_mut)]
+        #[inline]
+        pub fn data_mut(&mut self) -> &mut [u8] {
+            self.0.data_mut()
+        }
+    };
+    (store LinearMemory data_size) => {
+        #[doc = docs!(store LinearMemory.data_size)]
+        #[must_use]
+        #[inline]
+        pub fn data_size(&self) -> usize {
+            self.0.data_size()
+        }
+    };
+    (store LinearMemory dynamic_ty) => {
+        #[doc = docs!(store LinearMemory.dynamic_ty)]
+        #[must_use]
+        #[inline]
+        pub fn dynamic_ty(&self) -> MemoryType {
+            self.0.dynamic_ty()
+        }
+    };
+    (store LinearMemory fill) => {
+        #[doc = docs!(store LinearMemory.fill)]
+        #[doc(alias = "memory.fill")]
+        #[inline]
+        pub fn fill(&mut self, dst: u64, value: u8, len: u64, fuel: Option<&mut Fuel>) -> Result<(), MemoryError> {
+            self.0.fill(dst, value, len, fuel)
+        }
+    };
+    (store LinearMemory grow) => {
+        #[doc = docs!(store LinearMemory.grow)]
+        #[doc(alias = "memory.grow")]
+        #[inline]
+        pub fn grow(&mut self, additional: u64, fuel: Option<&mut Fuel>, limiter: &mut ResourceLimiterRef<'_>) -> Result<u64, MemoryError> {
+            with!(limiter => self.0.grow(additional, fuel, limiter))
+        }
+    };
+    (store LinearMemory init) => {
+        #[doc = docs!(store LinearMemory.init)]
+        #[doc(alias = "memory.init")]
+        #[inline]
+        pub fn init(&mut self, segment: &[u8], dst: u64, src: u32, len: u32, fuel: Option<&mut Fuel>) -> Result<(), MemoryError> {
+            self.0.init(segment, dst, src, len, fuel)
+        }
+    };
+    (store LinearMemory new) => {
+        #[doc = docs!(store LinearMemory.new)]
+        #[inline]
+        pub fn new(ty: MemoryType, limiter: &mut ResourceLimiterRef<'_>) -> Result<Self, MemoryError> {
+            with!(limiter => Proved::new(ty, limiter)).map(Self)
+        }
+    };
+    (store LinearMemory new_static) => {
+        #[doc = docs!(store LinearMemory.new_static)]
+        #[inline]
+        pub fn new_static(ty: MemoryType, limiter: &mut ResourceLimiterRef<'_>, region: &'static mut [u8]) -> Result<Self, MemoryError> {
+            with!(limiter => Proved::new_static(ty, limiter, region)).map(Self)
+        }
+    };
+    (store LinearMemory read) => {
+        #[doc = docs!(store LinearMemory.read)]
+        #[inline]
+        pub fn read(&self, offset: usize, buffer: &mut [u8]) -> Result<(), MemoryError> {
+            self.0.read(offset, buffer)
+        }
+    };
+    (store LinearMemory size) => {
+        #[doc = docs!(store LinearMemory.size)]
+        #[doc(alias = "memory.size")]
+        #[must_use]
+        #[inline]
+        pub fn size(&self) -> u64 {
+            self.0.size()
+        }
+    };
+    (store LinearMemory ty) => {
+        #[doc = docs!(store LinearMemory.ty)]
+        #[must_use]
+        #[inline]
+        pub fn ty(&self) -> MemoryType {
+            self.0.ty()
+        }
+    };
+    (store LinearMemory write) => {
+        #[doc = docs!(store LinearMemory.write)]
+        #[inline]
+        pub fn write(&mut self, offset: usize, buffer: &[u8]) -> Result<(), MemoryError> {
+            self.0.write(offset, buffer)
+        }
+    };
+    (store Table copy) => {
+        #[doc = docs!(store Table.copy)]
+        #[doc(alias = "table.copy")]
+        #[inline]
+        pub fn copy(dst_table: &mut Self, dst: u64, src_table: &Self, src: u64, len: u64, fuel: Option<&mut Fuel>) -> Result<(), TableError> {
+            Proved::copy(&mut dst_table.0, dst, &src_table.0, src, len, fuel)
+        }
+    };
+    (store Table copy_within) => {
+        #[doc = docs!(store Table.copy_within)]
+        #[inline]
+        pub fn copy_within(&mut self, dst: u64, src: u64, len: u64, fuel: Option<&mut Fuel>) -> Result<(), TableError> {
+            self.0.copy_within(dst, src, len, fuel)
+        }
+    };
+    (store Table dynamic_ty) => {
+        #[doc = docs!(store Table.dynamic_ty)]
+        #[must_use]
+        #[inline]
+        pub fn dynamic_ty(&self) -> TableType {
+            self.0.dynamic_ty()
+        }
+    };
+    (store Table fill) => {
+        #[doc = docs!(store Table.fill)]
+        #[doc(alias = "table.fill")]
+        #[inline]
+        pub fn fill(&mut self, dst: u64, val: TypedRawRef, len: u64, fuel: Option<&mut Fuel>) -> Result<(), TableError> {
+            self.0.fill(dst, val, len, fuel)
+        }
+    };
+    (store Table fill_raw) => {
+        #[doc = docs!(store Table.fill_raw)]
+        #[inline]
+        pub fn fill_raw(&mut self, dst: u64, val: RawRef, len: u64, fuel: Option<&mut Fuel>) -> Result<(), TableError> {
+            self.0.fill_raw(dst, val, len, fuel)
+        }
+    };
+    (store Table get) => {
+        #[doc = docs!(store Table.get)]
+        #[doc(alias = "table.get")]
+        #[must_use]
+        #[inline]
+        pub fn get(&self, index: u64) -> Option<TypedRawRef> {
+            self.0.get(index)
+        }
+    };
+    (store Table grow) => {
+        #[doc = docs!(store Table.grow)]
+        #[doc(alias = "table.grow")]
+        #[inline]
+        pub fn grow(&mut self, delta: u64, init: TypedRawRef, fuel: Option<&mut Fuel>, limiter: &mut ResourceLimiterRef<'_>) -> Result<u64, TableError> {
+            with!(limiter => self.0.grow(delta, init, fuel, limiter))
+        }
+    };
+    (store Table grow_raw) => {
+        #[doc = docs!(store Table.grow_raw)]
+        #[inline]
+        pub fn grow_raw(&mut self, delta: u64, init: RawRef, fuel: Option<&mut Fuel>, limiter: &mut ResourceLimiterRef<'_>) -> Result<u64, TableError> {
+            with!(limiter => self.0.grow_raw(delta, init, fuel, limiter))
+        }
+    };
+    (store Table init) => {
+        #[doc = docs!(store Table.init)]
+        #[doc(alias = "table.init")]
+        #[inline]
+        pub fn init(&mut self, element: ElementSegmentRef<'_>, dst: u64, src: u32, len: u32, fuel: Option<&mut Fuel>) -> Result<(), TableError> {
+            self.0.init(element, dst, src, len, fuel)
+        }
+    };
+    (store Table new) => {
+        #[doc = docs!(store Table.new)]
+        #[inline]
+        pub fn new(ty: TableType, init: TypedRawRef, limiter: &mut ResourceLimiterRef<'_>) -> Result<Self, TableError> {
+            with!(limiter => Proved::new(ty, init, limiter)).map(Self)
+        }
+    };
+    (store Table set) => {
+        #[doc = docs!(store Table.set)]
+        #[doc(alias = "table.set")]
+        #[inline]
+        pub fn set(&mut self, index: u64, value: TypedRawRef) -> Result<(), TableError> {
+            self.0.set(index, value)
+        }
+    };
+    (store Table set_raw) => {
+        #[doc = docs!(store Table.set_raw)]
+        #[inline]
+        pub fn set_raw(&mut self, index: u64, value: RawRef) -> Result<(), TableError> {
+            self.0.set_raw(index, value)
+        }
+    };
+    (store Table size) => {
+        #[doc = docs!(store Table.size)]
+        #[doc(alias = "table.size")]
+        #[must_use]
+        #[inline]
+        pub fn size(&self) -> u64 {
+            self.0.size()
+        }
+    };
+    (store Table ty) => {
+        #[doc = docs!(store Table.ty)]
+        #[must_use]
+        #[inline]
+        pub fn ty(&self) -> TableType {
+            self.0.ty()
+        }
+    };
+    (types FuncType len_params) => {
+        #[doc = docs!(types FuncType.len_params)]
+        #[must_use]
+        #[inline]
+        pub fn len_params(&self) -> u16 {
+            self.0.len_params()
+        }
+    };
+    (types FuncType len_results) => {
+        #[doc = docs!(types FuncType.len_results)]
+        #[must_use]
+        #[inline]
+        pub fn len_results(&self) -> u16 {
+            self.0.len_results()
+        }
+    };
+    (types FuncType params) => {
+        #[doc = docs!(types FuncType.params)]
+        #[must_use]
+        #[inline]
+        pub fn params(&self) -> &[ValType] {
+            self.0.params()
+        }
+    };
+    (types FuncType params_results) => {
+        #[doc = docs!(types FuncType.params_results)]
+        #[must_use]
+        #[inline]
+        pub fn params_results(&self) -> (&[ValType], &[ValType]) {
+            self.0.params_results()
+        }
+    };
+    (types FuncType results) => {
+        #[doc = docs!(types FuncType.results)]
+        #[must_use]
+        #[inline]
+        pub fn results(&self) -> &[ValType] {
+            self.0.results()
+        }
+    };
+    (types Trap i32_exit_status) => {
+        #[doc = docs!(types Trap.i32_exit_status)]
+        #[must_use]
+        #[inline]
+        pub fn i32_exit_status(&self) -> Option<i32> {
+            self.0.i32_exit_status()
+        }
+    };
+    (types Trap trap_code) => {
+        #[doc = docs!(types Trap.trap_code)]
+        #[must_use]
+        #[inline]
+        pub fn trap_code(&self) -> Option<TrapCode> {
+            self.0.trap_code()
+        }
+    };
+}
+
 /// Exports the instructions of a module. Those with the index of a lane are functions over the crate's own indices.
 macro_rules! instructions {
     (accesses wasm) => {
@@ -1055,12 +1443,6 @@ macro_rules! instructions {
         #[doc(alias = "i32.load16_u")]
         pub use crate::proved::accesses::wasm::i32_load16_u;
         pub use crate::proved::accesses::wasm::i32_load16_u_at;
-        #[doc(alias = "i32.store8")]
-        pub use crate::proved::accesses::wasm::i32_store8;
-        pub use crate::proved::accesses::wasm::i32_store8_at;
-        #[doc(alias = "i32.store16")]
-        pub use crate::proved::accesses::wasm::i32_store16;
-        pub use crate::proved::accesses::wasm::i32_store16_at;
         #[doc(alias = "i64.load8_s")]
         pub use crate::proved::accesses::wasm::i64_load8_s;
         pub use crate::proved::accesses::wasm::i64_load8_s_at;
@@ -1079,6 +1461,56 @@ macro_rules! instructions {
         #[doc(alias = "i64.load32_u")]
         pub use crate::proved::accesses::wasm::i64_load32_u;
         pub use crate::proved::accesses::wasm::i64_load32_u_at;
+        #[doc(alias = "i32.load")]
+        pub use crate::proved::accesses::wasm::load_u32;
+        /// [`load_u32`] of the bits of a float: that one is proved; that floats become bits and back isn't.
+        ///
+        /// # Errors
+        ///
+        /// [`MemoryOutOfBounds`](TrapCode::MemoryOutOfBounds) if the bytes end past the memory.
+        #[doc(alias = "f32.load")]
+        #[inline]
+        pub fn load_f32(memory: &[u8], ptr: u64, offset: u64) -> Result<f32, TrapCode> {
+            load_u32(memory, ptr, offset).map(f32::from_bits)
+        }
+        pub use crate::proved::accesses::wasm::load_u32_at;
+        /// [`load_u32_at`] of the bits of a float: that one is proved; that floats become bits and back isn't.
+        ///
+        /// # Errors
+        ///
+        /// [`MemoryOutOfBounds`](TrapCode::MemoryOutOfBounds) if the bytes end past the memory.
+        #[inline]
+        pub fn load_f32_at(memory: &[u8], address: usize) -> Result<f32, TrapCode> {
+            load_u32_at(memory, address).map(f32::from_bits)
+        }
+        #[doc(alias = "i64.load")]
+        pub use crate::proved::accesses::wasm::load_u64;
+        /// [`load_u64`] of the bits of a float: that one is proved; that floats become bits and back isn't.
+        ///
+        /// # Errors
+        ///
+        /// [`MemoryOutOfBounds`](TrapCode::MemoryOutOfBounds) if the bytes end past the memory.
+        #[doc(alias = "f64.load")]
+        #[inline]
+        pub fn load_f64(memory: &[u8], ptr: u64, offset: u64) -> Result<f64, TrapCode> {
+            load_u64(memory, ptr, offset).map(f64::from_bits)
+        }
+        pub use crate::proved::accesses::wasm::load_u64_at;
+        /// [`load_u64_at`] of the bits of a float: that one is proved; that floats become bits and back isn't.
+        ///
+        /// # Errors
+        ///
+        /// [`MemoryOutOfBounds`](TrapCode::MemoryOutOfBounds) if the bytes end past the memory.
+        #[inline]
+        pub fn load_f64_at(memory: &[u8], address: usize) -> Result<f64, TrapCode> {
+            load_u64_at(memory, address).map(f64::from_bits)
+        }
+        #[doc(alias = "i32.store8")]
+        pub use crate::proved::accesses::wasm::i32_store8;
+        pub use crate::proved::accesses::wasm::i32_store8_at;
+        #[doc(alias = "i32.store16")]
+        pub use crate::proved::accesses::wasm::i32_store16;
+        pub use crate::proved::accesses::wasm::i32_store16_at;
         #[doc(alias = "i64.store8")]
         pub use crate::proved::accesses::wasm::i64_store8;
         pub use crate::proved::accesses::wasm::i64_store8_at;
@@ -1088,18 +1520,60 @@ macro_rules! instructions {
         #[doc(alias = "i64.store32")]
         pub use crate::proved::accesses::wasm::i64_store32;
         pub use crate::proved::accesses::wasm::i64_store32_at;
-        #[doc(alias = "i32.load")]
-        pub use crate::proved::accesses::wasm::load_u32;
-        pub use crate::proved::accesses::wasm::load_u32_at;
-        #[doc(alias = "i64.load")]
-        pub use crate::proved::accesses::wasm::load_u64;
-        pub use crate::proved::accesses::wasm::load_u64_at;
         #[doc(alias = "i32.store")]
         pub use crate::proved::accesses::wasm::store32;
+        /// [`store32`] of the bits of a float: that one is proved; that floats become bits and back isn't.
+        ///
+        /// # Errors
+        ///
+        /// [`MemoryOutOfBounds`](TrapCode::MemoryOutOfBounds) if the bytes would end past the memory; then nothing is written.
+        #[doc(alias = "f32.store")]
+        #[inline]
+        pub fn store_f32(
+            memory: &mut [u8],
+            ptr: u64,
+            offset: u64,
+            value: f32,
+        ) -> Result<(), TrapCode> {
+            store32(memory, ptr, offset, value.to_bits())
+        }
         pub use crate::proved::accesses::wasm::store32_at;
+        /// [`store32_at`] of the bits of a float: that one is proved; that floats become bits and back isn't.
+        ///
+        /// # Errors
+        ///
+        /// [`MemoryOutOfBounds`](TrapCode::MemoryOutOfBounds) if the bytes would end past the memory; then nothing is written.
+        #[inline]
+        pub fn store_f32_at(memory: &mut [u8], address: usize, value: f32) -> Result<(), TrapCode> {
+            store32_at(memory, address, value.to_bits())
+        }
         #[doc(alias = "i64.store")]
         pub use crate::proved::accesses::wasm::store64;
+        /// [`store64`] of the bits of a float: that one is proved; that floats become bits and back isn't.
+        ///
+        /// # Errors
+        ///
+        /// [`MemoryOutOfBounds`](TrapCode::MemoryOutOfBounds) if the bytes would end past the memory; then nothing is written.
+        #[doc(alias = "f64.store")]
+        #[inline]
+        pub fn store_f64(
+            memory: &mut [u8],
+            ptr: u64,
+            offset: u64,
+            value: f64,
+        ) -> Result<(), TrapCode> {
+            store64(memory, ptr, offset, value.to_bits())
+        }
         pub use crate::proved::accesses::wasm::store64_at;
+        /// [`store64_at`] of the bits of a float: that one is proved; that floats become bits and back isn't.
+        ///
+        /// # Errors
+        ///
+        /// [`MemoryOutOfBounds`](TrapCode::MemoryOutOfBounds) if the bytes would end past the memory; then nothing is written.
+        #[inline]
+        pub fn store_f64_at(memory: &mut [u8], address: usize, value: f64) -> Result<(), TrapCode> {
+            store64_at(memory, address, value.to_bits())
+        }
     };
     (lanewise simd) => {
         #[doc(alias = "i8x16.abs")]
@@ -1265,8 +1739,6 @@ macro_rules! instructions {
         pub use crate::proved::lanewise::simd::i64x2_ne;
         #[doc(alias = "i64x2.neg")]
         pub use crate::proved::lanewise::simd::i64x2_neg;
-        #[doc(alias = "i64x2.splat")]
-        pub use crate::proved::lanewise::simd::i64x2_splat;
         #[doc(alias = "i64x2.sub")]
         pub use crate::proved::lanewise::simd::i64x2_sub;
         #[doc(alias = "v128.and")]
@@ -1281,6 +1753,22 @@ macro_rules! instructions {
         pub use crate::proved::lanewise::simd::v128_or;
         #[doc(alias = "v128.xor")]
         pub use crate::proved::lanewise::simd::v128_xor;
+        /// [`i32x4_splat`] of the bits of a float: that one is proved; that floats become bits and back isn't.
+        #[must_use]
+        #[doc(alias = "f32x4.splat")]
+        #[inline]
+        pub fn f32x4_splat(item: f32) -> V128 {
+            i32x4_splat(item.to_bits().cast_signed())
+        }
+        #[doc(alias = "i64x2.splat")]
+        pub use crate::proved::lanewise::simd::i64x2_splat;
+        /// [`i64x2_splat`] of the bits of a float: that one is proved; that floats become bits and back isn't.
+        #[must_use]
+        #[doc(alias = "f64x2.splat")]
+        #[inline]
+        pub fn f64x2_splat(item: f64) -> V128 {
+            i64x2_splat(item.to_bits().cast_signed())
+        }
         #[doc(alias = "i8x16.extract_lane_s")]
         #[doc = docs!(lanewise i8x16_extract_lane_s)]
         #[must_use]
@@ -1316,12 +1804,26 @@ macro_rules! instructions {
         pub fn i32x4_extract_lane(v: V128, lane: ImmLaneIdx4) -> i32 {
             crate::proved::lanewise::simd::i32x4_extract_lane(v, lane.proved())
         }
+        /// [`i32x4_extract_lane`] of the bits of a float: that one is proved; that floats become bits and back isn't.
+        #[must_use]
+        #[doc(alias = "f32x4.extract_lane")]
+        #[inline]
+        pub fn f32x4_extract_lane(v: V128, lane: ImmLaneIdx4) -> f32 {
+            f32::from_bits(i32x4_extract_lane(v, lane).cast_unsigned())
+        }
         #[doc(alias = "i64x2.extract_lane")]
         #[doc = docs!(lanewise i64x2_extract_lane)]
         #[must_use]
         #[inline]
         pub fn i64x2_extract_lane(v: V128, lane: ImmLaneIdx2) -> i64 {
             crate::proved::lanewise::simd::i64x2_extract_lane(v, lane.proved())
+        }
+        /// [`i64x2_extract_lane`] of the bits of a float: that one is proved; that floats become bits and back isn't.
+        #[must_use]
+        #[doc(alias = "f64x2.extract_lane")]
+        #[inline]
+        pub fn f64x2_extract_lane(v: V128, lane: ImmLaneIdx2) -> f64 {
+            f64::from_bits(i64x2_extract_lane(v, lane).cast_unsigned())
         }
         #[doc(alias = "i8x16.replace_lane")]
         #[doc = docs!(lanewise i8x16_replace_lane)]
@@ -1344,12 +1846,26 @@ macro_rules! instructions {
         pub fn i32x4_replace_lane(v: V128, lane: ImmLaneIdx4, item: i32) -> V128 {
             crate::proved::lanewise::simd::i32x4_replace_lane(v, lane.proved(), item)
         }
+        /// [`i32x4_replace_lane`] of the bits of a float: that one is proved; that floats become bits and back isn't.
+        #[must_use]
+        #[doc(alias = "f32x4.replace_lane")]
+        #[inline]
+        pub fn f32x4_replace_lane(v: V128, lane: ImmLaneIdx4, item: f32) -> V128 {
+            i32x4_replace_lane(v, lane, item.to_bits().cast_signed())
+        }
         #[doc(alias = "i64x2.replace_lane")]
         #[doc = docs!(lanewise i64x2_replace_lane)]
         #[must_use]
         #[inline]
         pub fn i64x2_replace_lane(v: V128, lane: ImmLaneIdx2, item: i64) -> V128 {
             crate::proved::lanewise::simd::i64x2_replace_lane(v, lane.proved(), item)
+        }
+        /// [`i64x2_replace_lane`] of the bits of a float: that one is proved; that floats become bits and back isn't.
+        #[must_use]
+        #[doc(alias = "f64x2.replace_lane")]
+        #[inline]
+        pub fn f64x2_replace_lane(v: V128, lane: ImmLaneIdx2, item: f64) -> V128 {
+            i64x2_replace_lane(v, lane, item.to_bits().cast_signed())
         }
         #[doc = docs!(lanewise i8x16_shuffle)]
         #[must_use]

@@ -132,12 +132,42 @@ pub mod memory {
         region: &mut [u8],
         limiter: &mut ResourceLimiterRef<L>,
     ) -> Result<usize, MemoryError> {
+        let size = make_zeroed(ty, region, limiter)?;
+        fill_range(region, 0, size, 0);
+        Ok(size)
+    }
+
+    /// Makes a memory as [`make`] does, at the front of a region whose bytes up to the minimum are zeros
+    /// already, as fresh pages of the system are. It writes no byte: where they aren't zeros, the
+    /// memory has what stands there.
+    ///
+    /// # Errors
+    ///
+    /// Those of [`make`].
+    ///
+    /// # Contract
+    ///
+    /// ```text
+    /// ensures loan: KeepsLoan limiter.old limiter.new
+    /// ensures made: MakesMemory (optional_rules L.rules) (Lent region.now) ty
+    ///     (lent_limiter limiter.old) (made_in_zeros ty region.now result)
+    ///     (lent_limiter limiter.new)
+    /// ensures sized: IfOk result (λ size. IsSized ty size × (size ≤ length region.now))
+    /// ```
+    ///
+    /// Definitions: [`KeepsLoan`](crate::specs::meter::LimiterSpecs#KeepsLoan), [`MakesMemory`](crate::specs::store::MemorySpecs#MakesMemory), [`optional_rules`](crate::specs::meter::LimiterSpecs#optional_rules), [`Lent`](crate::specs::store::BufferSpecs#Lent), [`lent_limiter`](crate::specs::meter::LimiterSpecs#lent_limiter), [`made_in_zeros`](crate::specs::region::MemorySpecs#made_in_zeros), [`IsSized`](crate::specs::store::MemorySpecs#IsSized).
+    ///
+    /// `L` is the type of the limiter, a [`ResourceLimiter`](crate::machine::ResourceLimiter#contract).
+    #[inline]
+    pub fn make_zeroed<L: ResourceLimiter>(
+        ty: MemoryType,
+        region: &[u8],
+        limiter: &mut ResourceLimiterRef<L>,
+    ) -> Result<usize, MemoryError> {
         let size = permitted_minimum(ty, limiter)?;
         if region.len() < size {
             return Err(tell(limiter, MemoryError::InvalidStaticBufferSize, DENIED));
         }
-        let front = &mut region[..size];
-        front.fill(0);
         Ok(size)
     }
 
@@ -190,6 +220,61 @@ pub mod memory {
             "the size is above the length of the region"
         );
         let old_size = *size;
+        let old_pages = grow_zeroed(ty, size, region, additional, fuel, limiter)?;
+        fill_range(region, old_size, *size, 0);
+        Ok(old_pages)
+    }
+
+    /// Grows a memory as [`grow`] does, into bytes of the region that are zeros already, as fresh pages
+    /// of the system are. It writes no byte: where they aren't zeros, the memory has what stands there.
+    ///
+    /// # Errors
+    ///
+    /// Those of [`grow`].
+    ///
+    /// # Panics
+    ///
+    /// Panics if the type allows no such size, or if the size is above the length of the region.
+    ///
+    /// # Contract
+    ///
+    /// ```text
+    /// requires sized: IsSized ty size.old
+    /// requires within: size.old ≤ length region.now
+    /// ensures loan: KeepsLoan limiter.old limiter.new
+    /// ensures grown: GrowsMemory (optional_rules L.rules) additional
+    ///     (metered_value (memory_in ty region.now size.old) (Some fuel.old)
+    ///     (lent_limiter limiter.old)) result
+    ///     (metered_value (memory_in ty (zeroed region.now size.old size.new) size.new)
+    ///     (Some fuel.new) (lent_limiter limiter.new))
+    /// ensures sized: IsSized ty size.new
+    /// ensures within: size.new ≤ length region.now
+    /// ensures larger: size.old ≤ size.new
+    /// ensures len: length (zeroed region.now size.old size.new) ≡ length region.now
+    /// ensures rest: drop size.new (zeroed region.now size.old size.new)
+    ///     ≡ drop size.new region.now
+    /// ensures refused: OnErr result (zeroed region.now size.old size.new ≡ region.now)
+    /// ensures size: OnErr result (size.new ≡ size.old)
+    /// ```
+    ///
+    /// Definitions: [`IsSized`](crate::specs::store::MemorySpecs#IsSized), [`KeepsLoan`](crate::specs::meter::LimiterSpecs#KeepsLoan), [`GrowsMemory`](crate::specs::store::MemorySpecs#GrowsMemory), [`optional_rules`](crate::specs::meter::LimiterSpecs#optional_rules), [`metered_value`](crate::specs::store::GrowthSpecs#metered_value), [`memory_in`](crate::specs::region::MemorySpecs#memory_in), [`lent_limiter`](crate::specs::meter::LimiterSpecs#lent_limiter), [`zeroed`](crate::specs::region::MemorySpecs#zeroed).
+    ///
+    /// `L` is the type of the limiter, a [`ResourceLimiter`](crate::machine::ResourceLimiter#contract).
+    #[inline]
+    pub fn grow_zeroed<L: ResourceLimiter>(
+        ty: MemoryType,
+        size: &mut usize,
+        region: &[u8],
+        additional: u64,
+        fuel: &mut Fuel,
+        limiter: &mut ResourceLimiterRef<L>,
+    ) -> Result<u64, MemoryError> {
+        assert!(is_sized(ty, *size), "the type allows no such size");
+        assert!(
+            *size <= region.len(),
+            "the size is above the length of the region"
+        );
+        let old_size = *size;
         let old_pages = ty.pages_in(old_size);
         if additional == 0 {
             return Ok(old_pages);
@@ -200,7 +285,6 @@ pub mod memory {
         let maximum = ty.maximum_size();
         let has_room = new_size <= region.len();
         decide_growth(old_size, new_size, maximum, has_room, fuel, limiter)?;
-        fill_range(region, old_size, new_size, 0);
         *size = new_size;
         Ok(old_pages)
     }

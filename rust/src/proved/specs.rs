@@ -5855,7 +5855,7 @@ module _ {S : Type 0} (rules : <a href="../../meter/LimiterSpecs/index.html#Rule
     pub mod LawsSpecs {}
     #[doc = r####"Memories whose bytes are the first of a region that lies with their caller.
 
-<pre><code>use Rattle.std.specs.Prelude.{ℕ, List, take, drop, Result, Ok, Err}
+<pre><code>use Rattle.std.specs.Prelude.{ℕ, ◌-◌, List, ◌++◌, take, drop, replicate, Result, Ok, Err}
 use Rattle.wasmi_meter.specs.declared.error.MemoryError.{MemoryError}
 use Rattle.wasmi_store.specs.Buffer.{<a href="../../store/BufferSpecs/index.html#Lent">Lent</a>}
 use Rattle.wasmi_store.specs.Memory.{<a href="../../store/MemorySpecs/index.html#MemoryValue">MemoryValue</a>, <a href="../../store/MemorySpecs/index.html#MemoryTypeValue">MemoryTypeValue</a>}
@@ -5864,10 +5864,19 @@ use Rattle.wasmi_store.specs.Memory.{<a href="../../store/MemorySpecs/index.html
 abbrev pub <b id="memory_in">memory_in</b> : <a href="../../store/MemorySpecs/index.html#MemoryTypeValue">MemoryTypeValue</a> → List ℕ → ℕ → <a href="../../store/MemorySpecs/index.html#MemoryValue">MemoryValue</a>
 <a href="../../region/MemorySpecs/index.html#memory_in">memory_in</a> ty region size = record { ty = ty; bytes = take size region; room = <a href="../../store/BufferSpecs/index.html#Lent">Lent</a> (drop size region) }
 
+-- a region with zeros from one place on up to another
+abbrev pub <b id="zeroed">zeroed</b> : List ℕ → ℕ → ℕ → List ℕ
+<a href="../../region/MemorySpecs/index.html#zeroed">zeroed</a> region start end = take start region ++ replicate (end - start) 0 ++ drop end region
+
 -- what a call makes in a region, by the size that it returns
 abbrev pub <b id="made_in">made_in</b> : <a href="../../store/MemorySpecs/index.html#MemoryTypeValue">MemoryTypeValue</a> → List ℕ → Result ℕ MemoryError → Result <a href="../../store/MemorySpecs/index.html#MemoryValue">MemoryValue</a> MemoryError
 <a href="../../region/MemorySpecs/index.html#made_in">made_in</a> ty region (Ok size) = Ok (<a href="../../region/MemorySpecs/index.html#memory_in">memory_in</a> ty region size)
 <a href="../../region/MemorySpecs/index.html#made_in">made_in</a> ty region (Err error) = Err error
+
+-- what a call makes in a region whose first bytes are zeros, by the size that it returns
+abbrev pub <b id="made_in_zeros">made_in_zeros</b> : <a href="../../store/MemorySpecs/index.html#MemoryTypeValue">MemoryTypeValue</a> → List ℕ → Result ℕ MemoryError → Result <a href="../../store/MemorySpecs/index.html#MemoryValue">MemoryValue</a> MemoryError
+<a href="../../region/MemorySpecs/index.html#made_in_zeros">made_in_zeros</a> ty region (Ok size) = Ok (<a href="../../region/MemorySpecs/index.html#memory_in">memory_in</a> ty (<a href="../../region/MemorySpecs/index.html#zeroed">zeroed</a> region 0 size) size)
+<a href="../../region/MemorySpecs/index.html#made_in_zeros">made_in_zeros</a> ty region (Err error) = Err error
 </code></pre>
 "####]
     pub mod MemorySpecs {}

@@ -25,17 +25,22 @@ pub trait Show {
     fn show<W: Sink>(&self, f: &mut W) -> fmt::Result;
 }
 
-impl Show for str {
-    #[inline]
-    fn show<W: Sink>(&self, f: &mut W) -> fmt::Result {
-        f.write_str(self)
-    }
+macro_rules! shows {
+    ($(|$it:ident: $($ty:ty),*; $f:ident| $shown:expr;)*) => { $($(impl Show for $ty {
+        #[inline]
+        fn show<W: Sink>(&self, $f: &mut W) -> fmt::Result {
+            let $it = self;
+            $shown
+        }
+    })*)* };
 }
 
-impl Show for fmt::Arguments<'_> {
-    fn show<W: Sink>(&self, f: &mut W) -> fmt::Result {
-        f.write_fmt(*self)
-    }
+// What scripts print; the errors the library displays by `core::fmt`.
+shows! {
+    |text: str; f| f.write_str(text);
+    |arguments: fmt::Arguments<'_>; f| f.write_fmt(*arguments);
+    |number: u8, u16, u32, u64, usize; f| f.write_number(*number as u64);
+    |error: ReplayError, MemoryError, TableError, FuelError, GlobalError, SegmentError, TrapCode; f| f.write_fmt(format_args!("{error}"));
 }
 
 impl<T: Show + ?Sized> Show for &T {
@@ -44,36 +49,6 @@ impl<T: Show + ?Sized> Show for &T {
         (**self).show(f)
     }
 }
-
-macro_rules! numbers {
-    ($($number:ty)*) => { $(impl Show for $number {
-        #[inline]
-        fn show<W: Sink>(&self, f: &mut W) -> fmt::Result {
-            f.write_number(*self as u64)
-        }
-    })* };
-}
-
-numbers!(u8 u16 u32 u64 usize);
-
-macro_rules! displayed {
-    ($($ty:ty),*) => { $(impl Show for $ty {
-        fn show<W: Sink>(&self, f: &mut W) -> fmt::Result {
-            f.write_fmt(format_args!("{self}"))
-        }
-    })* };
-}
-
-// What scripts print and the library displays by `core::fmt`.
-displayed!(
-    ReplayError,
-    MemoryError,
-    TableError,
-    FuelError,
-    GlobalError,
-    SegmentError,
-    TrapCode
-);
 
 macro_rules! pieces {
     ($($piece:ident)*) => { impl<$($piece: Show),*> Show for ($($piece,)*) {

@@ -12,84 +12,102 @@ impl<T: core::fmt::Debug> core::fmt::Debug for Vec<T> {
     }
 }
 
+// Functions that take memory.
+macro_rules! fallible {
+    ($($(#[$mark:meta])* $vis:vis fn $name:ident $given:tt -> $result:ty $body:block)*) => { $(
+        $(#[$mark])*
+        ///
+        /// # Errors
+        ///
+        /// [`AllocError`] if memory is refused.
+        $vis fn $name $given -> Result<$result, AllocError> $body
+    )* };
+}
+
+impl<T: Copy> Vec<T> {
+    fallible! {
+        /// A list of `count` copies of an item.
+        #[inline]
+        pub fn filled(item: T, count: usize) -> Self {
+            if count == 0 {
+                return Ok(Vec::new());
+            }
+            Self::filled_with_some(item, count)
+        }
+
+        #[inline(never)]
+        fn filled_with_some(item: T, count: usize) -> Self {
+            let mut list = Vec::with_capacity(count)?;
+            list.0.resize(count, item);
+            Ok(list)
+        }
+
+        /// A list of the items of a slice.
+        #[inline(always)]
+        pub fn from_slice(items: &[T]) -> Self {
+            let mut list = Vec::new();
+            list.append_slice(items)?;
+            Ok(list)
+        }
+
+        /// Appends the items of a slice, with room for no more. In a long `match` LLVM doesn't inline what
+        /// `extend_from_slice` calls, so that both requests stand in one call.
+        #[inline]
+        fn append_slice(&mut self, items: &[T]) -> () {
+            self.0.try_reserve_exact(items.len()).map_err(|_| AllocError)?;
+            self.0.extend_from_slice(items);
+            Ok(())
+        }
+
+        /// Appends all items of a slice, or none.
+        #[inline]
+        pub fn extend_from_slice(&mut self, items: &[T]) -> () {
+            self.try_reserve(items.len())?;
+            self.0.extend_from_slice(items);
+            Ok(())
+        }
+
+        /// Appends copies of an item, all or none, or drops items, up to a count.
+        #[inline]
+        pub fn resize(&mut self, count: usize, item: T) -> () {
+            if let Some(more) = count.checked_sub(self.0.len()) {
+                self.try_reserve(more)?;
+            }
+            self.0.resize(count, item);
+            Ok(())
+        }
+    }
+}
+
 impl<T> Vec<T> {
+    fallible! {
+        /// An empty list with room for so many items.
+        #[inline(always)]
+        pub fn with_capacity(count: usize) -> Self {
+            let mut list = ::alloc::vec::Vec::new();
+            list.try_reserve_exact(count).map_err(|_| AllocError)?;
+            Ok(Vec(list))
+        }
+
+        /// Makes room for so many more items.
+        #[inline]
+        pub fn try_reserve(&mut self, more: usize) -> () {
+            self.0.try_reserve(more).map_err(|_| AllocError)
+        }
+
+        /// Appends the items of another list, which keeps none; or neither list changes.
+        pub fn append(&mut self, other: &mut Self) -> () {
+            self.try_reserve(other.0.len())?;
+            self.0.append(&mut other.0);
+            Ok(())
+        }
+    }
+
     /// An empty list. It takes no memory.
     #[must_use]
     #[inline]
     pub const fn new() -> Self {
         Vec(::alloc::vec::Vec::new())
-    }
-
-    /// An empty list with room for so many items.
-    ///
-    /// # Errors
-    ///
-    /// [`AllocError`] if memory is refused.
-    #[inline(always)]
-    pub fn with_capacity(count: usize) -> Result<Self, AllocError> {
-        let mut list = ::alloc::vec::Vec::new();
-        list.try_reserve_exact(count).map_err(|_| AllocError)?;
-        Ok(Vec(list))
-    }
-
-    /// A list of `count` copies of an item.
-    ///
-    /// # Errors
-    ///
-    /// [`AllocError`] if memory is refused.
-    #[inline]
-    pub fn filled(item: T, count: usize) -> Result<Self, AllocError>
-    where
-        T: Copy,
-    {
-        if count == 0 {
-            return Ok(Vec::new());
-        }
-        Self::filled_with_some(item, count)
-    }
-
-    #[inline(never)]
-    fn filled_with_some(item: T, count: usize) -> Result<Self, AllocError>
-    where
-        T: Copy,
-    {
-        let mut list = Vec::with_capacity(count)?;
-        list.0.resize(count, item);
-        Ok(list)
-    }
-
-    /// A list of the items of a slice.
-    ///
-    /// # Errors
-    ///
-    /// [`AllocError`] if memory is refused.
-    #[inline(always)]
-    pub fn from_slice(items: &[T]) -> Result<Self, AllocError>
-    where
-        T: Copy,
-    {
-        let mut list = Vec::new();
-        list.append_slice(items)?;
-        Ok(list)
-    }
-
-    /// Takes the item at an index out. The later ones move down.
-    pub(crate) fn remove(&mut self, index: usize) -> T {
-        self.0.remove(index)
-    }
-
-    /// Appends the items of a slice, with room for no more. In a long `match` LLVM doesn't inline what `extend_from_slice`
-    /// calls, so that both requests stand in one call.
-    #[inline]
-    fn append_slice(&mut self, items: &[T]) -> Result<(), AllocError>
-    where
-        T: Copy,
-    {
-        self.0
-            .try_reserve_exact(items.len())
-            .map_err(|_| AllocError)?;
-        self.0.extend_from_slice(items);
-        Ok(())
     }
 
     /// A list of the items of an array.
@@ -172,57 +190,9 @@ impl<T> Vec<T> {
         self.0.push(item);
     }
 
-    /// Appends the items of a slice.
-    ///
-    /// # Errors
-    ///
-    /// [`AllocError`] if memory is refused. Then none is appended.
-    #[inline]
-    pub fn extend_from_slice(&mut self, items: &[T]) -> Result<(), AllocError>
-    where
-        T: Copy,
-    {
-        self.try_reserve(items.len())?;
-        self.0.extend_from_slice(items);
-        Ok(())
-    }
-
-    /// Makes room for so many more items.
-    ///
-    /// # Errors
-    ///
-    /// [`AllocError`] if memory is refused.
-    #[inline]
-    pub fn try_reserve(&mut self, more: usize) -> Result<(), AllocError> {
-        self.0.try_reserve(more).map_err(|_| AllocError)
-    }
-
-    /// Appends copies of an item, or drops items, up to a count.
-    ///
-    /// # Errors
-    ///
-    /// [`AllocError`] if memory is refused. Then nothing is appended.
-    #[inline]
-    pub fn resize(&mut self, count: usize, item: T) -> Result<(), AllocError>
-    where
-        T: Copy,
-    {
-        if let Some(more) = count.checked_sub(self.0.len()) {
-            self.try_reserve(more)?;
-        }
-        self.0.resize(count, item);
-        Ok(())
-    }
-
-    /// Appends the items of another list, which keeps none.
-    ///
-    /// # Errors
-    ///
-    /// [`AllocError`] if memory is refused. Then neither list changes.
-    pub fn append(&mut self, other: &mut Self) -> Result<(), AllocError> {
-        self.try_reserve(other.0.len())?;
-        self.0.append(&mut other.0);
-        Ok(())
+    /// Takes the item at an index out. The later ones move down.
+    pub(crate) fn remove(&mut self, index: usize) -> T {
+        self.0.remove(index)
     }
 
     /// How many items it has room for.

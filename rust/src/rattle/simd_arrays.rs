@@ -67,78 +67,66 @@ pub trait Lane:
 
 macro_rules! lanes {
     ($($lane:ident)*) => { $(impl Lane for $lane {
-        #[inline(always)]
-        fn add(self, other: Self) -> Self { self.wrapping_add(other) }
-        #[inline(always)]
-        fn sub(self, other: Self) -> Self { self.wrapping_sub(other) }
-        #[inline(always)]
-        fn mul(self, other: Self) -> Self { self.wrapping_mul(other) }
-        #[inline(always)]
-        fn shl(self, amount: Self) -> Self { self.wrapping_shl(amount as u32) }
-        #[inline(always)]
-        fn shr(self, amount: Self) -> Self { self.wrapping_shr(amount as u32) }
-        #[inline(always)]
-        fn wide(self) -> i128 { self as i128 }
-        #[inline(always)]
-        fn of_wide(number: i128) -> Self { number as Self }
+        inlined! {
+            fn add(self, other: Self) -> Self { self.wrapping_add(other) }
+            fn sub(self, other: Self) -> Self { self.wrapping_sub(other) }
+            fn mul(self, other: Self) -> Self { self.wrapping_mul(other) }
+            fn shl(self, amount: Self) -> Self { self.wrapping_shl(amount as u32) }
+            fn shr(self, amount: Self) -> Self { self.wrapping_shr(amount as u32) }
+            fn wide(self) -> i128 { self as i128 }
+            fn of_wide(number: i128) -> Self { number as Self }
+        }
     })* };
 }
 
 lanes!(u8 u16 u32 u64 i16 i32 i64);
 
+/// The array of what a function gives for each index.
+#[inline(always)]
+fn array<T: Copy + Default, const N: usize>(f: impl Fn(usize) -> T) -> [T; N] {
+    let mut lanes = [T::default(); N];
+    for i in 0..N {
+        lanes[i] = f(i);
+    }
+    lanes
+}
+
 impl<T: Lane, const N: usize> Simd<T, N> {
-    /// The lanes of an array.
-    #[inline(always)]
-    pub const fn from_array(lanes: [T; N]) -> Self {
-        Simd(lanes)
-    }
-
-    /// The lanes as an array.
-    #[inline(always)]
-    pub const fn to_array(self) -> [T; N] {
-        self.0
-    }
-
-    /// The same number in each lane.
-    #[inline(always)]
-    pub const fn splat(lane: T) -> Self {
-        Simd([lane; N])
+    inlined! {
+        /// The lanes of an array.
+        pub fn from_array(lanes: [T; N]) -> Self {
+            Simd(lanes)
+        }
+        /// The lanes as an array.
+        pub fn to_array(self) -> [T; N] {
+            self.0
+        }
+        /// The same number in each lane.
+        pub fn splat(lane: T) -> Self {
+            Simd([lane; N])
+        }
+        /// Which lanes are equal.
+        pub fn simd_eq(self, other: Self) -> Mask<N> {
+            Mask(self.zip(other, |x, y| x == y))
+        }
+        /// Which lanes are less.
+        pub fn simd_lt(self, other: Self) -> Mask<N> {
+            Mask(self.zip(other, |x, y| x < y))
+        }
+        /// The smaller ones of the lanes.
+        pub fn simd_min(self, other: Self) -> Self {
+            Simd(self.zip(other, |x, y| if x < y { x } else { y }))
+        }
     }
 
     #[inline(always)]
     fn zip<U: Copy + Default>(self, other: Self, f: impl Fn(T, T) -> U) -> [U; N] {
-        let mut lanes = [U::default(); N];
-        for i in 0..N {
-            lanes[i] = f(self.0[i], other.0[i]);
-        }
-        lanes
+        array(|i| f(self.0[i], other.0[i]))
     }
 
     #[inline(always)]
     fn each<U: Lane>(self, f: impl Fn(T) -> U) -> Simd<U, N> {
-        let mut lanes = [U::default(); N];
-        for i in 0..N {
-            lanes[i] = f(self.0[i]);
-        }
-        Simd(lanes)
-    }
-
-    /// Which lanes are equal.
-    #[inline(always)]
-    pub fn simd_eq(self, other: Self) -> Mask<N> {
-        Mask(self.zip(other, |x, y| x == y))
-    }
-
-    /// Which lanes are less.
-    #[inline(always)]
-    pub fn simd_lt(self, other: Self) -> Mask<N> {
-        Mask(self.zip(other, |x, y| x < y))
-    }
-
-    /// The smaller ones of the lanes.
-    #[inline(always)]
-    pub fn simd_min(self, other: Self) -> Self {
-        Simd(self.zip(other, |x, y| if x < y { x } else { y }))
+        Simd(array(|i| f(self.0[i])))
     }
 
     /// The lanes as another integer: a wider one has the number, a narrower one its low bits.
@@ -151,26 +139,14 @@ impl<T: Lane, const N: usize> Simd<T, N> {
     #[inline(always)]
     pub fn extract<const START: usize, const M: usize>(self) -> Simd<T, M> {
         const { assert!(START + M <= N) };
-        let mut lanes = [T::default(); M];
-        for i in 0..M {
-            lanes[i] = self.0[START + i];
-        }
-        Simd(lanes)
+        Simd(array(|i| self.0[START + i]))
     }
 
     /// Lanes of both vectors by their indices, those of the other counted on.
     #[inline(always)]
     pub fn shuffle<const M: usize>(self, other: Self, indices: [usize; M]) -> Simd<T, M> {
-        let mut lanes = [T::default(); M];
-        for i in 0..M {
-            let index = indices[i];
-            lanes[i] = if index < N {
-                self.0[index]
-            } else {
-                other.0[index - N]
-            };
-        }
-        Simd(lanes)
+        let lane = |i| if i < N { self.0[i] } else { other.0[i - N] };
+        Simd(array(|i| lane(indices[i])))
     }
 }
 
@@ -178,26 +154,21 @@ impl<const N: usize> Mask<N> {
     /// The chosen lanes of one vector, and the others of another.
     #[inline(always)]
     pub fn select<T: Lane>(self, chosen: Simd<T, N>, other: Simd<T, N>) -> Simd<T, N> {
-        let mut lanes = other.0;
-        for i in 0..N {
-            lanes[i] = if self.0[i] { chosen.0[i] } else { other.0[i] };
-        }
-        Simd(lanes)
+        Simd(array(|i| if self.0[i] { chosen.0[i] } else { other.0[i] }))
     }
 }
 
 macro_rules! saturating {
     ($($lane:ident $n:literal)*) => { $(impl Simd<$lane, $n> {
-        /// The sums, at most the greatest number.
-        #[inline(always)]
-        pub fn saturating_add(self, other: Self) -> Self {
-            Simd(self.zip(other, $lane::saturating_add))
-        }
-
-        /// The differences, at least 0.
-        #[inline(always)]
-        pub fn saturating_sub(self, other: Self) -> Self {
-            Simd(self.zip(other, $lane::saturating_sub))
+        inlined! {
+            /// The sums, at most the greatest number.
+            pub fn saturating_add(self, other: Self) -> Self {
+                Simd(self.zip(other, $lane::saturating_add))
+            }
+            /// The differences, at least 0.
+            pub fn saturating_sub(self, other: Self) -> Self {
+                Simd(self.zip(other, $lane::saturating_sub))
+            }
         }
     })* };
 }
@@ -216,83 +187,46 @@ impl Simd<u8, 16> {
 
 macro_rules! bytes {
     ($($lane:ident $n:literal $size:literal)*) => { $(impl Simd<$lane, $n> {
-        /// The bytes of the lanes, the lowest first.
-        #[inline(always)]
-        pub fn to_le_bytes(self) -> Simd<u8, 16> {
-            let mut bytes = [0; 16];
-            for i in 0..$n {
-                let lane = self.0[i].to_le_bytes();
-                for j in 0..$size {
-                    bytes[$size * i + j] = lane[j];
+        inlined! {
+            /// The bytes of the lanes, the lowest first.
+            pub fn to_le_bytes(self) -> Simd<u8, 16> {
+                let mut bytes = [0; 16];
+                for i in 0..$n {
+                    let lane = self.0[i].to_le_bytes();
+                    for j in 0..$size {
+                        bytes[$size * i + j] = lane[j];
+                    }
                 }
+                Simd(bytes)
             }
-            Simd(bytes)
-        }
-
-        /// The lanes of these bytes, the lowest first.
-        #[inline(always)]
-        pub fn from_le_bytes(bytes: Simd<u8, 16>) -> Self {
-            let mut lanes = [0; $n];
-            for i in 0..$n {
-                let mut lane = [0; $size];
-                for j in 0..$size {
-                    lane[j] = bytes.0[$size * i + j];
+            /// The lanes of these bytes, the lowest first.
+            pub fn from_le_bytes(bytes: Simd<u8, 16>) -> Self {
+                let mut lanes = [0; $n];
+                for i in 0..$n {
+                    let mut lane = [0; $size];
+                    for j in 0..$size {
+                        lane[j] = bytes.0[$size * i + j];
+                    }
+                    lanes[i] = $lane::from_le_bytes(lane);
                 }
-                lanes[i] = $lane::from_le_bytes(lane);
+                Simd(lanes)
             }
-            Simd(lanes)
         }
     })* };
 }
 
 bytes!(u16 8 2 u32 4 4 u64 2 8 i16 8 2 i32 4 4 i64 2 8);
 
-macro_rules! operators {
-    ($($op:ident $function:ident $f:expr;)*) => { $(impl<T: Lane, const N: usize> $op for Simd<T, N> {
-        type Output = Self;
-
-        #[inline(always)]
-        fn $function(self, other: Self) -> Self {
-            Simd(self.zip(other, $f))
-        }
-    })* };
-}
-
-operators! {
-    Add add Lane::add;
-    Sub sub Lane::sub;
-    Mul mul Lane::mul;
-    Shl shl Lane::shl;
-    Shr shr Lane::shr;
-    BitAnd bitand |x, y| x & y;
-    BitOr bitor |x, y| x | y;
-    BitXor bitxor |x, y| x ^ y;
-}
-
-impl<T: Lane, const N: usize> Not for Simd<T, N> {
-    type Output = Self;
-
-    #[inline(always)]
-    fn not(self) -> Self {
-        self.each(|x| !x)
-    }
-}
-
-// All lanes are shifted by one amount.
-impl<T: Lane, const N: usize> Shl<i32> for Simd<T, N> {
-    type Output = Self;
-
-    #[inline(always)]
-    fn shl(self, amount: i32) -> Self {
-        self.each(|x| Lane::shl(x, T::of_wide(i128::from(amount))))
-    }
-}
-
-impl<T: Lane, const N: usize> Shr<i32> for Simd<T, N> {
-    type Output = Self;
-
-    #[inline(always)]
-    fn shr(self, amount: i32) -> Self {
-        self.each(|x| Lane::shr(x, T::of_wide(i128::from(amount))))
-    }
+operators! { [T: Lane, const N: usize] Simd<T, N>:
+    Add add(a, b: Self) { Simd(a.zip(b, Lane::add)) }
+    Sub sub(a, b: Self) { Simd(a.zip(b, Lane::sub)) }
+    Mul mul(a, b: Self) { Simd(a.zip(b, Lane::mul)) }
+    Shl shl(a, b: Self) { Simd(a.zip(b, Lane::shl)) }
+    Shr shr(a, b: Self) { Simd(a.zip(b, Lane::shr)) }
+    BitAnd bitand(a, b: Self) { Simd(a.zip(b, |x, y| x & y)) }
+    BitOr bitor(a, b: Self) { Simd(a.zip(b, |x, y| x | y)) }
+    BitXor bitxor(a, b: Self) { Simd(a.zip(b, |x, y| x ^ y)) }
+    Not not(a) { a.each(|x| !x) }
+    Shl<i32> shl(a, amount: i32) { a.each(|x| Lane::shl(x, T::of_wide(i128::from(amount)))) }
+    Shr<i32> shr(a, amount: i32) { a.each(|x| Lane::shr(x, T::of_wide(i128::from(amount)))) }
 }

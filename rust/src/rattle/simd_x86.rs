@@ -1,4 +1,4 @@
-//! Lanes of a vector as one register of SSE2, which the target has: what `simd_arrays.rs` does lane by lane.
+//! Lanes of a vector as one register of SSE2, which the target has: what `simd_arrays.rs`, which describes it, does lane by lane.
 #![allow(non_camel_case_types, unsafe_code)]
 #![allow(dead_code)] // not each width needs each operation
 use arch::__m128i;
@@ -10,7 +10,7 @@ use core::ops::{Add, BitAnd, BitOr, BitXor, Mul, Not, Shl, Shr, Sub};
 
 /// The types by their names.
 pub mod prelude {
-    pub use super::{i16x8, i32x4, i64x2, u8x16, u16x8, u32x4, u32x8, u64x2};
+    pub use super::{ByLane as _, i16x8, i32x4, i64x2, u8x16, u16x8, u32x4, u32x8, u64x2};
     /// Whether lanes are arrays.
     pub const AS_ARRAYS: bool = false;
 }
@@ -47,54 +47,41 @@ instructions! { _mm_shuffle_epi8(a, b); }
 #[cfg(target_feature = "sse4.1")]
 instructions! { _mm_mullo_epi32(a, b); _mm_cvtepi32_epi64(a); }
 
-#[inline(always)]
-fn of_words(low: u64, high: u64) -> __m128i {
-    // SAFETY: as in `instructions`.
-    unsafe { arch::_mm_set_epi64x(high as i64, low as i64) }
-}
-
-#[inline(always)]
-fn same(word: u64) -> __m128i {
-    of_words(word, word)
+inlined! {
+    fn of_words(low: u64, high: u64) -> __m128i {
+        // SAFETY: as in `instructions`.
+        unsafe { arch::_mm_set_epi64x(high as i64, low as i64) }
+    }
+    fn same(word: u64) -> __m128i {
+        of_words(word, word)
+    }
 }
 
 /// Half of the lanes, from `START` on, to be cast.
 #[derive(Clone, Copy)]
 pub struct Half<V, const START: usize>(V);
 
-/// What lanes can be cast to.
+/// What lanes can be cast to: those at twice or half their width.
 pub trait Cast<T> {
-    /// The lanes at twice their width.
     type To;
-    /// Casts them.
     fn to(self) -> Self::To;
 }
 
-impl<V, const START: usize> Half<V, START> {
-    /// The lanes at twice their width.
+/// Casts by the lane.
+pub trait ByLane: Sized {
     #[inline(always)]
-    pub fn cast<T>(self) -> <Self as Cast<T>>::To
+    fn cast<T>(self) -> Self::To
     where
         Self: Cast<T>,
     {
         self.to()
     }
 }
+impl<V> ByLane for V {}
 
 /// For each lane, all ones where it is chosen.
 #[derive(Clone, Copy)]
 pub struct Mask<V>(V);
-
-// Operators that are one instruction.
-macro_rules! operators {
-    ($($name:ident: $($op:ident $function:ident $by:ident),*;)*) => { $($(impl $op for $name {
-        type Output = Self;
-        #[inline(always)]
-        fn $function(self, other: Self) -> Self {
-            Self($by(self.0, other.0))
-        }
-    })*)* };
-}
 
 macro_rules! vectors {
     ($($name:ident $lane:ident $count:literal $add:ident $sub:ident;)*) => { $(
@@ -103,57 +90,46 @@ macro_rules! vectors {
         pub struct $name(__m128i);
 
         impl $name {
-            /// The lanes of an array.
-            #[inline(always)]
-            pub fn from_array(lanes: [$lane; $count]) -> Self {
-                // SAFETY: both are 16 bytes, and each pattern of bits is a value of both.
-                Self(unsafe { core::mem::transmute::<[$lane; $count], __m128i>(lanes) })
+            inlined! {
+                pub fn from_array(lanes: [$lane; $count]) -> Self {
+                    // SAFETY: both are 16 bytes, and each pattern of bits is a value of both.
+                    Self(unsafe { core::mem::transmute::<[$lane; $count], __m128i>(lanes) })
+                }
+                pub fn to_array(self) -> [$lane; $count] {
+                    // SAFETY: as in `from_array`.
+                    unsafe { core::mem::transmute::<__m128i, [$lane; $count]>(self.0) }
+                }
+                pub fn splat(lane: $lane) -> Self {
+                    Self::from_array([lane; $count])
+                }
+                pub fn to_le_bytes(self) -> u8x16 {
+                    u8x16(self.0)
+                }
+                pub fn from_le_bytes(bytes: u8x16) -> Self {
+                    Self(bytes.0)
+                }
+                pub fn shuffle(self, other: Self, indices: [usize; $count]) -> Self {
+                    // Lanes of 32 bits in turns with those of another vector: as plain lanes, LLVM takes them out one by one.
+                    match indices[..] {
+                        [0, 4, 1, 5] => return Self(_mm_unpacklo_epi32(self.0, other.0)),
+                        [2, 4, 3, 5] => return Self(_mm_unpacklo_epi32(_mm_unpackhi_epi64(self.0, self.0), other.0)),
+                        [0, 1, 0, 1] => return Self(_mm_unpacklo_epi64(self.0, self.0)),
+                        _ => {}
+                    }
+                    let (a, b) = (self.to_array(), other.to_array());
+                    Self::from_array(indices.map(|i| if i < $count { a[i] } else { b[i - $count] }))
+                }
+                /// The one amount of all lanes, if it is one.
+                fn amount(self) -> Option<$lane> {
+                    let lanes = self.to_array();
+                    lanes.iter().all(|lane| *lane == lanes[0]).then_some(lanes[0] & (128 / $count - 1))
+                }
             }
 
-            /// The lanes as an array.
-            #[inline(always)]
-            pub fn to_array(self) -> [$lane; $count] {
-                // SAFETY: as in `from_array`.
-                unsafe { core::mem::transmute::<__m128i, [$lane; $count]>(self.0) }
-            }
-
-            /// The same number in each lane.
-            #[inline(always)]
-            pub fn splat(lane: $lane) -> Self {
-                Self::from_array([lane; $count])
-            }
-
-            /// The bytes of the lanes, the lowest first.
-            #[inline(always)]
-            pub fn to_le_bytes(self) -> u8x16 {
-                u8x16(self.0)
-            }
-
-            /// The lanes of these bytes, the lowest first.
-            #[inline(always)]
-            pub fn from_le_bytes(bytes: u8x16) -> Self {
-                Self(bytes.0)
-            }
-
-            /// Half of the lanes from `START` on, 0 or half of their number.
             #[inline(always)]
             pub fn extract<const START: usize, const M: usize>(self) -> Half<Self, START> {
                 const { assert!(2 * M == $count && START % M == 0) };
                 Half(self)
-            }
-
-            /// Lanes of both vectors by their indices, those of the other counted on.
-            #[inline(always)]
-            pub fn shuffle(self, other: Self, indices: [usize; $count]) -> Self {
-                // Lanes of 32 bits in turns with those of another vector: as plain lanes, LLVM takes them out one by one.
-                match indices[..] {
-                    [0, 4, 1, 5] => return Self(_mm_unpacklo_epi32(self.0, other.0)),
-                    [2, 4, 3, 5] => return Self(_mm_unpacklo_epi32(_mm_unpackhi_epi64(self.0, self.0), other.0)),
-                    [0, 1, 0, 1] => return Self(_mm_unpacklo_epi64(self.0, self.0)),
-                    _ => {}
-                }
-                let (a, b) = (self.to_array(), other.to_array());
-                Self::from_array(indices.map(|i| if i < $count { a[i] } else { b[i - $count] }))
             }
 
             #[inline(always)]
@@ -165,32 +141,22 @@ macro_rules! vectors {
                 }
                 Self::from_array(lanes)
             }
-
-            /// The one amount of all lanes, if it is one.
-            #[inline(always)]
-            fn amount(self) -> Option<$lane> {
-                let lanes = self.to_array();
-                lanes.iter().all(|lane| *lane == lanes[0]).then_some(lanes[0] & (128 / $count - 1))
-            }
         }
 
-        operators! {
-            $name: Add add $add, Sub sub $sub, BitAnd bitand _mm_and_si128, BitOr bitor _mm_or_si128, BitXor bitxor _mm_xor_si128;
-        }
-
-        impl Not for $name {
-            type Output = Self;
-            #[inline(always)]
-            fn not(self) -> Self {
-                Self(_mm_xor_si128(self.0, same(u64::MAX)))
-            }
+        operators! { [] $name:
+            Add add(a, b: Self) { $name($add(a.0, b.0)) }
+            Sub sub(a, b: Self) { $name($sub(a.0, b.0)) }
+            BitAnd bitand(a, b: Self) { $name(_mm_and_si128(a.0, b.0)) }
+            BitOr bitor(a, b: Self) { $name(_mm_or_si128(a.0, b.0)) }
+            BitXor bitxor(a, b: Self) { $name(_mm_xor_si128(a.0, b.0)) }
+            Not not(a) { $name(_mm_xor_si128(a.0, same(u64::MAX))) }
         }
 
         impl Mask<$name> {
-            /// The chosen lanes of one vector, and the others of another.
-            #[inline(always)]
-            pub fn select(self, chosen: $name, other: $name) -> $name {
-                $name(_mm_or_si128(_mm_and_si128(self.0.0, chosen.0), _mm_andnot_si128(self.0.0, other.0)))
+            inlined! {
+                pub fn select(self, chosen: $name, other: $name) -> $name {
+                    $name(_mm_or_si128(_mm_and_si128(self.0.0, chosen.0), _mm_andnot_si128(self.0.0, other.0)))
+                }
             }
         }
     )* };
@@ -209,16 +175,13 @@ vectors! {
 /// Lanes that are compared as unsigned numbers: those with the highest bit flipped, as signed ones.
 macro_rules! compared {
     ($($name:ident $eq:ident $lt:ident $top:expr;)*) => { $(impl $name {
-        /// Which lanes are equal.
-        #[inline(always)]
-        pub fn simd_eq(self, other: Self) -> Mask<Self> {
-            Mask(Self($eq(self.0, other.0)))
-        }
-
-        /// Which lanes are less.
-        #[inline(always)]
-        pub fn simd_lt(self, other: Self) -> Mask<Self> {
-            Mask(Self($lt(_mm_xor_si128(self.0, $top), _mm_xor_si128(other.0, $top))))
+        inlined! {
+            pub fn simd_eq(self, other: Self) -> Mask<Self> {
+                Mask(Self($eq(self.0, other.0)))
+            }
+            pub fn simd_lt(self, other: Self) -> Mask<Self> {
+                Mask(Self($lt(_mm_xor_si128(self.0, $top), _mm_xor_si128(other.0, $top))))
+            }
         }
     })* };
 }
@@ -229,19 +192,15 @@ compared! {
     u32x4 _mm_cmpeq_epi32 _mm_cmplt_epi32 same(0x8000_0000_8000_0000);
 }
 
-/// Lanes whose sums and differences end where their range ends.
 macro_rules! saturating {
     ($($name:ident $add:ident $sub:ident;)*) => { $(impl $name {
-        /// The sums, at most the greatest number.
-        #[inline(always)]
-        pub fn saturating_add(self, other: Self) -> Self {
-            Self($add(self.0, other.0))
-        }
-
-        /// The differences, at least 0.
-        #[inline(always)]
-        pub fn saturating_sub(self, other: Self) -> Self {
-            Self($sub(self.0, other.0))
+        inlined! {
+            pub fn saturating_add(self, other: Self) -> Self {
+                Self($add(self.0, other.0))
+            }
+            pub fn saturating_sub(self, other: Self) -> Self {
+                Self($sub(self.0, other.0))
+            }
         }
     })* };
 }
@@ -252,27 +211,22 @@ saturating! {
 }
 
 impl u64x2 {
-    /// Which lanes are equal.
-    #[inline(always)]
-    pub fn simd_eq(self, other: Self) -> Mask<Self> {
-        Mask(self.zip(other, |x, y| if x == y { u64::MAX } else { 0 }))
-    }
-
-    /// Which lanes are less.
-    #[inline(always)]
-    pub fn simd_lt(self, other: Self) -> Mask<Self> {
-        Mask(self.zip(other, |x, y| if x < y { u64::MAX } else { 0 }))
+    inlined! {
+        pub fn simd_eq(self, other: Self) -> Mask<Self> {
+            Mask(self.zip(other, |x, y| if x == y { u64::MAX } else { 0 }))
+        }
+        pub fn simd_lt(self, other: Self) -> Mask<Self> {
+            Mask(self.zip(other, |x, y| if x < y { u64::MAX } else { 0 }))
+        }
     }
 }
 
 impl u8x16 {
-    /// The smaller ones of the lanes.
     #[inline(always)]
     pub fn simd_min(self, other: Self) -> Self {
         Self(_mm_min_epu8(self.0, other.0))
     }
 
-    /// The lanes at the lowest 4 bits of the indices, 0 where the highest bit of an index is set.
     #[inline(always)]
     pub fn swizzle_dyn_within<const K: usize>(self, indices: Self) -> Self {
         #[cfg(target_feature = "ssse3")]
@@ -283,11 +237,8 @@ impl u8x16 {
             let table = self.to_array();
             let inside = Self(_mm_and_si128(indices.0, same(0x0f0f_0f0f_0f0f_0f0f))).to_array();
             let word = |start: usize| {
-                let bytes = &inside[start..start + 8];
-                bytes
-                    .iter()
-                    .rev()
-                    .fold(0, |word, i| word << 8 | u64::from(table[usize::from(*i)]))
+                let bytes = inside[start..start + 8].iter().rev();
+                bytes.fold(0, |word, i| word << 8 | u64::from(table[usize::from(*i)]))
             };
             let picked = of_words(word(0), word(8));
             Self(_mm_andnot_si128(_mm_cmplt_epi8(indices.0, same(0)), picked))
@@ -295,67 +246,39 @@ impl u8x16 {
     }
 }
 
-operators! { u16x8: Mul mul _mm_mullo_epi16; }
-
-impl Mul for u32x4 {
-    type Output = Self;
-    #[inline(always)]
-    fn mul(self, other: Self) -> Self {
-        #[cfg(target_feature = "sse4.1")]
-        return Self(_mm_mullo_epi32(self.0, other.0));
-        #[cfg(not(target_feature = "sse4.1"))]
-        // By lanes, since LLVM then knows a product of two numbers of 16 bits.
-        self.zip(other, u32::wrapping_mul)
-    }
+operators! { [] u16x8:
+    Mul mul(a, b: Self) { u16x8(_mm_mullo_epi16(a.0, b.0)) }
 }
-
-impl Mul for u64x2 {
-    type Output = Self;
-    #[inline(always)]
-    fn mul(self, other: Self) -> Self {
-        self.zip(other, u64::wrapping_mul)
-    }
+// By lanes, where the processor lacks it, since LLVM then knows a product of two numbers of 16 bits.
+#[cfg(target_feature = "sse4.1")]
+operators! { [] u32x4:
+    Mul mul(a, b: Self) { u32x4(_mm_mullo_epi32(a.0, b.0)) }
+}
+#[cfg(not(target_feature = "sse4.1"))]
+operators! { [] u32x4:
+    Mul mul(a, b: Self) { a.zip(b, u32::wrapping_mul) }
+}
+operators! { [] u64x2:
+    Mul mul(a, b: Self) { a.zip(b, u64::wrapping_mul) }
 }
 
 macro_rules! shifted {
     ($($name:ident $lane:ident $shl:ident $shr:ident;)*) => { $(
-        impl Shl for $name {
-            type Output = Self;
-            #[inline(always)]
-            fn shl(self, amounts: Self) -> Self {
+        operators! { [] $name:
+            Shl shl(a, amounts: Self) {
                 match amounts.amount() {
-                    Some(amount) => Self($shl(self.0, of_words(amount as u64, 0))),
-                    None => self.zip(amounts, |x, amount| x.wrapping_shl(amount as u32)),
+                    Some(amount) => $name($shl(a.0, of_words(amount as u64, 0))),
+                    None => a.zip(amounts, |x, amount| x.wrapping_shl(amount as u32)),
                 }
             }
-        }
-
-        impl Shr for $name {
-            type Output = Self;
-            #[inline(always)]
-            fn shr(self, amounts: Self) -> Self {
+            Shr shr(a, amounts: Self) {
                 match amounts.amount() {
-                    Some(amount) => Self($shr(self.0, of_words(amount as u64, 0))),
-                    None => self.zip(amounts, |x, amount| x.wrapping_shr(amount as u32)),
+                    Some(amount) => $name($shr(a.0, of_words(amount as u64, 0))),
+                    None => a.zip(amounts, |x, amount| x.wrapping_shr(amount as u32)),
                 }
             }
-        }
-
-        // All lanes are shifted by one amount.
-        impl Shl<i32> for $name {
-            type Output = Self;
-            #[inline(always)]
-            fn shl(self, amount: i32) -> Self {
-                self << Self::splat(amount as $lane)
-            }
-        }
-
-        impl Shr<i32> for $name {
-            type Output = Self;
-            #[inline(always)]
-            fn shr(self, amount: i32) -> Self {
-                self >> Self::splat(amount as $lane)
-            }
+            Shl<i32> shl(a, amount: i32) { a << $name::splat(amount as $lane) }
+            Shr<i32> shr(a, amount: i32) { a >> $name::splat(amount as $lane) }
         }
     )* };
 }
@@ -385,25 +308,17 @@ widened! {
     i16x8 i32 i32x4 |v| _mm_sra_epi32(_mm_unpacklo_epi16(v, v), of_words(16, 0)), _mm_sra_epi32(_mm_unpackhi_epi16(v, v), of_words(16, 0));
 }
 
-// By the instruction, or plain lanes: LLVM then knows that a product of two such lanes is one of 32 bits.
-impl<const START: usize> Cast<i64> for Half<i32x4, START> {
-    type To = i64x2;
-    #[inline(always)]
-    fn to(self) -> i64x2 {
-        #[cfg(target_feature = "sse4.1")]
-        {
-            let v = self.0.0;
-            i64x2(_mm_cvtepi32_epi64(if START == 0 {
-                v
-            } else {
-                _mm_unpackhi_epi64(v, v)
-            }))
-        }
-        #[cfg(not(target_feature = "sse4.1"))]
-        {
-            let lanes = self.0.to_array();
-            i64x2::from_array([i64::from(lanes[START]), i64::from(lanes[START + 1])])
-        }
+#[cfg(target_feature = "sse4.1")]
+widened! {
+    i32x4 i64 i64x2 |v| _mm_cvtepi32_epi64(v), _mm_cvtepi32_epi64(_mm_unpackhi_epi64(v, v));
+}
+// As plain lanes: LLVM then knows that a product of two such lanes is one of 32 bits.
+#[cfg(not(target_feature = "sse4.1"))]
+widened! { i32x4 i64 i64x2 |v| extended(v, 0), extended(v, 2); }
+inlined! {
+    fn extended(v: __m128i, start: usize) -> __m128i {
+        let lanes = i32x4(v).to_array();
+        i64x2::from_array([i64::from(lanes[start]), i64::from(lanes[start + 1])]).0
     }
 }
 
@@ -412,56 +327,34 @@ impl<const START: usize> Cast<i64> for Half<i32x4, START> {
 pub struct u32x8(u32x4, u32x4);
 
 impl u32x8 {
-    /// The same number in each lane.
     #[inline(always)]
     pub fn splat(lane: u32) -> Self {
         Self(u32x4::splat(lane), u32x4::splat(lane))
     }
+}
 
-    /// The low halves of the lanes.
+impl Cast<u16> for u32x8 {
+    type To = u16x8;
     #[inline(always)]
-    pub fn cast<T>(self) -> u16x8
-    where
-        u16x8: Is<T>,
-    {
+    fn to(self) -> u16x8 {
         // The upper half of each lane becomes its sign, so that a signed pack keeps all bits.
         let signed = |v: u32x4| _mm_sra_epi32(_mm_sll_epi32(v.0, of_words(16, 0)), of_words(16, 0));
         u16x8(_mm_packs_epi32(signed(self.0), signed(self.1)))
     }
 }
 
-/// The lane of a vector.
-pub trait Is<T> {}
-impl Is<u16> for u16x8 {}
-impl Is<u32> for u32x8 {}
-
-impl u16x8 {
-    /// The lanes at twice their width.
+impl Cast<u32> for u16x8 {
+    type To = u32x8;
     #[inline(always)]
-    pub fn cast<T>(self) -> u32x8
-    where
-        u32x8: Is<T>,
-    {
-        u32x8(
-            self.extract::<0, 4>().cast::<u32>(),
-            self.extract::<4, 4>().cast::<u32>(),
-        )
+    fn to(self) -> u32x8 {
+        let (low, high) = (self.extract::<0, 4>(), self.extract::<4, 4>());
+        u32x8(low.cast::<u32>(), high.cast::<u32>())
     }
 }
 
-macro_rules! of_pairs {
-    ($($op:ident $function:ident;)*) => { $(impl $op for u32x8 {
-        type Output = Self;
-        #[inline(always)]
-        fn $function(self, other: Self) -> Self {
-            Self($op::$function(self.0, other.0), $op::$function(self.1, other.1))
-        }
-    })* };
-}
-
-of_pairs! {
-    Sub sub;
-    Mul mul;
-    Shr shr;
-    BitXor bitxor;
+operators! { [] u32x8:
+    Sub sub(a, b: Self) { u32x8(a.0 - b.0, a.1 - b.1) }
+    Mul mul(a, b: Self) { u32x8(a.0 * b.0, a.1 * b.1) }
+    Shr shr(a, b: Self) { u32x8(a.0 >> b.0, a.1 >> b.1) }
+    BitXor bitxor(a, b: Self) { u32x8(a.0 ^ b.0, a.1 ^ b.1) }
 }

@@ -1,7 +1,8 @@
 //! Machines alone and in pools, and what is held of dropped memories and tables.
-use super::{MemoryCall, StaticCall, StaticReply, Step, split, unmetered};
+use super::{MemoryCall, StaticCall, StaticReply, Step, call_of, split, unmetered};
+use std::slice;
 use wasmi_core_proved::machine::{
-    Machine, MemoryError, Quota, Reserving, TableError, run_reserving,
+    Call, Machine, MemoryError, Quota, Reserving, TableError, run_reserving,
 };
 use wasmi_core_proved::pool::{Pool, PoolError};
 
@@ -68,6 +69,63 @@ fn no_call_finds_a_removed_tenant() {
     assert_eq!(pool.held_elements(1), None, "no elements");
     assert_eq!(pool.run(2, &calls), Ok(expected), "its index stays");
     assert_eq!(pool.add(unmetered()).ok(), Some(3), "no index twice");
+}
+
+/// Calls that a pool permits, denies and refuses.
+static CALLS: [StaticCall; 7] = [
+    StaticCall::NewPages(1, None),
+    StaticCall::Memory(0, MemoryCall::Store(5)),
+    StaticCall::Memory(0, MemoryCall::Load(5)),
+    StaticCall::Memory(0, MemoryCall::Load(65536)),
+    StaticCall::Memory(0, MemoryCall::Grow(1)),
+    StaticCall::Memory(2, MemoryCall::Drop),
+    StaticCall::GetFuel,
+];
+
+/// Each call on each of four indices does by `step` what it does by `run`.
+fn steps_as_runs(stepped: &mut Pool, ran: &mut Pool, calls: &[Call]) {
+    for (index, call) in (0..4).flat_map(|index| calls.iter().map(move |call| (index, call))) {
+        let (reply, replies) = (
+            stepped.step(index, call),
+            ran.run(index, slice::from_ref(call)),
+        );
+        match (&reply, &replies) {
+            (Ok(reply), Ok(replies)) => assert_eq!(replies.as_slice(), slice::from_ref(reply)),
+            (reply, replies) => assert_eq!(reply.as_ref().err(), replies.as_ref().err()),
+        }
+        assert_eq!(
+            stepped.held_bytes(index),
+            ran.held_bytes(index),
+            "the bytes"
+        );
+        assert_eq!(
+            stepped.held_by_all().bytes,
+            ran.held_by_all().bytes,
+            "what all hold"
+        );
+    }
+}
+
+#[test]
+fn a_step_is_a_run_of_one_call() {
+    let calls: Vec<Call> = CALLS.iter().map(|row| call_of(*row).unwrap()).collect();
+    let (mut stepped, mut ran) = (Pool::new(5 * 65536, 0), Pool::new(5 * 65536, 0));
+    for pool in [&mut stepped, &mut ran] {
+        for _ in 0..4 {
+            assert!(pool.add(unmetered()).is_ok(), "a tenant");
+        }
+    }
+    steps_as_runs(&mut stepped, &mut ran, &calls);
+    for pool in [&mut stepped, &mut ran] {
+        assert!(pool.remove(1).is_some(), "a tenant in the middle");
+    }
+    steps_as_runs(&mut stepped, &mut ran, &calls);
+    assert_eq!(
+        stepped.step(1, &calls[0]),
+        Err(PoolError::NoTenant),
+        "none is left there"
+    );
+    assert_eq!(stepped.held_by_all().bytes, 5 * 65536, "the cap is reached");
 }
 
 /// Runs calls under a limiter that holds what the machine has, and compares the replies, and what

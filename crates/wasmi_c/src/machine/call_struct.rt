@@ -17,11 +17,11 @@ use wasmi_raw::{RawRef, RawVal};
 use wasmi_typed::{GlobalType, Mutability, TypedRawRef, TypedRawVal};
 
 /// The kind of loads.
-pub(super) const LOAD: u16 = 5;
+pub(crate) const LOAD: u16 = 5;
 /// The kind of stores.
-pub(super) const STORE: u16 = 6;
+pub(crate) const STORE: u16 = 6;
 /// The kind of instructions of two registers.
-pub(super) const BINARY: u16 = 24;
+pub(crate) const BINARY: u16 = 24;
 
 /// A call as numbers: its kind, and its operands, of which each kind reads its own.
 #[repr(C)]
@@ -330,7 +330,7 @@ impl CallStruct {
 
 /// The load of an item that has a number, if there is one.
 #[tactic(auto, unfolding(crate::specs::Instruction::load_numbered))]
-pub(super) fn item_load_numbered(number: u16) -> Option<LoadOp>
+pub(crate) fn item_load_numbered(number: u16) -> Option<LoadOp>
     ensures { result ≡ item_load_numbered number }
 {
     match number {
@@ -356,7 +356,7 @@ pub(super) fn item_load_numbered(number: u16) -> Option<LoadOp>
 
 /// The store of an item that has a number, if there is one.
 #[tactic(auto, unfolding(crate::specs::Instruction::store_numbered))]
-pub(super) fn item_store_numbered(number: u16) -> Option<StoreOp>
+pub(crate) fn item_store_numbered(number: u16) -> Option<StoreOp>
     ensures { result ≡ item_store_numbered number }
 {
     match number {
@@ -376,7 +376,7 @@ pub(super) fn item_store_numbered(number: u16) -> Option<StoreOp>
 }
 
 /// The instruction on two vectors that has a number, if there is one.
-pub(super) fn vector_binary_numbered(number: u16) -> Option<BinaryOp>
+pub(crate) fn vector_binary_numbered(number: u16) -> Option<BinaryOp>
     ensures { result ≡ vector_binary_numbered number }
 {
     match binary_numbered(number)? {

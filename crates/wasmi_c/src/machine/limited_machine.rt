@@ -337,7 +337,7 @@ impl LimitedMachine {
 /// Leaves the word of a reply with the caller, and returns the status. It is matched where it is
 /// returned, since a reply that is kept in a variable is copied.
 #[inline(always)]
-fn leave(reply: Reply, word: &mut u64) -> u8
+pub(crate) fn leave(reply: Reply, word: &mut u64) -> u8
     ensures status { result ≡ status_of reply }
     ensures word { word.new ≡ word_after reply word.old }
 {

@@ -1538,11 +1538,11 @@ pub mod machine {
         use crate::proved::typed::{GlobalType, Mutability, TypedRawRef, TypedRawVal};
 
         /// The kind of loads.
-        pub(super) const LOAD: u16 = 5;
+        pub(crate) const LOAD: u16 = 5;
         /// The kind of stores.
-        pub(super) const STORE: u16 = 6;
+        pub(crate) const STORE: u16 = 6;
         /// The kind of instructions of two registers.
-        pub(super) const BINARY: u16 = 24;
+        pub(crate) const BINARY: u16 = 24;
 
         /// A call as numbers: its kind, and its operands, of which each kind reads its own.
         #[repr(C)]
@@ -1917,7 +1917,7 @@ pub mod machine {
         /// ensures: result ≡ item_load_numbered number
         /// ```
         #[inline]
-        pub(super) fn item_load_numbered(number: u16) -> Option<LoadOp> {
+        pub(crate) fn item_load_numbered(number: u16) -> Option<LoadOp> {
             match number {
                 // Each of the first by itself, so that a load's code is reached by one jump.
                 0 => Some(LoadOp::I32Load8S),
@@ -1947,7 +1947,7 @@ pub mod machine {
         /// ensures: result ≡ item_store_numbered number
         /// ```
         #[inline]
-        pub(super) fn item_store_numbered(number: u16) -> Option<StoreOp> {
+        pub(crate) fn item_store_numbered(number: u16) -> Option<StoreOp> {
             match number {
                 // As for the loads.
                 0 => Some(StoreOp::I32Store8),
@@ -1972,7 +1972,7 @@ pub mod machine {
         /// ensures: result ≡ vector_binary_numbered number
         /// ```
         #[inline]
-        pub(super) fn vector_binary_numbered(number: u16) -> Option<BinaryOp> {
+        pub(crate) fn vector_binary_numbered(number: u16) -> Option<BinaryOp> {
             match binary_numbered(number)? {
                 Binary::Vector(op) => Some(op),
                 _ => None,
@@ -2605,7 +2605,7 @@ pub mod machine {
         /// ensures word: word.new ≡ word_after reply word.old
         /// ```
         #[inline(always)]
-        fn leave(reply: Reply, word: &mut u64) -> u8 {
+        pub(crate) fn leave(reply: Reply, word: &mut u64) -> u8 {
             match reply {
                 Reply::Value(value) => {
                     *word = value.lo;
@@ -3056,6 +3056,7 @@ pub mod memory {
     use crate::proved::meter::{Kind, MemoryError, ResourceLimiter, ResourceLimiterRef};
     use crate::proved::region::memory as region_memory;
     use crate::proved::store::MemoryType;
+    use crate::proved::store::range::fill_range;
 
     /// The binary logarithm of the size of a page that no memory has.
     const NO_PAGE_SIZE: u8 = 255;
@@ -3115,6 +3116,62 @@ pub mod memory {
         }
     }
 
+    /// Makes a memory as [`make`] does, at the front of a region whose bytes up to the minimum are zeros
+    /// already, and writes no byte of it. Where they aren't zeros, the memory has what stands there.
+    ///
+    /// # Contract
+    ///
+    /// ```text
+    /// ensures made: MakesEmbedded (placed memory.old region.now) (limiter_of quota.old) result
+    ///     (placed memory.new (made_over region.now memory.new.size result))
+    ///     (limiter_of quota.new)
+    /// ensures quota: KeepsQuota quota.old quota.new
+    /// ensures invalid: IsNoType memory.old → quota.new ≡ quota.old
+    /// ensures unasked: (ty : MemoryTypeValue) → named_type (settings_of memory.old) ≡ Some ty
+    ///     → 2 ^ 64 ≤ minimum_bytes ty → quota.new ≡ quota.old
+    /// ```
+    ///
+    /// Definitions: [`MemoryTypeValue`](crate::specs::store::MemorySpecs#MemoryTypeValue), [`named_type`](crate::specs::store::MemorySpecs#named_type), [`minimum_bytes`](crate::specs::store::MemorySpecs#minimum_bytes).
+    #[inline]
+    pub fn make_zeroed(memory: &mut MemoryNumbers, region: &[u8], quota: &mut QuotaNumbers) -> u8 {
+        let Some(ty) = memory.ty() else {
+            return INVALID_STATE;
+        };
+        match make_zeroed_under(ty, region, quota) {
+            Ok(size) => {
+                memory.size = size;
+                DONE
+            }
+            Err(error) => memory_status(error),
+        }
+    }
+
+    /// Makes a memory of this type under a limiter in zeros, as [`memory::make_zeroed`](crate::proved::region::memory::make_zeroed)
+    /// does.
+    ///
+    /// # Contract
+    ///
+    /// ```text
+    /// ensures made: MakesMemory (optional_rules L.rules) (Lent region.now) ty
+    ///     (Some limiter.old) (made_in_zeros ty region.now result) (Some limiter.new)
+    /// ensures sized: IfOk result (λ size. IsSized ty size × (size ≤ length region.now))
+    /// ```
+    ///
+    /// Definitions: [`MakesMemory`](crate::specs::store::MemorySpecs#MakesMemory), [`optional_rules`](crate::specs::meter::LimiterSpecs#optional_rules), [`Lent`](crate::specs::store::BufferSpecs#Lent), [`made_in_zeros`](crate::specs::region::MemorySpecs#made_in_zeros), [`IsSized`](crate::specs::store::MemorySpecs#IsSized).
+    ///
+    /// `L` is the type of the limiter, a [`ResourceLimiter`](crate::machine::ResourceLimiter#contract).
+    #[inline]
+    pub fn make_zeroed_under<L: ResourceLimiter>(
+        ty: MemoryType,
+        region: &[u8],
+        limiter: &mut L,
+    ) -> Result<usize, MemoryError> {
+        let mut lent = ResourceLimiterRef::from(limiter);
+        let made = region_memory::make_zeroed(ty, region, &mut lent);
+        let _limiter = lent.into_limiter();
+        made
+    }
+
     /// Grows a memory of this type under a limiter.
     ///
     /// # Contract
@@ -3137,10 +3194,43 @@ pub mod memory {
         limiter: &mut L,
         number: &mut u64,
     ) -> u8 {
+        let old_size = memory.size;
+        let status = grow_zeroed_under(memory, ty, region, pages, meter, limiter, number);
+        fill_range(region, old_size, memory.size, 0);
+        status
+    }
+
+    /// Grows a memory of this type under a limiter into bytes that are zeros, of which it writes none.
+    ///
+    /// # Contract
+    ///
+    /// ```text
+    /// requires state: IsState memory.old region.now ty
+    /// ensures grown: GrowsAs of_memory L.rules (by_pages pages) ty
+    ///     (embedded memory.old region.now meter.old (Some limiter.old) number.old) result
+    ///     (embedded memory.new (zeroed region.now memory.old.size memory.new.size) meter.new
+    ///     (Some limiter.new) number.new)
+    /// ensures larger: memory.old.size ≤ memory.new.size
+    /// ensures within: memory.new.size ≤ length region.now
+    /// ```
+    ///
+    /// Definitions: [`zeroed`](crate::specs::region::MemorySpecs#zeroed).
+    ///
+    /// `L` is the type of the limiter, a [`ResourceLimiter`](crate::machine::ResourceLimiter#contract).
+    #[inline]
+    pub fn grow_zeroed_under<L: ResourceLimiter>(
+        memory: &mut MemoryNumbers,
+        ty: MemoryType,
+        region: &[u8],
+        pages: u64,
+        meter: &mut MeterNumbers,
+        limiter: &mut L,
+        number: &mut u64,
+    ) -> u8 {
         let mut fuel = meter.fuel();
         let mut size = memory.size;
         let mut lent = ResourceLimiterRef::from(limiter);
-        let grown = region_memory::grow(ty, &mut size, region, pages, &mut fuel, &mut lent);
+        let grown = region_memory::grow_zeroed(ty, &mut size, region, pages, &mut fuel, &mut lent);
         let _limiter = lent.into_limiter();
         memory.size = size;
         meter.store_left(&fuel);
@@ -3180,6 +3270,37 @@ pub mod memory {
     ) -> u8 {
         type_or_return!(ty, memory, region);
         grow_under(memory, ty, region, pages, meter, quota, number)
+    }
+
+    /// Grows a memory as [`grow`] does, into bytes of the region that are zeros already, and writes no
+    /// byte of it. Where they aren't zeros, the memory has what stands there.
+    ///
+    /// # Contract
+    ///
+    /// ```text
+    /// ensures grown: GrowsBy of_memory quota_rules (by_pages pages)
+    ///     (embedded memory.old region.now meter.old (limiter_of quota.old) number.old) result
+    ///     (embedded memory.new (zeroed region.now memory.old.size memory.new.size) meter.new
+    ///     (limiter_of quota.new) number.new)
+    /// ensures quota: KeepsQuota quota.old quota.new
+    /// ensures invalid: IsNone of_memory memory.old region.now → quota.new ≡ quota.old
+    /// ensures unasked: (ty : MemoryTypeValue) → IsState memory.old region.now ty
+    ///     → (pages ≡ 0) ⊎ (in_bounds ty (memory.old.size / page_bytes ty.page + pages) ≡ false)
+    ///     → quota.new ≡ quota.old
+    /// ```
+    ///
+    /// Definitions: [`GrowsBy`](crate::specs::machine::ExchangeSpecs#GrowsBy), [`quota_rules`](crate::specs::meter::CappedSpecs#quota_rules), [`zeroed`](crate::specs::region::MemorySpecs#zeroed), [`MemoryTypeValue`](crate::specs::store::MemorySpecs#MemoryTypeValue), [`in_bounds`](crate::specs::store::MemorySpecs#in_bounds), [`page_bytes`](crate::specs::store::MemorySpecs#page_bytes).
+    #[inline]
+    pub fn grow_zeroed(
+        memory: &mut MemoryNumbers,
+        region: &[u8],
+        pages: u64,
+        meter: &mut MeterNumbers,
+        quota: &mut QuotaNumbers,
+        number: &mut u64,
+    ) -> u8 {
+        type_or_return!(ty, memory, region);
+        grow_zeroed_under(memory, ty, region, pages, meter, quota, number)
     }
 
     /// Ends a memory: the quota gives up its bytes, and the numbers stand for no memory from then on. If
@@ -3809,15 +3930,20 @@ pub mod pool {
     use crate::rattle::Vec;
 
     use crate::generated::c::held_box::HeldBox;
-    use crate::generated::c::machine::call_struct::CallStruct;
-    use crate::generated::c::machine::limited_machine::{headless, read_out, write_out};
+    use crate::generated::c::machine::call_struct::{
+        BINARY, CallStruct, LOAD, STORE, item_load_numbered, item_store_numbered,
+        vector_binary_numbered,
+    };
+    use crate::generated::c::machine::limited_machine::{headless, leave, read_out, write_out};
     use crate::generated::c::machine::limits::{Limits, Totals};
     use crate::generated::c::machine::reply_struct::ReplyStruct;
     use crate::generated::c::pool::pool_box::PoolBox;
     use crate::generated::c::status::{DONE, HAS_POOL, NO_CALL, NO_POOL, NO_ROOM, NO_TENANT};
     use crate::proved::budget::{Pool, PoolError};
     use crate::proved::machine::{Call, Machine, Reply};
-    use std::{mem, slice};
+    use crate::proved::ops::{LoadOp, StoreOp};
+    use crate::proved::raw::RawVal;
+    use std::mem;
 
     /// What a call on the pool of a handle returns; or what is returned where there is none.
     #[macro_export]
@@ -4015,12 +4141,83 @@ pub mod pool {
         /// ensures step: TenantRepliesToStruct tenant numbers.now result self.old self.new
         /// ensures caps: self.new.caps ≡ self.old.caps
         /// ```
-        #[inline]
+        #[inline(always)]
         pub fn reply_to_struct(&mut self, tenant: usize, numbers: &CallStruct) -> ReplyStruct {
+            let (memory, ptr, offset) = (numbers.index, numbers.ptr, numbers.offset);
+            // These read their own fields alone: to make a `Call` of all takes longer than the call.
+            if numbers.kind == LOAD
+                && let Some(op) = item_load_numbered(numbers.op)
+            {
+                return self.load_reply(tenant, op, memory, ptr, offset);
+            }
+            if numbers.kind == STORE
+                && let Some(op) = item_store_numbered(numbers.op)
+            {
+                return self.store_reply(tenant, op, memory, ptr, offset, numbers.value);
+            }
+            if numbers.kind == BINARY
+                && let Some(op) = vector_binary_numbered(numbers.op)
+            {
+                let (dst, a, b) = (numbers.dst, numbers.a, numbers.b);
+                return self.reply(tenant, &Call::Binary { op, dst, a, b });
+            }
             match &numbers.call() {
-                Some(call) => self.reply(tenant, call),
+                Some(call) => self.reply(tenant, call).by_fields(),
                 None => ReplyStruct::only(NO_CALL),
             }
+        }
+
+        /// Loads an item from a memory of a tenant.
+        ///
+        /// # Contract
+        ///
+        /// ```text
+        /// ensures: TenantReplies tenant (Load op memory ptr offset) result self.now self.now
+        /// ```
+        #[inline(always)]
+        fn load_reply(
+            &self,
+            tenant: usize,
+            op: LoadOp,
+            memory: usize,
+            ptr: u64,
+            offset: u64,
+        ) -> ReplyStruct {
+            match self.pool.machine(tenant) {
+                Some(machine) => {
+                    ReplyStruct::from_common(load_item(machine, op, memory, ptr, offset))
+                }
+                None => ReplyStruct::only(NO_TENANT),
+            }
+        }
+
+        /// Stores an item to a memory of a tenant.
+        ///
+        /// # Contract
+        ///
+        /// ```text
+        /// ensures step: TenantReplies tenant (Store op memory ptr offset value) result self.old
+        ///     self.new
+        /// ensures caps: self.new.caps ≡ self.old.caps
+        /// ```
+        #[inline(always)]
+        fn store_reply(
+            &mut self,
+            tenant: usize,
+            op: StoreOp,
+            memory: usize,
+            ptr: u64,
+            offset: u64,
+            value: RawVal,
+        ) -> ReplyStruct {
+            let call = Call::Store {
+                op,
+                memory,
+                ptr,
+                offset,
+                value,
+            };
+            self.reply(tenant, &call)
         }
 
         /// Replies to one call on the machine of a tenant.
@@ -4031,11 +4228,117 @@ pub mod pool {
         /// ensures step: TenantReplies tenant call.now result self.old self.new
         /// ensures caps: self.new.caps ≡ self.old.caps
         /// ```
-        #[inline]
+        #[inline(always)]
         fn reply(&mut self, tenant: usize, call: &Call) -> ReplyStruct {
-            match self.run(tenant, slice::from_ref(call)) {
-                Ok(replies) => ReplyStruct::from_reply(&replies[0]),
-                Err(refusal) => refusal,
+            match self.pool.step(tenant, call) {
+                Ok(reply) => ReplyStruct::from_common(reply),
+                Err(_) => ReplyStruct::only(NO_TENANT),
+            }
+        }
+
+        /// Loads an item from a memory of a tenant by the load that has the number, if there is one.
+        ///
+        /// # Contract
+        ///
+        /// ```text
+        /// ensures: TenantRepliesInWord tenant (item_load number memory ptr offset) value.old
+        ///     (result, value.new) self.now self.now
+        /// ```
+        #[inline(always)]
+        pub fn load(
+            &self,
+            tenant: usize,
+            number: u16,
+            memory: usize,
+            ptr: u64,
+            offset: u64,
+            value: &mut u64,
+        ) -> u8 {
+            let Some(op) = item_load_numbered(number) else {
+                return NO_CALL;
+            };
+            match self.pool.machine(tenant) {
+                Some(machine) => leave(load_item(machine, op, memory, ptr, offset), value),
+                None => NO_TENANT,
+            }
+        }
+
+        /// Tells the fuel that is left on the machine of a tenant.
+        ///
+        /// # Contract
+        ///
+        /// ```text
+        /// ensures: TenantRepliesInWord tenant (Some GetFuel) left.old (result, left.new) self.now
+        ///     self.now
+        /// ```
+        #[inline(always)]
+        pub fn fuel_left(&self, tenant: usize, left: &mut u64) -> u8 {
+            match self.pool.machine(tenant) {
+                Some(machine) => leave(fuel_reply(machine), left),
+                None => NO_TENANT,
+            }
+        }
+
+        /// Stores an item to a memory of a tenant by the store that has the number, if there is one.
+        ///
+        /// # Contract
+        ///
+        /// ```text
+        /// ensures step: TenantRepliesInStatus tenant (item_store number memory ptr offset value)
+        ///     result self.old self.new
+        /// ensures caps: self.new.caps ≡ self.old.caps
+        /// ```
+        #[inline(always)]
+        pub fn store(
+            &mut self,
+            tenant: usize,
+            number: u16,
+            memory: usize,
+            ptr: u64,
+            offset: u64,
+            value: u64,
+        ) -> u8 {
+            let Some(op) = item_store_numbered(number) else {
+                return NO_CALL;
+            };
+            let value = RawVal { lo: value, hi: 0 };
+            self.store_reply(tenant, op, memory, ptr, offset, value)
+                .status
+        }
+
+        /// Executes the instruction on two vectors that has the number, if there is one, on the machine
+        /// of a tenant.
+        ///
+        /// # Contract
+        ///
+        /// ```text
+        /// ensures step: TenantRepliesInStatus tenant (vector_binary number dst a b) result self.old
+        ///     self.new
+        /// ensures caps: self.new.caps ≡ self.old.caps
+        /// ```
+        #[inline(always)]
+        pub fn binary(&mut self, tenant: usize, number: u16, dst: u8, a: u8, b: u8) -> u8 {
+            let Some(op) = vector_binary_numbered(number) else {
+                return NO_CALL;
+            };
+            let call = Call::Binary { op, dst, a, b };
+            self.reply(tenant, &call).status
+        }
+
+        /// Grows a memory of a tenant by so many pages, and leaves a status and a word of the reply.
+        ///
+        /// # Contract
+        ///
+        /// ```text
+        /// ensures step: TenantRepliesInWord tenant (Some (GrowMemory memory pages)) number.old
+        ///     (result, number.new) self.old self.new
+        /// ensures caps: self.new.caps ≡ self.old.caps
+        /// ```
+        #[inline(always)]
+        pub fn grow(&mut self, tenant: usize, memory: usize, pages: u64, number: &mut u64) -> u8 {
+            match self.pool.step(tenant, &Call::GrowMemory { memory, pages }) {
+                Ok(reply) => leave(reply, number),
+                Err(_) => NO_TENANT,
             }
         }
 
@@ -4163,6 +4466,46 @@ pub mod pool {
         pub fn totals(&self) -> Totals {
             let held = self.pool.held_by_all();
             Totals::from_amounts(DONE, u128::from(held.bytes), u128::from(held.elements))
+        }
+    }
+
+    /// The reply of a machine to the load of an item, which reaches no limiter.
+    ///
+    /// # Contract
+    ///
+    /// ```text
+    /// ensures: (tenant : Tenant) → RepliesWith (optional_rules tenant_rules)
+    ///     (Load op memory ptr offset) (world machine.now (Some tenant)) result
+    ///     (world machine.now (Some tenant))
+    /// ```
+    ///
+    /// Definitions: [`RepliesWith`](crate::specs::machine::StepsSpecs#RepliesWith), [`optional_rules`](crate::specs::meter::LimiterSpecs#optional_rules), [`tenant_rules`](crate::specs::budget::PoolSpecs#tenant_rules), [`world`](crate::specs::machine::StateSpecs#world).
+    #[inline(always)]
+    fn load_item(machine: &Machine, op: LoadOp, memory: usize, ptr: u64, offset: u64) -> Reply {
+        let Some(memory) = machine.memory(memory) else {
+            return Reply::NoSuch;
+        };
+        match op.load(memory.data(), ptr, offset) {
+            Ok(raw) => Reply::Value(raw),
+            Err(trap) => Reply::Trap(trap),
+        }
+    }
+
+    /// The reply of a machine to the question for the fuel that is left, which reaches no limiter.
+    ///
+    /// # Contract
+    ///
+    /// ```text
+    /// ensures: (tenant : Tenant) → RepliesWith (optional_rules tenant_rules) GetFuel
+    ///     (world machine.now (Some tenant)) result (world machine.now (Some tenant))
+    /// ```
+    ///
+    /// Definitions: [`RepliesWith`](crate::specs::machine::StepsSpecs#RepliesWith), [`optional_rules`](crate::specs::meter::LimiterSpecs#optional_rules), [`tenant_rules`](crate::specs::budget::PoolSpecs#tenant_rules), [`world`](crate::specs::machine::StateSpecs#world).
+    #[inline(always)]
+    fn fuel_reply(machine: &Machine) -> Reply {
+        match machine.fuel().get_fuel() {
+            Ok(amount) => Reply::Number(amount),
+            Err(error) => Reply::Fuel(error),
         }
     }
 }

@@ -913,6 +913,104 @@ mod machine {
     /// # Contract
     ///
     /// ```text
+    /// ensures step: ActsOnHeld {R = ℕ × ℕ} (NO_POOL, value.old)
+    ///     handle.old.pool.held (result, value.new) handle.new.pool.held
+    ///     (TenantRepliesInWord tenant (item_load op memory ptr offset) value.old
+    ///     (result, value.new))
+    /// ensures caps: KeepsCaps handle.old.pool.held handle.new.pool.held
+    /// ```
+    #[unsafe(no_mangle)]
+    pub extern "C" fn wasmi_pool_load(
+        handle: &mut PoolHandle,
+        tenant: usize,
+        op: u16,
+        memory: usize,
+        ptr: u64,
+        offset: u64,
+        value: &mut u64,
+    ) -> u8 {
+        on_pool!(handle, NO_POOL, pool => pool.load(tenant, op, memory, ptr, offset, value))
+    }
+
+    /// # Contract
+    ///
+    /// ```text
+    /// ensures step: ActsOnHeld NO_POOL handle.old.pool.held result handle.new.pool.held
+    ///     (TenantRepliesInStatus tenant (item_store op memory ptr offset value) result)
+    /// ensures caps: KeepsCaps handle.old.pool.held handle.new.pool.held
+    /// ```
+    #[unsafe(no_mangle)]
+    pub extern "C" fn wasmi_pool_store(
+        handle: &mut PoolHandle,
+        tenant: usize,
+        op: u16,
+        memory: usize,
+        ptr: u64,
+        offset: u64,
+        value: u64,
+    ) -> u8 {
+        on_pool!(handle, NO_POOL, pool => pool.store(tenant, op, memory, ptr, offset, value))
+    }
+
+    /// # Contract
+    ///
+    /// ```text
+    /// ensures step: ActsOnHeld NO_POOL handle.old.pool.held result handle.new.pool.held
+    ///     (TenantRepliesInStatus tenant (vector_binary op dst a b) result)
+    /// ensures caps: KeepsCaps handle.old.pool.held handle.new.pool.held
+    /// ```
+    #[unsafe(no_mangle)]
+    pub extern "C" fn wasmi_pool_binary(
+        handle: &mut PoolHandle,
+        tenant: usize,
+        op: u16,
+        dst: u8,
+        a: u8,
+        b: u8,
+    ) -> u8 {
+        on_pool!(handle, NO_POOL, pool => pool.binary(tenant, op, dst, a, b))
+    }
+
+    /// # Contract
+    ///
+    /// ```text
+    /// ensures step: ActsOnHeld {R = ℕ × ℕ} (NO_POOL, number.old)
+    ///     handle.old.pool.held (result, number.new) handle.new.pool.held
+    ///     (TenantRepliesInWord tenant (Some (GrowMemory memory pages)) number.old
+    ///     (result, number.new))
+    /// ensures caps: KeepsCaps handle.old.pool.held handle.new.pool.held
+    /// ```
+    #[unsafe(no_mangle)]
+    pub extern "C" fn wasmi_pool_grow(
+        handle: &mut PoolHandle,
+        tenant: usize,
+        memory: usize,
+        pages: u64,
+        number: &mut u64,
+    ) -> u8 {
+        on_pool!(handle, NO_POOL, pool => pool.grow(tenant, memory, pages, number))
+    }
+
+    /// # Contract
+    ///
+    /// ```text
+    /// ensures step: ActsOnHeld {R = ℕ × ℕ} (NO_POOL, left.old)
+    ///     handle.old.pool.held (result, left.new) handle.new.pool.held
+    ///     (TenantRepliesInWord tenant (Some GetFuel) left.old (result, left.new))
+    /// ensures caps: KeepsCaps handle.old.pool.held handle.new.pool.held
+    /// ```
+    #[unsafe(no_mangle)]
+    pub extern "C" fn wasmi_pool_fuel_left(
+        handle: &mut PoolHandle,
+        tenant: usize,
+        left: &mut u64,
+    ) -> u8 {
+        on_pool!(handle, NO_POOL, pool => pool.fuel_left(tenant, left))
+    }
+
+    /// # Contract
+    ///
+    /// ```text
     /// ensures step: ActsOnHeld {R = ReplyStruct × List ℕ} (only NO_POOL, bytes.old)
     ///     handle.old.pool.held (result, bytes.new) handle.new.pool.held
     ///     (TenantReadsOut tenant memory offset bytes.old result bytes.new)
@@ -1035,6 +1133,31 @@ mod memory {
     /// # Contract
     ///
     /// ```text
+    /// ensures made: MakesEmbedded (placed memory.old region.now) (limiter_of quota.old) result
+    ///     (placed memory.new (made_over region.now memory.new.size result))
+    ///     (limiter_of quota.new)
+    /// ensures quota: KeepsQuota quota.old quota.new
+    /// ensures invalid: IsNoType memory.old → quota.new ≡ quota.old
+    /// ensures unasked: (ty : MemoryTypeValue) → named_type (settings_of memory.old) ≡ Some ty
+    ///     → 2 ^ 64 ≤ minimum_bytes ty → quota.new ≡ quota.old
+    /// ```
+    ///
+    /// Definitions: [`MemoryTypeValue`](crate::specs::store::MemorySpecs#MemoryTypeValue), [`named_type`](crate::specs::store::MemorySpecs#named_type), [`minimum_bytes`](crate::specs::store::MemorySpecs#minimum_bytes).
+    #[unsafe(no_mangle)]
+    pub unsafe extern "C" fn wasmi_memory_new_zeroed(
+        memory: &mut MemoryNumbers,
+        region: *const u8,
+        region_len: usize,
+        quota: &mut QuotaNumbers,
+    ) -> u8 {
+        let region = unsafe { crate::memory::items(region, region_len) };
+
+        on_memory::make_zeroed(memory, region, quota)
+    }
+
+    /// # Contract
+    ///
+    /// ```text
     /// ensures grown: GrowsBy of_memory quota_rules (by_pages pages)
     ///     (embedded memory.old region.old meter.old (limiter_of quota.old) number.old) result
     ///     (embedded memory.new region.new meter.new (limiter_of quota.new) number.new)
@@ -1059,6 +1182,36 @@ mod memory {
         let region = unsafe { crate::memory::items_mut(region, region_len) };
 
         on_memory::grow(memory, region, pages, meter, quota, number)
+    }
+
+    /// # Contract
+    ///
+    /// ```text
+    /// ensures grown: GrowsBy of_memory quota_rules (by_pages pages)
+    ///     (embedded memory.old region.now meter.old (limiter_of quota.old) number.old) result
+    ///     (embedded memory.new (zeroed region.now memory.old.size memory.new.size) meter.new
+    ///     (limiter_of quota.new) number.new)
+    /// ensures quota: KeepsQuota quota.old quota.new
+    /// ensures invalid: IsNone of_memory memory.old region.now → quota.new ≡ quota.old
+    /// ensures unasked: (ty : MemoryTypeValue) → IsState memory.old region.now ty
+    ///     → (pages ≡ 0) ⊎ (in_bounds ty (memory.old.size / page_bytes ty.page + pages) ≡ false)
+    ///     → quota.new ≡ quota.old
+    /// ```
+    ///
+    /// Definitions: [`GrowsBy`](crate::specs::machine::ExchangeSpecs#GrowsBy), [`quota_rules`](crate::specs::meter::CappedSpecs#quota_rules), [`zeroed`](crate::specs::region::MemorySpecs#zeroed), [`MemoryTypeValue`](crate::specs::store::MemorySpecs#MemoryTypeValue), [`in_bounds`](crate::specs::store::MemorySpecs#in_bounds), [`page_bytes`](crate::specs::store::MemorySpecs#page_bytes).
+    #[unsafe(no_mangle)]
+    pub unsafe extern "C" fn wasmi_memory_grow_zeroed(
+        memory: &mut MemoryNumbers,
+        region: *const u8,
+        region_len: usize,
+        pages: u64,
+        meter: &mut MeterNumbers,
+        quota: &mut QuotaNumbers,
+        number: &mut u64,
+    ) -> u8 {
+        let region = unsafe { crate::memory::items(region, region_len) };
+
+        on_memory::grow_zeroed(memory, region, pages, meter, quota, number)
     }
 
     /// # Contract

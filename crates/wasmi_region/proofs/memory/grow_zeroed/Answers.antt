@@ -1,20 +1,32 @@
-use Rattle.std.proofs.Common.{◌∙◌, false, refl, sym, arith}
+use Rattle.std.proofs.Common.{inl, ◌∙◌, ap, Ok, false, refl, sym, arith}
 use Rattle.std.proofs.lemmas.Result.{err_from_is_err_and}
 use Rattle.wasmi_meter.specs.Limiter.{optional_rules}
 use Rattle.wasmi_region.specs.Memory.{memory_in}
 use Rattle.wasmi_store.proofs.MemoryLemmas.{grows_unasked, growth_permitted, grows_met}
-use Rattle.wasmi_region.proofs.MemoryLemmas.{paged, bounds, asked_in, room_is, grown}
-use Rattle.wasmi_region.proofs.memory.grow.Goals as goal
+use Rattle.wasmi_region.proofs.MemoryLemmas.{zeroed_none, paged, bounds, asked_in, room_is, grown}
+use Rattle.wasmi_region.proofs.memory.grow_zeroed.Goals as goal
+
+pub returns-then-additional-eq0-clause-grown : goal.returns-then-additional-eq0-clause-grown
+returns-then-additional-eq0-clause-grown g c = rw (zeroed_none c.args.region.now c.args.size.now) (
+  0,
+  inl record {
+    none = c.if-additional-eq0.true;
+    answered = ap Ok (c.pages_in-old_pages.ensures ∙ sym (paged c.args.ty _ _ c.requires.within c.args.additional));
+    uncharged = refl;
+    same = refl;
+  },
+)
 
 pub returns-in_default-clause-grown : goal.returns-in_default-clause-grown
-returns-in_default-clause-grown g c =
+returns-in_default-clause-grown g c = rw (zeroed_none c.args.region.now c.args.size.now) (
     grows_unasked (optional_rules g.L.ResourceLimiter.rules) _ _ _ _ c.if-additional-eq0.false
     (bounds c.args.ty _ _ c.requires.within _ false c.in_default.ensures.size)
+    )
 
 pub returns-in_err-decide_growth-clause-grown : goal.returns-in_err-decide_growth-clause-grown
 returns-in_err-decide_growth-clause-grown g c =
     let p = err_from_is_err_and c.from_residual.result c.from_residual.ensures.1 in
-    rw (p.1, p.2) (
+    rw (p.1, p.2, zeroed_none c.args.region.now c.args.size.now) (
     c.in_err-decide_growth.ensures.refused _ _ (omega (arith, c.if-additional-eq0.false))
     (asked_in c.args.ty _ _ c.requires.within _ c.in-Some.ensures.size c.maximum_size-maximum.ensures)
     (room_is c.args.ty _ _ c.requires.within _ c.in-Some.ensures.size _ refl)
@@ -30,5 +42,5 @@ returns-clause-grown g c =
     (growth_permitted (optional_rules g.L.ResourceLimiter.rules) x c.args.fuel.now c.args.additional
     c.if-additional-eq0.false asked refl c.in_ok-decide_growth.ensures.permitted)
     (fits ∙ c.in_ok-decide_growth.ensures.room) c.decide_growth.new.fuel c.in_ok-decide_growth.ensures.paid _
-    (grown c.args.ty _ _ c.requires.within _ found _ c.fill_range.ensures.filled) _
+    (grown c.args.ty _ _ c.requires.within _ found _ refl) _
     (c.pages_in-old_pages.ensures ∙ sym (paged c.args.ty _ _ c.requires.within c.args.additional))

@@ -1,0 +1,18 @@
+use Rattle.std.proofs.Common.{◌∷◌, [], refl}
+use Rattle.wasmi_machine.specs.State.{world}
+use Rattle.wasmi_budget.proofs.PoolLemmas.{step_holds}
+use Rattle.wasmi_budget.proofs.tenant.step_holding.Goals as goal
+
+pub returns-clause-run : goal.returns-clause-run
+returns-clause-run c =
+    let step = c.step_lending.ensures.step in (
+      record { call = c.args.call.now; reply = c.step_lending.result; charge = step.0; written = step.1 } ∷ [],
+      refl,
+      refl,
+      (_, step.2, refl),
+    )
+
+pub returns-clause-held : goal.returns-clause-held
+returns-clause-held c = step_holds (world c.args.machine.now c.args.tenant.now)
+    (world c.step_lending.new.self c.step_lending.new.limiter) c.args.call.now c.step_lending.result c.requires.totals
+    c.step_lending.ensures.step

@@ -1,0 +1,13 @@
+use Rattle.std.proofs.Common.{refl, rules}
+use Rattle.wasmi_c.proofs.PlacementLemmas.{grown_with}
+use Rattle.wasmi_c.proofs.memory.grow_zeroed_under.Goals as goal
+
+pub returns-in-Ok-clause-grown : goal.returns-in-Ok-clause-grown
+returns-in-Ok-clause-grown g c = grown_with _ _ _ _ _ (search rules) (search rules) c.store_left.ensures
+    (rw c.fuel-fuel.ensures at c.grow_zeroed-grown.ensures.grown) (search rules) refl
+    c.grow_zeroed-grown.ensures.rest c.grow_zeroed-grown.ensures.refused (search rules)
+
+pub returns-in-Err-clause-grown : goal.returns-in-Err-clause-grown
+returns-in-Err-clause-grown g c = grown_with _ _ _ _ _ (search rules) (search rules) c.store_left.ensures
+    (rw c.fuel-fuel.ensures at c.grow_zeroed-grown.ensures.grown) (search rules) refl
+    c.grow_zeroed-grown.ensures.rest c.grow_zeroed-grown.ensures.refused (search rules)

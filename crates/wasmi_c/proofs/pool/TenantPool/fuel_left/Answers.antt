@@ -1,0 +1,11 @@
+use Rattle.std.proofs.Common.{◌≡◌, Some, rules}
+use Rattle.wasmi_machine.specs.declared.calls.Call.TheVariants.{GetFuel}
+use Rattle.wasmi_budget.specs.Pool.{machine_of}
+use Rattle.wasmi_c.proofs.TenantLemmas.{word_in_place}
+use Rattle.wasmi_c.proofs.pool.TenantPool.fuel_left.Goals as goal
+
+pub returns-in-Some : goal.returns-in-Some
+returns-in-Some c =
+    let found : machine_of c.args.self.now c.args.tenant ≡ Some c.in-Some.machine.now = search rules in
+    word_in_place c.args.self.now c.args.tenant c.in-Some.machine.now found GetFuel c.fuel_reply.result
+    c.fuel_reply.ensures c.args.left.now (c.leave.result, c.leave.new.word) c.leave.ensures.status c.leave.ensures.word
