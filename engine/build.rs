@@ -1,11 +1,15 @@
 //! Says whether handlers may call each other without end: where the compiler makes a jump of a call that comes last. Over
 //! the Rust crate it does so only if it optimises both together, as the release profile of the package in `crate/` says.
+//! In several codegen units some handlers aren't jumps, and a long run would overflow the stack. How a program that depends
+//! on the engine is compiled is unknown here, so there the feature `jumps` has to say that it is in one unit.
 
 use std::env;
 
 fn main() {
     let is = |name: &str, values: &[&str]| env::var(name).is_ok_and(|it| values.contains(&it.as_str()));
-    let makes_jumps = is("OPT_LEVEL", &["2", "3", "s"])
+    let is_one_unit = option_env!("CARGO_PRIMARY_PACKAGE").is_some() || env::var_os("CARGO_FEATURE_JUMPS").is_some();
+    let makes_jumps = is_one_unit
+        && is("OPT_LEVEL", &["2", "3", "s"])
         && is("CARGO_CFG_TARGET_ARCH", &["x86_64", "aarch64"])
         && !is("CARGO_CFG_TARGET_OS", &["windows"])
         && (env::var_os("CARGO_FEATURE_CRATE").is_none() || is("PROFILE", &["release"]))
