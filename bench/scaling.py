@@ -17,7 +17,7 @@ sys.dont_write_bytecode = True
 from replay import KINDS, LIMIT, output, script, seconds
 
 MOST_GROWTH, MOST_SHARE = 14, 1.1
-# Words are found byte by byte (docs/DECISIONS.md, 48), so a script of spaces takes longer than over the Rust crate's program.
+# Words are found byte by byte (docs/DECISIONS.md, 45), so a script of spaces takes longer than over the Rust crate's program.
 SLOWER = {"spaces": 2.2, "blank lines": 1.6, "spaces between words": 1.8, "one long write": 1.2, "one long segment": 1.25}
 
 
