@@ -7,7 +7,7 @@ use Rattle.std.specs.Prelude.{All, MatchBool, slice_get, slice_set}
 use Rattle.wasmi_machine.proofs.TotalLemmas.{set_read, counts_kept}
 use Rattle.wasmi_machine.specs.Determinism.{IsNotOutOfMemory}
 use Rattle.wasmi_machine.specs.Laws.{IsRefusal}
-use Rattle.wasmi_machine.specs.Effects.{ActsAt, AddsEntry, ChangesAt, ChangesFound, ChangesItem, Creates, DropsAt, OnLive, reply_of}
+use Rattle.wasmi_machine.specs.Effects.{ActsAt, AddsEntry, AddsItem, ChangesAt, ChangesFound, ChangesItem, Creates, DropsAt, DropsContents, OnLive, reply_of}
 use Rattle.wasmi_machine.specs.State.{live_at, live_value, slot_count, IsValidSlot}
 use Rattle.wasmi_machine.specs.Steps.{Change}
 use Rattle.wasmi_machine.specs.declared.calls.Reply.{Reply}
@@ -64,6 +64,18 @@ module _ {X : Type 0} where
       → ((x x' : X) → Change x x' → x' ≡ x) → ChangesItem k items reply items' Change → items' ≡ items
   item_back k items reply items' Change same changes =
       found_back (slice_get items k) (slice_set items k) items reply items' Change (set_read items k) same changes
+
+  -- a refused addition of an item leaves the list
+  pub adds_back : (x : X) (items : List X) (reply : Reply) (items' : List X) → IsRefusal reply
+      → AddsItem x items reply items' → items' ≡ items
+  adds_back x items reply items' refused (inl none) = none.1
+  adds_back x items reply items' refused (inr made) = absurd (rw made.0 at refused)
+
+  -- a refused drop of what an item has leaves the list
+  pub contents_back : (without : X → X) (k : ℕ) (items : List X) (reply : Reply) (items' : List X) → IsRefusal reply
+      → DropsContents without k items reply items' → items' ≡ items
+  contents_back without k items reply items' refused drops =
+      item_back k items reply items' _ (λ x x' c. absurd (rw c.0 at refused)) drops
 
   -- a refused drop leaves the slots
   pub drops_back : (count : X → ℕ) (k : ℕ) (slots : List (Slot X)) (reply : Reply) (slots' : List (Slot X))
@@ -141,6 +153,14 @@ creates_same refusal Makes same slots l o o' room room' (inr (result, makes, app
     (subst (λ r. AddsEntry Live refusal r slots o'.reply o'.part) (sym made.0) appends') in
     (put.0, put.1, made.1)
 
+-- two additions of an item, where memory isn't wanting
+pub adds_same : {X : Type 0} (x : X) (items : List X) (reply reply' : Reply) (items' items'' : List X)
+    → IsNotOutOfMemory reply → IsNotOutOfMemory reply' → AddsItem x items reply items' → AddsItem x items reply' items''
+    → (reply ≡ reply') × (items' ≡ items'')
+adds_same x items reply reply' items' items'' room room' (inl none) b = absurd (rw none.0 at room)
+adds_same x items reply reply' items' items'' room room' (inr a) (inl none) = absurd (rw none.0 at room')
+adds_same x items reply reply' items' items'' room room' (inr a) (inr b) = (a.0 ∙ sym b.0, a.1 ∙ sym b.1)
+
 -- an effect on a part is decided: two of it are one
 abbrev pub IsDecided : {A : Type 0} → (Reply → A → Type 0) → Type 0
 IsDecided {A} Relation = (reply reply' : Reply) (part part' : A) → Relation reply part → Relation reply' part'
@@ -166,6 +186,10 @@ slot_same k slots Change = changes_same (live_at slots k) (λ x. slice_set slots
 pub item_same : {X : Type 0} (k : ℕ) (items : List X) (Change : Reply → X → X → Type 0) → ChangesOnce Change
     → IsDecided (λ reply items'. ChangesItem k items reply items' (Change reply))
 item_same k items Change = changes_same (slice_get items k) (slice_set items k) items Change
+
+-- two drops of what an item has
+pub contents_same : {X : Type 0} (without : X → X) (k : ℕ) (items : List X) → IsDecided (DropsContents without k items)
+contents_same without k items = item_same k items _ (λ x reply reply' x' x'' h h'. (h.0 ∙ sym h'.0, h.1 ∙ sym h'.1))
 
 -- two drops
 pub drops_same : {X : Type 0} (count : X → ℕ) (k : ℕ) (slots : List (Slot X)) → IsDecided (DropsAt count k slots)

@@ -46,7 +46,17 @@ module _ {S : Type 0} (w w' : World S) where
   paid : (m : Meter) → {v : World S} → w' ≡ v → v.state ≡ record w.state { meter = m }
       → SameContents w.state w'.state × (w'.state.spare ≡ w.state.spare)
   paid m is same =
-      rw (is, same) (record { memories = refl; tables = refl; segments = refl; globals = refl; registers = refl }, refl)
+      rw (is, same) (
+        record {
+          memories = refl;
+          tables = refl;
+          segments = refl;
+          data_segments = refl;
+          globals = refl;
+          registers = refl;
+        },
+        refl,
+      )
 
   -- with the same state, the contents and the spare region are the same
   kept : {v : World S} → w' ≡ v → v.state ≡ w.state → SameContents w.state w'.state × (w'.state.spare ≡ w.state.spare)
@@ -70,6 +80,7 @@ module _ {S : Type 0} (rules : Rules S) (w : World S) (turn : Turn) (w' : World 
               step.effect;
           tables = refl;
           segments = refl;
+          data_segments = refl;
           globals = refl;
           registers = refl;
         }),
@@ -186,6 +197,7 @@ same_twice s t u first second = record {
   memories = second.memories ∙ first.memories;
   tables = second.tables ∙ first.tables;
   segments = second.segments ∙ first.segments;
+  data_segments = second.data_segments ∙ first.data_segments;
   globals = second.globals ∙ first.globals;
   registers = second.registers ∙ first.registers;
 }
@@ -194,7 +206,14 @@ same_twice s t u first second = record {
 pub refused_run_keeps_contents : {S : Type 0} (rules : Rules S) (w : World S) (turns : List Turn) (w' : World S)
     → Run rules w turns w' → All IsRefusal (map Turn.reply turns) → SameContents w.state w'.state
 refused_run_keeps_contents rules w [] w' ran refused =
-    rw ran (record { memories = refl; tables = refl; segments = refl; globals = refl; registers = refl })
+    rw ran (record {
+      memories = refl;
+      tables = refl;
+      segments = refl;
+      data_segments = refl;
+      globals = refl;
+      registers = refl;
+    })
 refused_run_keeps_contents rules w (turn ∷ turns) w' (v, step, ran) refused =
     let first = (refusals_keep_contents rules w turn v step
     (All-head IsRefusal turn.reply (map Turn.reply turns) refused)).contents in

@@ -1,22 +1,22 @@
 -- What holds of each change of one part of the state.
-use Rattle.std.proofs.Common.{List, ap, arith, length, map, refl, subst, sym, ℕ, ◌∙◌, ◌≡◌}
+use Rattle.std.proofs.Common.{List, [], ap, arith, length, map, refl, subst, sym, ℕ, ◌∙◌, ◌≡◌}
 use Rattle.std.specs.Prelude.{All, slice_get}
 use Rattle.wasmi_machine.proofs.MemoryEffectsLemmas.{vector_store_back, vector_store_kept, vector_store_valid, vector_stores_same, write_refused, write_valid, writes_same, written_kept}
-use Rattle.wasmi_machine.proofs.ValueEffectsLemmas.{takes_back, takes_count, takes_same, creates_segment_valid, global_made_back, global_refused, global_sets_same, globals_same, items_refused, items_same, segment_back, segments_same}
-use Rattle.wasmi_machine.proofs.EffectLemmas.{AllValid, changes_valid, drops_back, drops_kept, drops_same, drops_valid, item_valid}
+use Rattle.wasmi_machine.proofs.ValueEffectsLemmas.{takes_back, takes_count, takes_same, creates_segment_valid, global_refused, global_sets_same, segment_back, segments_same}
+use Rattle.wasmi_machine.proofs.EffectLemmas.{AllValid, adds_back, adds_same, changes_valid, contents_back, contents_same, drops_back, drops_kept, drops_same, drops_valid, item_valid}
 use Rattle.wasmi_machine.proofs.TableEffectsLemmas.{set_kept, set_refused, set_valid, sets_same}
 use Rattle.wasmi_machine.proofs.TotalLemmas.{each_kind}
 use Rattle.wasmi_machine.specs.Determinism.{IsNotOutOfMemory}
 use Rattle.wasmi_machine.specs.Exchange.{NothingGrows}
 use Rattle.wasmi_machine.specs.Laws.{IsRefusal}
-use Rattle.wasmi_machine.specs.Effects.{ChangesPart, DropsAt}
-use Rattle.wasmi_machine.specs.State.{State, with_globals, with_memories, with_registers, with_segments, with_tables, byte_count, sizes, slot_count, IsValid, IsValidSegment}
-use Rattle.wasmi_machine.specs.Steps.{BytesStored, BytesWritten, Change, ElementSet, GlobalMade, GlobalSet, ItemsDropped, MemoryDropped, RegisterSet, SegmentMade, TableDropped, HasChange}
+use Rattle.wasmi_machine.specs.Effects.{AddsItem, ChangesPart, DropsAt, DropsContents}
+use Rattle.wasmi_machine.specs.State.{State, with_data_segments, with_globals, with_memories, with_registers, with_segments, with_tables, byte_count, sizes, slot_count, IsValid, IsValidSegment}
+use Rattle.wasmi_machine.specs.Steps.{BytesStored, BytesWritten, Change, DataDropped, DataMade, ElementSet, GlobalMade, GlobalSet, ItemsDropped, MemoryDropped, RegisterSet, SegmentMade, TableDropped, HasChange}
 use Rattle.wasmi_machine.specs.declared.calls.Reply.{Reply}
 use Rattle.wasmi_machine.specs.declared.slots.Slot.{Slot}
 use Rattle.wasmi_raw.specs.declared.raw.RawVal.{RawVal}
 use Rattle.wasmi_store.specs.Memory.{IsValidMemory, MemoryValue}
-use Rattle.wasmi_store.specs.Segment.{SegmentValue}
+use Rattle.wasmi_store.specs.Segment.{SegmentValue, dropped}
 use Rattle.wasmi_store.specs.Table.{IsValidTable, TableValue, size_of}
 
 -- what holds of an effect on a part: a refusal leaves it, it is decided where memory isn't wanting, and it keeps a fact
@@ -127,6 +127,12 @@ module _ (s : State) where
   the_segments = unsized (with_segments s) s.segments (KeepsSegments s) refl (λ part. (refl, refl, refl))
       (λ part keeps. valid_by s (with_segments s part) (λ v. v) (λ v. v) keeps (λ v. v))
 
+  -- the data segments
+  the_data_segments : PartOf s (with_data_segments s) s.data_segments (λ segments. Unit {0})
+  the_data_segments = unsized (with_data_segments s) s.data_segments (λ segments. Unit {0}) refl
+      (λ part. (refl, refl, refl))
+      (λ part keeps. valid_by s (with_data_segments s part) (λ v. v) (λ v. v) (λ v. v) (λ v. v))
+
   -- the globals
   the_globals : PartOf s (with_globals s) s.globals (λ globals. Unit {0})
   the_globals = unsized (with_globals s) s.globals (λ globals. Unit {0}) refl (λ part. (refl, refl, refl))
@@ -148,6 +154,24 @@ drop_facts count Valid k slots = record {
     drops_kept count k slots reply part drops,
     drops_valid Valid count k slots reply part drops,
   );
+}
+
+-- an addition of an item that is valid whatever it is
+addition_facts : {X : Type 0} (x : X) (items : List X) → EffectFacts (AddsItem x items) items (λ after. Unit {0})
+addition_facts x items = record {
+  back = adds_back x items;
+  same = adds_same x items;
+  keeps = λ reply part adds. tt;
+}
+
+-- a drop of what an item has
+contents_facts : {X : Type 0} (without : X → X) (k : ℕ) (items : List X) (Keeps : List X → Type 0)
+    → ((reply : Reply) (part : List X) → DropsContents without k items reply part → Keeps part)
+    → EffectFacts (DropsContents without k items) items Keeps
+contents_facts without k items Keeps keeps = record {
+  back = contents_back without k items;
+  same = λ reply reply' part part' has has'. contents_same without k items reply reply' part part';
+  keeps = keeps;
 }
 
 -- each change of one part
@@ -193,17 +217,13 @@ change_facts s (SegmentMade ty items) = change_of (the_segments s) (record {
   same = segments_same ty items s.segments;
   keeps = creates_segment_valid ty items s.segments;
 })
-change_facts s (ItemsDropped k) = change_of (the_segments s) (record {
-  back = items_refused k s.segments;
-  same = λ reply reply' part part' has has'. items_same k s.segments reply reply' part part';
-  keeps = λ reply part effect. item_valid IsValidSegment k s.segments reply part
-      _ (λ x x' valid change. subst IsValidSegment (sym change.1) (omega arith)) effect;
-})
-change_facts s (GlobalMade global) = change_of (the_globals s) (record {
-  back = global_made_back global s.globals;
-  same = globals_same global s.globals;
-  keeps = λ reply part effect. tt;
-})
+change_facts s (ItemsDropped k) = change_of (the_segments s) (contents_facts dropped k s.segments (KeepsSegments s)
+    (λ reply part effect. item_valid IsValidSegment k s.segments reply part
+    _ (λ x x' valid change. subst IsValidSegment (sym change.1) (omega arith)) effect))
+change_facts s (DataMade bytes) = change_of (the_data_segments s) (addition_facts bytes s.data_segments)
+change_facts s (DataDropped k) = change_of (the_data_segments s)
+    (contents_facts (λ bytes. []) k s.data_segments (λ segments. Unit {0}) (λ reply part drops. tt))
+change_facts s (GlobalMade global) = change_of (the_globals s) (addition_facts global s.globals)
 change_facts s (GlobalSet k value) = change_of (the_globals s) (record {
   back = global_refused k value s.globals;
   same = λ reply reply' part part' has has'. global_sets_same k value s.globals reply reply' part part';

@@ -7,7 +7,7 @@ use Rattle.wasmi_machine.specs.Determinism.{IsNotOutOfMemory}
 use Rattle.wasmi_machine.specs.Laws.{IsRefusal}
 use Rattle.wasmi_machine.specs.Effects.{AddsEntry, reply_of}
 use Rattle.wasmi_machine.specs.State.{IsValidSegment}
-use Rattle.wasmi_machine.specs.ValueEffects.{CreatesGlobal, CreatesSegment, DropsItemsAt, IsSegmentOf, SetsGlobalAt}
+use Rattle.wasmi_machine.specs.ValueEffects.{CreatesSegment, IsSegmentOf, SetsGlobalAt}
 use Rattle.wasmi_machine.specs.declared.calls.Reply.{Reply}
 use Rattle.wasmi_store.specs.Segment.{SegmentValue, most_items, IsReading}
 use Rattle.wasmi_store.specs.declared.table.element.SegmentError.{SegmentError}
@@ -44,19 +44,6 @@ pub segment_back : (ty : RefType) (items : List ℕ) (segments : List SegmentVal
 segment_back ty items segments reply segments' refused (inl none) = none.1
 segment_back ty items segments reply segments' refused (inr (result, is, appends)) =
     appends_back replied.Segment (λ x. x) result segments reply segments' refused appends
-
--- a refused creation of a global leaves the list
-pub global_made_back : (global : GlobalInstance) (globals : List GlobalInstance) (reply : Reply)
-    (globals' : List GlobalInstance) → IsRefusal reply → CreatesGlobal global globals reply globals'
-    → globals' ≡ globals
-global_made_back global globals reply globals' refused (inl none) = none.1
-global_made_back global globals reply globals' refused (inr made) = absurd (rw made.0 at refused)
-
--- a refused drop of items leaves the list
-pub items_refused : (k : ℕ) (segments : List SegmentValue) (reply : Reply) (segments' : List SegmentValue)
-    → IsRefusal reply → DropsItemsAt k segments reply segments' → segments' ≡ segments
-items_refused k segments reply segments' refused drops =
-    item_back k segments reply segments' _ (λ x x' c. absurd (rw c.0 at refused)) drops
 
 -- a global that is not set leaves the list
 pub global_refused : (k : ℕ) (value : TypedRawVal) (globals : List GlobalInstance) (reply : Reply)
@@ -105,19 +92,6 @@ segments_same ty items segments reply reply' segments' segments'' room room' (in
     let made = segment_made ty items result result' h h' is is' in
     appends_same (λ x. x) replied.Segment result segments reply reply' segments' segments'' appends
     (subst (λ r. AddsEntry (λ x. x) replied.Segment r segments reply' segments'') (sym made) appends')
-
--- two drops of items
-pub items_same : (k : ℕ) (segments : List SegmentValue) → IsDecided (DropsItemsAt k segments)
-items_same k segments = item_same k segments _ (λ x reply reply' x' x'' h h'. (h.0 ∙ sym h'.0, h.1 ∙ sym h'.1))
-
--- two creations of a global
-pub globals_same : (global : GlobalInstance) (globals : List GlobalInstance) (reply reply' : Reply)
-    (globals' globals'' : List GlobalInstance) → IsNotOutOfMemory reply → IsNotOutOfMemory reply'
-    → CreatesGlobal global globals reply globals' → CreatesGlobal global globals reply' globals''
-    → (reply ≡ reply') × (globals' ≡ globals'')
-globals_same global globals reply reply' globals' globals'' room room' (inl none) b = absurd (rw none.0 at room)
-globals_same global globals reply reply' globals' globals'' room room' (inr a) (inl none) = absurd (rw none.0 at room')
-globals_same global globals reply reply' globals' globals'' room room' (inr a) (inr b) = (a.0 ∙ sym b.0, a.1 ∙ sym b.1)
 
 -- no global is variable and constant
 var_const : (m : Mutability) → m ≡ Var → m ≡ Const → ⊥

@@ -43,6 +43,16 @@ abbrev pub AddsEntry : {X A E : Type 0} → (X → A) → (E → Reply) → Resu
 AddsEntry entry refusal (Ok x) list reply list' = (reply ≡ Made (length list)) × (list' ≡ list ++ entry x ∷ [])
 AddsEntry entry refusal (Err error) list reply list' = (reply ≡ refusal error) × (list' ≡ list)
 
+-- an item is added to a list, unless there is no memory for it
+abbrev pub AddsItem : {X : Type 0} → X → List X → Reply → List X → Type 0
+AddsItem x items reply items' = ((reply ≡ NoRoom) × (items' ≡ items))
+    ⊎ ((reply ≡ Made (length items)) × (items' ≡ items ++ x ∷ []))
+
+-- what the item of an index has is dropped
+abbrev pub DropsContents : {X : Type 0} → (X → X) → ℕ → List X → Reply → List X → Type 0
+DropsContents without k items reply items' =
+    ChangesItem k items reply items' (λ x x'. (reply ≡ Done) × (x' ≡ without x))
+
 -- a creation under a limiter: without room for a slot nothing is asked
 abbrev pub Creates : {X E S : Type 0} → (E → Reply) → (S → Result X E → S → Type 0) → List (Slot X) → S → Reply
     → List (Slot X) → S → Type 0

@@ -16,7 +16,7 @@ use Rattle.wasmi_store.specs.Memory as memory
 use Rattle.wasmi_store.specs.Table as table
 use Rattle.wasmi_store.specs.Table.{TableValue, same_type}
 use Rattle.wasmi_machine.specs.declared.calls.Call.{Call}
-use Rattle.wasmi_machine.specs.declared.calls.Call.TheVariants.{NewMemory, NewLentMemory, GrowMemory, FillMemory, CopyMemory, NewTable, GrowTable, InitTable, CopyTable, FillTable}
+use Rattle.wasmi_machine.specs.declared.calls.Call.TheVariants.{NewMemory, NewLentMemory, GrowMemory, FillMemory, CopyMemory, InitMemory, NewTable, GrowTable, InitTable, CopyTable, FillTable}
 use Rattle.wasmi_machine.specs.declared.calls.Reply.{Reply}
 use Rattle.wasmi_machine.specs.declared.calls.Reply.TheVariants.{Done, Memory, Table, NoRoom}
 use Rattle.wasmi_machine.specs.State.{State, live_at, World, Turn, IsRefusal, sizes}
@@ -152,6 +152,7 @@ elements_paid call = None
 abbrev pub writing_price : Call → Option (CustomFuelCosts → ℕ)
 writing_price (FillMemory k dst value len) = Some (item_price 1 len)
 writing_price (CopyMemory k dst j src len) = Some (item_price 1 len)
+writing_price (InitMemory k j dst src len) = Some (item_price 1 len)
 writing_price call = option_map table.element_price (elements_paid call)
 
 -- what is charged for what is written, by its price and the reply: nothing where it is refused

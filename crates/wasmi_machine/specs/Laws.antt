@@ -26,6 +26,7 @@ pub record SameContents (s s' : State) : Type 0 where
   pub memories : s'.memories ≡ s.memories
   pub tables : s'.tables ≡ s.tables
   pub segments : s'.segments ≡ s.segments
+  pub data_segments : s'.data_segments ≡ s.data_segments
   pub globals : s'.globals ≡ s.globals
   pub registers : s'.registers ≡ s.registers
 

@@ -36,12 +36,13 @@ module _ {X : Type 0} where
   abbrev pub with_live : Slots X → ℕ → X → Slots X
   with_live s k x = record { slots = with_item s.slots k (Live x) }
 
--- the memories, tables, element segments and globals that were made, each kind in its order, the registers, the meter,
--- and the bytes of the spare region, if there is one
+-- the memories, tables, element segments, data segments and globals that were made, each kind in its order, the
+-- registers, the meter, and the bytes of the spare region, if there is one
 pub record State : Type 0 where
   pub memories : List (Slot MemoryValue)
   pub tables : List (Slot TableValue)
   pub segments : List SegmentValue
+  pub data_segments : List (List ℕ)
   pub globals : List GlobalInstance
   pub registers : List RawVal
   pub meter : Meter
@@ -53,6 +54,7 @@ new_state meter = record {
   memories = [];
   tables = [];
   segments = [];
+  data_segments = [];
   globals = [];
   registers = replicate 16 (raw_of 0);
   meter = meter;
@@ -87,6 +89,10 @@ with_tables s tables = record s { tables = tables }
 -- the state with other element segments
 abbrev pub with_segments : State → List SegmentValue → State
 with_segments s segments = record s { segments = segments }
+
+-- the state with other data segments
+abbrev pub with_data_segments : State → List (List ℕ) → State
+with_data_segments s segments = record s { data_segments = segments }
 
 -- the state with other globals
 abbrev pub with_globals : State → List GlobalInstance → State

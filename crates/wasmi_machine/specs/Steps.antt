@@ -17,10 +17,10 @@ use Rattle.wasmi_store.specs.Memory.{MemoryTypeValue, MakesMemory, GrowsMemoryCh
 use Rattle.wasmi_store.specs.Table.{TableTypeValue, size_of, MakesTable, GrowsTableCharging}
 use Rattle.wasmi_machine.specs.declared.calls.Call.{Call}
 use Rattle.wasmi_machine.specs.declared.calls.Reply.{Reply}
-use Rattle.wasmi_machine.specs.State.{World, Turn, world, State, live_at, with_memories, memory_part, with_memory_part, with_tables, with_segments, with_globals, with_registers, byte_count}
-use Rattle.wasmi_machine.specs.Effects.{reply_of, Creates, DropsAt, ActsAt, ChangesPart, OnlyReplies, Changes, Asks, ActsMetered, ActsMeteredUnasked, WritesRangeAt, item_bytes}
+use Rattle.wasmi_machine.specs.State.{World, Turn, world, State, live_at, with_memories, memory_part, with_memory_part, with_tables, with_segments, with_data_segments, with_globals, with_registers, byte_count}
+use Rattle.wasmi_machine.specs.Effects.{reply_of, AddsItem, Creates, DropsAt, ActsAt, ChangesPart, OnlyReplies, Changes, Asks, ActsMetered, ActsMeteredUnasked, WritesRangeAt, item_bytes}
 use Rattle.wasmi_ops.specs.LoadStoreOps.{stored_bytes}
-use Rattle.wasmi_machine.specs.ValueEffects.{SetsFuel, get_fuel_reply, CreatesSegment, DropsItemsAt, CreatesGlobal, SetsGlobalAt, global_reply}
+use Rattle.wasmi_machine.specs.ValueEffects.{SetsFuel, get_fuel_reply, CreatesSegment, DropsItemsAt, DropsDataAt, SetsGlobalAt, global_reply}
 use Rattle.wasmi_machine.specs.MemoryEffects.{ByteSource, OfByte, OfBytes, byte_write_of, bytes_in, bytes_appended, CreatesLent, ReadsMemoryAt, WritesMemoryAt, load_reply}
 use Rattle.wasmi_machine.specs.TableEffects.{Source, OfReference, OfTable, OfSegment, element_reply, SetsElementAt, write_of, element_bytes}
 use Rattle.wasmi_machine.specs.RegisterEffects.{SetsRegister, StoresVectorAt, given_vector, of_one, of_two, of_three, vector_loaded, lane_loaded, raw_reply, vector_at}
@@ -50,6 +50,7 @@ subject_of (call.Load op k ptr offset) = Memories
 subject_of (call.Store op k ptr offset value) = Memories
 subject_of (call.FillMemory k dst value len) = Memories
 subject_of (call.CopyMemory k dst j src len) = Memories
+subject_of (call.InitMemory k j dst src len) = Memories
 subject_of (call.NewTable ty init) = Tables
 subject_of (call.GrowTable k n init) = Tables
 subject_of (call.DropTable k) = Tables
@@ -60,6 +61,8 @@ subject_of (call.CopyTable k dst j src len) = Tables
 subject_of (call.FillTable k dst value len) = Tables
 subject_of (call.NewSegment ty items) = Values
 subject_of (call.DropItems k) = Values
+subject_of (call.NewData bytes) = Values
+subject_of (call.DropData k) = Values
 subject_of (call.NewGlobal value ty) = Values
 subject_of (call.SetGlobal k value) = Values
 subject_of (call.GetGlobal k) = Values
@@ -74,6 +77,7 @@ abbrev pub is_charged : Call → Bool
 is_charged (call.GrowMemory k pages) = true
 is_charged (call.FillMemory k dst value len) = true
 is_charged (call.CopyMemory k dst j src len) = true
+is_charged (call.InitMemory k j dst src len) = true
 is_charged (call.GrowTable k n init) = true
 is_charged (call.InitTable k j dst src len) = true
 is_charged (call.CopyTable k dst j src len) = true
@@ -90,6 +94,8 @@ pub data Change : Type 0 where
   ElementSet : ℕ → ℕ → TypedRawRef → Change
   SegmentMade : RefType → List ℕ → Change
   ItemsDropped : ℕ → Change
+  DataMade : List ℕ → Change
+  DataDropped : ℕ → Change
   GlobalMade : GlobalInstance → Change
   GlobalSet : ℕ → TypedRawVal → Change
 
@@ -151,6 +157,8 @@ effect_of s (call.Store op k ptr offset value) = Changed (BytesStored k (ptr + o
 effect_of s (call.FillMemory k dst value len) = RangeWritten (MemoryWritten k (OfByte value) dst len)
 effect_of s (call.CopyMemory k dst j src len) =
     RangeWritten (MemoryWritten k (OfBytes (bytes_in (live_at s.memories j)) src) dst len)
+effect_of s (call.InitMemory k j dst src len) =
+    RangeWritten (MemoryWritten k (OfBytes (slice_get s.data_segments j) src) dst len)
 effect_of s (call.NewTable ty init) = TableMade ty init
 effect_of s (call.GrowTable k n init) = TableGrown k n init
 effect_of s (call.DropTable k) = Changed (TableDropped k)
@@ -163,6 +171,8 @@ effect_of s (call.CopyTable k dst j src len) =
 effect_of s (call.FillTable k dst value len) = RangeWritten (TableWritten k (OfReference value) dst len)
 effect_of s (call.NewSegment ty items) = Changed (SegmentMade ty items.items)
 effect_of s (call.DropItems k) = Changed (ItemsDropped k)
+effect_of s (call.NewData bytes) = Changed (DataMade bytes.items)
+effect_of s (call.DropData k) = Changed (DataDropped k)
 effect_of s (call.NewGlobal value ty) = Changed (GlobalMade (record { value = value; ty = ty }))
 effect_of s (call.SetGlobal k value) = Changed (GlobalSet k value)
 effect_of s (call.GetGlobal k) = Told (global_reply (slice_get s.globals k))
@@ -200,7 +210,9 @@ HasChange (TableDropped k) s = ChangesPart (with_tables s) (DropsAt size_of k s.
 HasChange (ElementSet k index value) s = ChangesPart (with_tables s) (SetsElementAt k index value s.tables)
 HasChange (SegmentMade ty items) s = ChangesPart (with_segments s) (CreatesSegment ty items s.segments)
 HasChange (ItemsDropped k) s = ChangesPart (with_segments s) (DropsItemsAt k s.segments)
-HasChange (GlobalMade global) s = ChangesPart (with_globals s) (CreatesGlobal global s.globals)
+HasChange (DataMade bytes) s = ChangesPart (with_data_segments s) (AddsItem bytes s.data_segments)
+HasChange (DataDropped k) s = ChangesPart (with_data_segments s) (DropsDataAt k s.data_segments)
+HasChange (GlobalMade global) s = ChangesPart (with_globals s) (AddsItem global s.globals)
 HasChange (GlobalSet k value) s = ChangesPart (with_globals s) (SetsGlobalAt k value s.globals)
 
 -- a range of one part of the state is written over: a line for each kind

@@ -1,5 +1,5 @@
--- The calls on element segments, globals and the meter.
-use Rattle.std.specs.Prelude.{◌≡◌, ◌⊎◌, ◌≤◌, ◌<◌, ◌++◌, ℕ, Option, Result, Ok, Err, List, [], ◌∷◌, length, slice_get, if◌then◌else◌, is_some}
+-- The calls on element segments, data segments, globals and the meter.
+use Rattle.std.specs.Prelude.{◌≡◌, ◌⊎◌, ◌≤◌, ◌<◌, ℕ, Option, Result, Ok, Err, List, [], length, slice_get, if◌then◌else◌, is_some}
 use Rattle.std.specs.Option.{option_map_or}
 use Rattle.wasmi_types.specs.declared.value.RefType.{RefType}
 use Rattle.wasmi_typed.specs.declared.typed.TypedRawVal.{TypedRawVal}
@@ -9,8 +9,8 @@ use Rattle.wasmi_store.specs.declared.table.element.SegmentError.{SegmentError}
 use Rattle.wasmi_store.specs.declared.table.element.SegmentError.TheVariants.{TooManyItems, OutOfSystemMemory}
 use Rattle.wasmi_store.specs.Segment.{SegmentValue, most_items, dropped}
 use Rattle.wasmi_machine.specs.declared.calls.Reply.{Reply}
-use Rattle.wasmi_machine.specs.declared.calls.Reply.TheVariants.{Done, Made, Value, Global, Segment, NoSuch, NoRoom, Number, Fuel}
-use Rattle.wasmi_machine.specs.Effects.{reply_of, ChangesItem, AddsEntry}
+use Rattle.wasmi_machine.specs.declared.calls.Reply.TheVariants.{Done, Value, Global, Segment, NoSuch, NoRoom, Number, Fuel}
+use Rattle.wasmi_machine.specs.Effects.{reply_of, ChangesItem, DropsContents, AddsEntry}
 use Rattle.wasmi_meter.specs.declared.fuel.FuelError.TheVariants.{FuelMeteringDisabled}
 use Rattle.wasmi_meter.specs.Meter.{Meter, meter_set}
 use Rattle.wasmi_machine.specs.State.{State}
@@ -29,13 +29,11 @@ CreatesSegment ty items segments reply segments' = ((reply ≡ NoRoom) × (segme
 
 -- the items of the element segment of an index are dropped
 abbrev pub DropsItemsAt : ℕ → List SegmentValue → Reply → List SegmentValue → Type 0
-DropsItemsAt k segments reply segments' =
-    ChangesItem k segments reply segments' (λ x x'. (reply ≡ Done) × (x' ≡ dropped x))
+DropsItemsAt = DropsContents dropped
 
--- a global is made
-abbrev pub CreatesGlobal : GlobalInstance → List GlobalInstance → Reply → List GlobalInstance → Type 0
-CreatesGlobal global globals reply globals' = ((reply ≡ NoRoom) × (globals' ≡ globals))
-    ⊎ ((reply ≡ Made (length globals)) × (globals' ≡ globals ++ global ∷ []))
+-- the bytes of the data segment of an index are dropped
+abbrev pub DropsDataAt : ℕ → List (List ℕ) → Reply → List (List ℕ) → Type 0
+DropsDataAt = DropsContents (λ bytes. [])
 
 -- the global of an index is set, or the call is refused
 abbrev pub SetsGlobalAt : ℕ → TypedRawVal → List GlobalInstance → Reply → List GlobalInstance → Type 0

@@ -19,15 +19,15 @@ use wasmi_store::{MemoryType, SegmentError, TableType};
 use wasmi_typed::{GlobalError, GlobalType, TypedRawRef, TypedRawVal};
 use wasmi_types::{RefType, TrapCode};
 
-/// One call on a machine. Memories, tables, element segments and globals go by their indices, which
-/// count from 0 for each kind and aren't used again: there is no such memory or table once it is
-/// dropped. Registers go by their numbers from 0 to 15; `dst` is the one that takes the result, and
-/// a refused call keeps it.
+/// One call on a machine. Memories, tables, element segments, data segments and globals go by their
+/// indices, which count from 0 for each kind and aren't used again: there is no such memory or table
+/// once it is dropped. Registers go by their numbers from 0 to 15; `dst` is the one that takes the
+/// result, and a refused call keeps it.
 ///
 /// Replies are listed in the order of the tests: the first that applies is the reply. `NoSuch`
-/// comes before all of them and isn't listed: there is no memory, table, element segment, global or
-/// register that the call names. `Memory` and `Table` carry the error that the method of `Memory`
-/// or `Table` returns.
+/// comes before all of them and isn't listed: there is no memory, table, element segment, data
+/// segment, global or register that the call names. `Memory` and `Table` carry the error that the
+/// method of `Memory` or `Table` returns.
 #[derive(Drop)]
 pub enum Call {
     /// Sets the fuel that is left: `Done`, or `Fuel` if metering is off.
@@ -96,6 +96,16 @@ pub enum Call {
         src: u64,
         len: u64,
     },
+    /// Copies `len` bytes of a data segment, from `src` on, over those of a memory from `dst` on:
+    /// `Done`, or `Memory` with `OutOfBoundsAccess` if a range ends past the segment or the memory,
+    /// then `OutOfFuel`, which is tested also for no byte. A segment that was dropped has no bytes.
+    InitMemory {
+        memory: usize,
+        segment: usize,
+        dst: u64,
+        src: u32,
+        len: u32,
+    },
     /// Makes a table of one reference: `Made` with its index, `NoRoom` if there is no memory for
     /// its slot, or `Table`.
     NewTable {
@@ -162,6 +172,11 @@ pub enum Call {
     },
     /// Drops the items of an element segment, which stays: `Done`.
     DropItems(usize),
+    /// Makes a data segment of bytes: `Made` with its index, or `NoRoom` if there is no memory for
+    /// its slot or for a copy of the bytes.
+    NewData(Vec<u8>),
+    /// Drops the bytes of a data segment, which stays: `Done`.
+    DropData(usize),
     /// Makes a global: `Made` with its index, or `NoRoom` if there is no memory for its slot.
     NewGlobal {
         value: RawVal,
@@ -288,10 +303,10 @@ impl Debug for Call {
     fn fmt<W: Write>(&self, f: &mut Formatter<W>) -> fmt::Result {
         f.write_str(name_of!(self:
             SetFuel GetFuel NewMemory NewLentMemory GrowMemory DropMemory Read Write Load Store
-            FillMemory CopyMemory NewTable GrowTable DropTable GetElement SetElement InitTable CopyTable FillTable
-            NewSegment DropItems NewGlobal SetGlobal GetGlobal SetRegister GetRegister Make Unary
-            Binary Ternary Shift Test Extract Replace Shuffle VectorLoad LoadLane VectorStore
-            StoreLane
+            FillMemory CopyMemory InitMemory NewTable GrowTable DropTable GetElement SetElement
+            InitTable CopyTable FillTable NewSegment DropItems NewData DropData NewGlobal SetGlobal
+            GetGlobal SetRegister GetRegister Make Unary Binary Ternary Shift Test Extract Replace
+            Shuffle VectorLoad LoadLane VectorStore StoreLane
         ))
     }
 }
@@ -330,7 +345,7 @@ impl Call {
 pub enum Reply {
     /// The call is done, and has no other result.
     Done,
-    /// The index of the memory, table, element segment or global that was made.
+    /// The index of the memory, table, element segment, data segment or global that was made.
     Made(usize),
     /// The value of a global or a register, or a number that `Load`, `Test` or `Extract` gives, in
     /// the low word.
@@ -354,12 +369,13 @@ pub enum Reply {
     Segment(SegmentError),
     /// Why a load or a store trapped: `MemoryOutOfBounds`.
     Trap(TrapCode),
-    /// There is no such memory, table, element segment, global or register. It is tested first;
-    /// nothing was asked or changed.
+    /// There is no such memory, table, element segment, data segment, global or register. It is
+    /// tested first; nothing was asked or changed.
     NoSuch,
     /// There is no spare region; nothing was asked or changed.
     NoRegion,
-    /// Memory for a slot or for the reply was refused; nothing was asked or changed.
+    /// Memory for a slot, for the bytes of a data segment or for the reply was refused; nothing was
+    /// asked or changed.
     NoRoom,
 }
 

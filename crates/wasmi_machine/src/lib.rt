@@ -3,6 +3,7 @@
 #![tactic(auto)]
 
 mod calls;
+mod data;
 pub mod laws;
 mod machine;
 mod memories;
@@ -14,5 +15,6 @@ mod tables;
 mod values;
 
 pub use calls::{ByteList, Call, Reply};
+pub use data::DataSegment;
 pub use machine::Machine;
 pub use running::{run, run_lending, run_reserving};

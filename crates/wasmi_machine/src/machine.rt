@@ -3,6 +3,7 @@ ghost use Rattle.std.specs.Prelude.{◌≡◌, ◌+◌, ◌-◌, ◌<◌, ◌↔
 ghost use Rattle.std.specs.Option.{option_copied, option_copied_mut};
 
 use crate::calls::Reply;
+use crate::data::DataSegment;
 use crate::memories::Stored;
 use crate::registers::Registers;
 use crate::slots::Slots;
@@ -17,9 +18,9 @@ use wasmi_raw::RawVal;
 use wasmi_store::{ElementSegment, Memory, Table};
 use wasmi_typed::Global;
 
-/// Memories, tables, element segments and globals by their indices, 16 registers of raw values, one
-/// fuel meter, and at most one spare region: a borrowed buffer in which a memory can be made; `'r`
-/// is its lifetime.
+/// Memories, tables, element segments, data segments and globals by their indices, 16 registers of
+/// raw values, one fuel meter, and at most one spare region: a borrowed buffer in which a memory can
+/// be made; `'r` is its lifetime.
 ///
 /// Its state is valid at any time: see [`crate::laws::states_are_valid`].
 #[derive(Drop)]
@@ -74,6 +75,7 @@ impl<'r> Machine<'r> {
             memories: Slots::new(alloc),
             tables: Slots::new(alloc),
             segments: Vec::new(alloc),
+            data_segments: Vec::new(alloc),
             globals: Vec::new(alloc),
             registers: Registers::default(),
             fuel,
@@ -155,6 +157,13 @@ impl<'r> Machine<'r> {
         ensures { option_copied result ≡ slice_get self.now.segments index }
     {
         self.store.segments.get(index)
+    }
+
+    /// The data segment of an index, if there is one.
+    pub fn data_segment(&self, index: usize) -> Option<&DataSegment>
+        ensures { option_copied result ≡ slice_get self.now.data_segments index }
+    {
+        self.store.data_segments.get(index)
     }
 
     /// The global of an index, if there is one.

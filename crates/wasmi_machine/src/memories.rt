@@ -3,7 +3,7 @@ ghost use Rattle.std.specs.Prelude.{◌≡◌, ◌+◌, Some};
 ghost use Rattle.wasmi_meter.specs.Limiter.{optional_rules, lent_limiter, KeepsLoan};
 ghost use Rattle.wasmi_store.specs.Buffer.{Owned};
 ghost use Rattle.wasmi_store.specs.Growth.{metered, WithCharge};
-ghost use Rattle.wasmi_store.specs.Memory.{MakesMemory, byte_filling_of};
+ghost use Rattle.wasmi_store.specs.Memory.{MakesMemory, byte_copy_of, byte_filling_of};
 ghost use Rattle.wasmi_machine.specs.Effects.{reply_of, reply_or_no_such, Creates};
 ghost use Rattle.wasmi_machine.specs.State.{live_at};
 ghost use Rattle.std.specs.Option.{option_copied_mut};
@@ -145,6 +145,24 @@ impl<'r> Slots<Memory<'r>> {
     {
         let memory = self.live_mut(index)?;
         Some(memory_reply(memory.copy_within_metered(dst, src, len, fuel)))
+    }
+
+    /// Copies a range of a data segment to a memory.
+    pub(crate) fn init(
+        &mut self,
+        index: usize,
+        segment: &[u8],
+        dst: u64,
+        src: u32,
+        len: u32,
+        fuel: &mut Fuel,
+    ) -> Option<Reply>
+        ensures { WithCharge (WritesRangeOfMemoryAt index (byte_copy_of dst src len segment.now))
+            (metered self.old.slots.items (Some fuel.old)) (reply_or_no_such result)
+            (metered self.new.slots.items (Some fuel.new)) }
+    {
+        let memory = self.live_mut(index)?;
+        Some(memory_reply(memory.init_metered(segment, dst, src, len, fuel)))
     }
 
     /// Stores to a memory.

@@ -5,18 +5,21 @@ ghost use Rattle.wasmi_meter.specs.Limiter.{optional_rules, lent_limiter, KeepsL
 ghost use Rattle.wasmi_machine.specs.Effects.{reply_or_no_such};
 
 use crate::calls::{Call, Reply};
+use crate::data::DataSegment;
 use crate::memories::{Stored, bytes_reply};
 use crate::registers::Registers;
 use crate::slots::Slots;
-use crate::values::{create_global, create_segment, drop_items, get_global, set_global};
+use crate::values::{
+    create_data, create_global, create_segment, drop_data, drop_items, get_global, set_global,
+};
 use std::alloc::Global as Allocator;
 use std::marker::Model;
 use wasmi_meter::{Fuel, ResourceLimiter, ResourceLimiterRef};
 use wasmi_store::{ElementSegment, ElementSegmentRef, Memory, Table};
 use wasmi_typed::Global;
 
-/// Memories, tables, element segments and globals by their indices, registers, the meter, and the
-/// spare region, if there is one.
+/// Memories, tables, element segments, data segments and globals by their indices, registers, the
+/// meter, and the spare region, if there is one.
 ///
 /// Core specification, the store.
 #[derive(Drop)]
@@ -25,6 +28,7 @@ pub(crate) struct MachineStore<'r> {
     pub(crate) memories: Slots<Memory<'r>>,
     pub(crate) tables: Slots<Table>,
     pub(crate) segments: Vec<ElementSegment>,
+    pub(crate) data_segments: Vec<DataSegment>,
     pub(crate) globals: Vec<Global>,
     pub(crate) registers: Registers,
     pub(crate) fuel: Fuel,
@@ -41,6 +45,7 @@ impl<'r> Model for MachineStore<'r> {
       memories = m.memories.slots.items;
       tables = m.tables.slots.items;
       segments = m.segments.items;
+      data_segments = m.data_segments.items;
       globals = m.globals.items;
       registers = m.registers.values;
       meter = m.fuel;
@@ -98,11 +103,14 @@ impl<'r> MachineStore<'r> {
             | Call::Load { .. }
             | Call::Store { .. }
             | Call::FillMemory { .. }
-            | Call::CopyMemory { .. } => self.step_memory(call, limiter).unwrap_or(Reply::NoSuch),
+            | Call::CopyMemory { .. }
+            | Call::InitMemory { .. } => self.step_memory(call, limiter).unwrap_or(Reply::NoSuch),
             Call::NewSegment { ty, items } => {
                 create_segment(&mut self.segments, self.alloc, *ty, items)
             }
             Call::DropItems(segment) => drop_items(&mut self.segments, *segment),
+            Call::NewData(bytes) => create_data(&mut self.data_segments, self.alloc, bytes),
+            Call::DropData(segment) => drop_data(&mut self.data_segments, *segment),
             Call::NewGlobal { value, ty } => create_global(&mut self.globals, *value, *ty),
             Call::SetGlobal { global, value } => set_global(&mut self.globals, *global, *value),
             Call::GetGlobal(global) => get_global(&self.globals, *global),
@@ -190,6 +198,17 @@ impl<'r> MachineStore<'r> {
             } => self
                 .memories
                 .copy(*dst_memory, *dst, *src_memory, *src, *len, &mut self.fuel),
+            Call::InitMemory {
+                memory,
+                segment,
+                dst,
+                src,
+                len,
+            } => {
+                let segment = self.data_segments.get(*segment)?;
+                self.memories
+                    .init(*memory, segment.bytes(), *dst, *src, *len, &mut self.fuel)
+            }
             _ => unreachable!(),
         }
     }

@@ -1,8 +1,11 @@
-//! The element segments and globals of a machine, by their indices. These are functions of one
-//! list of the store each, so that what else the store has stays out of their contracts.
-ghost use Rattle.wasmi_machine.specs.ValueEffects.{CreatesSegment, DropsItemsAt, CreatesGlobal, SetsGlobalAt, GetsGlobalAt};
+//! The element segments, data segments and globals of a machine, by their indices. These are
+//! functions of one list of the store each, so that what else the store has stays out of their
+//! contracts.
+ghost use Rattle.wasmi_machine.specs.Effects.{AddsItem};
+ghost use Rattle.wasmi_machine.specs.ValueEffects.{CreatesSegment, DropsDataAt, DropsItemsAt, SetsGlobalAt, GetsGlobalAt};
 
 use crate::calls::Reply;
+use crate::data::DataSegment;
 use std::alloc::Global as Allocator;
 use wasmi_raw::{RawRef, RawVal};
 use wasmi_store::ElementSegment;
@@ -42,16 +45,44 @@ pub(crate) fn drop_items(segments: &mut Vec<ElementSegment>, index: usize) -> Re
     Reply::Done
 }
 
+/// Makes a data segment of a copy of the bytes.
+pub(crate) fn create_data(segments: &mut Vec<DataSegment>, alloc: Allocator, bytes: &[u8]) -> Reply
+    ensures { AddsItem bytes.now segments.old.items result segments.new.items }
+{
+    match DataSegment::new(alloc, bytes) {
+        Ok(segment) => add_item(segments, segment),
+        Err(_) => Reply::NoRoom,
+    }
+}
+
+/// Drops the bytes of a data segment.
+pub(crate) fn drop_data(segments: &mut Vec<DataSegment>, index: usize) -> Reply
+    ensures { DropsDataAt index segments.old.items result segments.new.items }
+{
+    let Some(segment) = segments.get_mut(index) else {
+        return Reply::NoSuch;
+    };
+    segment.drop_bytes();
+    Reply::Done
+}
+
 /// Makes a global.
 pub(crate) fn create_global(globals: &mut Vec<Global>, value: RawVal, ty: GlobalType) -> Reply
-    ensures { CreatesGlobal
+    ensures { AddsItem
         (record { value = value; ty = ty }) globals.old.items result globals.new.items }
 {
-    if globals.try_reserve(1).is_err() {
+    add_item(globals, Global::new(value, ty))
+}
+
+/// Adds an item to a list, unless memory for its place is refused.
+fn add_item<T: Drop>(items: &mut Vec<T>, item: T) -> Reply
+    ensures { AddsItem item items.old.items result items.new.items }
+{
+    if items.try_reserve(1).is_err() {
         return Reply::NoRoom;
     }
-    let index = globals.len();
-    globals.push_reserved(Global::new(value, ty));
+    let index = items.len();
+    items.push_reserved(item);
     Reply::Made(index)
 }
 

@@ -18,6 +18,15 @@ pub returns-in-DropItems-clause-step : goal.returns-in-DropItems-clause-step
 returns-in-DropItems-clause-step g c =
     rw (c.in-DropItems.is, ← c.self-in-DropItems.view_is) (alters _ c.drop_items.ensures)
 
+pub returns-in-NewData-clause-step : goal.returns-in-NewData-clause-step
+returns-in-NewData-clause-step g c =
+    rw (c.in-NewData.is, ← c.self-in-NewData.view_is)
+    (alters _ (rw c.deref-in-NewData.ensures.value at c.create_data.ensures))
+
+pub returns-in-DropData-clause-step : goal.returns-in-DropData-clause-step
+returns-in-DropData-clause-step g c =
+    rw (c.in-DropData.is, ← c.self-in-DropData.view_is) (alters _ c.drop_data.ensures)
+
 pub returns-in-NewGlobal-clause-step : goal.returns-in-NewGlobal-clause-step
 returns-in-NewGlobal-clause-step g c =
     rw (c.in-NewGlobal.is, ← c.self-in-NewGlobal.view_is) (alters _ c.create_global.ensures)

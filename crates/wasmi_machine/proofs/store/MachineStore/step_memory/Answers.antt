@@ -1,4 +1,5 @@
 use Rattle.std.proofs.Common.{refl, rules}
+use Rattle.std.proofs.lemmas.Option.{slice_get_past, slice_get_read}
 use Rattle.wasmi_machine.specs.State.{live_at}
 use Rattle.wasmi_machine.proofs.RangeLemmas.{range_of_bytes}
 use Rattle.wasmi_machine.proofs.StoreLemmas.{acts_unasked, asks, alters, replies}
@@ -54,3 +55,19 @@ returns-in-CopyMemory-clause-step g c = rw (c.in-CopyMemory.is, ← c.self-in-Co
           c.in-CopyMemory.dst_memory c.in-CopyMemory.dst c.in-CopyMemory.src c.in-CopyMemory.len _ _ _ _
           c.copy.ensures.1,
     ))
+
+-- no data segment of that index
+pub returns-in_err-segment-in-InitMemory-clause-step : goal.returns-in_err-segment-in-InitMemory-clause-step
+returns-in_err-segment-in-InitMemory-clause-step g c =
+    let none = rw c.deref-in-InitMemory.ensures.value at (slice_get_past c.deref-in-InitMemory.result.now
+    c.in-InitMemory.segment c.in_err-segment-in-InitMemory.ensures.lookup.3) in
+    rw (c.in-InitMemory.is, ← c.self-in-InitMemory.view_is, none, c.from_residual-in_err-segment-in-InitMemory.ensures)
+    (acts_unasked _ (0, (refl, refl, refl)))
+
+pub returns-in_ok-segment-in-InitMemory-clause-step : goal.returns-in_ok-segment-in-InitMemory-clause-step
+returns-in_ok-segment-in-InitMemory-clause-step g c =
+    let lookup = c.in_ok-segment-in-InitMemory.ensures.lookup in
+    let there = rw c.deref-in-InitMemory.ensures.value at (slice_get_read c.deref-in-InitMemory.result.now _
+    c.in-InitMemory.segment c.in_ok-segment-in-InitMemory.segment.now refl lookup.3.0 lookup.1) in
+    rw (c.in-InitMemory.is, ← c.self-in-InitMemory.view_is, there)
+    (acts_unasked _ (rw c.bytes.ensures at c.init.ensures))
