@@ -6,10 +6,10 @@ use Rattle.std.specs.Prelude.{All, slice_get, slice_set}
 use Rattle.wasmi_machine.specs.Effects.{ChangesAt, ChangesItem, ChangesPart, DropsAt, OnLive, reply_of}
 use Rattle.wasmi_machine.specs.MemoryEffects.{ReadsBytes, StoresMemory, WritesMemoryAt, load_reply}
 use Rattle.wasmi_machine.specs.RegisterEffects.{StoresVectorAt, SetsAt, SetsRegister, given_vector, lane_loaded, of_one, of_three, of_two, raw_reply, vector_at, vector_loaded}
-use Rattle.wasmi_machine.specs.Steps.{Run, BytesRead, BytesStored, BytesWritten, Change, Changed, Effect, ElementSet, GlobalMade, GlobalSet, ItemsDropped, MemoryDropped, RegisterSet, SegmentMade, Step, TableDropped, HasChange, HasEffect, Told, effect_of}
-use Rattle.wasmi_machine.specs.State.{State, live_at, live_value, with_globals, with_memories, with_registers, with_segments, with_tables, byte_count, Turn, World}
+use Rattle.wasmi_machine.specs.Steps.{Run, BytesRead, BytesStored, BytesWritten, Change, Changed, DataDropped, DataMade, Effect, ElementSet, GlobalMade, GlobalSet, ItemsDropped, MemoryDropped, RegisterSet, SegmentMade, Step, TableDropped, HasChange, HasEffect, Told, effect_of}
+use Rattle.wasmi_machine.specs.State.{State, live_at, live_value, with_data_segments, with_globals, with_memories, with_registers, with_segments, with_tables, byte_count, Turn, World}
 use Rattle.wasmi_machine.specs.TableEffects.{SetsElementAt, element_reply}
-use Rattle.wasmi_machine.specs.ValueEffects.{DropsItemsAt, SetsGlobalAt, global_reply}
+use Rattle.wasmi_machine.specs.ValueEffects.{DropsDataAt, DropsItemsAt, SetsGlobalAt, global_reply}
 use Rattle.wasmi_machine.specs.declared.calls.Call.{Call}
 use Rattle.wasmi_machine.specs.declared.calls.Call.TheVariants as call
 use Rattle.wasmi_machine.specs.declared.calls.Reply.{Reply}
@@ -18,7 +18,7 @@ use Rattle.wasmi_machine.specs.declared.slots.Slot.{Slot}
 use Rattle.wasmi_machine.specs.declared.slots.Slot.TheVariants.{Gone, Live}
 use Rattle.wasmi_laws.proofs.ListLemmas.{set_other}
 use Rattle.wasmi_laws.proofs.LocationLemmas.{changed_by, changed_in, changed_is}
-use Rattle.wasmi_laws.specs.Places.{Content, GlobalAt, IndependentTurnsSwap, IsIndependent, IsLocal, Location, MemoryAt, RegisterAt, SegmentAt, TableAt, changed_location, content_at, read_locations}
+use Rattle.wasmi_laws.specs.Places.{Content, DataAt, GlobalAt, IndependentTurnsSwap, IsIndependent, IsLocal, Location, MemoryAt, RegisterAt, SegmentAt, TableAt, changed_location, content_at, read_locations}
 use Rattle.wasmi_meter.specs.Limiter.{Rules}
 use Rattle.wasmi_lanewise.specs.VectorTable.{shuffle}
 use Rattle.wasmi_ops.specs.VectorOps.{binary_vector, made_vector, shifted_vector, ternary_vector, tested_raw, unary_vector, stored_lane}
@@ -41,6 +41,7 @@ abbrev put_at : (location : Location) → Content location → State → State
 put_at (MemoryAt k) x s = with_memories s (slice_set s.memories k x)
 put_at (TableAt k) x s = with_tables s (slice_set s.tables k x)
 put_at (SegmentAt k) x s = with_segments s (slice_set s.segments k x)
+put_at (DataAt k) x s = with_data_segments s (slice_set s.data_segments k x)
 put_at (GlobalAt k) x s = with_globals s (slice_set s.globals k x)
 put_at (RegisterAt k) x s = with_registers s (slice_set s.registers k x)
 
@@ -88,6 +89,7 @@ put_outside : (location : Location) (x : Content location) (other : Location) (s
 put_outside (MemoryAt k) x (MemoryAt j) s apart = set_other s.memories k j x (λ same. apart (ap MemoryAt same))
 put_outside (TableAt k) x (TableAt j) s apart = set_other s.tables k j x (λ same. apart (ap TableAt same))
 put_outside (SegmentAt k) x (SegmentAt j) s apart = set_other s.segments k j x (λ same. apart (ap SegmentAt same))
+put_outside (DataAt k) x (DataAt j) s apart = set_other s.data_segments k j x (λ same. apart (ap DataAt same))
 put_outside (GlobalAt k) x (GlobalAt j) s apart = set_other s.globals k j x (λ same. apart (ap GlobalAt same))
 put_outside (RegisterAt k) x (RegisterAt j) s apart = set_other s.registers k j x (λ same. apart (ap RegisterAt same))
 put_outside location x other s apart = refl
@@ -103,6 +105,8 @@ puts_swap : (location other : Location) (x : Content location) (y : Content othe
 puts_swap (MemoryAt k) (MemoryAt j) x y s apart = ap (with_memories s) (twice MemoryAt s.memories k j x y apart)
 puts_swap (TableAt k) (TableAt j) x y s apart = ap (with_tables s) (twice TableAt s.tables k j x y apart)
 puts_swap (SegmentAt k) (SegmentAt j) x y s apart = ap (with_segments s) (twice SegmentAt s.segments k j x y apart)
+puts_swap (DataAt k) (DataAt j) x y s apart =
+    ap (with_data_segments s) (twice DataAt s.data_segments k j x y apart)
 puts_swap (GlobalAt k) (GlobalAt j) x y s apart = ap (with_globals s) (twice GlobalAt s.globals k j x y apart)
 puts_swap (RegisterAt k) (RegisterAt j) x y s apart = ap (with_registers s) (twice RegisterAt s.registers k j x y apart)
 puts_swap location other x y s apart = refl
@@ -268,6 +272,8 @@ abbrev part_at : (location : Location) → Part location
 part_at (MemoryAt k) = part_of k State.memories with_memories (λ x s. refl) (λ s. refl) (λ s t same. same)
 part_at (TableAt k) = part_of k State.tables with_tables (λ x s. refl) (λ s. refl) (λ s t same. same)
 part_at (SegmentAt k) = part_of k State.segments with_segments (λ x s. refl) (λ s. refl) (λ s t same. same)
+part_at (DataAt k) =
+    part_of k State.data_segments with_data_segments (λ x s. refl) (λ s. refl) (λ s t same. same)
 part_at (GlobalAt k) = part_of k State.globals with_globals (λ x s. refl) (λ s. refl) (λ s t same. same)
 part_at (RegisterAt k) = part_of k State.registers with_registers (λ x s. refl) (λ s. refl) (λ s t same. same)
 
@@ -308,6 +314,7 @@ module _ (location : Location) (p : Part location)
 -- a change that makes nothing
 abbrev IsLocalChange : Change → Type 0
 IsLocalChange (SegmentMade ty items) = ⊥
+IsLocalChange (DataMade bytes) = ⊥
 IsLocalChange (GlobalMade global) = ⊥
 IsLocalChange change = Unit {0}
 
@@ -334,6 +341,9 @@ change_moves s reply s' (ElementSet k index value) local c =
 change_moves s reply s' (SegmentMade ty items) local c = absurd local
 change_moves s reply s' (ItemsDropped k) local c = part_moves _ (part_at (SegmentAt k)) (DropsItemsAt k) s reply s' c
     (item_moves k _ s.segments reply c.part c.effect)
+change_moves s reply s' (DataMade bytes) local c = absurd local
+change_moves s reply s' (DataDropped k) local c = part_moves _ (part_at (DataAt k)) (DropsDataAt k) s reply s' c
+    (item_moves k _ s.data_segments reply c.part c.effect)
 change_moves s reply s' (GlobalMade global) local c = absurd local
 change_moves s reply s' (GlobalSet k value) local c =
     part_moves _ (part_at (GlobalAt k)) (SetsGlobalAt k value) s reply s' c
@@ -416,6 +426,7 @@ module _ (s t : State) where
   same_effect (call.GetElement k index) local same =
       ap (λ slot. Told (element_reply index (option_and_then live_value slot))) same.0
   same_effect (call.CopyMemory k dst j src len) local same = absurd local
+  same_effect (call.InitMemory k j dst src len) local same = absurd local
   same_effect (call.InitTable k j dst src len) local same = absurd local
   same_effect (call.CopyTable k dst j src len) local same = absurd local
   same_effect (call.GetGlobal k) local same = ap (λ global. Told (global_reply global)) same.0

@@ -4,20 +4,20 @@ use Rattle.std.proofs.lemmas.List.Elements.{All-head, All-tail}
 use Rattle.std.specs.Prelude.{slice_get}
 use Rattle.wasmi_machine.proofs.EffectLemmas.{both_live, on_live}
 use Rattle.wasmi_machine.proofs.RangeLemmas.{byte_range, source_range, value_kept}
-use Rattle.wasmi_machine.specs.Effects.{MeteredSlots, WritesRangeAt, reply_of}
+use Rattle.wasmi_machine.specs.Effects.{AddsItem, MeteredSlots, WritesRangeAt, reply_of}
 use Rattle.wasmi_machine.specs.MemoryEffects.{ByteSource, CreatesLent, byte_write_of}
 use Rattle.wasmi_machine.specs.RegisterEffects.{StoresVectorAt, SetsAt}
-use Rattle.wasmi_machine.specs.State.{MemoryPart, State, memory_part, with_globals, with_registers, with_segments, byte_count, Turn, World}
-use Rattle.wasmi_machine.specs.Steps.{BytesRead, BytesStored, BytesWritten, Change, Changed, Effect, ElementSet, FuelSet, GlobalMade, GlobalSet, ItemsDropped, LentMemoryMade, MemoryDropped, MemoryGrown, MemoryMade, RangeWritten, RegisterSet, SegmentMade, Step, TableDropped, TableGrown, TableMade, MemoryWritten, TableWritten, HasChange, HasEffect, Told, effect_of}
+use Rattle.wasmi_machine.specs.State.{MemoryPart, State, memory_part, with_data_segments, with_globals, with_registers, with_segments, byte_count, Turn, World}
+use Rattle.wasmi_machine.specs.Steps.{BytesRead, BytesStored, BytesWritten, Change, Changed, DataDropped, DataMade, Effect, ElementSet, FuelSet, GlobalMade, GlobalSet, ItemsDropped, LentMemoryMade, MemoryDropped, MemoryGrown, MemoryMade, RangeWritten, RegisterSet, SegmentMade, Step, TableDropped, TableGrown, TableMade, MemoryWritten, TableWritten, HasChange, HasEffect, Told, effect_of}
 use Rattle.wasmi_machine.specs.TableEffects.{Source, write_of}
-use Rattle.wasmi_machine.specs.ValueEffects.{CreatesGlobal, CreatesSegment}
+use Rattle.wasmi_machine.specs.ValueEffects.{CreatesSegment}
 use Rattle.wasmi_machine.specs.declared.calls.Call.{Call}
 use Rattle.wasmi_machine.specs.declared.calls.Call.TheVariants.{SetFuel}
 use Rattle.wasmi_machine.specs.declared.calls.Reply.{Reply}
 use Rattle.wasmi_machine.specs.declared.slots.Slot.{Slot}
 use Rattle.wasmi_machine.specs.declared.slots.Slot.TheVariants.{Gone, Live}
 use Rattle.wasmi_laws.proofs.ListLemmas.{EachAfter, ItemAfter, appended, entry_added, item_changed, put, slot_acted, slot_changed, slot_dropped, slot_made, unchanged}
-use Rattle.wasmi_laws.specs.Places.{Content, DropsNot, GlobalAt, IndicesLast, IsLater, IsLaterSlot, IsLive, LeavesAlone, LiveUntilDropped, Location, MemoryAt, OthersStay, OthersStayInRuns, RegisterAt, SegmentAt, TableAt, changed_location, content_at, dropped_location}
+use Rattle.wasmi_laws.specs.Places.{Content, DataAt, DropsNot, GlobalAt, IndicesLast, IsLater, IsLaterSlot, IsLive, LeavesAlone, LiveUntilDropped, Location, MemoryAt, OthersStay, OthersStayInRuns, RegisterAt, SegmentAt, TableAt, changed_location, content_at, dropped_location}
 use Rattle.wasmi_meter.specs.Attempt.{AttemptOutcome, Met, MeteredValue, value_after, with_value}
 use Rattle.wasmi_meter.specs.Limiter.{Rules}
 use Rattle.wasmi_meter.specs.Meter.{Meter}
@@ -129,6 +129,7 @@ record EachPart (changed dropped : Option Location) (s s' : State) : Type 0 wher
   memories : EachAfter (λ k. May changed dropped (MemoryAt k)) s.memories s'.memories
   tables : EachAfter (λ k. May changed dropped (TableAt k)) s.tables s'.tables
   segments : EachAfter (λ k. May changed dropped (SegmentAt k)) s.segments s'.segments
+  data_segments : EachAfter (λ k. May changed dropped (DataAt k)) s.data_segments s'.data_segments
   globals : EachAfter (λ k. May changed dropped (GlobalAt k)) s.globals s'.globals
   registers : EachAfter (λ k. May changed dropped (RegisterAt k)) s.registers s'.registers
 
@@ -139,6 +140,7 @@ module _ (changed dropped : Option Location) where
   at_location s s' parts (MemoryAt k) x found = parts.memories k x found
   at_location s s' parts (TableAt k) x found = parts.tables k x found
   at_location s s' parts (SegmentAt k) x found = parts.segments k x found
+  at_location s s' parts (DataAt k) x found = parts.data_segments k x found
   at_location s s' parts (GlobalAt k) x found = parts.globals k x found
   at_location s s' parts (RegisterAt k) x found = parts.registers k x found
 
@@ -148,6 +150,7 @@ module _ (changed dropped : Option Location) where
     memories = unchanged _ _ _ (ap (λ (t : State). t.memories) same);
     tables = unchanged _ _ _ (ap (λ (t : State). t.tables) same);
     segments = unchanged _ _ _ (ap (λ (t : State). t.segments) same);
+    data_segments = unchanged _ _ _ (ap (λ (t : State). t.data_segments) same);
     globals = unchanged _ _ _ (ap (λ (t : State). t.globals) same);
     registers = unchanged _ _ _ (ap (λ (t : State). t.registers) same);
   }
@@ -156,34 +159,76 @@ module _ (changed dropped : Option Location) where
   memories_change : (s : State) (memories : _) (m : Meter) (spare : Option (List ℕ))
       → EachAfter (λ k. May changed dropped (MemoryAt k)) s.memories memories
       → EachPart changed dropped s (record s { memories = memories; meter = m; spare = spare })
-  memories_change s memories m spare each =
-      record { memories = each; tables = stays _ _; segments = stays _ _; globals = stays _ _; registers = stays _ _ }
+  memories_change s memories m spare each = record {
+    memories = each;
+    tables = stays _ _;
+    segments = stays _ _;
+    data_segments = stays _ _;
+    globals = stays _ _;
+    registers = stays _ _;
+  }
 
   -- the tables change, and the meter
   tables_change : (s : State) (tables : _) (m : Meter)
       → EachAfter (λ k. May changed dropped (TableAt k)) s.tables tables
       → EachPart changed dropped s (record s { tables = tables; meter = m })
-  tables_change s tables m each =
-      record { memories = stays _ _; tables = each; segments = stays _ _; globals = stays _ _; registers = stays _ _ }
+  tables_change s tables m each = record {
+    memories = stays _ _;
+    tables = each;
+    segments = stays _ _;
+    data_segments = stays _ _;
+    globals = stays _ _;
+    registers = stays _ _;
+  }
 
   -- the element segments change
   segments_change : (s : State) (segments : _) → EachAfter (λ k. May changed dropped (SegmentAt k)) s.segments segments
       → EachPart changed dropped s (with_segments s segments)
-  segments_change s segments each =
-      record { memories = stays _ _; tables = stays _ _; segments = each; globals = stays _ _; registers = stays _ _ }
+  segments_change s segments each = record {
+    memories = stays _ _;
+    tables = stays _ _;
+    segments = each;
+    data_segments = stays _ _;
+    globals = stays _ _;
+    registers = stays _ _;
+  }
+
+  -- the data segments change
+  data_change : (s : State) (segments : _) → EachAfter (λ k. May changed dropped (DataAt k)) s.data_segments segments
+      → EachPart changed dropped s (with_data_segments s segments)
+  data_change s segments each = record {
+    memories = stays _ _;
+    tables = stays _ _;
+    segments = stays _ _;
+    data_segments = each;
+    globals = stays _ _;
+    registers = stays _ _;
+  }
 
   -- the globals change
   globals_change : (s : State) (globals : _) → EachAfter (λ k. May changed dropped (GlobalAt k)) s.globals globals
       → EachPart changed dropped s (with_globals s globals)
-  globals_change s globals each =
-      record { memories = stays _ _; tables = stays _ _; segments = stays _ _; globals = each; registers = stays _ _ }
+  globals_change s globals each = record {
+    memories = stays _ _;
+    tables = stays _ _;
+    segments = stays _ _;
+    data_segments = stays _ _;
+    globals = each;
+    registers = stays _ _;
+  }
 
   -- the registers change
   registers_change : (s : State) (registers : _)
       → EachAfter (λ k. May changed dropped (RegisterAt k)) s.registers registers
       → EachPart changed dropped s (with_registers s registers)
-  registers_change s registers each =
-      record { memories = stays _ _; tables = stays _ _; segments = stays _ _; globals = stays _ _; registers = each }
+  registers_change s registers each = record {
+    memories = stays _ _;
+    tables = stays _ _;
+    segments = stays _ _;
+    data_segments = stays _ _;
+    globals = stays _ _;
+    registers = each;
+  }
 
 -- a store to a memory, whose bytes may be missing
 stored_parts : (k a : ℕ) (slots : List (Slot MemoryValue)) (reply : Reply) (slots' : List (Slot MemoryValue))
@@ -213,12 +258,11 @@ segment_made ty items segments reply segments' (inl none) = unchanged _ segments
 segment_made ty items segments reply segments' (inr (result, is, adds)) =
     entry_added _ (λ x. x) replied.Segment result segments reply segments' adds
 
--- a global that is made
-global_made : (global : GlobalInstance) (globals : List GlobalInstance) (reply : Reply)
-    (globals' : List GlobalInstance) → CreatesGlobal global globals reply globals'
-    → EachAfter (λ j. May None None (GlobalAt j)) globals globals'
-global_made global globals reply globals' (inl none) = unchanged _ globals globals' none.1
-global_made global globals reply globals' (inr made) = appended _ globals globals' global made.1
+-- an item that is added
+item_added : {X : Type 0} (Becomes : ℕ → X → X → Type 0) (x : X) (items : List X) (reply : Reply) (items' : List X)
+    → AddsItem x items reply items' → EachAfter Becomes items items'
+item_added Becomes x items reply items' (inl none) = unchanged Becomes items items' none.1
+item_added Becomes x items reply items' (inr made) = appended Becomes items items' x made.1
 
 -- a memory that is made in the spare region
 lent_made : {S : Type 0} (rules : Rules S) (ty : MemoryTypeValue) (part : MemoryPart) (l : S) (reply : Reply)
@@ -263,6 +307,8 @@ changed_by (TableDropped k) = Some (TableAt k)
 changed_by (ElementSet k index value) = Some (TableAt k)
 changed_by (SegmentMade ty items) = None
 changed_by (ItemsDropped k) = Some (SegmentAt k)
+changed_by (DataMade bytes) = None
+changed_by (DataDropped k) = Some (DataAt k)
 changed_by (GlobalMade global) = None
 changed_by (GlobalSet k value) = Some (GlobalAt k)
 
@@ -324,8 +370,13 @@ module _ (s : State) (reply : Reply) (s' : State) where
         later = (ap (λ (y : SegmentValue). y.ty) h.1, inr (ap (λ (y : SegmentValue). y.items) h.1));
         live = λ live. inl tt;
       }) c.effect))
+  change_parts (DataMade bytes) c = subst (EachPart _ _ s) (sym c.after)
+      (data_change _ _ s c.part (item_added _ bytes s.data_segments reply c.part c.effect))
+  change_parts (DataDropped k) c = subst (EachPart _ _ s) (sym c.after) (data_change _ _ s c.part
+      (item_changed _ k s.data_segments reply c.part _
+      (λ x x' h. record { named = refl; later = inr h.1; live = λ live. inl tt }) c.effect))
   change_parts (GlobalMade global) c = subst (EachPart _ _ s) (sym c.after)
-      (globals_change _ _ s c.part (global_made global s.globals reply c.part c.effect))
+      (globals_change _ _ s c.part (item_added _ global s.globals reply c.part c.effect))
   change_parts (GlobalSet k value) c = subst (EachPart _ _ s) (sym c.after) (globals_change _ _ s c.part
       (item_changed _ k s.globals reply c.part _
       (λ x x' h. record { named = refl; later = global_later k x value h.0 x' h.1; live = λ live. inl tt }) c.effect))
@@ -426,6 +477,7 @@ pub later_same : (location : Location) (x : Content location) → IsLater locati
 later_same (MemoryAt k) x = later_same_slot (λ (m : MemoryValue). m.ty) x
 later_same (TableAt k) x = later_same_slot (λ (t : TableValue). t.ty) x
 later_same (SegmentAt k) x = (refl, inl refl)
+later_same (DataAt k) x = inl refl
 later_same (GlobalAt k) x = (refl, λ const. refl)
 later_same (RegisterAt k) x = tt
 
@@ -437,7 +489,7 @@ later_twice_slot type (Live x) (Gone size) (Live z) first second = absurd cc
 later_twice_slot type (Live x) y (Gone last) first second = tt
 later_twice_slot type (Gone size) y z first second = subst (λ v. IsLaterSlot type v z) first second
 
--- so of an element segment's items
+-- so of what a segment has
 items_twice : (xs ys zs : List ℕ) → (ys ≡ xs) ⊎ (ys ≡ []) → (zs ≡ ys) ⊎ (zs ≡ []) → (zs ≡ xs) ⊎ (zs ≡ [])
 items_twice xs ys zs first (inr none) = inr none
 items_twice xs ys zs (inl same) (inl second) = inl (second ∙ same)
@@ -450,6 +502,7 @@ later_twice (MemoryAt k) x y z first second = later_twice_slot (λ (m : MemoryVa
 later_twice (TableAt k) x y z first second = later_twice_slot (λ (t : TableValue). t.ty) x y z first second
 later_twice (SegmentAt k) x y z first second =
     (second.0 ∙ first.0, items_twice x.items y.items z.items first.1 second.1)
+later_twice (DataAt k) x y z first second = items_twice x y z first second
 later_twice (GlobalAt k) x y z first second = (
   second.0 ∙ first.0,
   λ const. second.1 (ap (λ (t : GlobalType). t.mutability) first.0 ∙ const) ∙ first.1 const,

@@ -280,6 +280,7 @@ same_world rules w turn w' keeps meter spare limiter = λ i. record {
     memories = keeps.contents.memories i;
     tables = keeps.contents.tables i;
     segments = keeps.contents.segments i;
+    data_segments = keeps.contents.data_segments i;
     globals = keeps.contents.globals i;
     registers = keeps.contents.registers i;
     meter = meter i;

@@ -32,12 +32,13 @@ use Rattle.wasmi_ops.specs.declared.load_store.LoadOp.TheVariants as load
 use Rattle.wasmi_ops.specs.declared.load_store.StoreOp.TheVariants as store
 use Rattle.wasmi_machine.specs.declared.calls.Call.TheVariants as call
 
--- an index of a machine: of a memory, a table, an element segment or a global, by the order of their making, or of a
--- register
+-- an index of a machine: of a memory, a table, an element segment, a data segment or a global, by the order of their
+-- making, or of a register
 pub data Location : Type 0 where
   MemoryAt : ℕ → Location
   TableAt : ℕ → Location
   SegmentAt : ℕ → Location
+  DataAt : ℕ → Location
   GlobalAt : ℕ → Location
   RegisterAt : ℕ → Location
 
@@ -46,6 +47,7 @@ abbrev pub Content : Location → Type 0
 Content (MemoryAt k) = Slot MemoryValue
 Content (TableAt k) = Slot TableValue
 Content (SegmentAt k) = SegmentValue
+Content (DataAt k) = List ℕ
 Content (GlobalAt k) = GlobalInstance
 Content (RegisterAt k) = RawVal
 
@@ -54,6 +56,7 @@ abbrev pub content_at : (location : Location) → State → Option (Content loca
 content_at (MemoryAt k) s = slice_get s.memories k
 content_at (TableAt k) s = slice_get s.tables k
 content_at (SegmentAt k) s = slice_get s.segments k
+content_at (DataAt k) s = slice_get s.data_segments k
 content_at (GlobalAt k) s = slice_get s.globals k
 content_at (RegisterAt k) s = slice_get s.registers k
 
@@ -66,6 +69,7 @@ changed_location (call.Write k offset bytes) = Some (MemoryAt k)
 changed_location (call.Store op k ptr offset value) = Some (MemoryAt k)
 changed_location (call.FillMemory k dst value len) = Some (MemoryAt k)
 changed_location (call.CopyMemory k dst j src len) = Some (MemoryAt k)
+changed_location (call.InitMemory k j dst src len) = Some (MemoryAt k)
 changed_location (call.VectorStore a k ptr offset) = Some (MemoryAt k)
 changed_location (call.StoreLane op a k ptr offset) = Some (MemoryAt k)
 changed_location (call.GrowTable k n init) = Some (TableAt k)
@@ -75,6 +79,7 @@ changed_location (call.InitTable k j dst src len) = Some (TableAt k)
 changed_location (call.CopyTable k dst j src len) = Some (TableAt k)
 changed_location (call.FillTable k dst value len) = Some (TableAt k)
 changed_location (call.DropItems k) = Some (SegmentAt k)
+changed_location (call.DropData k) = Some (DataAt k)
 changed_location (call.SetGlobal k value) = Some (GlobalAt k)
 changed_location (call.SetRegister dst value) = Some (RegisterAt dst)
 changed_location (call.Make op dst a) = Some (RegisterAt dst)
@@ -99,6 +104,7 @@ abbrev pub read_locations : Call → List Location
 read_locations (call.Read k offset len) = MemoryAt k ∷ []
 read_locations (call.Load op k ptr offset) = MemoryAt k ∷ []
 read_locations (call.CopyMemory k dst j src len) = MemoryAt j ∷ []
+read_locations (call.InitMemory k j dst src len) = DataAt j ∷ []
 read_locations (call.GetElement k index) = TableAt k ∷ []
 read_locations (call.InitTable k j dst src len) = SegmentAt j ∷ []
 read_locations (call.CopyTable k dst j src len) = TableAt j ∷ []
@@ -129,12 +135,14 @@ IsLocal (call.NewLentMemory ty) = ⊥
 IsLocal (call.GrowMemory k pages) = ⊥
 IsLocal (call.FillMemory k dst value len) = ⊥
 IsLocal (call.CopyMemory k dst j src len) = ⊥
+IsLocal (call.InitMemory k j dst src len) = ⊥
 IsLocal (call.NewTable ty init) = ⊥
 IsLocal (call.GrowTable k n init) = ⊥
 IsLocal (call.InitTable k j dst src len) = ⊥
 IsLocal (call.CopyTable k dst j src len) = ⊥
 IsLocal (call.FillTable k dst value len) = ⊥
 IsLocal (call.NewSegment ty items) = ⊥
+IsLocal (call.NewData bytes) = ⊥
 IsLocal (call.NewGlobal value ty) = ⊥
 IsLocal call = Unit {0}
 
@@ -163,12 +171,13 @@ IsLaterSlot type (Live x) (Live x') = type x' ≡ type x
 IsLaterSlot type (Live x) (Gone size) = Unit {0}
 IsLaterSlot type (Gone size) later = later ≡ Gone size
 
--- what may become of what is at an index: an element segment keeps its items or has none, and a constant global its
--- value
+-- what may become of what is at an index: an element segment keeps its items or has none, so a data segment its bytes,
+-- and a constant global keeps its value
 abbrev pub IsLater : (location : Location) → Content location → Content location → Type 0
 IsLater (MemoryAt k) x x' = IsLaterSlot (λ (m : MemoryValue). m.ty) x x'
 IsLater (TableAt k) x x' = IsLaterSlot (λ (t : TableValue). t.ty) x x'
 IsLater (SegmentAt k) x x' = (x'.ty ≡ x.ty) × ((x'.items ≡ x.items) ⊎ (x'.items ≡ []))
+IsLater (DataAt k) x x' = (x' ≡ x) ⊎ (x' ≡ [])
 IsLater (GlobalAt k) x x' = (x'.ty ≡ x.ty) × (x.ty.mutability ≡ Const → x' ≡ x)
 IsLater (RegisterAt k) x x' = Unit {0}
 
@@ -182,6 +191,7 @@ abbrev pub IsLive : (location : Location) → Content location → Type 0
 IsLive (MemoryAt k) x = IsLiveSlot x
 IsLive (TableAt k) x = IsLiveSlot x
 IsLive (SegmentAt k) x = Unit {0}
+IsLive (DataAt k) x = Unit {0}
 IsLive (GlobalAt k) x = Unit {0}
 IsLive (RegisterAt k) x = Unit {0}
 
