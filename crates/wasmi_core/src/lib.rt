@@ -7,7 +7,9 @@ pub mod wasm;
 
 pub use wasmi_access::{access, laws as access_laws};
 pub use wasmi_lanes::{laws as lane_laws, on_vectors, words};
-pub use wasmi_machine::{ByteList, Call, Machine, Reply, laws, run, run_lending, run_reserving};
+pub use wasmi_machine::{
+    ByteList, Call, DataSegment, Machine, Reply, laws, run, run_lending, run_reserving,
+};
 pub use wasmi_meter::{
     Amounts, AnswerList, AnyLimiter, CustomFuelCosts, Fuel, FuelCosts, FuelCostsProvider,
     FuelError, Holdings, Kind, Lender, LimiterAnswer, LimiterByKind, LimiterError, LimiterRef,
