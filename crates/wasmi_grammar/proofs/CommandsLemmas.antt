@@ -63,6 +63,7 @@ forms =
     (codes "fuel", made ℕ (λ a. call.SetFuel a)) ∷
     (codes "left", made ⊤ (λ a. call.GetFuel)) ∷
     (codes "empty", made ℕ (λ a. call.DropItems a)) ∷
+    (codes "dempty", made ℕ (λ a. call.DropData a)) ∷
     (codes "gget", made ℕ (λ a. call.GetGlobal a)) ∷
     (codes "show", made ℕ (λ a. call.GetRegister a)) ∷
     (codes "memory", made MemoryTypeValue (λ ty. call.NewMemory ty)) ∷
@@ -74,6 +75,7 @@ forms =
     (codes "read", made (ℕ × ℕ × ℕ) (λ a. call.Read a.0 a.1 a.2)) ∷
     (codes "mfill", made (ℕ × ℕ × ℕ × ℕ) (λ a. call.FillMemory a.0 a.1 a.2 a.3)) ∷
     (codes "mcopy", made (ℕ × ℕ × ℕ × ℕ × ℕ) (λ a. call.CopyMemory a.0 a.1 a.2 a.3 a.4)) ∷
+    (codes "minit", made (ℕ × ℕ × ℕ × ℕ × ℕ) (λ a. call.InitMemory a.0 a.1 a.2 a.3 a.4)) ∷
     (codes "load", made (LoadOp × ℕ × ℕ × ℕ) (λ a. call.Load a.0 a.1 a.2 a.3)) ∷
     (codes "store", made (StoreOp × ℕ × ℕ × ℕ × RawVal) (λ a. call.Store a.0 a.1 a.2 a.3 a.4)) ∷
     (codes "get", made (ℕ × ℕ) (λ a. call.GetElement a.0 a.1)) ∷
@@ -107,6 +109,7 @@ form : (words : LineWords) (call : Call) → WritesOperands words call
 form words (call.SetFuel fuel) w = (fuel, w)
 form words call.GetFuel w = (tt, w)
 form words (call.DropItems segment) w = (segment, w)
+form words (call.DropData segment) w = (segment, w)
 form words (call.GetGlobal global) w = (global, w)
 form words (call.GetRegister a) w = (a, w)
 form words (call.NewMemory ty) w = (ty, w)
@@ -121,6 +124,7 @@ form words (call.GrowMemory memory pages) w = ((memory, pages), w)
 form words (call.Read memory offset len) w = ((memory, offset, len), w)
 form words (call.FillMemory memory dst value len) w = ((memory, dst, value, len), w)
 form words (call.CopyMemory dst_memory dst src_memory src len) w = ((dst_memory, dst, src_memory, src, len), w)
+form words (call.InitMemory memory segment dst src len) w = ((memory, segment, dst, src, len), w)
 form words (call.Load op memory ptr offset) w = ((op, memory, ptr, offset), w)
 form words (call.Store op memory ptr offset value) w = ((op, memory, ptr, offset, value), w)
 form words (call.GetElement table index) w = ((table, index), w)

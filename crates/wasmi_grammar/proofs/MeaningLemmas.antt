@@ -24,7 +24,7 @@ use Rattle.wasmi_ops.specs.LoadStoreOps.{load_name, store_name}
 use Rattle.wasmi_ops.specs.VectorOps.{make_name, unary_name, binary_name, ternary_name, shift_name, test_name, vector_load_name}
 use Rattle.wasmi_ops.specs.LaneOps.{extract_name, extract_op, replace_name, replace_op, load_lane_name, load_lane_op, store_lane_name, store_lane_op}
 use Rattle.wasmi_machine.specs.declared.calls.Call.{Call}
-use Rattle.wasmi_machine.specs.declared.calls.Call.TheVariants.{SetFuel, GetFuel, NewMemory, NewLentMemory, GrowMemory, DropMemory, Read, Write, Load, Store, FillMemory, CopyMemory, NewTable, GrowTable, DropTable, GetElement, SetElement, InitTable, CopyTable, FillTable, NewSegment, DropItems, NewGlobal, SetGlobal, GetGlobal, SetRegister, GetRegister, Make, Unary, Binary, Ternary, Shift, Test, Extract, Replace, Shuffle, VectorLoad, LoadLane, VectorStore, StoreLane}
+use Rattle.wasmi_machine.specs.declared.calls.Call.TheVariants.{SetFuel, GetFuel, NewMemory, NewLentMemory, GrowMemory, DropMemory, Read, Write, Load, Store, FillMemory, CopyMemory, InitMemory, NewTable, GrowTable, DropTable, GetElement, SetElement, InitTable, CopyTable, FillTable, NewSegment, DropItems, NewData, DropData, NewGlobal, SetGlobal, GetGlobal, SetRegister, GetRegister, Make, Unary, Binary, Ternary, Shift, Test, Extract, Replace, Shuffle, VectorLoad, LoadLane, VectorStore, StoreLane}
 use Rattle.wasmi_grammar.specs.declared.script.Line.{Line}
 use Rattle.wasmi_grammar.specs.declared.script.Line.TheVariants.{Meter, Limiter, Region, As, Call as Command}
 use Rattle.wasmi_grammar.specs.Lines.{NamesLine, AddsLine, AddsWords}
@@ -40,7 +40,7 @@ use Rattle.wasmi_operands.specs.LineWords.{LineWords, WritesEach, word_at, Write
 use Rattle.wasmi_operands.specs.Names.{IsName, reference_word, value_word, mutability_word}
 use Rattle.wasmi_grammar.specs.Commands.{command_word, WritesOperands}
 use Rattle.wasmi_grammar.specs.Headers.{WritesMeter, WritesLimiter, WritesRegion, limiter_word}
-use Rattle.wasmi_grammar.specs.Meanings.{CallMeaning, WriteMeaning, SegmentMeaning, OtherCall as Other, call_meaning, LimiterMeaning, AnswersMeaning, OtherLimiter, limiter_meaning, PartMeaning, part_meaning}
+use Rattle.wasmi_grammar.specs.Meanings.{CallMeaning, WriteMeaning, SegmentMeaning, DataMeaning, OtherCall as Other, call_meaning, LimiterMeaning, AnswersMeaning, OtherLimiter, limiter_meaning, PartMeaning, part_meaning}
 use Rattle.wasmi_operands.proofs.NamesLemmas.{named, named_is, reference_named, reference_is, lane_named, lane_is}
 use Rattle.wasmi_operands.proofs.LineWordsLemmas.{each_named}
 use Rattle.wasmi_grammar.proofs.LimitWordsLemmas.{memory_named, memory_is, table_named, table_is}
@@ -124,6 +124,7 @@ module _ (words : LineWords) where
       (codes "write", Some (WriteMeaning (number 0) (number 1) (numbers_in (drop 2 words)))) ∷
       (codes "mfill", Some (Other (FillMemory (number 0) (number 1) (number 2) (number 3)))) ∷
       (codes "mcopy", Some (Other (CopyMemory (number 0) (number 1) (number 2) (number 3) (number 4)))) ∷
+      (codes "minit", Some (Other (InitMemory (number 0) (number 1) (number 2) (number 3) (number 4)))) ∷
       (codes "load", by_name load.enum tt load_name (λ op. Load op (number 1) (number 2) (number 3))) ∷ (
         codes "store",
         by_name store.enum tt store_name (λ op. Store op (number 1) (number 2) (number 3) (raw_of (number 4))),
@@ -142,7 +143,9 @@ module _ (words : LineWords) where
         option_map (λ ty. SegmentMeaning ty (numbers_in (drop 1 words)))
             (named reference_type.enum tt reference_word (word 0)),
       ) ∷
-      (codes "empty", Some (Other (DropItems (number 0)))) ∷ (
+      (codes "empty", Some (Other (DropItems (number 0)))) ∷
+      (codes "data", Some (DataMeaning (numbers_in words))) ∷
+      (codes "dempty", Some (Other (DropData (number 0)))) ∷ (
         codes "global",
         option_and_then (λ content. option_map
             (λ mutability. Other (NewGlobal (raw 2 3) (record { content = content; mutability = mutability })))
@@ -200,6 +203,8 @@ module _ (words : LineWords) where
       Some (Other (FillMemory (sym w.1.1 i) (sym w.2.1 i) (sym w.3.1 i) (sym w.4.1 i)))
   call_is (CopyMemory dst_memory dst src_memory src len) w = λ i.
       Some (Other (CopyMemory (sym w.1.1 i) (sym w.2.1 i) (sym w.3.1 i) (sym w.4.1 i) (sym w.5.1 i)))
+  call_is (InitMemory memory segment dst src len) w = λ i.
+      Some (Other (InitMemory (sym w.1.1 i) (sym w.2.1 i) (sym w.3.1 i) (sym w.4.1 i) (sym w.5.1 i)))
   call_is (Load op memory ptr offset) w = λ i.
       option_map (λ op. Other (Load op (sym w.2.1 i) (sym w.3.1 i) (sym w.4.1 i)))
       (named_is load.enum tt load_name refl (word 0) op w.1 i)
@@ -226,6 +231,8 @@ module _ (words : LineWords) where
       λ i. option_map (λ ty. SegmentMeaning ty (numbers_is 32 (drop 1 words) items.items w.1 i))
       (named_is reference_type.enum tt reference_word refl (word 0) ty w.0.1 i)
   call_is (DropItems segment) w = λ i. Some (Other (DropItems (sym w.1.1 i)))
+  call_is (NewData bytes) w = λ i. Some (DataMeaning (numbers_is 8 words bytes.items w i))
+  call_is (DropData segment) w = λ i. Some (Other (DropData (sym w.1.1 i)))
   call_is (NewGlobal value ty) w =
       let lo = sym w.3.1 in
       let hi = sym w.4.1 in

@@ -3,7 +3,7 @@ use Rattle.std.proofs.Common.{ℕ, ◌≡◌, ◌∙◌, List, [], ◌∷◌, le
 use Rattle.std.proofs.lemmas.List.{length-map, drop-map}
 use Rattle.std.specs.List.{AllZip}
 use Rattle.wasmi_machine.specs.declared.calls.Call.{Call}
-use Rattle.wasmi_machine.specs.declared.calls.Call.TheVariants.{Write, NewSegment, Shuffle}
+use Rattle.wasmi_machine.specs.declared.calls.Call.TheVariants.{Write, NewData, NewSegment, Shuffle}
 use Rattle.wasmi_grammar.specs.declared.script.Line.{Line}
 use Rattle.wasmi_grammar.specs.declared.script.Line.TheVariants.{Meter, Limiter, Region, As, Call as Command}
 use Rattle.wasmi_grammar.specs.declared.script.Script.{Script}
@@ -72,6 +72,7 @@ module _ (words words' : LineWords) (same : texts words ≡ texts words') where
     retell_first (NewSegment ty items) w.0,
     retell_each (WritesNumber 32) (drop 1 words) (drop 1 words') items.items (later 1) w.1,
   )
+  retell_operands (NewData bytes) w = retell_each (WritesNumber 8) words words' bytes.items same w
   retell_operands (Shuffle dst a b lanes) w = (
     retell_first (Shuffle dst a b lanes) w.0,
     retell_lanes (drop 3 words) (drop 3 words') lanes (later 3) w.1,

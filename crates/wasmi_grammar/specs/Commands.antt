@@ -75,6 +75,7 @@ command_word (call.Load op memory ptr offset) = codes "load"
 command_word (call.Store op memory ptr offset value) = codes "store"
 command_word (call.FillMemory memory dst value len) = codes "mfill"
 command_word (call.CopyMemory dst_memory dst src_memory src len) = codes "mcopy"
+command_word (call.InitMemory memory segment dst src len) = codes "minit"
 command_word (call.NewTable ty init) = codes "table"
 command_word (call.GrowTable table delta init) = codes "tgrow"
 command_word (call.DropTable table) = codes "drop"
@@ -85,6 +86,8 @@ command_word (call.CopyTable dst_table dst src_table src len) = codes "copy"
 command_word (call.FillTable table dst value len) = codes "fill"
 command_word (call.NewSegment ty items) = codes "segment"
 command_word (call.DropItems segment) = codes "empty"
+command_word (call.NewData bytes) = codes "data"
+command_word (call.DropData segment) = codes "dempty"
 command_word (call.NewGlobal value ty) = codes "global"
 command_word (call.SetGlobal global value) = codes "gset"
 command_word (call.GetGlobal global) = codes "gget"
@@ -129,6 +132,9 @@ OperandsWrite count word (call.CopyMemory dst_memory dst src_memory src len) =
     (count ≡ 5) × WritesNumber 64 (word 0) dst_memory
     × WritesNumber 64 (word 1) dst × WritesNumber 64 (word 2) src_memory × WritesNumber 64 (word 3) src
     × WritesNumber 64 (word 4) len
+OperandsWrite count word (call.InitMemory memory segment dst src len) = (count ≡ 5) × WritesNumber 64 (word 0) memory
+    × WritesNumber 64 (word 1) segment × WritesNumber 64 (word 2) dst × WritesNumber 32 (word 3) src
+    × WritesNumber 32 (word 4) len
 OperandsWrite count word (call.NewTable ty init) =
     (count ≡ 6) × NamesTableType (word 0) (word 1) (word 2) (word 3) ty × WritesReference (word 4) (word 5) init
 OperandsWrite count word (call.GrowTable table delta init) = (count ≡ 4) × WritesNumber 64 (word 0) table
@@ -150,6 +156,8 @@ OperandsWrite count word (call.FillTable table dst value len) = (count ≡ 5) ×
     × WritesNumber 64 (word 1) dst × WritesReference (word 2) (word 3) value × WritesNumber 64 (word 4) len
 OperandsWrite count word (call.NewSegment ty items) = (1 ≤ count) × (word 0 ≡ reference_word ty)
 OperandsWrite count word (call.DropItems segment) = (count ≡ 1) × WritesNumber 64 (word 0) segment
+OperandsWrite count word (call.NewData bytes) = Unit {0}
+OperandsWrite count word (call.DropData segment) = (count ≡ 1) × WritesNumber 64 (word 0) segment
 OperandsWrite count word (call.NewGlobal value ty) = (count ≡ 4) × (word 0 ≡ value_word ty.content)
     × (word 1 ≡ mutability_word ty.mutability) × WritesNumber 64 (word 2) value.lo × WritesNumber 64 (word 3) value.hi
 OperandsWrite count word (call.SetGlobal global value) = (count ≡ 4) × WritesNumber 64 (word 0) global
@@ -197,6 +205,7 @@ WritesOperands words (call.Write memory offset bytes) =
 WritesOperands words (call.NewSegment ty items) =
     OperandsWrite (length words) (word_at words) (call.NewSegment ty items)
     × WritesEach (WritesNumber 32) (drop 1 words) items.items
+WritesOperands words (call.NewData bytes) = WritesEach (WritesNumber 8) words bytes.items
 WritesOperands words (call.Shuffle dst a b lanes) =
     OperandsWrite (length words) (word_at words) (call.Shuffle dst a b lanes) × WritesLanes (drop 3 words) lanes
 WritesOperands words call = OperandsWrite (length words) (word_at words) call
@@ -212,7 +221,7 @@ IsValueWord name = (name ≡ codes "fuel") ⊎ (name ≡ codes "left") ⊎ (name
 
 -- a word that a command of a memory begins with, or one that drops a memory or a table
 abbrev pub IsMemoryWord : List ℕ → Type 0
-IsMemoryWord name = (name ≡ codes "memory") ⊎ (name ≡ codes "lent") ⊎ (name ≡ codes "grow") ⊎ (name ≡ codes "drop") ⊎ (name ≡ codes "read") ⊎ (name ≡ codes "mfill") ⊎ (name ≡ codes "mcopy")
+IsMemoryWord name = (name ≡ codes "memory") ⊎ (name ≡ codes "lent") ⊎ (name ≡ codes "grow") ⊎ (name ≡ codes "drop") ⊎ (name ≡ codes "read") ⊎ (name ≡ codes "mfill") ⊎ (name ≡ codes "mcopy") ⊎ (name ≡ codes "minit")
 
 -- a word that a command begins with which loads or stores
 abbrev pub IsAccessWord : List ℕ → Type 0
@@ -220,7 +229,7 @@ IsAccessWord name = (name ≡ codes "load") ⊎ (name ≡ codes "store") ⊎ (na
 
 -- a word that a command of a table begins with, or one that empties a segment
 abbrev pub IsTableWord : List ℕ → Type 0
-IsTableWord name = (name ≡ codes "table") ⊎ (name ≡ codes "tgrow") ⊎ (name ≡ codes "get") ⊎ (name ≡ codes "tset") ⊎ (name ≡ codes "init") ⊎ (name ≡ codes "copy") ⊎ (name ≡ codes "fill") ⊎ (name ≡ codes "empty")
+IsTableWord name = (name ≡ codes "table") ⊎ (name ≡ codes "tgrow") ⊎ (name ≡ codes "get") ⊎ (name ≡ codes "tset") ⊎ (name ≡ codes "init") ⊎ (name ≡ codes "copy") ⊎ (name ≡ codes "fill") ⊎ (name ≡ codes "empty") ⊎ (name ≡ codes "dempty")
 
 -- a word that a command of a vector instruction begins with
 abbrev pub IsVectorWord : List ℕ → Type 0

@@ -3,7 +3,7 @@ use Rattle.std.specs.Prelude.{◌≡◌, ℕ, List, Option, map}
 use Rattle.std.specs.Option.{option_map}
 use Rattle.wasmi_types.specs.declared.value.RefType.{RefType}
 use Rattle.wasmi_machine.specs.declared.calls.Call.{Call}
-use Rattle.wasmi_machine.specs.declared.calls.Call.TheVariants.{Write, NewSegment}
+use Rattle.wasmi_machine.specs.declared.calls.Call.TheVariants.{Write, NewData, NewSegment}
 use Rattle.wasmi_grammar.specs.declared.script.Script.{Script}
 use Rattle.wasmi_grammar.specs.declared.header.MeterLine.{MeterLine}
 use Rattle.wasmi_grammar.specs.declared.header.RegionLine.{RegionLine}
@@ -17,12 +17,14 @@ use Rattle.wasmi_grammar.specs.Parts.{TenantRun, parts_in}
 pub data CallMeaning : Type 0 where
   WriteMeaning : ℕ → ℕ → List ℕ → CallMeaning
   SegmentMeaning : RefType → List ℕ → CallMeaning
+  DataMeaning : List ℕ → CallMeaning
   OtherCall : Call → CallMeaning
 
 -- what a call says
 abbrev pub call_meaning : Call → CallMeaning
 call_meaning (Write memory offset bytes) = WriteMeaning memory offset bytes.items
 call_meaning (NewSegment ty items) = SegmentMeaning ty items.items
+call_meaning (NewData bytes) = DataMeaning bytes.items
 call_meaning call = OtherCall call
 
 -- a limiter line, with its answers as a list

@@ -31,16 +31,17 @@ pub(crate) fn command(alloc: Global, name: &str, operands: &[&str]) -> Result<Ca
     match name {
         "write" => write(alloc, operands),
         "segment" => new_segment(alloc, operands),
+        "data" => new_data(alloc, operands),
         "fuel" | "left" | "global" | "gset" | "gget" | "set" | "show" => {
             values_call(name, operands)
         }
-        "memory" | "lent" | "grow" | "drop" | "read" | "mfill" | "mcopy" => {
+        "memory" | "lent" | "grow" | "drop" | "read" | "mfill" | "mcopy" | "minit" => {
             memory_call(name, operands)
         }
         "load" | "store" | "vload" | "vloadlane" | "vstore" | "vstorelane" => {
             access_call(name, operands)
         }
-        "table" | "tgrow" | "get" | "tset" | "init" | "copy" | "fill" | "empty" => {
+        "table" | "tgrow" | "get" | "tset" | "init" | "copy" | "fill" | "empty" | "dempty" => {
             table_call(name, operands)
         }
         "make"
@@ -103,6 +104,7 @@ fn memory_call(name: &str, operands: &[&str]) -> Result<Call, LineError>
         "read" => call!(operands, three => Read { memory, offset, len }),
         "mfill" => call!(operands, four => FillMemory { memory, dst, value, len }),
         "mcopy" => call!(operands, five => CopyMemory { dst_memory, dst, src_memory, src, len }),
+        "minit" => call!(operands, five => InitMemory { memory, segment, dst, src, len }),
         _ => drop_live(operands),
     }
 }
@@ -247,6 +249,7 @@ fn table_call(name: &str, operands: &[&str]) -> Result<Call, LineError>
                 len,
             })
         }
+        "dempty" => Ok(Call::DropData(operand::one(operands)?)),
         _ => Ok(Call::DropItems(operand::one(operands)?)),
     }
 }
@@ -277,6 +280,13 @@ fn new_segment(alloc: Global, operands: &[&str]) -> Result<Call, LineError>
         ty: RefType::from_word(ty)?,
         items: list_of(alloc, items)?,
     })
+}
+
+/// `data BYTE ...`, which may have no byte.
+fn new_data(alloc: Global, operands: &[&str]) -> Result<Call, LineError>
+    ensures { AcceptsWithMemory result (NamesAfter (codes "data") operands.now) }
+{
+    Ok(Call::NewData(list_of(alloc, operands)?))
 }
 
 /// The table type of four words, if there is such a type.

@@ -14,6 +14,9 @@ returns-in-write c = rw c.in-write.is c.write.ensures
 pub returns-in-segment : goal.returns-in-segment
 returns-in-segment c = rw c.in-segment.is c.new_segment.ensures
 
+pub returns-in-data : goal.returns-in-data
+returns-in-data c = rw c.in-data.is c.new_data.ensures
+
 pub returns-in-load : goal.returns-in-load
 returns-in-load c = with_memory c.access_call.result (NamesAfter c.args.name.now c.args.operands.now) c.access_call.ensures.call
 

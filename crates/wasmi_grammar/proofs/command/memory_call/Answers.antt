@@ -13,3 +13,6 @@ returns-in_err-memory-in-mfill c = record { call = refused_named _ (search rules
 
 pub returns-in_err-dst_memory-in-mcopy : goal.returns-in_err-dst_memory-in-mcopy
 returns-in_err-dst_memory-in-mcopy c = record { call = refused_named _ (search rules) c.in-mcopy.is c.in_err-dst_memory-in-mcopy.ensures }
+
+pub returns-in_err-memory-in-minit : goal.returns-in_err-memory-in-minit
+returns-in_err-memory-in-minit c = record { call = refused_named _ (search rules) c.in-minit.is c.in_err-memory-in-minit.ensures }

@@ -47,6 +47,12 @@ returns-in_ok-table-in-fill c =
     let w = c.in_ok-table-in-fill.ensures in
     record { call = rw c.new-in-fill.ensures (sym c.in-fill.is, (w.0, w.1, w.2, (w.3, w.4), w.5)) }
 
+pub returns-in_err-one-in-dempty : goal.returns-in_err-one-in-dempty
+returns-in_err-one-in-dempty c = record { call = refused_named _ (search rules) c.in-dempty.is c.in_err-one-in-dempty.ensures }
+
+pub returns-in_ok-one-in-dempty : goal.returns-in_ok-one-in-dempty
+returns-in_ok-one-in-dempty c = record { call = (sym c.in-dempty.is, c.in_ok-one-in-dempty.ensures) }
+
 pub returns-in_err-one-in_default : goal.returns-in_err-one-in_default
 returns-in_err-one-in_default c = record { call = refused_named {word = codes "empty"} _ (search rules) (search rules) c.in_err-one-in_default.ensures }
 
