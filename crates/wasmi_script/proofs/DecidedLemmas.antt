@@ -10,7 +10,7 @@ use Rattle.wasmi_meter.specs.Attempt.{MeteredValue}
 use Rattle.wasmi_meter.specs.Limiter.{Rules, unlimited_rules, optional_rules}
 use Rattle.wasmi_meter.specs.Capped.{holdings, quota_rules}
 use Rattle.wasmi_machine.specs.declared.calls.Call.{Call}
-use Rattle.wasmi_machine.specs.declared.calls.Call.TheVariants.{Write, NewSegment}
+use Rattle.wasmi_machine.specs.declared.calls.Call.TheVariants.{Write, NewData, NewSegment}
 use Rattle.wasmi_machine.specs.declared.calls.Reply.{Reply}
 use Rattle.wasmi_machine.specs.declared.calls.Reply.TheVariants.{Made}
 use Rattle.wasmi_machine.specs.State.{State, new_state, World, Turn}
@@ -38,7 +38,7 @@ use Rattle.wasmi_script.specs.ScriptRuns.{IsNewQuota, IsListedReplay, IsReplayUn
 use Rattle.wasmi_grammar.specs.Lines.{calls_of}
 use Rattle.wasmi_grammar.specs.Parts.{TenantRun, parts_in, calls_in}
 use Rattle.wasmi_script.specs.Outcomes.{replies_text, held_text}
-use Rattle.wasmi_grammar.specs.Meanings.{CallMeaning, WriteMeaning, SegmentMeaning, OtherCall, call_meaning, limiter_meaning, PartMeaning, part_meaning, ScriptMeaning, HaveSameMeaning}
+use Rattle.wasmi_grammar.specs.Meanings.{CallMeaning, WriteMeaning, SegmentMeaning, DataMeaning, OtherCall, call_meaning, limiter_meaning, PartMeaning, part_meaning, ScriptMeaning, HaveSameMeaning}
 use Rattle.wasmi_meter.specs.AnswerList.{answer_list_rules, new_answers, notice_answer_by}
 use Rattle.wasmi_script.specs.Decided.{HasNoComplain, OutcomesAreOne}
 use Rattle.wasmi_script.proofs.ScriptRunsLemmas.{quiet_lists_decide}
@@ -50,24 +50,29 @@ abbrev HasMeaning : CallMeaning → Call → Type 0
 HasMeaning (WriteMeaning memory offset bytes) call = (v : Vec ℕ _) × (call ≡ Write memory offset v) × (v.items ≡ bytes)
 -- a new segment, by its type and its items
 HasMeaning (SegmentMeaning ty items) call = (v : Vec ℕ _) × (call ≡ NewSegment ty v) × (v.items ≡ items)
+-- a new data segment, by its bytes
+HasMeaning (DataMeaning bytes) call = (v : Vec ℕ _) × (call ≡ NewData v) × (v.items ≡ bytes)
 HasMeaning (OtherCall other) call = call ≡ other
 
 -- each call is one of what it says
 says : (call : Call) → HasMeaning (call_meaning call) call
 says (Write memory offset bytes) = (bytes, refl, refl)
 says (NewSegment ty items) = (items, refl, refl)
+says (NewData bytes) = (bytes, refl, refl)
 says call = refl
 
 -- calls that say the same have the same effect, and make the same kind of thing
 same_effect : (s : State) (call call' : Call) → HasMeaning (call_meaning call) call' → effect_of s call' ≡ effect_of s call
 same_effect s (Write memory offset bytes) call' (v, is, items) = ap (effect_of s) is ∙ rw items refl
 same_effect s (NewSegment ty items) call' (v, is, same) = ap (effect_of s) is ∙ rw same refl
+same_effect s (NewData bytes) call' (v, is, same) = ap (effect_of s) is ∙ rw same refl
 same_effect s call call' is = ap (effect_of s) is
 
 -- calls that say the same make the same kind of thing
 pub same_kind : (call call' : Call) → HasMeaning (call_meaning call) call' → kind_text call' ≡ kind_text call
 same_kind (Write memory offset bytes) call' (v, is, items) = ap kind_text is
 same_kind (NewSegment ty items) call' (v, is, same) = ap kind_text is
+same_kind (NewData bytes) call' (v, is, same) = ap kind_text is
 same_kind call call' is = ap kind_text is
 
 -- what the calls of parts say

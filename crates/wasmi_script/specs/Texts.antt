@@ -7,7 +7,7 @@ use Rattle.wasmi_typed.specs.Global.{global_error_text}
 use Rattle.wasmi_typed.specs.declared.typed_ref.TypedRawRef.{TypedRawRef}
 use Rattle.wasmi_store.specs.Segment.{segment_error_text}
 use Rattle.wasmi_machine.specs.declared.calls.Call.{Call}
-use Rattle.wasmi_machine.specs.declared.calls.Call.TheVariants.{NewMemory, NewLentMemory, NewTable, NewSegment, NewGlobal}
+use Rattle.wasmi_machine.specs.declared.calls.Call.TheVariants.{NewMemory, NewLentMemory, NewTable, NewData, NewSegment, NewGlobal}
 use Rattle.wasmi_machine.specs.declared.calls.Reply.{Reply}
 use Rattle.wasmi_script.specs.declared.error.ReplayError.{ReplayError}
 use Rattle.wasmi_script.specs.declared.error.ReplayError.TheVariants.{Parse, TooLong, ReadFault}
@@ -23,6 +23,7 @@ kind_text (NewMemory ty) = codes "memory"
 kind_text (NewLentMemory ty) = codes "memory"
 kind_text (NewTable ty init) = codes "table"
 kind_text (NewSegment ty items) = codes "segment"
+kind_text (NewData bytes) = codes "data"
 kind_text (NewGlobal value ty) = codes "global"
 kind_text call = codes "nothing"
 

@@ -93,6 +93,7 @@ fn made_word(call: &Call) -> &'static str
         Call::NewMemory(_) | Call::NewLentMemory(_) => "memory",
         Call::NewTable { .. } => "table",
         Call::NewSegment { .. } => "segment",
+        Call::NewData(_) => "data",
         Call::NewGlobal { .. } => "global",
         _ => "nothing",
     }
