@@ -123,6 +123,13 @@ module _ (numbers : CallStruct) where
       (λ src. option_map (call.InitTable numbers.index numbers.source numbers.to src) (u32_of numbers.count))
       (u32_of numbers.from)
 
+  -- an initialization of a memory, by bytes of a data segment
+  abbrev pub init_memory_call : Option Call
+  init_memory_call =
+      option_and_then
+      (λ src. option_map (call.InitMemory numbers.index numbers.source numbers.to src) (u32_of numbers.count))
+      (u32_of numbers.from)
+
   -- a new global
   abbrev pub new_global_call : Option Call
   new_global_call =
@@ -167,6 +174,16 @@ table_call numbers = if nat_eq numbers.kind 9
     else if nat_eq numbers.kind 17 then Some (call.DropItems numbers.index)
     else value_call numbers
 
+-- so one that writes over a range of a memory or drops a data segment
+unfoldable pub range_call : CallStruct → Option Call
+range_call numbers = if nat_eq numbers.kind 29
+    then Some (call.FillMemory numbers.index numbers.to (byte_of numbers) numbers.count)
+    else if nat_eq numbers.kind 30
+    then Some (call.CopyMemory numbers.index numbers.to numbers.source numbers.from numbers.count)
+    else if nat_eq numbers.kind 31 then init_memory_call numbers
+    else if nat_eq numbers.kind 32 then Some (call.DropData numbers.index)
+    else table_call numbers
+
 -- the call that numbers stand for, if there is one
 unfoldable pub call_of : CallStruct → Option Call
 call_of numbers = if nat_eq numbers.kind 5 then load_call numbers
@@ -179,7 +196,4 @@ call_of numbers = if nat_eq numbers.kind 5 then load_call numbers
     else if nat_eq numbers.kind 4 then Some (call.DropMemory numbers.index)
     else if nat_eq numbers.kind 7 then load_lane_call numbers
     else if nat_eq numbers.kind 8 then store_lane_call numbers
-    else if nat_eq numbers.kind 29 then Some (call.FillMemory numbers.index numbers.to (byte_of numbers) numbers.count)
-    else if nat_eq numbers.kind 30
-    then Some (call.CopyMemory numbers.index numbers.to numbers.source numbers.from numbers.count)
-    else table_call numbers
+    else range_call numbers

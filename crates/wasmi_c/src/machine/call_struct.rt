@@ -1,6 +1,6 @@
 //! Calls as structs of plain numbers, and the calls that these stand for.
 ghost use Rattle.std.specs.Prelude.{◌≡◌};
-ghost use Rattle.wasmi_c.specs.Machine.CallStructs.{binary_call, byte_of, call_of, load_call, mutability_of, store_call, table_call, typed_reference_of, unary_call, value_call};
+ghost use Rattle.wasmi_c.specs.Machine.CallStructs.{binary_call, byte_of, call_of, load_call, mutability_of, range_call, store_call, table_call, typed_reference_of, unary_call, value_call};
 ghost use Rattle.wasmi_c.specs.Machine.Calls.{item_load_numbered, item_store_numbered, vector_binary_numbered};
 
 use crate::instruction::binary::{Binary, binary_numbered};
@@ -53,9 +53,9 @@ pub struct CallStruct {
     pub page_size_log2: u8,
     /// A reference.
     pub reference: u32,
-    /// The memory, table, element segment or global, by its index.
+    /// The memory, table, segment or global, by its index.
     pub index: usize,
-    /// The memory, table or element segment that is copied from, by its index.
+    /// The memory, table or segment that is copied from, by its index.
     pub source: usize,
     /// Fuel, pages, bytes, elements, or a minimum of them.
     pub count: u64,
@@ -111,19 +111,39 @@ impl CallStruct {
                 ptr: self.ptr,
                 offset: self.offset,
             },
+            _ => return self.range_call(),
+        })
+    }
+
+    /// A call that writes over a range of a memory or drops a data segment, or one on tables,
+    /// element segments, globals and registers.
+    #[tactic(auto, unfolding(crate::specs::Machine::CallStructs::range_call))]
+    fn range_call(&self) -> Option<Call>
+        ensures { result ≡ range_call self.now }
+    {
+        let (memory, dst, len) = (self.index, self.to, self.count);
+        Some(match self.kind {
             29 => Call::FillMemory {
-                memory: self.index,
-                dst: self.to,
+                memory,
+                dst,
                 value: self.byte(),
-                len: count,
+                len,
             },
             30 => Call::CopyMemory {
-                dst_memory: self.index,
-                dst: self.to,
+                dst_memory: memory,
+                dst,
                 src_memory: self.source,
                 src: self.from,
-                len: count,
+                len,
             },
+            31 => Call::InitMemory {
+                memory,
+                segment: self.source,
+                dst,
+                src: to_u32(self.from)?,
+                len: to_u32(len)?,
+            },
+            32 => Call::DropData(self.index),
             _ => return self.table_call(),
         })
     }

@@ -1,7 +1,7 @@
 //! A machine with the limiter that it asks.
 ghost use Rattle.std.specs.Prelude.{◌≡◌, Some, IfOk, MatchResult, OnErr};
 ghost use Rattle.wasmi_meter.specs.AnyLimiter.{caps_of};
-ghost use Rattle.wasmi_machine.specs.declared.calls.Call.TheVariants.{GetFuel, GrowMemory, Load, NewSegment, Store, Write};
+ghost use Rattle.wasmi_machine.specs.declared.calls.Call.TheVariants.{CopyMemory, FillMemory, GetFuel, GrowMemory, InitMemory, Load, NewData, NewSegment, Store, Write};
 ghost use Rattle.wasmi_c.specs.Machine.Calls.{ReadsOut, MachineRuns, RefusesLines, RunsLines, WritesOut, no_header, item_load, item_store, vector_binary, word_after};
 ghost use Rattle.wasmi_c.specs.Machine.Replies.{status_of};
 ghost use Rattle.wasmi_grammar.specs.Lines.{WritesScript};
@@ -236,6 +236,76 @@ impl LimitedMachine {
             .grow_memory_lending(memory, pages, &mut self.limiter)
     }
 
+    /// Fills a range of a memory with a byte, and leaves a status and a word of the reply.
+    #[inline(always)]
+    #[tactic(auto, unfolding(crate::specs::Machine::Calls::RepliesInWord))]
+    pub fn fill(&mut self, memory: usize, dst: u64, value: u8, len: u64, number: &mut u64) -> u8
+        ensures step { RepliesInWord (Some (FillMemory memory dst value len)) number.old self.old
+            (result, number.new) self.new }
+        ensures caps { caps_of self.new.limiter ≡ caps_of self.old.limiter }
+    {
+        let call = Call::FillMemory {
+            memory,
+            dst,
+            value,
+            len,
+        };
+        leave(self.reply(&call), number)
+    }
+
+    /// Copies a range of a memory to another one, or within it, and leaves a status and a word of
+    /// the reply.
+    #[inline(always)]
+    #[tactic(auto, unfolding(crate::specs::Machine::Calls::RepliesInWord))]
+    pub fn copy(
+        &mut self,
+        dst_memory: usize,
+        dst: u64,
+        src_memory: usize,
+        src: u64,
+        len: u64,
+        number: &mut u64,
+    ) -> u8
+        ensures step { RepliesInWord (Some (CopyMemory dst_memory dst src_memory src len))
+            number.old self.old (result, number.new) self.new }
+        ensures caps { caps_of self.new.limiter ≡ caps_of self.old.limiter }
+    {
+        let call = Call::CopyMemory {
+            dst_memory,
+            dst,
+            src_memory,
+            src,
+            len,
+        };
+        leave(self.reply(&call), number)
+    }
+
+    /// Copies a range of a data segment to a memory, and leaves a status and a word of the reply.
+    #[inline(always)]
+    #[tactic(auto, unfolding(crate::specs::Machine::Calls::RepliesInWord))]
+    pub fn init(
+        &mut self,
+        memory: usize,
+        segment: usize,
+        dst: u64,
+        src: u32,
+        len: u32,
+        number: &mut u64,
+    ) -> u8
+        ensures step { RepliesInWord (Some (InitMemory memory segment dst src len)) number.old
+            self.old (result, number.new) self.new }
+        ensures caps { caps_of self.new.limiter ≡ caps_of self.old.limiter }
+    {
+        let call = Call::InitMemory {
+            memory,
+            segment,
+            dst,
+            src,
+            len,
+        };
+        leave(self.reply(&call), number)
+    }
+
     /// Copies the bytes of a memory from an offset on to the caller's.
     pub fn read(&self, memory: usize, offset: usize, bytes: &mut [u8]) -> ReplyStruct
         ensures { ReadsOut memory offset self.now.state bytes.old result bytes.new }
@@ -278,6 +348,18 @@ impl LimitedMachine {
             return ReplyStruct::only(NO_ROOM);
         };
         self.reply_in_struct(&Call::NewSegment { ty, items })
+    }
+
+    /// Makes a data segment of a copy of the caller's bytes.
+    #[tactic(auto, unfolding(crate::specs::Machine::Calls::RepliesToCopy))]
+    pub fn new_data(&mut self, alloc: Global, bytes: &[u8]) -> ReplyStruct
+        ensures step { RepliesToCopy NewData bytes.now self.old result self.new }
+        ensures caps { caps_of self.new.limiter ≡ caps_of self.old.limiter }
+    {
+        let Ok(copy) = Vec::from_slice(alloc, bytes) else {
+            return ReplyStruct::only(NO_ROOM);
+        };
+        self.reply_in_struct(&Call::NewData(copy))
     }
 
     /// How many bytes and elements the machine has, as a quota holds them; else they are added up.
