@@ -22,5 +22,6 @@ without_contents! {
     "LinearMemory" LinearMemory<R>, R: ty size;
     "Table" machine::Table: ty size;
     "ElementSegment" machine::ElementSegment: ty size;
+    "DataSegment" machine::DataSegment: size;
     "Buffer" Buffer<R>, R: len;
 }

@@ -1,8 +1,8 @@
 //! A machine that executes lists of calls on memories, tables, globals and registers, and what it stands on: memories,
 //! tables and limiters that are generic where those of the root are `dyn`.
 //!
-//! A [`Machine`] owns memories, tables, element segments, globals, 16 registers and one [`Fuel`] meter. A [`Call`] asks one
-//! thing of it, by indices, and a [`Reply`] says what came of it; [`run`], [`run_lending`] and [`run_reserving`] execute a list
+//! A [`Machine`] owns memories, tables, element and data segments, globals, 16 registers and one [`Fuel`] meter. A [`Call`]
+//! asks one thing of it, by indices, and a [`Reply`] says what came of it; [`run`], [`run_lending`] and [`run_reserving`] execute a list
 //! of calls. What holds of all runs is proved of all lists of calls, whoever wrote them: [`laws`](crate::laws) has the laws.
 //!
 //! Names are those of the Rattle library. What the root has too is the same type, except [`Memory`], [`Table`],
@@ -54,7 +54,9 @@ pub use crate::proved::lanes::{
     ImmLaneIdx, ImmLaneIdx2, ImmLaneIdx4, ImmLaneIdx8, ImmLaneIdx16, ImmLaneIdx32,
     OutOfBoundsLaneIdx,
 };
-pub use crate::proved::machine::{ByteList, Call, Machine, Reply, run, run_lending, run_reserving};
+pub use crate::proved::machine::{
+    ByteList, Call, DataSegment, Machine, Reply, run, run_lending, run_reserving,
+};
 pub use crate::proved::meter::{
     Amounts, AnswerList, AnyLimiter, CappedLimiter, Holdings, Kind, Lender, LimiterAnswer,
     LimiterByKind, LimiterRef, NoLimits, Quota, Reserving, ResourceLimiter, ResourceLimiterRef,

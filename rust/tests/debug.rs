@@ -78,6 +78,11 @@ fn segments() {
     prints(segment, text, |_| ());
     let segment = machine::ElementSegment::new(RefType::Extern, items).expect("a segment");
     prints(segment, text, |_| ());
+    let mut machine = Machine::new(Fuel::new(false, FuelCostsProvider::default()));
+    let calls = [Call::NewData(vec![165; 1000].into())];
+    run(&mut machine, &calls, &mut Limits::<NoLimits>::default()).expect("a reply");
+    let segment = machine.data_segment(0).expect("a data segment");
+    prints(segment, "DataSegment { size: 1000, .. }", |_| ());
 }
 
 #[test]

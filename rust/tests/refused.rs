@@ -222,6 +222,14 @@ fn calls() -> Vec<Call> {
                 src: 0,
                 len: 1,
             },
+            Call::NewData(vec![1, 2, 3].into()),
+            Call::InitMemory {
+                memory: 0,
+                segment: 0,
+                dst: 7,
+                src: 0,
+                len: 3,
+            },
             Call::NewGlobal {
                 value: RawVal::from(4),
                 ty: global,

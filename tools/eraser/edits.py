@@ -77,7 +77,7 @@ EDITS += [(module, f"pub enum {name} {{", f"#[non_exhaustive]\npub enum {name} {
 # arm of its own, LLVM makes one table of the two. Where all are named, rustc knows that there are no others, and tests nothing.
 GROUPS = {
     "step_memory(call, limiter).unwrap_or(Reply::NoSuch)":
-        "NewMemory(_) NewLentMemory(_) GrowMemory{..} DropMemory(_) Read{..} Write{..} Load{..} Store{..} FillMemory{..} CopyMemory{..}",
+        "NewMemory(_) NewLentMemory(_) GrowMemory{..} DropMemory(_) Read{..} Write{..} Load{..} Store{..} FillMemory{..} CopyMemory{..} InitMemory{..}",
     "step_table(call, limiter).unwrap_or(Reply::NoSuch)":
         "NewTable{..} GrowTable{..} DropTable(_) GetElement{..} SetElement{..} InitTable{..} CopyTable{..} FillTable{..}",
 }
@@ -118,6 +118,7 @@ EDITS += [(module, f"pub trait {name}", f"#[allow(unnameable_types)]\npub trait 
 # Types that print their sizes and nothing of their contents: rust/src/debug.rs.
 PRINTED = ["enum Storage", "pub struct Buffer", "pub struct LinearMemory", "pub struct ElementSegment", "pub struct Table"]
 EDITS += [("store", f"#[derive(Debug)] {item}", item, 1) for item in PRINTED]
+EDITS += [("machine", "#[derive(Debug)] pub struct DataSegment", "pub struct DataSegment", 1)]
 EDITS += [("store", "#[derive(Clone, Copy, Debug)] pub struct ElementSegmentRef", "#[derive(Clone, Copy)]\npub struct ElementSegmentRef", 1)]
 
 # Texts that rustc's LLVM compiles badly, or that older compilers lack.

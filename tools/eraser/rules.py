@@ -44,7 +44,7 @@ TIDY = re.compile(r"(?:ghost )?(.*?)\{(.*)\}[;,]?\Z", re.S)
 # The one drop that is left out: it takes the fields apart and drops one, as Rust's own drop does.
 TAKES_APART = re.compile(r"(?:#\[inline\]\s*)?fn drop\(self\)\s*\{\s*let \w+ \{\s*(\w+),(?:\s*\w+: _,?)*\s*\} = self;\s*drop\(\1\);\s*\}")
 RUNTIME = r"rt: (?:[^,;(){}]|\([^()]*\))*|rt"
-ALLOCATORS = r"alloc: (?:Global|Allocator)\b|alloc|self\.alloc|machine\.store\.alloc|self\.items\.allocator\(\)|rt\.alloc\(\)"
+ALLOCATORS = r"alloc: (?:Global|Allocator)\b|alloc|self\.alloc|machine\.store\.alloc|self\.(?:items|bytes)\.allocator\(\)|rt\.alloc\(\)"
 # The shim's traits and types, and what a text has that needs them.
 NEEDED = {"ArrayExt": r"\.try_map_all\(", "SliceExt": r"\.try_to_vec\(", "StrExt": r"\.try_repeat\(", "TextExt": r"\.try_push_str\(|try_of\(",
           "TryClone": r"\.try_clone\(", "Vec": r"(?<![.\w])Vec\b"}

@@ -113,7 +113,7 @@ pub mod wasm {
 pub use crate::proved::accesses::access;
 pub use crate::proved::lanes::{on_vectors, words};
 pub use crate::proved::machine::{
-    ByteList, Call, Machine, Reply, laws, run, run_lending, run_reserving,
+    ByteList, Call, DataSegment, Machine, Reply, laws, run, run_lending, run_reserving,
 };
 pub use crate::proved::meter::{
     Amounts, AnswerList, AnyLimiter, CustomFuelCosts, Fuel, FuelCosts, FuelCostsProvider,

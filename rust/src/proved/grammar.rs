@@ -35,16 +35,17 @@ mod command {
         match name {
             "write" => write(operands),
             "segment" => new_segment(operands),
+            "data" => new_data(operands),
             "fuel" | "left" | "global" | "gset" | "gget" | "set" | "show" => {
                 values_call(name, operands)
             }
-            "memory" | "lent" | "grow" | "drop" | "read" | "mfill" | "mcopy" => {
+            "memory" | "lent" | "grow" | "drop" | "read" | "mfill" | "mcopy" | "minit" => {
                 memory_call(name, operands)
             }
             "load" | "store" | "vload" | "vloadlane" | "vstore" | "vstorelane" => {
                 access_call(name, operands)
             }
-            "table" | "tgrow" | "get" | "tset" | "init" | "copy" | "fill" | "empty" => {
+            "table" | "tgrow" | "get" | "tset" | "init" | "copy" | "fill" | "empty" | "dempty" => {
                 table_call(name, operands)
             }
             "make" | "unary" | "binary" | "ternary" | "shift" | "test" | "extract" | "replace"
@@ -116,6 +117,7 @@ mod command {
             "mcopy" => {
                 call!(operands, five => CopyMemory { dst_memory, dst, src_memory, src, len })
             }
+            "minit" => call!(operands, five => InitMemory { memory, segment, dst, src, len }),
             _ => drop_live(operands),
         }
     }
@@ -309,6 +311,7 @@ mod command {
                     len,
                 })
             }
+            "dempty" => Ok(Call::DropData(operand::one(operands)?)),
             _ => Ok(Call::DropItems(operand::one(operands)?)),
         }
     }
@@ -353,6 +356,20 @@ mod command {
             ty: RefType::from_word(ty)?,
             items: list_of(items)?,
         })
+    }
+
+    /// `data BYTE ...`, which may have no byte.
+    ///
+    /// # Contract
+    ///
+    /// ```text
+    /// ensures: AcceptsWithMemory result (NamesAfter (codes "data") operands.now)
+    /// ```
+    ///
+    /// Definitions: [`AcceptsWithMemory`](crate::specs::operands::LineWordsSpecs#AcceptsWithMemory), [`NamesAfter`](crate::specs::grammar::CommandsSpecs#NamesAfter).
+    #[inline]
+    fn new_data(operands: &[&str]) -> Result<Call, LineError> {
+        Ok(Call::NewData(list_of(operands)?))
     }
 
     /// The table type of four words, if there is such a type.

@@ -18,15 +18,15 @@ mod calls {
     use core::fmt;
     use core::fmt::{Debug, Formatter, Write};
 
-    /// One call on a machine. Memories, tables, element segments and globals go by their indices, which
-    /// count from 0 for each kind and aren't used again: there is no such memory or table once it is
-    /// dropped. Registers go by their numbers from 0 to 15; `dst` is the one that takes the result, and
-    /// a refused call keeps it.
+    /// One call on a machine. Memories, tables, element segments, data segments and globals go by their
+    /// indices, which count from 0 for each kind and aren't used again: there is no such memory or table
+    /// once it is dropped. Registers go by their numbers from 0 to 15; `dst` is the one that takes the
+    /// result, and a refused call keeps it.
     ///
     /// Replies are listed in the order of the tests: the first that applies is the reply. `NoSuch`
-    /// comes before all of them and isn't listed: there is no memory, table, element segment, global or
-    /// register that the call names. `Memory` and `Table` carry the error that the method of `Memory`
-    /// or `Table` returns.
+    /// comes before all of them and isn't listed: there is no memory, table, element segment, data
+    /// segment, global or register that the call names. `Memory` and `Table` carry the error that the
+    /// method of `Memory` or `Table` returns.
     ///
     /// Of the fields, `memory`, `table`, `segment` and `global` are indices, `a`, `b`, `c` and `item` registers of operands; `offset`
     /// is added to `ptr`, or counts bytes itself; `len`, `pages` and `delta` are how many; `lanes` has the index of the byte for each lane.
@@ -96,6 +96,16 @@ mod calls {
             src: u64,
             len: u64,
         },
+        /// Copies `len` bytes of a data segment, from `src` on, over those of a memory from `dst` on:
+        /// `Done`, or `Memory` with `OutOfBoundsAccess` if a range ends past the segment or the memory,
+        /// then `OutOfFuel`, which is tested also for no byte. A segment that was dropped has no bytes.
+        InitMemory {
+            memory: usize,
+            segment: usize,
+            dst: u64,
+            src: u32,
+            len: u32,
+        },
         /// Makes a table of one reference: `Made` with its index, `NoRoom` if there is no memory for
         /// its slot, or `Table`.
         NewTable { ty: TableType, init: TypedRawRef },
@@ -153,6 +163,11 @@ mod calls {
         NewSegment { ty: RefType, items: Vec<RawRef> },
         /// Drops the items of an element segment, which stays: `Done`.
         DropItems(usize),
+        /// Makes a data segment of bytes: `Made` with its index, or `NoRoom` if there is no memory for
+        /// its slot or for a copy of the bytes.
+        NewData(Vec<u8>),
+        /// Drops the bytes of a data segment, which stays: `Done`.
+        DropData(usize),
         /// Makes a global: `Made` with its index, or `NoRoom` if there is no memory for its slot.
         NewGlobal { value: RawVal, ty: GlobalType },
         /// Sets a global: `Done`, or `Global` with `ImmutableWrite` if it is a constant, then
@@ -252,10 +267,10 @@ mod calls {
         fn fmt(&self, f: &mut Formatter<'_>) -> fmt::Result {
             f.write_str(name_of!(self:
             SetFuel GetFuel NewMemory NewLentMemory GrowMemory DropMemory Read Write Load Store
-            FillMemory CopyMemory NewTable GrowTable DropTable GetElement SetElement InitTable CopyTable FillTable
-            NewSegment DropItems NewGlobal SetGlobal GetGlobal SetRegister GetRegister Make Unary
-            Binary Ternary Shift Test Extract Replace Shuffle VectorLoad LoadLane VectorStore
-            StoreLane
+            FillMemory CopyMemory InitMemory NewTable GrowTable DropTable GetElement SetElement
+            InitTable CopyTable FillTable NewSegment DropItems NewData DropData NewGlobal SetGlobal
+            GetGlobal SetRegister GetRegister Make Unary Binary Ternary Shift Test Extract Replace
+            Shuffle VectorLoad LoadLane VectorStore StoreLane
         ))
         }
     }
@@ -306,7 +321,7 @@ mod calls {
     pub enum Reply {
         /// The call is done, and has no other result.
         Done,
-        /// The index of the memory, table, element segment or global that was made.
+        /// The index of the memory, table, element segment, data segment or global that was made.
         Made(usize),
         /// The value of a global or a register, or a number that `Load`, `Test` or `Extract` gives, in
         /// the low word.
@@ -330,12 +345,13 @@ mod calls {
         Segment(SegmentError),
         /// Why a load or a store trapped: `MemoryOutOfBounds`.
         Trap(TrapCode),
-        /// There is no such memory, table, element segment, global or register. It is tested first;
-        /// nothing was asked or changed.
+        /// There is no such memory, table, element segment, data segment, global or register. It is
+        /// tested first; nothing was asked or changed.
         NoSuch,
         /// There is no spare region; nothing was asked or changed.
         NoRegion,
-        /// Memory for a slot or for the reply was refused; nothing was asked or changed.
+        /// Memory for a slot, for the bytes of a data segment or for the reply was refused; nothing was
+        /// asked or changed.
         NoRoom,
     }
 
@@ -393,6 +409,88 @@ mod calls {
     }
 
     impl Eq for ByteList {}
+}
+mod data {
+    //! Data segments.
+
+    use crate::rattle::alloc::AllocError;
+    use crate::rattle::{SliceExt, Vec};
+
+    /// A data segment: the bytes that `Call::InitMemory` copies to a memory. Once they are dropped it
+    /// has none.
+    ///
+    /// Core specification, data instances.
+    ///
+    /// # Model
+    ///
+    /// ```text
+    /// Value = List ℕ
+    /// view = λ segment. segment.bytes.items
+    /// invariant = λ segment.
+    ///     length segment.bytes.items ≡ 0 → vec_capacity segment.bytes ≡ 0
+    /// ```
+    pub struct DataSegment {
+        bytes: Vec<u8>,
+    }
+
+    impl DataSegment {
+        /// The segment of a copy of the bytes.
+        ///
+        /// # Contract
+        ///
+        /// ```text
+        /// ensures: IfOk result (λ segment. segment ≡ bytes.now)
+        /// ```
+        #[inline]
+        pub(crate) fn new(bytes: &[u8]) -> Result<Self, AllocError> {
+            let copy = if bytes.is_empty() {
+                Vec::new()
+            } else {
+                bytes.try_to_vec()?
+            };
+            Ok(DataSegment { bytes: copy })
+        }
+
+        /// The bytes.
+        ///
+        /// # Contract
+        ///
+        /// ```text
+        /// ensures: result.now ≡ self.now
+        /// ```
+        #[must_use]
+        #[inline]
+        pub fn bytes(&self) -> &[u8] {
+            self.bytes.as_slice()
+        }
+
+        /// How many bytes it has.
+        ///
+        /// # Contract
+        ///
+        /// ```text
+        /// ensures: result ≡ length self.now
+        /// ```
+        #[must_use]
+        #[inline]
+        pub fn size(&self) -> usize {
+            self.bytes.len()
+        }
+
+        /// Drops the bytes, and gives their memory back.
+        ///
+        /// Core specification, data.drop.
+        ///
+        /// # Contract
+        ///
+        /// ```text
+        /// ensures: self.new ≡ []
+        /// ```
+        #[inline]
+        pub(crate) fn drop_bytes(&mut self) {
+            self.bytes = Vec::new();
+        }
+    }
 }
 #[cfg(any(doc, test))]
 pub mod laws {
@@ -718,6 +816,7 @@ mod machine {
     //! The machine.
 
     use crate::proved::machine::calls::Reply;
+    use crate::proved::machine::data::DataSegment;
     use crate::proved::machine::memories::Stored;
     use crate::proved::machine::registers::Registers;
     use crate::proved::machine::slots::Slots;
@@ -731,9 +830,9 @@ mod machine {
     use core::fmt;
     use core::fmt::{Debug, Formatter, Write};
 
-    /// Memories, tables, element segments and globals by their indices, 16 registers of raw values, one
-    /// fuel meter, and at most one spare region: a borrowed buffer in which a memory can be made; `'r`
-    /// is its lifetime.
+    /// Memories, tables, element segments, data segments and globals by their indices, 16 registers of
+    /// raw values, one fuel meter, and at most one spare region: a borrowed buffer in which a memory can
+    /// be made; `'r` is its lifetime.
     ///
     /// Its state is valid at any time: see [`laws::states_are_valid`](crate::proved::machine::laws::states_are_valid).
     ///
@@ -805,6 +904,7 @@ mod machine {
                 memories: Slots::new(),
                 tables: Slots::new(),
                 segments: Vec::new(),
+                data_segments: Vec::new(),
                 globals: Vec::new(),
                 registers: Registers::default(),
                 fuel,
@@ -927,6 +1027,19 @@ mod machine {
         #[inline]
         pub fn segment(&self, index: usize) -> Option<&ElementSegment> {
             self.store.segments.get(index)
+        }
+
+        /// The data segment of an index, if there is one.
+        ///
+        /// # Contract
+        ///
+        /// ```text
+        /// ensures: option_copied result ≡ slice_get self.now.data_segments index
+        /// ```
+        #[must_use]
+        #[inline]
+        pub fn data_segment(&self, index: usize) -> Option<&DataSegment> {
+            self.store.data_segments.get(index)
         }
 
         /// The global of an index, if there is one.
@@ -1189,6 +1302,33 @@ mod memories {
             let memory = self.live_mut(index)?;
             Some(memory_reply(
                 memory.copy_within_metered(dst, src, len, fuel),
+            ))
+        }
+
+        /// Copies a range of a data segment to a memory.
+        ///
+        /// # Contract
+        ///
+        /// ```text
+        /// ensures: WithCharge (WritesRangeOfMemoryAt index (byte_copy_of dst src len segment.now))
+        ///     (metered self.old.slots.items (Some fuel.old)) (reply_or_no_such result)
+        ///     (metered self.new.slots.items (Some fuel.new))
+        /// ```
+        ///
+        /// Definitions: [`WithCharge`](crate::specs::store::GrowthSpecs#WithCharge), [`WritesRangeOfMemoryAt`](crate::specs::machine::MemoryEffectsSpecs#WritesRangeOfMemoryAt), [`byte_copy_of`](crate::specs::store::MemorySpecs#byte_copy_of), [`metered`](crate::specs::store::GrowthSpecs#metered), [`reply_or_no_such`](crate::specs::machine::EffectsSpecs#reply_or_no_such).
+        #[inline(always)]
+        pub(crate) fn init(
+            &mut self,
+            index: usize,
+            segment: &[u8],
+            dst: u64,
+            src: u32,
+            len: u32,
+            fuel: &mut Fuel,
+        ) -> Option<Reply> {
+            let memory = self.live_mut(index)?;
+            Some(memory_reply(
+                memory.init_metered(segment, dst, src, len, fuel),
             ))
         }
 
@@ -1852,19 +1992,20 @@ mod store {
     //! them.
 
     use crate::proved::machine::calls::{Call, Reply};
+    use crate::proved::machine::data::DataSegment;
     use crate::proved::machine::memories::{Stored, bytes_reply};
     use crate::proved::machine::registers::Registers;
     use crate::proved::machine::slots::Slots;
     use crate::proved::machine::values::{
-        create_global, create_segment, drop_items, get_global, set_global,
+        create_data, create_global, create_segment, drop_data, drop_items, get_global, set_global,
     };
     use crate::proved::meter::{Fuel, ResourceLimiter, ResourceLimiterRef};
     use crate::proved::store::{ElementSegment, ElementSegmentRef, Memory, Table};
     use crate::proved::typed::Global;
     use crate::rattle::Vec;
 
-    /// Memories, tables, element segments and globals by their indices, registers, the meter, and the
-    /// spare region, if there is one.
+    /// Memories, tables, element segments, data segments and globals by their indices, registers, the
+    /// meter, and the spare region, if there is one.
     ///
     /// Core specification, the store.
     ///
@@ -1876,6 +2017,7 @@ mod store {
     ///     memories = m.memories.slots.items;
     ///     tables = m.tables.slots.items;
     ///     segments = m.segments.items;
+    ///     data_segments = m.data_segments.items;
     ///     globals = m.globals.items;
     ///     registers = m.registers.values;
     ///     meter = m.fuel;
@@ -1888,6 +2030,7 @@ mod store {
         pub(crate) memories: Slots<Memory<'r>>,
         pub(crate) tables: Slots<Table>,
         pub(crate) segments: Vec<ElementSegment>,
+        pub(crate) data_segments: Vec<DataSegment>,
         pub(crate) globals: Vec<Global>,
         pub(crate) registers: Registers,
         pub(crate) fuel: Fuel,
@@ -1957,9 +2100,12 @@ mod store {
                 Call::Store { .. } => self.step_memory(call, limiter).unwrap_or(Reply::NoSuch),
                 Call::FillMemory { .. } => self.step_memory(call, limiter).unwrap_or(Reply::NoSuch),
                 Call::CopyMemory { .. } => self.step_memory(call, limiter).unwrap_or(Reply::NoSuch),
+                Call::InitMemory { .. } => self.step_memory(call, limiter).unwrap_or(Reply::NoSuch),
 
                 Call::NewSegment { ty, items } => create_segment(&mut self.segments, *ty, items),
                 Call::DropItems(segment) => drop_items(&mut self.segments, *segment),
+                Call::NewData(bytes) => create_data(&mut self.data_segments, bytes),
+                Call::DropData(segment) => drop_data(&mut self.data_segments, *segment),
                 Call::NewGlobal { value, ty } => create_global(&mut self.globals, *value, *ty),
                 Call::SetGlobal { global, value } => set_global(&mut self.globals, *global, *value),
                 Call::GetGlobal(global) => get_global(&self.globals, *global),
@@ -2069,6 +2215,17 @@ mod store {
                 } => self
                     .memories
                     .copy(*dst_memory, *dst, *src_memory, *src, *len, &mut self.fuel),
+                Call::InitMemory {
+                    memory,
+                    segment,
+                    dst,
+                    src,
+                    len,
+                } => {
+                    let segment = self.data_segments.get(*segment)?;
+                    self.memories
+                        .init(*memory, segment.bytes(), *dst, *src, *len, &mut self.fuel)
+                }
                 _ => unreachable!(),
             }
         }
@@ -2522,10 +2679,12 @@ mod tables {
     }
 }
 mod values {
-    //! The element segments and globals of a machine, by their indices. These are functions of one
-    //! list of the store each, so that what else the store has stays out of their contracts.
+    //! The element segments, data segments and globals of a machine, by their indices. These are
+    //! functions of one list of the store each, so that what else the store has stays out of their
+    //! contracts.
 
     use crate::proved::machine::calls::Reply;
+    use crate::proved::machine::data::DataSegment;
     use crate::proved::raw::{RawRef, RawVal};
     use crate::proved::store::ElementSegment;
     use crate::proved::typed::{Global, GlobalType, TypedRawVal};
@@ -2578,23 +2737,72 @@ mod values {
         Reply::Done
     }
 
+    /// Makes a data segment of a copy of the bytes.
+    ///
+    /// # Contract
+    ///
+    /// ```text
+    /// ensures: AddsItem bytes.now segments.old.items result segments.new.items
+    /// ```
+    ///
+    /// Definitions: [`AddsItem`](crate::specs::machine::EffectsSpecs#AddsItem).
+    #[inline(always)]
+    pub(crate) fn create_data(segments: &mut Vec<DataSegment>, bytes: &[u8]) -> Reply {
+        match DataSegment::new(bytes) {
+            Ok(segment) => add_item(segments, segment),
+            Err(_) => Reply::NoRoom,
+        }
+    }
+
+    /// Drops the bytes of a data segment.
+    ///
+    /// # Contract
+    ///
+    /// ```text
+    /// ensures: DropsDataAt index segments.old.items result segments.new.items
+    /// ```
+    ///
+    /// Definitions: [`DropsDataAt`](crate::specs::machine::ValueEffectsSpecs#DropsDataAt).
+    #[inline(always)]
+    pub(crate) fn drop_data(segments: &mut Vec<DataSegment>, index: usize) -> Reply {
+        let Some(segment) = segments.get_mut(index) else {
+            return Reply::NoSuch;
+        };
+        segment.drop_bytes();
+        Reply::Done
+    }
+
     /// Makes a global.
     ///
     /// # Contract
     ///
     /// ```text
-    /// ensures: CreatesGlobal
+    /// ensures: AddsItem
     ///     (record { value = value; ty = ty }) globals.old.items result globals.new.items
     /// ```
     ///
-    /// Definitions: [`CreatesGlobal`](crate::specs::machine::ValueEffectsSpecs#CreatesGlobal).
+    /// Definitions: [`AddsItem`](crate::specs::machine::EffectsSpecs#AddsItem).
     #[inline(always)]
     pub(crate) fn create_global(globals: &mut Vec<Global>, value: RawVal, ty: GlobalType) -> Reply {
-        if globals.try_reserve(1).is_err() {
+        add_item(globals, Global::new(value, ty))
+    }
+
+    /// Adds an item to a list, unless memory for its place is refused.
+    ///
+    /// # Contract
+    ///
+    /// ```text
+    /// ensures: AddsItem item items.old.items result items.new.items
+    /// ```
+    ///
+    /// Definitions: [`AddsItem`](crate::specs::machine::EffectsSpecs#AddsItem).
+    #[inline(always)]
+    fn add_item<T>(items: &mut Vec<T>, item: T) -> Reply {
+        if items.try_reserve(1).is_err() {
             return Reply::NoRoom;
         }
-        let index = globals.len();
-        globals.push_reserved(Global::new(value, ty));
+        let index = items.len();
+        items.push_reserved(item);
         Reply::Made(index)
     }
 
@@ -2636,5 +2844,6 @@ mod values {
 }
 
 pub use calls::{ByteList, Call, Reply};
+pub use data::DataSegment;
 pub use machine::Machine;
 pub use running::{run, run_lending, run_reserving};

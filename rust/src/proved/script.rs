@@ -1332,6 +1332,7 @@ mod wording {
             Call::NewMemory(_) | Call::NewLentMemory(_) => "memory",
             Call::NewTable { .. } => "table",
             Call::NewSegment { .. } => "segment",
+            Call::NewData(_) => "data",
             Call::NewGlobal { .. } => "global",
             _ => "nothing",
         }

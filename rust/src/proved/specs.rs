@@ -3749,6 +3749,16 @@ abbrev pub <b id="AddsEntry">AddsEntry</b> : {X A E : Type 0} → (X → A) → 
 <a href="../../machine/EffectsSpecs/index.html#AddsEntry">AddsEntry</a> entry refusal (Ok x) list reply list&#x27; = (reply ≡ Made (length list)) × (list&#x27; ≡ list ++ entry x ∷ [])
 <a href="../../machine/EffectsSpecs/index.html#AddsEntry">AddsEntry</a> entry refusal (Err error) list reply list&#x27; = (reply ≡ refusal error) × (list&#x27; ≡ list)
 
+-- an item is added to a list, unless there is no memory for it
+abbrev pub <b id="AddsItem">AddsItem</b> : {X : Type 0} → X → List X → Reply → List X → Type 0
+<a href="../../machine/EffectsSpecs/index.html#AddsItem">AddsItem</a> x items reply items&#x27; = ((reply ≡ NoRoom) × (items&#x27; ≡ items))
+    ⊎ ((reply ≡ Made (length items)) × (items&#x27; ≡ items ++ x ∷ []))
+
+-- what the item of an index has is dropped
+abbrev pub <b id="DropsContents">DropsContents</b> : {X : Type 0} → (X → X) → ℕ → List X → Reply → List X → Type 0
+<a href="../../machine/EffectsSpecs/index.html#DropsContents">DropsContents</a> without k items reply items&#x27; =
+    <a href="../../machine/EffectsSpecs/index.html#ChangesItem">ChangesItem</a> k items reply items&#x27; (λ x x&#x27;. (reply ≡ Done) × (x&#x27; ≡ without x))
+
 -- a creation under a limiter: without room for a slot nothing is asked
 abbrev pub <b id="Creates">Creates</b> : {X E S : Type 0} → (E → Reply) → (S → Result X E → S → Type 0) → List (Slot X) → S → Reply
     → List (Slot X) → S → Type 0
@@ -3879,7 +3889,7 @@ use Rattle.wasmi_store.specs.Memory as memory
 use Rattle.wasmi_store.specs.Table as table
 use Rattle.wasmi_store.specs.Table.{<a href="../../store/TableSpecs/index.html#TableValue">TableValue</a>, <a href="../../store/TableSpecs/index.html#same_type">same_type</a>}
 use Rattle.wasmi_machine.specs.declared.calls.Call.{Call}
-use Rattle.wasmi_machine.specs.declared.calls.Call.TheVariants.{NewMemory, NewLentMemory, GrowMemory, FillMemory, CopyMemory, NewTable, GrowTable, InitTable, CopyTable, FillTable}
+use Rattle.wasmi_machine.specs.declared.calls.Call.TheVariants.{NewMemory, NewLentMemory, GrowMemory, FillMemory, CopyMemory, InitMemory, NewTable, GrowTable, InitTable, CopyTable, FillTable}
 use Rattle.wasmi_machine.specs.declared.calls.Reply.{Reply}
 use Rattle.wasmi_machine.specs.declared.calls.Reply.TheVariants.{Done, Memory, Table, NoRoom}
 use Rattle.wasmi_machine.specs.State.{<a href="../../machine/StateSpecs/index.html#State">State</a>, <a href="../../machine/StateSpecs/index.html#live_at">live_at</a>, <a href="../../machine/StateSpecs/index.html#World">World</a>, <a href="../../machine/StateSpecs/index.html#Turn">Turn</a>, <a href="../../machine/StateSpecs/index.html#IsRefusal">IsRefusal</a>, <a href="../../machine/StateSpecs/index.html#sizes">sizes</a>}
@@ -4015,6 +4025,7 @@ abbrev pub <b id="elements_paid">elements_paid</b> : Call → Option ℕ
 abbrev pub <b id="writing_price">writing_price</b> : Call → Option (CustomFuelCosts → ℕ)
 <a href="../../machine/ExchangeSpecs/index.html#writing_price">writing_price</a> (FillMemory k dst value len) = Some (<a href="../../store/WriteSpecs/index.html#item_price">item_price</a> 1 len)
 <a href="../../machine/ExchangeSpecs/index.html#writing_price">writing_price</a> (CopyMemory k dst j src len) = Some (<a href="../../store/WriteSpecs/index.html#item_price">item_price</a> 1 len)
+<a href="../../machine/ExchangeSpecs/index.html#writing_price">writing_price</a> (InitMemory k j dst src len) = Some (<a href="../../store/WriteSpecs/index.html#item_price">item_price</a> 1 len)
 <a href="../../machine/ExchangeSpecs/index.html#writing_price">writing_price</a> call = option_map <a href="../../store/TableSpecs/index.html#element_price">table.element_price</a> (<a href="../../machine/ExchangeSpecs/index.html#elements_paid">elements_paid</a> call)
 
 -- what is charged for what is written, by its price and the reply: nothing where it is refused
@@ -4073,6 +4084,7 @@ pub record <b id="SameContents">SameContents</b> (s s&#x27; : <a href="../../mac
   pub <b id="memories">memories</b> : s&#x27;.<a href="../../machine/LawsSpecs/index.html#memories">memories</a> ≡ s.memories
   pub <b id="tables">tables</b> : s&#x27;.<a href="../../machine/LawsSpecs/index.html#tables">tables</a> ≡ s.tables
   pub <b id="segments">segments</b> : s&#x27;.<a href="../../machine/LawsSpecs/index.html#segments">segments</a> ≡ s.segments
+  pub <b id="data_segments">data_segments</b> : s&#x27;.<a href="../../machine/LawsSpecs/index.html#data_segments">data_segments</a> ≡ s.data_segments
   pub <b id="globals">globals</b> : s&#x27;.<a href="../../machine/LawsSpecs/index.html#globals">globals</a> ≡ s.globals
   pub <b id="registers">registers</b> : s&#x27;.<a href="../../machine/LawsSpecs/index.html#registers">registers</a> ≡ s.registers
 
@@ -4513,12 +4525,13 @@ module _ {X : Type 0} where
   abbrev pub <b id="with_live">with_live</b> : Slots X → ℕ → X → Slots X
   <a href="../../machine/StateSpecs/index.html#with_live">with_live</a> s k x = record { <a href="../../machine/StateSpecs/index.html#slots">slots</a> = with_item s.slots k (Live x) }
 
--- the memories, tables, element segments and globals that were made, each kind in its order, the registers, the meter,
--- and the bytes of the spare region, if there is one
+-- the memories, tables, element segments, data segments and globals that were made, each kind in its order, the
+-- registers, the meter, and the bytes of the spare region, if there is one
 pub record <b id="State">State</b> : Type 0 where
   pub <b id="memories">memories</b> : List (Slot <a href="../../store/MemorySpecs/index.html#MemoryValue">MemoryValue</a>)
   pub <b id="tables">tables</b> : List (Slot <a href="../../store/TableSpecs/index.html#TableValue">TableValue</a>)
   pub <b id="segments">segments</b> : List <a href="../../store/SegmentSpecs/index.html#SegmentValue">SegmentValue</a>
+  pub <b id="data_segments">data_segments</b> : List (List ℕ)
   pub <b id="globals">globals</b> : List <a href="../../typed/GlobalSpecs/index.html#GlobalInstance">GlobalInstance</a>
   pub <b id="registers">registers</b> : List RawVal
   pub <b id="meter">meter</b> : <a href="../../meter/MeterSpecs/index.html#Meter">Meter</a>
@@ -4530,6 +4543,7 @@ abbrev pub <b id="new_state">new_state</b> : <a href="../../meter/MeterSpecs/ind
   <a href="../../machine/StateSpecs/index.html#memories">memories</a> = [];
   <a href="../../machine/StateSpecs/index.html#tables">tables</a> = [];
   <a href="../../machine/StateSpecs/index.html#segments">segments</a> = [];
+  <a href="../../machine/StateSpecs/index.html#data_segments">data_segments</a> = [];
   <a href="../../machine/StateSpecs/index.html#globals">globals</a> = [];
   <a href="../../machine/StateSpecs/index.html#registers">registers</a> = replicate 16 (<a href="../../raw/RawValSpecs/index.html#raw_of">raw_of</a> 0);
   <a href="../../machine/StateSpecs/index.html#meter">meter</a> = <a href="../../machine/StateSpecs/index.html#meter">meter</a>;
@@ -4564,6 +4578,10 @@ abbrev pub <b id="with_tables">with_tables</b> : <a href="../../machine/StateSpe
 -- the state with other element segments
 abbrev pub <b id="with_segments">with_segments</b> : <a href="../../machine/StateSpecs/index.html#State">State</a> → List <a href="../../store/SegmentSpecs/index.html#SegmentValue">SegmentValue</a> → <a href="../../machine/StateSpecs/index.html#State">State</a>
 <a href="../../machine/StateSpecs/index.html#with_segments">with_segments</a> s <a href="../../machine/StateSpecs/index.html#segments">segments</a> = record s { <a href="../../machine/StateSpecs/index.html#segments">segments</a> = <a href="../../machine/StateSpecs/index.html#segments">segments</a> }
+
+-- the state with other data segments
+abbrev pub <b id="with_data_segments">with_data_segments</b> : <a href="../../machine/StateSpecs/index.html#State">State</a> → List (List ℕ) → <a href="../../machine/StateSpecs/index.html#State">State</a>
+<a href="../../machine/StateSpecs/index.html#with_data_segments">with_data_segments</a> s <a href="../../machine/StateSpecs/index.html#segments">segments</a> = record s { <a href="../../machine/StateSpecs/index.html#data_segments">data_segments</a> = <a href="../../machine/StateSpecs/index.html#segments">segments</a> }
 
 -- the state with other globals
 abbrev pub <b id="with_globals">with_globals</b> : <a href="../../machine/StateSpecs/index.html#State">State</a> → List <a href="../../typed/GlobalSpecs/index.html#GlobalInstance">GlobalInstance</a> → <a href="../../machine/StateSpecs/index.html#State">State</a>
@@ -4673,10 +4691,10 @@ use Rattle.wasmi_store.specs.Memory.{<a href="../../store/MemorySpecs/index.html
 use Rattle.wasmi_store.specs.Table.{<a href="../../store/TableSpecs/index.html#TableTypeValue">TableTypeValue</a>, <a href="../../store/TableSpecs/index.html#size_of">size_of</a>, <a href="../../store/TableSpecs/index.html#MakesTable">MakesTable</a>, <a href="../../store/TableSpecs/index.html#GrowsTableCharging">GrowsTableCharging</a>}
 use Rattle.wasmi_machine.specs.declared.calls.Call.{Call}
 use Rattle.wasmi_machine.specs.declared.calls.Reply.{Reply}
-use Rattle.wasmi_machine.specs.State.{<a href="../../machine/StateSpecs/index.html#World">World</a>, <a href="../../machine/StateSpecs/index.html#Turn">Turn</a>, <a href="../../machine/StateSpecs/index.html#world">world</a>, <a href="../../machine/StateSpecs/index.html#State">State</a>, <a href="../../machine/StateSpecs/index.html#live_at">live_at</a>, <a href="../../machine/StateSpecs/index.html#with_memories">with_memories</a>, <a href="../../machine/StateSpecs/index.html#memory_part">memory_part</a>, <a href="../../machine/StateSpecs/index.html#with_memory_part">with_memory_part</a>, <a href="../../machine/StateSpecs/index.html#with_tables">with_tables</a>, <a href="../../machine/StateSpecs/index.html#with_segments">with_segments</a>, <a href="../../machine/StateSpecs/index.html#with_globals">with_globals</a>, <a href="../../machine/StateSpecs/index.html#with_registers">with_registers</a>, <a href="../../machine/StateSpecs/index.html#byte_count">byte_count</a>}
-use Rattle.wasmi_machine.specs.Effects.{<a href="../../machine/EffectsSpecs/index.html#reply_of">reply_of</a>, <a href="../../machine/EffectsSpecs/index.html#Creates">Creates</a>, <a href="../../machine/EffectsSpecs/index.html#DropsAt">DropsAt</a>, <a href="../../machine/EffectsSpecs/index.html#ActsAt">ActsAt</a>, <a href="../../machine/EffectsSpecs/index.html#ChangesPart">ChangesPart</a>, <a href="../../machine/EffectsSpecs/index.html#OnlyReplies">OnlyReplies</a>, <a href="../../machine/EffectsSpecs/index.html#Changes">Changes</a>, <a href="../../machine/EffectsSpecs/index.html#Asks">Asks</a>, <a href="../../machine/EffectsSpecs/index.html#ActsMetered">ActsMetered</a>, <a href="../../machine/EffectsSpecs/index.html#ActsMeteredUnasked">ActsMeteredUnasked</a>, <a href="../../machine/EffectsSpecs/index.html#WritesRangeAt">WritesRangeAt</a>, <a href="../../machine/EffectsSpecs/index.html#item_bytes">item_bytes</a>}
+use Rattle.wasmi_machine.specs.State.{<a href="../../machine/StateSpecs/index.html#World">World</a>, <a href="../../machine/StateSpecs/index.html#Turn">Turn</a>, <a href="../../machine/StateSpecs/index.html#world">world</a>, <a href="../../machine/StateSpecs/index.html#State">State</a>, <a href="../../machine/StateSpecs/index.html#live_at">live_at</a>, <a href="../../machine/StateSpecs/index.html#with_memories">with_memories</a>, <a href="../../machine/StateSpecs/index.html#memory_part">memory_part</a>, <a href="../../machine/StateSpecs/index.html#with_memory_part">with_memory_part</a>, <a href="../../machine/StateSpecs/index.html#with_tables">with_tables</a>, <a href="../../machine/StateSpecs/index.html#with_segments">with_segments</a>, <a href="../../machine/StateSpecs/index.html#with_data_segments">with_data_segments</a>, <a href="../../machine/StateSpecs/index.html#with_globals">with_globals</a>, <a href="../../machine/StateSpecs/index.html#with_registers">with_registers</a>, <a href="../../machine/StateSpecs/index.html#byte_count">byte_count</a>}
+use Rattle.wasmi_machine.specs.Effects.{<a href="../../machine/EffectsSpecs/index.html#reply_of">reply_of</a>, <a href="../../machine/EffectsSpecs/index.html#AddsItem">AddsItem</a>, <a href="../../machine/EffectsSpecs/index.html#Creates">Creates</a>, <a href="../../machine/EffectsSpecs/index.html#DropsAt">DropsAt</a>, <a href="../../machine/EffectsSpecs/index.html#ActsAt">ActsAt</a>, <a href="../../machine/EffectsSpecs/index.html#ChangesPart">ChangesPart</a>, <a href="../../machine/EffectsSpecs/index.html#OnlyReplies">OnlyReplies</a>, <a href="../../machine/EffectsSpecs/index.html#Changes">Changes</a>, <a href="../../machine/EffectsSpecs/index.html#Asks">Asks</a>, <a href="../../machine/EffectsSpecs/index.html#ActsMetered">ActsMetered</a>, <a href="../../machine/EffectsSpecs/index.html#ActsMeteredUnasked">ActsMeteredUnasked</a>, <a href="../../machine/EffectsSpecs/index.html#WritesRangeAt">WritesRangeAt</a>, <a href="../../machine/EffectsSpecs/index.html#item_bytes">item_bytes</a>}
 use Rattle.wasmi_ops.specs.LoadStoreOps.{<a href="../../ops/LoadStoreOpsSpecs/index.html#stored_bytes">stored_bytes</a>}
-use Rattle.wasmi_machine.specs.ValueEffects.{<a href="../../machine/ValueEffectsSpecs/index.html#SetsFuel">SetsFuel</a>, <a href="../../machine/ValueEffectsSpecs/index.html#get_fuel_reply">get_fuel_reply</a>, <a href="../../machine/ValueEffectsSpecs/index.html#CreatesSegment">CreatesSegment</a>, <a href="../../machine/ValueEffectsSpecs/index.html#DropsItemsAt">DropsItemsAt</a>, <a href="../../machine/ValueEffectsSpecs/index.html#CreatesGlobal">CreatesGlobal</a>, <a href="../../machine/ValueEffectsSpecs/index.html#SetsGlobalAt">SetsGlobalAt</a>, <a href="../../machine/ValueEffectsSpecs/index.html#global_reply">global_reply</a>}
+use Rattle.wasmi_machine.specs.ValueEffects.{<a href="../../machine/ValueEffectsSpecs/index.html#SetsFuel">SetsFuel</a>, <a href="../../machine/ValueEffectsSpecs/index.html#get_fuel_reply">get_fuel_reply</a>, <a href="../../machine/ValueEffectsSpecs/index.html#CreatesSegment">CreatesSegment</a>, <a href="../../machine/ValueEffectsSpecs/index.html#DropsItemsAt">DropsItemsAt</a>, <a href="../../machine/ValueEffectsSpecs/index.html#DropsDataAt">DropsDataAt</a>, <a href="../../machine/ValueEffectsSpecs/index.html#SetsGlobalAt">SetsGlobalAt</a>, <a href="../../machine/ValueEffectsSpecs/index.html#global_reply">global_reply</a>}
 use Rattle.wasmi_machine.specs.MemoryEffects.{<a href="../../machine/MemoryEffectsSpecs/index.html#ByteSource">ByteSource</a>, <a href="../../machine/MemoryEffectsSpecs/index.html#OfByte">OfByte</a>, <a href="../../machine/MemoryEffectsSpecs/index.html#OfBytes">OfBytes</a>, <a href="../../machine/MemoryEffectsSpecs/index.html#byte_write_of">byte_write_of</a>, <a href="../../machine/MemoryEffectsSpecs/index.html#bytes_in">bytes_in</a>, <a href="../../machine/MemoryEffectsSpecs/index.html#bytes_appended">bytes_appended</a>, <a href="../../machine/MemoryEffectsSpecs/index.html#CreatesLent">CreatesLent</a>, <a href="../../machine/MemoryEffectsSpecs/index.html#ReadsMemoryAt">ReadsMemoryAt</a>, <a href="../../machine/MemoryEffectsSpecs/index.html#WritesMemoryAt">WritesMemoryAt</a>, <a href="../../machine/MemoryEffectsSpecs/index.html#load_reply">load_reply</a>}
 use Rattle.wasmi_machine.specs.TableEffects.{<a href="../../machine/TableEffectsSpecs/index.html#Source">Source</a>, <a href="../../machine/TableEffectsSpecs/index.html#OfReference">OfReference</a>, <a href="../../machine/TableEffectsSpecs/index.html#OfTable">OfTable</a>, <a href="../../machine/TableEffectsSpecs/index.html#OfSegment">OfSegment</a>, <a href="../../machine/TableEffectsSpecs/index.html#element_reply">element_reply</a>, <a href="../../machine/TableEffectsSpecs/index.html#SetsElementAt">SetsElementAt</a>, <a href="../../machine/TableEffectsSpecs/index.html#write_of">write_of</a>, <a href="../../machine/TableEffectsSpecs/index.html#element_bytes">element_bytes</a>}
 use Rattle.wasmi_machine.specs.RegisterEffects.{<a href="../../machine/RegisterEffectsSpecs/index.html#SetsRegister">SetsRegister</a>, <a href="../../machine/RegisterEffectsSpecs/index.html#StoresVectorAt">StoresVectorAt</a>, <a href="../../machine/RegisterEffectsSpecs/index.html#given_vector">given_vector</a>, <a href="../../machine/RegisterEffectsSpecs/index.html#of_one">of_one</a>, <a href="../../machine/RegisterEffectsSpecs/index.html#of_two">of_two</a>, <a href="../../machine/RegisterEffectsSpecs/index.html#of_three">of_three</a>, <a href="../../machine/RegisterEffectsSpecs/index.html#vector_loaded">vector_loaded</a>, <a href="../../machine/RegisterEffectsSpecs/index.html#lane_loaded">lane_loaded</a>, <a href="../../machine/RegisterEffectsSpecs/index.html#raw_reply">raw_reply</a>, <a href="../../machine/RegisterEffectsSpecs/index.html#vector_at">vector_at</a>}
@@ -4706,6 +4724,7 @@ abbrev pub <b id="subject_of">subject_of</b> : Call → <a href="../../machine/S
 <a href="../../machine/StepsSpecs/index.html#subject_of">subject_of</a> (call.Store op k ptr offset value) = <a href="../../machine/StepsSpecs/index.html#Memories">Memories</a>
 <a href="../../machine/StepsSpecs/index.html#subject_of">subject_of</a> (call.FillMemory k dst value len) = <a href="../../machine/StepsSpecs/index.html#Memories">Memories</a>
 <a href="../../machine/StepsSpecs/index.html#subject_of">subject_of</a> (call.CopyMemory k dst j src len) = <a href="../../machine/StepsSpecs/index.html#Memories">Memories</a>
+<a href="../../machine/StepsSpecs/index.html#subject_of">subject_of</a> (call.InitMemory k j dst src len) = <a href="../../machine/StepsSpecs/index.html#Memories">Memories</a>
 <a href="../../machine/StepsSpecs/index.html#subject_of">subject_of</a> (call.NewTable ty init) = <a href="../../machine/StepsSpecs/index.html#Tables">Tables</a>
 <a href="../../machine/StepsSpecs/index.html#subject_of">subject_of</a> (call.GrowTable k n init) = <a href="../../machine/StepsSpecs/index.html#Tables">Tables</a>
 <a href="../../machine/StepsSpecs/index.html#subject_of">subject_of</a> (call.DropTable k) = <a href="../../machine/StepsSpecs/index.html#Tables">Tables</a>
@@ -4716,6 +4735,8 @@ abbrev pub <b id="subject_of">subject_of</b> : Call → <a href="../../machine/S
 <a href="../../machine/StepsSpecs/index.html#subject_of">subject_of</a> (call.FillTable k dst value len) = <a href="../../machine/StepsSpecs/index.html#Tables">Tables</a>
 <a href="../../machine/StepsSpecs/index.html#subject_of">subject_of</a> (call.NewSegment ty items) = <a href="../../machine/StepsSpecs/index.html#Values">Values</a>
 <a href="../../machine/StepsSpecs/index.html#subject_of">subject_of</a> (call.DropItems k) = <a href="../../machine/StepsSpecs/index.html#Values">Values</a>
+<a href="../../machine/StepsSpecs/index.html#subject_of">subject_of</a> (call.NewData bytes) = <a href="../../machine/StepsSpecs/index.html#Values">Values</a>
+<a href="../../machine/StepsSpecs/index.html#subject_of">subject_of</a> (call.DropData k) = <a href="../../machine/StepsSpecs/index.html#Values">Values</a>
 <a href="../../machine/StepsSpecs/index.html#subject_of">subject_of</a> (call.NewGlobal value ty) = <a href="../../machine/StepsSpecs/index.html#Values">Values</a>
 <a href="../../machine/StepsSpecs/index.html#subject_of">subject_of</a> (call.SetGlobal k value) = <a href="../../machine/StepsSpecs/index.html#Values">Values</a>
 <a href="../../machine/StepsSpecs/index.html#subject_of">subject_of</a> (call.GetGlobal k) = <a href="../../machine/StepsSpecs/index.html#Values">Values</a>
@@ -4730,6 +4751,7 @@ abbrev pub <b id="is_charged">is_charged</b> : Call → Bool
 <a href="../../machine/StepsSpecs/index.html#is_charged">is_charged</a> (call.GrowMemory k pages) = true
 <a href="../../machine/StepsSpecs/index.html#is_charged">is_charged</a> (call.FillMemory k dst value len) = true
 <a href="../../machine/StepsSpecs/index.html#is_charged">is_charged</a> (call.CopyMemory k dst j src len) = true
+<a href="../../machine/StepsSpecs/index.html#is_charged">is_charged</a> (call.InitMemory k j dst src len) = true
 <a href="../../machine/StepsSpecs/index.html#is_charged">is_charged</a> (call.GrowTable k n init) = true
 <a href="../../machine/StepsSpecs/index.html#is_charged">is_charged</a> (call.InitTable k j dst src len) = true
 <a href="../../machine/StepsSpecs/index.html#is_charged">is_charged</a> (call.CopyTable k dst j src len) = true
@@ -4746,6 +4768,8 @@ pub data <b id="Change">Change</b> : Type 0 where
   <b id="ElementSet">ElementSet</b> : ℕ → ℕ → TypedRawRef → <a href="../../machine/StepsSpecs/index.html#Change">Change</a>
   <b id="SegmentMade">SegmentMade</b> : RefType → List ℕ → <a href="../../machine/StepsSpecs/index.html#Change">Change</a>
   <b id="ItemsDropped">ItemsDropped</b> : ℕ → <a href="../../machine/StepsSpecs/index.html#Change">Change</a>
+  <b id="DataMade">DataMade</b> : List ℕ → <a href="../../machine/StepsSpecs/index.html#Change">Change</a>
+  <b id="DataDropped">DataDropped</b> : ℕ → <a href="../../machine/StepsSpecs/index.html#Change">Change</a>
   <b id="GlobalMade">GlobalMade</b> : <a href="../../typed/GlobalSpecs/index.html#GlobalInstance">GlobalInstance</a> → <a href="../../machine/StepsSpecs/index.html#Change">Change</a>
   <b id="GlobalSet">GlobalSet</b> : ℕ → TypedRawVal → <a href="../../machine/StepsSpecs/index.html#Change">Change</a>
 
@@ -4807,6 +4831,8 @@ abbrev pub <b id="effect_of">effect_of</b> : <a href="../../machine/StateSpecs/i
 <a href="../../machine/StepsSpecs/index.html#effect_of">effect_of</a> s (call.FillMemory k dst value len) = <a href="../../machine/StepsSpecs/index.html#RangeWritten">RangeWritten</a> (<a href="../../machine/StepsSpecs/index.html#MemoryWritten">MemoryWritten</a> k (<a href="../../machine/MemoryEffectsSpecs/index.html#OfByte">OfByte</a> value) dst len)
 <a href="../../machine/StepsSpecs/index.html#effect_of">effect_of</a> s (call.CopyMemory k dst j src len) =
     <a href="../../machine/StepsSpecs/index.html#RangeWritten">RangeWritten</a> (<a href="../../machine/StepsSpecs/index.html#MemoryWritten">MemoryWritten</a> k (<a href="../../machine/MemoryEffectsSpecs/index.html#OfBytes">OfBytes</a> (<a href="../../machine/MemoryEffectsSpecs/index.html#bytes_in">bytes_in</a> (<a href="../../machine/StateSpecs/index.html#live_at">live_at</a> s.memories j)) src) dst len)
+<a href="../../machine/StepsSpecs/index.html#effect_of">effect_of</a> s (call.InitMemory k j dst src len) =
+    <a href="../../machine/StepsSpecs/index.html#RangeWritten">RangeWritten</a> (<a href="../../machine/StepsSpecs/index.html#MemoryWritten">MemoryWritten</a> k (<a href="../../machine/MemoryEffectsSpecs/index.html#OfBytes">OfBytes</a> (slice_get s.data_segments j) src) dst len)
 <a href="../../machine/StepsSpecs/index.html#effect_of">effect_of</a> s (call.NewTable ty init) = <a href="../../machine/StepsSpecs/index.html#TableMade">TableMade</a> ty init
 <a href="../../machine/StepsSpecs/index.html#effect_of">effect_of</a> s (call.GrowTable k n init) = <a href="../../machine/StepsSpecs/index.html#TableGrown">TableGrown</a> k n init
 <a href="../../machine/StepsSpecs/index.html#effect_of">effect_of</a> s (call.DropTable k) = <a href="../../machine/StepsSpecs/index.html#Changed">Changed</a> (<a href="../../machine/StepsSpecs/index.html#TableDropped">TableDropped</a> k)
@@ -4819,6 +4845,8 @@ abbrev pub <b id="effect_of">effect_of</b> : <a href="../../machine/StateSpecs/i
 <a href="../../machine/StepsSpecs/index.html#effect_of">effect_of</a> s (call.FillTable k dst value len) = <a href="../../machine/StepsSpecs/index.html#RangeWritten">RangeWritten</a> (<a href="../../machine/StepsSpecs/index.html#TableWritten">TableWritten</a> k (<a href="../../machine/TableEffectsSpecs/index.html#OfReference">OfReference</a> value) dst len)
 <a href="../../machine/StepsSpecs/index.html#effect_of">effect_of</a> s (call.NewSegment ty items) = <a href="../../machine/StepsSpecs/index.html#Changed">Changed</a> (<a href="../../machine/StepsSpecs/index.html#SegmentMade">SegmentMade</a> ty items.items)
 <a href="../../machine/StepsSpecs/index.html#effect_of">effect_of</a> s (call.DropItems k) = <a href="../../machine/StepsSpecs/index.html#Changed">Changed</a> (<a href="../../machine/StepsSpecs/index.html#ItemsDropped">ItemsDropped</a> k)
+<a href="../../machine/StepsSpecs/index.html#effect_of">effect_of</a> s (call.NewData bytes) = <a href="../../machine/StepsSpecs/index.html#Changed">Changed</a> (<a href="../../machine/StepsSpecs/index.html#DataMade">DataMade</a> bytes.items)
+<a href="../../machine/StepsSpecs/index.html#effect_of">effect_of</a> s (call.DropData k) = <a href="../../machine/StepsSpecs/index.html#Changed">Changed</a> (<a href="../../machine/StepsSpecs/index.html#DataDropped">DataDropped</a> k)
 <a href="../../machine/StepsSpecs/index.html#effect_of">effect_of</a> s (call.NewGlobal value ty) = <a href="../../machine/StepsSpecs/index.html#Changed">Changed</a> (<a href="../../machine/StepsSpecs/index.html#GlobalMade">GlobalMade</a> (record { value = value; ty = ty }))
 <a href="../../machine/StepsSpecs/index.html#effect_of">effect_of</a> s (call.SetGlobal k value) = <a href="../../machine/StepsSpecs/index.html#Changed">Changed</a> (<a href="../../machine/StepsSpecs/index.html#GlobalSet">GlobalSet</a> k value)
 <a href="../../machine/StepsSpecs/index.html#effect_of">effect_of</a> s (call.GetGlobal k) = <a href="../../machine/StepsSpecs/index.html#Told">Told</a> (<a href="../../machine/ValueEffectsSpecs/index.html#global_reply">global_reply</a> (slice_get s.globals k))
@@ -4856,7 +4884,9 @@ abbrev pub <b id="HasChange">HasChange</b> : <a href="../../machine/StepsSpecs/i
 <a href="../../machine/StepsSpecs/index.html#HasChange">HasChange</a> (<a href="../../machine/StepsSpecs/index.html#ElementSet">ElementSet</a> k index value) s = <a href="../../machine/EffectsSpecs/index.html#ChangesPart">ChangesPart</a> (<a href="../../machine/StateSpecs/index.html#with_tables">with_tables</a> s) (<a href="../../machine/TableEffectsSpecs/index.html#SetsElementAt">SetsElementAt</a> k index value s.tables)
 <a href="../../machine/StepsSpecs/index.html#HasChange">HasChange</a> (<a href="../../machine/StepsSpecs/index.html#SegmentMade">SegmentMade</a> ty items) s = <a href="../../machine/EffectsSpecs/index.html#ChangesPart">ChangesPart</a> (<a href="../../machine/StateSpecs/index.html#with_segments">with_segments</a> s) (<a href="../../machine/ValueEffectsSpecs/index.html#CreatesSegment">CreatesSegment</a> ty items s.segments)
 <a href="../../machine/StepsSpecs/index.html#HasChange">HasChange</a> (<a href="../../machine/StepsSpecs/index.html#ItemsDropped">ItemsDropped</a> k) s = <a href="../../machine/EffectsSpecs/index.html#ChangesPart">ChangesPart</a> (<a href="../../machine/StateSpecs/index.html#with_segments">with_segments</a> s) (<a href="../../machine/ValueEffectsSpecs/index.html#DropsItemsAt">DropsItemsAt</a> k s.segments)
-<a href="../../machine/StepsSpecs/index.html#HasChange">HasChange</a> (<a href="../../machine/StepsSpecs/index.html#GlobalMade">GlobalMade</a> global) s = <a href="../../machine/EffectsSpecs/index.html#ChangesPart">ChangesPart</a> (<a href="../../machine/StateSpecs/index.html#with_globals">with_globals</a> s) (<a href="../../machine/ValueEffectsSpecs/index.html#CreatesGlobal">CreatesGlobal</a> global s.globals)
+<a href="../../machine/StepsSpecs/index.html#HasChange">HasChange</a> (<a href="../../machine/StepsSpecs/index.html#DataMade">DataMade</a> bytes) s = <a href="../../machine/EffectsSpecs/index.html#ChangesPart">ChangesPart</a> (<a href="../../machine/StateSpecs/index.html#with_data_segments">with_data_segments</a> s) (<a href="../../machine/EffectsSpecs/index.html#AddsItem">AddsItem</a> bytes s.data_segments)
+<a href="../../machine/StepsSpecs/index.html#HasChange">HasChange</a> (<a href="../../machine/StepsSpecs/index.html#DataDropped">DataDropped</a> k) s = <a href="../../machine/EffectsSpecs/index.html#ChangesPart">ChangesPart</a> (<a href="../../machine/StateSpecs/index.html#with_data_segments">with_data_segments</a> s) (<a href="../../machine/ValueEffectsSpecs/index.html#DropsDataAt">DropsDataAt</a> k s.data_segments)
+<a href="../../machine/StepsSpecs/index.html#HasChange">HasChange</a> (<a href="../../machine/StepsSpecs/index.html#GlobalMade">GlobalMade</a> global) s = <a href="../../machine/EffectsSpecs/index.html#ChangesPart">ChangesPart</a> (<a href="../../machine/StateSpecs/index.html#with_globals">with_globals</a> s) (<a href="../../machine/EffectsSpecs/index.html#AddsItem">AddsItem</a> global s.globals)
 <a href="../../machine/StepsSpecs/index.html#HasChange">HasChange</a> (<a href="../../machine/StepsSpecs/index.html#GlobalSet">GlobalSet</a> k value) s = <a href="../../machine/EffectsSpecs/index.html#ChangesPart">ChangesPart</a> (<a href="../../machine/StateSpecs/index.html#with_globals">with_globals</a> s) (<a href="../../machine/ValueEffectsSpecs/index.html#SetsGlobalAt">SetsGlobalAt</a> k value s.globals)
 
 -- a range of one part of the state is written over: a line for each kind
@@ -4975,9 +5005,9 @@ abbrev pub <b id="element_bytes">element_bytes</b> : ℕ → Reply → ℕ
 </code></pre>
 "####]
     pub mod TableEffectsSpecs {}
-    #[doc = r####"The calls on element segments, globals and the meter.
+    #[doc = r####"The calls on element segments, data segments, globals and the meter.
 
-<pre><code>use Rattle.std.specs.Prelude.{◌≡◌, ◌⊎◌, ◌≤◌, ◌&lt;◌, ◌++◌, ℕ, Option, Result, Ok, Err, List, [], ◌∷◌, length, slice_get, if◌then◌else◌, is_some}
+<pre><code>use Rattle.std.specs.Prelude.{◌≡◌, ◌⊎◌, ◌≤◌, ◌&lt;◌, ℕ, Option, Result, Ok, Err, List, [], length, slice_get, if◌then◌else◌, is_some}
 use Rattle.std.specs.Option.{option_map_or}
 use Rattle.wasmi_types.specs.declared.value.RefType.{RefType}
 use Rattle.wasmi_typed.specs.declared.typed.TypedRawVal.{TypedRawVal}
@@ -4987,8 +5017,8 @@ use Rattle.wasmi_store.specs.declared.table.element.SegmentError.{SegmentError}
 use Rattle.wasmi_store.specs.declared.table.element.SegmentError.TheVariants.{TooManyItems, OutOfSystemMemory}
 use Rattle.wasmi_store.specs.Segment.{<a href="../../store/SegmentSpecs/index.html#SegmentValue">SegmentValue</a>, <a href="../../store/SegmentSpecs/index.html#most_items">most_items</a>, <a href="../../store/SegmentSpecs/index.html#dropped">dropped</a>}
 use Rattle.wasmi_machine.specs.declared.calls.Reply.{Reply}
-use Rattle.wasmi_machine.specs.declared.calls.Reply.TheVariants.{Done, Made, Value, Global, Segment, NoSuch, NoRoom, Number, Fuel}
-use Rattle.wasmi_machine.specs.Effects.{<a href="../../machine/EffectsSpecs/index.html#reply_of">reply_of</a>, <a href="../../machine/EffectsSpecs/index.html#ChangesItem">ChangesItem</a>, <a href="../../machine/EffectsSpecs/index.html#AddsEntry">AddsEntry</a>}
+use Rattle.wasmi_machine.specs.declared.calls.Reply.TheVariants.{Done, Value, Global, Segment, NoSuch, NoRoom, Number, Fuel}
+use Rattle.wasmi_machine.specs.Effects.{<a href="../../machine/EffectsSpecs/index.html#reply_of">reply_of</a>, <a href="../../machine/EffectsSpecs/index.html#ChangesItem">ChangesItem</a>, <a href="../../machine/EffectsSpecs/index.html#DropsContents">DropsContents</a>, <a href="../../machine/EffectsSpecs/index.html#AddsEntry">AddsEntry</a>}
 use Rattle.wasmi_meter.specs.declared.fuel.FuelError.TheVariants.{FuelMeteringDisabled}
 use Rattle.wasmi_meter.specs.Meter.{<a href="../../meter/MeterSpecs/index.html#Meter">Meter</a>, <a href="../../meter/MeterSpecs/index.html#meter_set">meter_set</a>}
 use Rattle.wasmi_machine.specs.State.{<a href="../../machine/StateSpecs/index.html#State">State</a>}
@@ -5007,13 +5037,11 @@ abbrev pub <b id="CreatesSegment">CreatesSegment</b> : RefType → List ℕ → 
 
 -- the items of the element segment of an index are dropped
 abbrev pub <b id="DropsItemsAt">DropsItemsAt</b> : ℕ → List <a href="../../store/SegmentSpecs/index.html#SegmentValue">SegmentValue</a> → Reply → List <a href="../../store/SegmentSpecs/index.html#SegmentValue">SegmentValue</a> → Type 0
-<a href="../../machine/ValueEffectsSpecs/index.html#DropsItemsAt">DropsItemsAt</a> k segments reply segments&#x27; =
-    <a href="../../machine/EffectsSpecs/index.html#ChangesItem">ChangesItem</a> k segments reply segments&#x27; (λ x x&#x27;. (reply ≡ Done) × (x&#x27; ≡ <a href="../../store/SegmentSpecs/index.html#dropped">dropped</a> x))
+<a href="../../machine/ValueEffectsSpecs/index.html#DropsItemsAt">DropsItemsAt</a> = <a href="../../machine/EffectsSpecs/index.html#DropsContents">DropsContents</a> <a href="../../store/SegmentSpecs/index.html#dropped">dropped</a>
 
--- a global is made
-abbrev pub <b id="CreatesGlobal">CreatesGlobal</b> : <a href="../../typed/GlobalSpecs/index.html#GlobalInstance">GlobalInstance</a> → List <a href="../../typed/GlobalSpecs/index.html#GlobalInstance">GlobalInstance</a> → Reply → List <a href="../../typed/GlobalSpecs/index.html#GlobalInstance">GlobalInstance</a> → Type 0
-<a href="../../machine/ValueEffectsSpecs/index.html#CreatesGlobal">CreatesGlobal</a> global globals reply globals&#x27; = ((reply ≡ NoRoom) × (globals&#x27; ≡ globals))
-    ⊎ ((reply ≡ Made (length globals)) × (globals&#x27; ≡ globals ++ global ∷ []))
+-- the bytes of the data segment of an index are dropped
+abbrev pub <b id="DropsDataAt">DropsDataAt</b> : ℕ → List (List ℕ) → Reply → List (List ℕ) → Type 0
+<a href="../../machine/ValueEffectsSpecs/index.html#DropsDataAt">DropsDataAt</a> = <a href="../../machine/EffectsSpecs/index.html#DropsContents">DropsContents</a> (λ bytes. [])
 
 -- the global of an index is set, or the call is refused
 abbrev pub <b id="SetsGlobalAt">SetsGlobalAt</b> : ℕ → TypedRawVal → List <a href="../../typed/GlobalSpecs/index.html#GlobalInstance">GlobalInstance</a> → Reply → List <a href="../../typed/GlobalSpecs/index.html#GlobalInstance">GlobalInstance</a> → Type 0
@@ -5077,12 +5105,13 @@ use Rattle.wasmi_ops.specs.declared.load_store.LoadOp.TheVariants as load
 use Rattle.wasmi_ops.specs.declared.load_store.StoreOp.TheVariants as store
 use Rattle.wasmi_machine.specs.declared.calls.Call.TheVariants as call
 
--- an index of a machine: of a memory, a table, an element segment or a global, by the order of their making, or of a
--- register
+-- an index of a machine: of a memory, a table, an element segment, a data segment or a global, by the order of their
+-- making, or of a register
 pub data <b id="Location">Location</b> : Type 0 where
   <b id="MemoryAt">MemoryAt</b> : ℕ → <a href="../../laws/PlacesSpecs/index.html#Location">Location</a>
   <b id="TableAt">TableAt</b> : ℕ → <a href="../../laws/PlacesSpecs/index.html#Location">Location</a>
   <b id="SegmentAt">SegmentAt</b> : ℕ → <a href="../../laws/PlacesSpecs/index.html#Location">Location</a>
+  <b id="DataAt">DataAt</b> : ℕ → <a href="../../laws/PlacesSpecs/index.html#Location">Location</a>
   <b id="GlobalAt">GlobalAt</b> : ℕ → <a href="../../laws/PlacesSpecs/index.html#Location">Location</a>
   <b id="RegisterAt">RegisterAt</b> : ℕ → <a href="../../laws/PlacesSpecs/index.html#Location">Location</a>
 
@@ -5091,6 +5120,7 @@ abbrev pub <b id="Content">Content</b> : <a href="../../laws/PlacesSpecs/index.h
 <a href="../../laws/PlacesSpecs/index.html#Content">Content</a> (<a href="../../laws/PlacesSpecs/index.html#MemoryAt">MemoryAt</a> k) = Slot <a href="../../store/MemorySpecs/index.html#MemoryValue">MemoryValue</a>
 <a href="../../laws/PlacesSpecs/index.html#Content">Content</a> (<a href="../../laws/PlacesSpecs/index.html#TableAt">TableAt</a> k) = Slot <a href="../../store/TableSpecs/index.html#TableValue">TableValue</a>
 <a href="../../laws/PlacesSpecs/index.html#Content">Content</a> (<a href="../../laws/PlacesSpecs/index.html#SegmentAt">SegmentAt</a> k) = <a href="../../store/SegmentSpecs/index.html#SegmentValue">SegmentValue</a>
+<a href="../../laws/PlacesSpecs/index.html#Content">Content</a> (<a href="../../laws/PlacesSpecs/index.html#DataAt">DataAt</a> k) = List ℕ
 <a href="../../laws/PlacesSpecs/index.html#Content">Content</a> (<a href="../../laws/PlacesSpecs/index.html#GlobalAt">GlobalAt</a> k) = <a href="../../typed/GlobalSpecs/index.html#GlobalInstance">GlobalInstance</a>
 <a href="../../laws/PlacesSpecs/index.html#Content">Content</a> (<a href="../../laws/PlacesSpecs/index.html#RegisterAt">RegisterAt</a> k) = RawVal
 
@@ -5099,6 +5129,7 @@ abbrev pub <b id="content_at">content_at</b> : (location : <a href="../../laws/P
 <a href="../../laws/PlacesSpecs/index.html#content_at">content_at</a> (<a href="../../laws/PlacesSpecs/index.html#MemoryAt">MemoryAt</a> k) s = slice_get s.memories k
 <a href="../../laws/PlacesSpecs/index.html#content_at">content_at</a> (<a href="../../laws/PlacesSpecs/index.html#TableAt">TableAt</a> k) s = slice_get s.tables k
 <a href="../../laws/PlacesSpecs/index.html#content_at">content_at</a> (<a href="../../laws/PlacesSpecs/index.html#SegmentAt">SegmentAt</a> k) s = slice_get s.segments k
+<a href="../../laws/PlacesSpecs/index.html#content_at">content_at</a> (<a href="../../laws/PlacesSpecs/index.html#DataAt">DataAt</a> k) s = slice_get s.data_segments k
 <a href="../../laws/PlacesSpecs/index.html#content_at">content_at</a> (<a href="../../laws/PlacesSpecs/index.html#GlobalAt">GlobalAt</a> k) s = slice_get s.globals k
 <a href="../../laws/PlacesSpecs/index.html#content_at">content_at</a> (<a href="../../laws/PlacesSpecs/index.html#RegisterAt">RegisterAt</a> k) s = slice_get s.registers k
 
@@ -5111,6 +5142,7 @@ abbrev pub <b id="changed_location">changed_location</b> : Call → Option <a hr
 <a href="../../laws/PlacesSpecs/index.html#changed_location">changed_location</a> (call.Store <a href="../../laws/PlacesSpecs/index.html#op">op</a> k <a href="../../laws/PlacesSpecs/index.html#ptr">ptr</a> <a href="../../laws/PlacesSpecs/index.html#offset">offset</a> <a href="../../laws/PlacesSpecs/index.html#value">value</a>) = Some (<a href="../../laws/PlacesSpecs/index.html#MemoryAt">MemoryAt</a> k)
 <a href="../../laws/PlacesSpecs/index.html#changed_location">changed_location</a> (call.FillMemory k dst <a href="../../laws/PlacesSpecs/index.html#value">value</a> len) = Some (<a href="../../laws/PlacesSpecs/index.html#MemoryAt">MemoryAt</a> k)
 <a href="../../laws/PlacesSpecs/index.html#changed_location">changed_location</a> (call.CopyMemory k dst j src len) = Some (<a href="../../laws/PlacesSpecs/index.html#MemoryAt">MemoryAt</a> k)
+<a href="../../laws/PlacesSpecs/index.html#changed_location">changed_location</a> (call.InitMemory k j dst src len) = Some (<a href="../../laws/PlacesSpecs/index.html#MemoryAt">MemoryAt</a> k)
 <a href="../../laws/PlacesSpecs/index.html#changed_location">changed_location</a> (call.VectorStore a k <a href="../../laws/PlacesSpecs/index.html#ptr">ptr</a> <a href="../../laws/PlacesSpecs/index.html#offset">offset</a>) = Some (<a href="../../laws/PlacesSpecs/index.html#MemoryAt">MemoryAt</a> k)
 <a href="../../laws/PlacesSpecs/index.html#changed_location">changed_location</a> (call.StoreLane <a href="../../laws/PlacesSpecs/index.html#op">op</a> a k <a href="../../laws/PlacesSpecs/index.html#ptr">ptr</a> <a href="../../laws/PlacesSpecs/index.html#offset">offset</a>) = Some (<a href="../../laws/PlacesSpecs/index.html#MemoryAt">MemoryAt</a> k)
 <a href="../../laws/PlacesSpecs/index.html#changed_location">changed_location</a> (call.GrowTable k n init) = Some (<a href="../../laws/PlacesSpecs/index.html#TableAt">TableAt</a> k)
@@ -5120,6 +5152,7 @@ abbrev pub <b id="changed_location">changed_location</b> : Call → Option <a hr
 <a href="../../laws/PlacesSpecs/index.html#changed_location">changed_location</a> (call.CopyTable k dst j src len) = Some (<a href="../../laws/PlacesSpecs/index.html#TableAt">TableAt</a> k)
 <a href="../../laws/PlacesSpecs/index.html#changed_location">changed_location</a> (call.FillTable k dst <a href="../../laws/PlacesSpecs/index.html#value">value</a> len) = Some (<a href="../../laws/PlacesSpecs/index.html#TableAt">TableAt</a> k)
 <a href="../../laws/PlacesSpecs/index.html#changed_location">changed_location</a> (call.DropItems k) = Some (<a href="../../laws/PlacesSpecs/index.html#SegmentAt">SegmentAt</a> k)
+<a href="../../laws/PlacesSpecs/index.html#changed_location">changed_location</a> (call.DropData k) = Some (<a href="../../laws/PlacesSpecs/index.html#DataAt">DataAt</a> k)
 <a href="../../laws/PlacesSpecs/index.html#changed_location">changed_location</a> (call.SetGlobal k <a href="../../laws/PlacesSpecs/index.html#value">value</a>) = Some (<a href="../../laws/PlacesSpecs/index.html#GlobalAt">GlobalAt</a> k)
 <a href="../../laws/PlacesSpecs/index.html#changed_location">changed_location</a> (call.SetRegister dst <a href="../../laws/PlacesSpecs/index.html#value">value</a>) = Some (<a href="../../laws/PlacesSpecs/index.html#RegisterAt">RegisterAt</a> dst)
 <a href="../../laws/PlacesSpecs/index.html#changed_location">changed_location</a> (call.Make <a href="../../laws/PlacesSpecs/index.html#op">op</a> dst a) = Some (<a href="../../laws/PlacesSpecs/index.html#RegisterAt">RegisterAt</a> dst)
@@ -5144,6 +5177,7 @@ abbrev pub <b id="read_locations">read_locations</b> : Call → List <a href="..
 <a href="../../laws/PlacesSpecs/index.html#read_locations">read_locations</a> (call.Read k <a href="../../laws/PlacesSpecs/index.html#offset">offset</a> len) = <a href="../../laws/PlacesSpecs/index.html#MemoryAt">MemoryAt</a> k ∷ []
 <a href="../../laws/PlacesSpecs/index.html#read_locations">read_locations</a> (call.Load <a href="../../laws/PlacesSpecs/index.html#op">op</a> k <a href="../../laws/PlacesSpecs/index.html#ptr">ptr</a> <a href="../../laws/PlacesSpecs/index.html#offset">offset</a>) = <a href="../../laws/PlacesSpecs/index.html#MemoryAt">MemoryAt</a> k ∷ []
 <a href="../../laws/PlacesSpecs/index.html#read_locations">read_locations</a> (call.CopyMemory k dst j src len) = <a href="../../laws/PlacesSpecs/index.html#MemoryAt">MemoryAt</a> j ∷ []
+<a href="../../laws/PlacesSpecs/index.html#read_locations">read_locations</a> (call.InitMemory k j dst src len) = <a href="../../laws/PlacesSpecs/index.html#DataAt">DataAt</a> j ∷ []
 <a href="../../laws/PlacesSpecs/index.html#read_locations">read_locations</a> (call.GetElement k index) = <a href="../../laws/PlacesSpecs/index.html#TableAt">TableAt</a> k ∷ []
 <a href="../../laws/PlacesSpecs/index.html#read_locations">read_locations</a> (call.InitTable k j dst src len) = <a href="../../laws/PlacesSpecs/index.html#SegmentAt">SegmentAt</a> j ∷ []
 <a href="../../laws/PlacesSpecs/index.html#read_locations">read_locations</a> (call.CopyTable k dst j src len) = <a href="../../laws/PlacesSpecs/index.html#TableAt">TableAt</a> j ∷ []
@@ -5174,12 +5208,14 @@ abbrev pub <b id="IsLocal">IsLocal</b> : Call → Type 0
 <a href="../../laws/PlacesSpecs/index.html#IsLocal">IsLocal</a> (call.GrowMemory k pages) = ⊥
 <a href="../../laws/PlacesSpecs/index.html#IsLocal">IsLocal</a> (call.FillMemory k dst <a href="../../laws/PlacesSpecs/index.html#value">value</a> len) = ⊥
 <a href="../../laws/PlacesSpecs/index.html#IsLocal">IsLocal</a> (call.CopyMemory k dst j src len) = ⊥
+<a href="../../laws/PlacesSpecs/index.html#IsLocal">IsLocal</a> (call.InitMemory k j dst src len) = ⊥
 <a href="../../laws/PlacesSpecs/index.html#IsLocal">IsLocal</a> (call.NewTable ty init) = ⊥
 <a href="../../laws/PlacesSpecs/index.html#IsLocal">IsLocal</a> (call.GrowTable k n init) = ⊥
 <a href="../../laws/PlacesSpecs/index.html#IsLocal">IsLocal</a> (call.InitTable k j dst src len) = ⊥
 <a href="../../laws/PlacesSpecs/index.html#IsLocal">IsLocal</a> (call.CopyTable k dst j src len) = ⊥
 <a href="../../laws/PlacesSpecs/index.html#IsLocal">IsLocal</a> (call.FillTable k dst <a href="../../laws/PlacesSpecs/index.html#value">value</a> len) = ⊥
 <a href="../../laws/PlacesSpecs/index.html#IsLocal">IsLocal</a> (call.NewSegment ty items) = ⊥
+<a href="../../laws/PlacesSpecs/index.html#IsLocal">IsLocal</a> (call.NewData bytes) = ⊥
 <a href="../../laws/PlacesSpecs/index.html#IsLocal">IsLocal</a> (call.NewGlobal <a href="../../laws/PlacesSpecs/index.html#value">value</a> ty) = ⊥
 <a href="../../laws/PlacesSpecs/index.html#IsLocal">IsLocal</a> call = Unit {0}
 
@@ -5208,12 +5244,13 @@ abbrev pub <b id="IsLaterSlot">IsLaterSlot</b> : {X T : Type 0} → (X → T) �
 <a href="../../laws/PlacesSpecs/index.html#IsLaterSlot">IsLaterSlot</a> type (Live x) (Gone size) = Unit {0}
 <a href="../../laws/PlacesSpecs/index.html#IsLaterSlot">IsLaterSlot</a> type (Gone size) later = later ≡ Gone size
 
--- what may become of what is at an index: an element segment keeps its items or has none, and a constant global its
--- value
+-- what may become of what is at an index: an element segment keeps its items or has none, so a data segment its bytes,
+-- and a constant global keeps its value
 abbrev pub <b id="IsLater">IsLater</b> : (location : <a href="../../laws/PlacesSpecs/index.html#Location">Location</a>) → <a href="../../laws/PlacesSpecs/index.html#Content">Content</a> location → <a href="../../laws/PlacesSpecs/index.html#Content">Content</a> location → Type 0
 <a href="../../laws/PlacesSpecs/index.html#IsLater">IsLater</a> (<a href="../../laws/PlacesSpecs/index.html#MemoryAt">MemoryAt</a> k) x x&#x27; = <a href="../../laws/PlacesSpecs/index.html#IsLaterSlot">IsLaterSlot</a> (λ (m : <a href="../../store/MemorySpecs/index.html#MemoryValue">MemoryValue</a>). m.ty) x x&#x27;
 <a href="../../laws/PlacesSpecs/index.html#IsLater">IsLater</a> (<a href="../../laws/PlacesSpecs/index.html#TableAt">TableAt</a> k) x x&#x27; = <a href="../../laws/PlacesSpecs/index.html#IsLaterSlot">IsLaterSlot</a> (λ (t : <a href="../../store/TableSpecs/index.html#TableValue">TableValue</a>). t.ty) x x&#x27;
 <a href="../../laws/PlacesSpecs/index.html#IsLater">IsLater</a> (<a href="../../laws/PlacesSpecs/index.html#SegmentAt">SegmentAt</a> k) x x&#x27; = (x&#x27;.ty ≡ x.ty) × ((x&#x27;.items ≡ x.items) ⊎ (x&#x27;.items ≡ []))
+<a href="../../laws/PlacesSpecs/index.html#IsLater">IsLater</a> (<a href="../../laws/PlacesSpecs/index.html#DataAt">DataAt</a> k) x x&#x27; = (x&#x27; ≡ x) ⊎ (x&#x27; ≡ [])
 <a href="../../laws/PlacesSpecs/index.html#IsLater">IsLater</a> (<a href="../../laws/PlacesSpecs/index.html#GlobalAt">GlobalAt</a> k) x x&#x27; = (x&#x27;.ty ≡ x.ty) × (x.ty.mutability ≡ Const → x&#x27; ≡ x)
 <a href="../../laws/PlacesSpecs/index.html#IsLater">IsLater</a> (<a href="../../laws/PlacesSpecs/index.html#RegisterAt">RegisterAt</a> k) x x&#x27; = Unit {0}
 
@@ -5227,6 +5264,7 @@ abbrev pub <b id="IsLive">IsLive</b> : (location : <a href="../../laws/PlacesSpe
 <a href="../../laws/PlacesSpecs/index.html#IsLive">IsLive</a> (<a href="../../laws/PlacesSpecs/index.html#MemoryAt">MemoryAt</a> k) x = <a href="../../laws/PlacesSpecs/index.html#IsLiveSlot">IsLiveSlot</a> x
 <a href="../../laws/PlacesSpecs/index.html#IsLive">IsLive</a> (<a href="../../laws/PlacesSpecs/index.html#TableAt">TableAt</a> k) x = <a href="../../laws/PlacesSpecs/index.html#IsLiveSlot">IsLiveSlot</a> x
 <a href="../../laws/PlacesSpecs/index.html#IsLive">IsLive</a> (<a href="../../laws/PlacesSpecs/index.html#SegmentAt">SegmentAt</a> k) x = Unit {0}
+<a href="../../laws/PlacesSpecs/index.html#IsLive">IsLive</a> (<a href="../../laws/PlacesSpecs/index.html#DataAt">DataAt</a> k) x = Unit {0}
 <a href="../../laws/PlacesSpecs/index.html#IsLive">IsLive</a> (<a href="../../laws/PlacesSpecs/index.html#GlobalAt">GlobalAt</a> k) x = Unit {0}
 <a href="../../laws/PlacesSpecs/index.html#IsLive">IsLive</a> (<a href="../../laws/PlacesSpecs/index.html#RegisterAt">RegisterAt</a> k) x = Unit {0}
 
@@ -6208,6 +6246,7 @@ abbrev pub <b id="command_word">command_word</b> : Call → List ℕ
 <a href="../../grammar/CommandsSpecs/index.html#command_word">command_word</a> (call.Store op memory ptr offset value) = codes "store"
 <a href="../../grammar/CommandsSpecs/index.html#command_word">command_word</a> (call.FillMemory memory dst value len) = codes "mfill"
 <a href="../../grammar/CommandsSpecs/index.html#command_word">command_word</a> (call.CopyMemory dst_memory dst src_memory src len) = codes "mcopy"
+<a href="../../grammar/CommandsSpecs/index.html#command_word">command_word</a> (call.InitMemory memory segment dst src len) = codes "minit"
 <a href="../../grammar/CommandsSpecs/index.html#command_word">command_word</a> (call.NewTable ty init) = codes "table"
 <a href="../../grammar/CommandsSpecs/index.html#command_word">command_word</a> (call.GrowTable table delta init) = codes "tgrow"
 <a href="../../grammar/CommandsSpecs/index.html#command_word">command_word</a> (call.DropTable table) = codes "drop"
@@ -6218,6 +6257,8 @@ abbrev pub <b id="command_word">command_word</b> : Call → List ℕ
 <a href="../../grammar/CommandsSpecs/index.html#command_word">command_word</a> (call.FillTable table dst value len) = codes "fill"
 <a href="../../grammar/CommandsSpecs/index.html#command_word">command_word</a> (call.NewSegment ty items) = codes "segment"
 <a href="../../grammar/CommandsSpecs/index.html#command_word">command_word</a> (call.DropItems segment) = codes "empty"
+<a href="../../grammar/CommandsSpecs/index.html#command_word">command_word</a> (call.NewData bytes) = codes "data"
+<a href="../../grammar/CommandsSpecs/index.html#command_word">command_word</a> (call.DropData segment) = codes "dempty"
 <a href="../../grammar/CommandsSpecs/index.html#command_word">command_word</a> (call.NewGlobal value ty) = codes "global"
 <a href="../../grammar/CommandsSpecs/index.html#command_word">command_word</a> (call.SetGlobal global value) = codes "gset"
 <a href="../../grammar/CommandsSpecs/index.html#command_word">command_word</a> (call.GetGlobal global) = codes "gget"
@@ -6262,6 +6303,9 @@ abbrev pub <b id="OperandsWrite">OperandsWrite</b> : ℕ → (ℕ → List ℕ) 
     (count ≡ 5) × <a href="../../operands/LineWordsSpecs/index.html#WritesNumber">WritesNumber</a> 64 (word 0) dst_memory
     × <a href="../../operands/LineWordsSpecs/index.html#WritesNumber">WritesNumber</a> 64 (word 1) dst × <a href="../../operands/LineWordsSpecs/index.html#WritesNumber">WritesNumber</a> 64 (word 2) src_memory × <a href="../../operands/LineWordsSpecs/index.html#WritesNumber">WritesNumber</a> 64 (word 3) src
     × <a href="../../operands/LineWordsSpecs/index.html#WritesNumber">WritesNumber</a> 64 (word 4) len
+<a href="../../grammar/CommandsSpecs/index.html#OperandsWrite">OperandsWrite</a> count word (call.InitMemory memory segment dst src len) = (count ≡ 5) × <a href="../../operands/LineWordsSpecs/index.html#WritesNumber">WritesNumber</a> 64 (word 0) memory
+    × <a href="../../operands/LineWordsSpecs/index.html#WritesNumber">WritesNumber</a> 64 (word 1) segment × <a href="../../operands/LineWordsSpecs/index.html#WritesNumber">WritesNumber</a> 64 (word 2) dst × <a href="../../operands/LineWordsSpecs/index.html#WritesNumber">WritesNumber</a> 32 (word 3) src
+    × <a href="../../operands/LineWordsSpecs/index.html#WritesNumber">WritesNumber</a> 32 (word 4) len
 <a href="../../grammar/CommandsSpecs/index.html#OperandsWrite">OperandsWrite</a> count word (call.NewTable ty init) =
     (count ≡ 6) × <a href="../../grammar/CommandsSpecs/index.html#NamesTableType">NamesTableType</a> (word 0) (word 1) (word 2) (word 3) ty × <a href="../../operands/NamesSpecs/index.html#WritesReference">WritesReference</a> (word 4) (word 5) init
 <a href="../../grammar/CommandsSpecs/index.html#OperandsWrite">OperandsWrite</a> count word (call.GrowTable table delta init) = (count ≡ 4) × <a href="../../operands/LineWordsSpecs/index.html#WritesNumber">WritesNumber</a> 64 (word 0) table
@@ -6283,6 +6327,8 @@ abbrev pub <b id="OperandsWrite">OperandsWrite</b> : ℕ → (ℕ → List ℕ) 
     × <a href="../../operands/LineWordsSpecs/index.html#WritesNumber">WritesNumber</a> 64 (word 1) dst × <a href="../../operands/NamesSpecs/index.html#WritesReference">WritesReference</a> (word 2) (word 3) value × <a href="../../operands/LineWordsSpecs/index.html#WritesNumber">WritesNumber</a> 64 (word 4) len
 <a href="../../grammar/CommandsSpecs/index.html#OperandsWrite">OperandsWrite</a> count word (call.NewSegment ty items) = (1 ≤ count) × (word 0 ≡ <a href="../../operands/NamesSpecs/index.html#reference_word">reference_word</a> ty)
 <a href="../../grammar/CommandsSpecs/index.html#OperandsWrite">OperandsWrite</a> count word (call.DropItems segment) = (count ≡ 1) × <a href="../../operands/LineWordsSpecs/index.html#WritesNumber">WritesNumber</a> 64 (word 0) segment
+<a href="../../grammar/CommandsSpecs/index.html#OperandsWrite">OperandsWrite</a> count word (call.NewData bytes) = Unit {0}
+<a href="../../grammar/CommandsSpecs/index.html#OperandsWrite">OperandsWrite</a> count word (call.DropData segment) = (count ≡ 1) × <a href="../../operands/LineWordsSpecs/index.html#WritesNumber">WritesNumber</a> 64 (word 0) segment
 <a href="../../grammar/CommandsSpecs/index.html#OperandsWrite">OperandsWrite</a> count word (call.NewGlobal value ty) = (count ≡ 4) × (word 0 ≡ <a href="../../operands/NamesSpecs/index.html#value_word">value_word</a> ty.content)
     × (word 1 ≡ <a href="../../operands/NamesSpecs/index.html#mutability_word">mutability_word</a> ty.mutability) × <a href="../../operands/LineWordsSpecs/index.html#WritesNumber">WritesNumber</a> 64 (word 2) value.lo × <a href="../../operands/LineWordsSpecs/index.html#WritesNumber">WritesNumber</a> 64 (word 3) value.hi
 <a href="../../grammar/CommandsSpecs/index.html#OperandsWrite">OperandsWrite</a> count word (call.SetGlobal global value) = (count ≡ 4) × <a href="../../operands/LineWordsSpecs/index.html#WritesNumber">WritesNumber</a> 64 (word 0) global
@@ -6330,6 +6376,7 @@ abbrev pub <b id="WritesOperands">WritesOperands</b> : <a href="../../operands/L
 <a href="../../grammar/CommandsSpecs/index.html#WritesOperands">WritesOperands</a> words (call.NewSegment ty items) =
     <a href="../../grammar/CommandsSpecs/index.html#OperandsWrite">OperandsWrite</a> (length words) (<a href="../../operands/LineWordsSpecs/index.html#word_at">word_at</a> words) (call.NewSegment ty items)
     × <a href="../../operands/LineWordsSpecs/index.html#WritesEach">WritesEach</a> (<a href="../../operands/LineWordsSpecs/index.html#WritesNumber">WritesNumber</a> 32) (drop 1 words) items.items
+<a href="../../grammar/CommandsSpecs/index.html#WritesOperands">WritesOperands</a> words (call.NewData bytes) = <a href="../../operands/LineWordsSpecs/index.html#WritesEach">WritesEach</a> (<a href="../../operands/LineWordsSpecs/index.html#WritesNumber">WritesNumber</a> 8) words bytes.items
 <a href="../../grammar/CommandsSpecs/index.html#WritesOperands">WritesOperands</a> words (call.Shuffle dst a b lanes) =
     <a href="../../grammar/CommandsSpecs/index.html#OperandsWrite">OperandsWrite</a> (length words) (<a href="../../operands/LineWordsSpecs/index.html#word_at">word_at</a> words) (call.Shuffle dst a b lanes) × <a href="../../operands/NamesSpecs/index.html#WritesLanes">WritesLanes</a> (drop 3 words) lanes
 <a href="../../grammar/CommandsSpecs/index.html#WritesOperands">WritesOperands</a> words call = <a href="../../grammar/CommandsSpecs/index.html#OperandsWrite">OperandsWrite</a> (length words) (<a href="../../operands/LineWordsSpecs/index.html#word_at">word_at</a> words) call
@@ -6345,7 +6392,7 @@ abbrev pub <b id="IsValueWord">IsValueWord</b> : List ℕ → Type 0
 
 -- a word that a command of a memory begins with, or one that drops a memory or a table
 abbrev pub <b id="IsMemoryWord">IsMemoryWord</b> : List ℕ → Type 0
-<a href="../../grammar/CommandsSpecs/index.html#IsMemoryWord">IsMemoryWord</a> name = (name ≡ codes "memory") ⊎ (name ≡ codes "lent") ⊎ (name ≡ codes "grow") ⊎ (name ≡ codes "drop") ⊎ (name ≡ codes "read") ⊎ (name ≡ codes "mfill") ⊎ (name ≡ codes "mcopy")
+<a href="../../grammar/CommandsSpecs/index.html#IsMemoryWord">IsMemoryWord</a> name = (name ≡ codes "memory") ⊎ (name ≡ codes "lent") ⊎ (name ≡ codes "grow") ⊎ (name ≡ codes "drop") ⊎ (name ≡ codes "read") ⊎ (name ≡ codes "mfill") ⊎ (name ≡ codes "mcopy") ⊎ (name ≡ codes "minit")
 
 -- a word that a command begins with which loads or stores
 abbrev pub <b id="IsAccessWord">IsAccessWord</b> : List ℕ → Type 0
@@ -6353,7 +6400,7 @@ abbrev pub <b id="IsAccessWord">IsAccessWord</b> : List ℕ → Type 0
 
 -- a word that a command of a table begins with, or one that empties a segment
 abbrev pub <b id="IsTableWord">IsTableWord</b> : List ℕ → Type 0
-<a href="../../grammar/CommandsSpecs/index.html#IsTableWord">IsTableWord</a> name = (name ≡ codes "table") ⊎ (name ≡ codes "tgrow") ⊎ (name ≡ codes "get") ⊎ (name ≡ codes "tset") ⊎ (name ≡ codes "init") ⊎ (name ≡ codes "copy") ⊎ (name ≡ codes "fill") ⊎ (name ≡ codes "empty")
+<a href="../../grammar/CommandsSpecs/index.html#IsTableWord">IsTableWord</a> name = (name ≡ codes "table") ⊎ (name ≡ codes "tgrow") ⊎ (name ≡ codes "get") ⊎ (name ≡ codes "tset") ⊎ (name ≡ codes "init") ⊎ (name ≡ codes "copy") ⊎ (name ≡ codes "fill") ⊎ (name ≡ codes "empty") ⊎ (name ≡ codes "dempty")
 
 -- a word that a command of a vector instruction begins with
 abbrev pub <b id="IsVectorWord">IsVectorWord</b> : List ℕ → Type 0
@@ -6585,7 +6632,7 @@ abbrev pub <b id="IsParseError">IsParseError</b> : List ℕ → ParseError → T
 use Rattle.std.specs.Option.{option_map}
 use Rattle.wasmi_types.specs.declared.value.RefType.{RefType}
 use Rattle.wasmi_machine.specs.declared.calls.Call.{Call}
-use Rattle.wasmi_machine.specs.declared.calls.Call.TheVariants.{Write, NewSegment}
+use Rattle.wasmi_machine.specs.declared.calls.Call.TheVariants.{Write, NewData, NewSegment}
 use Rattle.wasmi_grammar.specs.declared.script.Script.{Script}
 use Rattle.wasmi_grammar.specs.declared.header.MeterLine.{MeterLine}
 use Rattle.wasmi_grammar.specs.declared.header.RegionLine.{RegionLine}
@@ -6599,12 +6646,14 @@ use Rattle.wasmi_grammar.specs.Parts.{<a href="../../grammar/PartsSpecs/index.ht
 pub data <b id="CallMeaning">CallMeaning</b> : Type 0 where
   <b id="WriteMeaning">WriteMeaning</b> : ℕ → ℕ → List ℕ → <a href="../../grammar/MeaningsSpecs/index.html#CallMeaning">CallMeaning</a>
   <b id="SegmentMeaning">SegmentMeaning</b> : RefType → List ℕ → <a href="../../grammar/MeaningsSpecs/index.html#CallMeaning">CallMeaning</a>
+  <b id="DataMeaning">DataMeaning</b> : List ℕ → <a href="../../grammar/MeaningsSpecs/index.html#CallMeaning">CallMeaning</a>
   <b id="OtherCall">OtherCall</b> : Call → <a href="../../grammar/MeaningsSpecs/index.html#CallMeaning">CallMeaning</a>
 
 -- what a call says
 abbrev pub <b id="call_meaning">call_meaning</b> : Call → <a href="../../grammar/MeaningsSpecs/index.html#CallMeaning">CallMeaning</a>
 <a href="../../grammar/MeaningsSpecs/index.html#call_meaning">call_meaning</a> (Write memory offset bytes) = <a href="../../grammar/MeaningsSpecs/index.html#WriteMeaning">WriteMeaning</a> memory offset bytes.items
 <a href="../../grammar/MeaningsSpecs/index.html#call_meaning">call_meaning</a> (NewSegment ty items) = <a href="../../grammar/MeaningsSpecs/index.html#SegmentMeaning">SegmentMeaning</a> ty items.items
+<a href="../../grammar/MeaningsSpecs/index.html#call_meaning">call_meaning</a> (NewData bytes) = <a href="../../grammar/MeaningsSpecs/index.html#DataMeaning">DataMeaning</a> bytes.items
 <a href="../../grammar/MeaningsSpecs/index.html#call_meaning">call_meaning</a> call = <a href="../../grammar/MeaningsSpecs/index.html#OtherCall">OtherCall</a> call
 
 -- a limiter line, with its answers as a list
@@ -7082,7 +7131,7 @@ use Rattle.wasmi_typed.specs.Global.{<a href="../../typed/GlobalSpecs/index.html
 use Rattle.wasmi_typed.specs.declared.typed_ref.TypedRawRef.{TypedRawRef}
 use Rattle.wasmi_store.specs.Segment.{<a href="../../store/SegmentSpecs/index.html#segment_error_text">segment_error_text</a>}
 use Rattle.wasmi_machine.specs.declared.calls.Call.{Call}
-use Rattle.wasmi_machine.specs.declared.calls.Call.TheVariants.{NewMemory, NewLentMemory, NewTable, NewSegment, NewGlobal}
+use Rattle.wasmi_machine.specs.declared.calls.Call.TheVariants.{NewMemory, NewLentMemory, NewTable, NewData, NewSegment, NewGlobal}
 use Rattle.wasmi_machine.specs.declared.calls.Reply.{Reply}
 use Rattle.wasmi_script.specs.declared.error.ReplayError.{ReplayError}
 use Rattle.wasmi_script.specs.declared.error.ReplayError.TheVariants.{Parse, TooLong, ReadFault}
@@ -7098,6 +7147,7 @@ abbrev pub <b id="kind_text">kind_text</b> : Call → List ℕ
 <a href="../../script/TextsSpecs/index.html#kind_text">kind_text</a> (NewLentMemory ty) = codes "memory"
 <a href="../../script/TextsSpecs/index.html#kind_text">kind_text</a> (NewTable ty init) = codes "table"
 <a href="../../script/TextsSpecs/index.html#kind_text">kind_text</a> (NewSegment ty items) = codes "segment"
+<a href="../../script/TextsSpecs/index.html#kind_text">kind_text</a> (NewData bytes) = codes "data"
 <a href="../../script/TextsSpecs/index.html#kind_text">kind_text</a> (NewGlobal value ty) = codes "global"
 <a href="../../script/TextsSpecs/index.html#kind_text">kind_text</a> call = codes "nothing"
 

@@ -47,6 +47,7 @@ enum StaticCall {
     DropTable(usize),
     /// A segment of these objects of the host.
     NewSegment(&'static [u32]),
+    NewData(&'static [u8]),
     /// A constant of 32 bits.
     NewGlobal(u32),
     /// A register, and a number of 32 bits.
@@ -136,6 +137,7 @@ fn call_of(row: StaticCall) -> Result<Call, AllocError> {
         },
         StaticCall::DropTable(table) => Call::DropTable(table),
         StaticCall::NewSegment(bits) => new_segment(bits)?,
+        StaticCall::NewData(bytes) => Call::NewData(bytes.to_vec().into()),
         StaticCall::NewGlobal(number) => Call::NewGlobal {
             value: RawVal::from(number),
             ty: GlobalType::new(ValType::I32, Mutability::Const),

@@ -87,9 +87,10 @@ fn quota_watches_a_run() {
     assert_eq!(held, (65536, 0), "what is held");
 }
 
-static MADE: [Step; 4] = [
+static MADE: [Step; 5] = [
     (StaticCall::NewTable(5), StaticReply::Made(0)),
     (StaticCall::NewSegment(&[1, 2]), StaticReply::Made(0)),
+    (StaticCall::NewData(&[3, 1, 4]), StaticReply::Made(0)),
     (StaticCall::NewGlobal(7), StaticReply::Made(0)),
     (StaticCall::SetRegister(15, 8), StaticReply::Done),
 ];
@@ -102,6 +103,11 @@ fn shows_what_calls_made() {
     assert_eq!(first, Some(func(0)), "an element");
     let items = machine.segment(0).map(|segment| segment.size());
     assert_eq!(items, Some(2), "two items");
+    let data = machine
+        .data_segment(0)
+        .map(|segment| (segment.bytes(), segment.size()));
+    assert_eq!(data, Some((&[3u8, 1, 4][..], 3)), "three bytes");
+    assert!(machine.data_segment(1).is_none(), "one data segment");
     let global = machine.global(0).map(|global| u64::from(*global.get_raw()));
     assert_eq!(global, Some(7), "a global");
     let last = machine.register(15);

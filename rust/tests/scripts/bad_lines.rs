@@ -34,7 +34,7 @@ static BAD_LINES: [&[u8]; 26] = [
 ];
 
 /// More of them: numbers that are none or too large, words too many or too few.
-static MORE_BAD_LINES: [&[u8]; 39] = [
+static MORE_BAD_LINES: [&[u8]; 48] = [
     b"fuel 99999999999999999999",
     b"fuel 184467440737095516150",
     b"fuel 0x10",
@@ -52,6 +52,15 @@ static MORE_BAD_LINES: [&[u8]; 39] = [
     b"mfill 0 0 1 1 1",
     b"mcopy 0 0 0 0",
     b"mcopy 0 0 0 0 18446744073709551616",
+    b"minit 0 0 0 4294967296 0",
+    b"minit 0 0 0 0 4294967296",
+    b"minit 0 0 0 0",
+    b"minit 0 0 0 0 0 0",
+    b"data 256",
+    b"data 1 -2",
+    b"data func",
+    b"dempty",
+    b"dempty 0 0",
     b"write 0 0 -1",
     b"meter off 1",
     b"meter on 1 2",

@@ -448,6 +448,71 @@ fn prints_the_replies_of_ranges() {
     answers_each(&RANGES);
 }
 
+/// Data segments that are copied to a memory, dropped and named in vain. The first two scripts have the rows of
+/// WebAssembly's `memory_init.wast`.
+static DATA: [Script; 3] = [
+    script! {
+        "memory 1 1 16 32" => "memory 0",
+        "write 0 2 3 1 4 1" => "done",
+        "data 2 7 1 8" => "data 0",
+        "write 0 12 7 5 2 3 6" => "done",
+        "data 5 9 2 7 6" => "data 1",
+        "minit 0 0 7 0 4" => "done",
+        "minit 0 1 15 1 3" => "done",
+        "read 0 0 20" => "bytes 0 0 3 1 4 1 0 2 7 1 8 0 7 5 2 9 2 7 0 0",
+    },
+    script! {
+        "memory 1 none 16 32" => "memory 0",
+        "data 55" => "data 0",
+        "minit 0 0 1234 0 5" => "error out of bounds memory access",
+        "minit 0 0 1234 2 3" => "error out of bounds memory access",
+        "minit 0 0 65534 1 3" => "error out of bounds memory access",
+        "minit 0 0 1234 4 0" => "error out of bounds memory access",
+        "minit 0 0 1234 1 0" => "done",
+        "minit 0 0 65537 0 0" => "error out of bounds memory access",
+        "minit 0 0 65536 0 0" => "done",
+        "minit 0 0 65536 1 0" => "done",
+        "minit 0 0 65537 4 0" => "error out of bounds memory access",
+        "minit 0 0 1234 0 1" => "done",
+        "read 0 1233 3" => "bytes 0 55 0",
+        "dempty 0" => "done",
+        "minit 0 0 1235 0 1" => "error out of bounds memory access",
+        "minit 0 0 1235 1 0" => "error out of bounds memory access",
+        "minit 0 0 1235 0 0" => "done",
+        "dempty 0" => "done",
+        "read 0 1233 3" => "bytes 0 55 0",
+    },
+    script! {
+        "meter on 1",
+        "fuel 5" => "done",
+        "memory 4 none 0 64" => "memory 0",
+        "data" => "data 0",
+        "data 9 8 7 6 5" => "data 1",
+        "segment func 1" => "segment 0",
+        "minit 0 1 1 2 3" => "done",
+        "left" => "value 2",
+        "minit 0 1 1 2 3" => "error not enough fuel. required=3",
+        "minit 0 1 2 2 3" => "error out of bounds memory access",
+        "minit 0 0 4 0 0" => "done",
+        "minit 0 0 0 0 1" => "error out of bounds memory access",
+        "left" => "value 2",
+        "read 0 0 4" => "bytes 0 7 6 5",
+        "minit 0 2 0 0 0" => "no such",
+        "minit 1 1 0 0 0" => "no such",
+        "dempty 2" => "no such",
+        "empty 0" => "done",
+        "empty 1" => "no such",
+        "dempty 1" => "done",
+        "drop memory 0" => "done",
+        "minit 0 1 0 0 0" => "no such",
+    },
+];
+
+#[test]
+fn prints_the_replies_of_data_segments() {
+    answers_each(&DATA);
+}
+
 static TABLES: [Script; 5] = [
     script! {
         "segment func 1 2 3 4" => "segment 0",
