@@ -164,9 +164,13 @@ unsafe extern "C" {
     pub fn wasmi_machine_load(machine: &mut Handle, op: u16, memory: usize, ptr: u64, offset: u64, value: &mut u64) -> u8;
     pub fn wasmi_machine_store(machine: &mut Handle, op: u16, memory: usize, ptr: u64, offset: u64, value: u64) -> u8;
     pub fn wasmi_machine_grow(machine: &mut Handle, memory: usize, pages: u64, number: &mut u64) -> u8;
+    pub fn wasmi_machine_fill(machine: &mut Handle, memory: usize, to: u64, value: u8, count: u64, number: &mut u64) -> u8;
+    pub fn wasmi_machine_copy(machine: &mut Handle, memory: usize, to: u64, source: usize, from: u64, count: u64, number: &mut u64) -> u8;
+    pub fn wasmi_machine_init(machine: &mut Handle, memory: usize, segment: usize, to: u64, from: u32, count: u32, number: &mut u64) -> u8;
     pub fn wasmi_machine_read(machine: &mut Handle, memory: usize, offset: usize, bytes: *mut u8, len: usize) -> PlainReply;
     pub fn wasmi_machine_write(machine: &mut Handle, memory: usize, offset: usize, bytes: *const u8, len: usize) -> PlainReply;
     pub fn wasmi_machine_new_segment(machine: &mut Handle, ty: u8, items: *const u32, len: usize) -> PlainReply;
+    pub fn wasmi_machine_new_data(machine: &mut Handle, bytes: *const u8, len: usize) -> PlainReply;
     pub fn wasmi_machine_consume_fuel(machine: &mut Handle, amount: u64) -> PlainReply;
     pub fn wasmi_machine_totals(machine: &mut Handle) -> Totals;
 

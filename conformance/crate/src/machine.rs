@@ -1,4 +1,5 @@
-//! The machine of a run: the crate's own memories, tables, element segments, globals and meter, and sixteen registers.
+//! The machine of a run: the crate's own memories, tables, element segments, globals and meter, data segments as lists of
+//! bytes, and sixteen registers.
 use crate::calls::{Call, Reply, Reply::*};
 use std::ops::Range;
 use wasmi_core::{
@@ -75,6 +76,7 @@ pub struct Machine {
     memories: Vec<Slot<Lent>>,
     tables: Vec<Slot<Table>>,
     segments: Vec<ElementSegment>,
+    data_segments: Vec<Vec<u8>>,
     globals: Vec<Global>,
     registers: [RawVal; 16],
     region: Option<&'static mut [u8]>,
@@ -106,6 +108,7 @@ impl Machine {
             memories: Vec::new(),
             tables: Vec::new(),
             segments: Vec::new(),
+            data_segments: Vec::new(),
             globals: Vec::new(),
             registers: [RawVal::from_bits64(0); 16],
             region,
@@ -137,9 +140,14 @@ impl Machine {
         live.collect()
     }
 
-    /// The number of items in each segment.
+    /// The number of items in each element segment.
     pub fn segments(&self) -> Vec<u64> {
         self.segments.iter().map(|segment| u64::from(segment.size())).collect()
+    }
+
+    /// The number of bytes in each data segment.
+    pub fn data_segments(&self) -> Vec<u64> {
+        self.data_segments.iter().map(|bytes| bytes.len() as u64).collect()
     }
 
     /// The bytes that a call may ask the system for: the whole size of what it makes or grows.
@@ -251,6 +259,16 @@ impl Machine {
                 data[range].copy_from_slice(&bytes);
                 Done
             }
+            // As the standard's, of the bytes of a segment, of which a dropped one has none.
+            Call::InitMemory { memory, segment, dst, src, len } => {
+                let data = live!(self.memories.get_mut(memory)).memory.data_mut();
+                let source = found!(self.data_segments.get(segment));
+                let (from, to) = (range_of(src.into(), len.into(), source.len()), range_of(dst, len.into(), data.len()));
+                let (Some(from), Some(to)) = (from, to) else { return Memory(MemoryError::OutOfBoundsAccess) };
+                given!(charged(&mut self.fuel, len.into()));
+                data[to].copy_from_slice(&source[from]);
+                Done
+            }
             Call::NewTable { ty, init } => {
                 let table = given!(Table::new(ty, init, &mut limiter));
                 self.tables.push(Slot::Live(table));
@@ -300,6 +318,14 @@ impl Machine {
             }
             Call::DropItems(i) => {
                 found!(self.segments.get_mut(i)).drop_items();
+                Done
+            }
+            Call::NewData(ref bytes) => {
+                self.data_segments.push(bytes.clone());
+                Made("data", self.data_segments.len() - 1)
+            }
+            Call::DropData(i) => {
+                *found!(self.data_segments.get_mut(i)) = Vec::new();
                 Done
             }
             Call::NewGlobal { value, ty } => {

@@ -93,6 +93,7 @@ fn command(first: &[u8], w: &mut Words<'_>) -> Option<Call> {
         b"mcopy" => {
             Call::CopyMemory { dst_memory: w.num()?, dst: w.num()?, src_memory: w.num()?, src: w.num()?, len: w.num()? }
         }
+        b"minit" => Call::InitMemory { memory: w.num()?, segment: w.num()?, dst: w.num()?, src: w.num()?, len: w.num()? },
         b"load" => Call::Load { op: w.op(calls::LOAD)?, memory: w.num()?, ptr: w.num()?, offset: w.num()? },
         b"store" => Call::Store {
             op: w.op(calls::STORE)?,
@@ -114,6 +115,8 @@ fn command(first: &[u8], w: &mut Words<'_>) -> Option<Call> {
             Call::NewSegment { ty: w.ref_type()?, items: w.nums::<u32>()?.into_iter().map(RawRef::from).collect() }
         }
         b"empty" => Call::DropItems(w.num()?),
+        b"data" => Call::NewData(w.nums()?),
+        b"dempty" => Call::DropData(w.num()?),
         b"global" => {
             let content = w.val_type()?;
             let mutability = match w.word()? {

@@ -133,6 +133,8 @@ fn calls() -> Vec<Call> {
         Call::GrowTable { table: 0, delta: 90, init: func(2) },
         Call::NewSegment { ty: RefType::Func, items: items.into() },
         Call::InitTable { table: 0, segment: 0, dst: 1, src: 0, len: 9 },
+        Call::NewData(vec![1, 2, 3].into()),
+        Call::InitMemory { memory: 0, segment: 0, dst: 7, src: 0, len: 3 },
     ];
     calls.extend((0..9).map(|_| Call::NewGlobal { value: RawVal::from(4), ty: global }));
     calls.extend((0..9).map(|_| Call::NewMemory(memory_type(0))));

@@ -1,4 +1,4 @@
-//! Lines on memories, tables and element segments.
+//! Lines on memories, tables and segments.
 use super::Generator;
 use crate::calls;
 use crate::machine::LiveMemory;
@@ -128,7 +128,41 @@ impl Generator {
                 self.command(format!("drop memory {index}"));
             }
             7 | 8 => self.bulk_step(),
+            9 | 10 => self.data_step(),
             _ => self.access(),
+        }
+    }
+
+    /// A data segment that is made, copied to a memory or dropped.
+    fn data_step(&mut self) {
+        let sizes = self.machine().data_segments();
+        match self.random.below(8) {
+            0 | 1 => {
+                let count = self.random.below(24);
+                let bytes = self.list(count, |own| own.random.lane(8));
+                self.command(format!("data{bytes}"));
+            }
+            2 if self.random.chance(40) => {
+                let segment = self.random.index(sizes.len() + 1);
+                self.command(format!("dempty {segment}"));
+            }
+            _ => self.data_init(&sizes),
+        }
+    }
+
+    /// A memory that is written over with bytes of a data segment, of which these are the sizes.
+    fn data_init(&mut self, sizes: &[u64]) {
+        let LiveMemory { index, len: size, .. } = self.memory();
+        let some = if sizes.is_empty() || self.random.chance(4) { 4 } else { sizes.len() };
+        let segment = self.random.index(some);
+        let items = sizes.get(segment).copied().unwrap_or(0);
+        let (to, first) = self.span(size, items);
+        let (from, second) = self.span(items, size);
+        let (from, len) = (from.min(u32::MAX.into()), self.random.pick(&[first, second]).min(u32::MAX.into()));
+        self.aim(len, 1);
+        self.command(format!("minit {index} {segment} {to} {from} {len}"));
+        if self.random.chance(50) {
+            self.command(format!("read {index} 0 {}", size.min(40)));
         }
     }
 

@@ -48,6 +48,7 @@ impl Generator {
         self.begin(headers.into_iter().flatten().collect());
         self.command("memory 1 3 16 32".into());
         self.command("memory 20 none 0 64".into());
+        self.command("data 31 32 33 34 35 36 37 38 39".into());
         (0..steps).for_each(|_| self.memory_step());
     }
 

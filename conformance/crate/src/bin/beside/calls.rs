@@ -83,6 +83,11 @@ pub fn call_of(it: &PlainCall) -> Option<Call> {
             src: it.from,
             len: it.count,
         },
+        31 => {
+            let (src, len) = (it.from.try_into().ok()?, it.count.try_into().ok()?);
+            Call::InitMemory { memory: it.index, segment: it.source, dst: it.to, src, len }
+        }
+        32 => Call::DropData(it.index),
         _ => return None,
     })
 }
@@ -232,9 +237,9 @@ impl<'r> Draw<'r> {
 
     /// A kind of calls: one of those that drop something more seldom than the others, and now and then none.
     fn kind(&mut self) -> u16 {
-        match self.random.below(31) as u16 {
+        match self.random.below(33) as u16 {
             _ if self.random.chance(2) => self.random.edge() as u16,
-            4 | 11 | 17 if self.random.chance(80) => self.random.pick(&[2, 9, 10, 14, 15, 16]),
+            4 | 11 | 17 | 32 if self.random.chance(80) => self.random.pick(&[2, 9, 10, 14, 15, 16, 31]),
             kind => kind,
         }
     }
@@ -251,7 +256,7 @@ impl<'r> Draw<'r> {
         let count = match kind {
             2 | 9 => self.size(log2),
             3 | 10 => self.size(0) / 40,
-            12..=16 => self.place(),
+            12..=16 | 31 => self.place(),
             _ => self.amount(),
         };
         let most = self.size(log2);

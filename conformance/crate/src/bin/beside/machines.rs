@@ -98,6 +98,12 @@ impl Both {
                 3 => wasmi_machine_grow(handle, index, call.count, &mut number),
                 5 if call.op < 12 => wasmi_machine_load(handle, call.op, index, call.ptr, call.offset, &mut number),
                 6 if call.op < 7 => wasmi_machine_store(handle, call.op, index, call.ptr, call.offset, value),
+                29 => wasmi_machine_fill(handle, index, call.to, value as u8, call.count, &mut number),
+                30 => wasmi_machine_copy(handle, index, call.to, call.source, call.from, call.count, &mut number),
+                31 => match (u32::try_from(call.from), u32::try_from(call.count)) {
+                    (Ok(from), Ok(count)) => wasmi_machine_init(handle, index, call.source, call.to, from, count, &mut number),
+                    _ => return None,
+                },
                 _ => return None,
             }
         };
@@ -115,7 +121,7 @@ impl Both {
         let (handle, mut bytes) = (&mut self.handle, vec![0; len]);
         // SAFETY: the handle has a machine; pointers and lengths are those of one list each.
         unsafe {
-            match draw.random.below(4) {
+            match draw.random.below(5) {
                 0 => {
                     let there = wasmi_machine_read(handle, index, offset, bytes.as_mut_ptr(), len);
                     let call = Call::Read { memory: index, offset, len };
@@ -137,6 +143,11 @@ impl Both {
                     let items: Vec<RawRef> = items.into_iter().map(RawRef::from).collect();
                     let ty = numbers::reference_type(ty).expect("a type of references");
                     (there, numbers::of(&self.step(&Call::NewSegment { ty, items: items.into() })))
+                }
+                3 => {
+                    bytes.iter_mut().for_each(|byte| *byte = draw.random.next() as u8);
+                    let there = wasmi_machine_new_data(handle, bytes.as_ptr(), len);
+                    (there, numbers::of(&self.step(&Call::NewData(bytes.into()))))
                 }
                 _ => {
                     let amount = draw.amount();
