@@ -31,8 +31,8 @@ extern "C" {
 /* The version of this header and the others beside it: MAJOR counts what breaks a program, and MINOR what is new, such
    as a call or a status. 1.0.0 had this header without a version, 1.1.0 came with wasmi_machine.h and wasmi_memory.h,
    1.2.0 with wasmi_instructions.h, 1.3.0 with the pools of wasmi_machine.h, and 1.4.0 with writes over a range of a
-   machine's memory, wasmi_pool_remove, wasmi_quota_release_memory and _table, wasmi_memory_new_zeroed and
-   wasmi_memory_grow_zeroed. */
+   machine's memory, data segments, wasmi_pool_remove, wasmi_quota_release_memory and _table, wasmi_memory_new_zeroed
+   and wasmi_memory_grow_zeroed. */
 #define WASMI_CORE_VERSION "1.4.0"
 #define WASMI_CORE_VERSION_MAJOR 1
 #define WASMI_CORE_VERSION_MINOR 4

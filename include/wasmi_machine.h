@@ -1,13 +1,13 @@
-/* A machine that lives from call to call, with memories, tables, element segments, globals, registers, fuel and limits,
-   for C and C++, in libwasmi_core.a. wasmi_core.h has the numbers of instructions, and calls on values
-   and bytes of the caller's.
+/* A machine that lives from call to call, with memories, tables, segments, globals, registers, fuel and limits, for C
+   and C++, in libwasmi_core.a. wasmi_core.h has the numbers of instructions, and calls on values and bytes of the
+   caller's.
 
    A machine makes its memories and tables in memory of its own, within two caps or as a list of answers permits, if it
-   is made with either; it grows them, and writes over ranges of tables, for fuel if its meter is on. Memories, tables,
-   element segments and globals go by their indices, which count from 0 for each kind and aren't used again. A memory
-   or a table that is dropped gives its bytes back and counts within the caps at its last size, and its slot stays, until
-   the machine ends: 1,000,000 memories that were made and dropped on one machine keep 78 MB. So a host that runs guest
-   after guest makes a machine, or a tenant of a pool, for each, and ends it with the guest.
+   is made with either; it grows them, and writes over ranges of them, for fuel if its meter is on. Memories, tables,
+   element segments, data segments and globals go by their indices, which count from 0 for each kind and aren't used
+   again. A memory or a table that is dropped gives its bytes back and counts within the caps at its last size, and its
+   slot stays, until the machine ends: 1,000,000 memories that were made and dropped on one machine keep 78 MB. So a host
+   that runs guest after guest makes a machine, or a tenant of a pool, for each, and ends it with the guest.
 
    What the caller owes, which no call tests:
    - A handle is all zeros before its first call, and is written by these calls alone from then on.
@@ -84,8 +84,8 @@ uint8_t wasmi_machine_new_with_answers(wasmi_machine *machine, const wasmi_limit
 void wasmi_machine_drop(wasmi_machine *machine) WASMI_NOT_NULL(1);
 
 /* The kinds of calls. Behind each stands what it reads of a wasmi_call, then what its reply has, and then its refusals
-   in the order in which they are tested. The first is always WASMI_NO_SUCH, if there is no memory, table, element
-   segment, global or register of an index or a number. */
+   in the order in which they are tested. The first is always WASMI_NO_SUCH, if there is no memory, table, segment,
+   global or register of an index or a number. */
 enum {
     WASMI_CALL_SET_FUEL = 0, /* count; METERING_DISABLED */
     WASMI_CALL_GET_FUEL = 1, /* -> number; METERING_DISABLED */
@@ -140,7 +140,9 @@ enum {
     WASMI_CALL_SHUFFLE = 28,      /* lanes, a, b, dst: byte i of the result is the byte of lane lanes[i] */
     /* Writes over count bytes of a memory from to on, for fuel: MEMORY_ACCESS, then MEMORY_OUT_OF_FUEL. */
     WASMI_CALL_FILL_MEMORY = 29,  /* index, to, count, value: its lowest byte */
-    WASMI_CALL_COPY_MEMORY = 30   /* index, to, source (a memory, this one too), from, count */
+    WASMI_CALL_COPY_MEMORY = 30,  /* index, to, source (a memory, this one too), from, count */
+    WASMI_CALL_INIT_MEMORY = 31,  /* index, to, source (a data segment), from, count (below 2^32 both) */
+    WASMI_CALL_DROP_DATA = 32     /* index: the bytes of a data segment, which stays */
 };
 
 /* Value types. */
@@ -229,7 +231,7 @@ typedef struct { wasmi_words bytes, elements; uint8_t status; } wasmi_totals;
 wasmi_reply wasmi_machine_call(wasmi_machine *machine, const wasmi_call *call) WASMI_CHECKED WASMI_NOT_NULL(1, 2);
 
 /* The calls that engines make most, with plain arguments; each does what wasmi_machine_call does with the same operands,
-   in less time, and returns the status. Before all else: NO_MACHINE, then NO_CALL if op is no number of such an
+   and returns the status. Before all else: NO_MACHINE, then NO_CALL if op is no number of such an
    instruction. */
 
 /* WASMI_CALL_LOAD of an item, by a number of wasmi_load below 12; sets *value to the item: NO_SUCH,
@@ -250,6 +252,15 @@ uint8_t wasmi_machine_binary(wasmi_machine *machine, uint16_t op, uint8_t dst, u
 uint8_t wasmi_machine_grow(wasmi_machine *machine, size_t memory, uint64_t pages, uint64_t *number)
     WASMI_CHECKED WASMI_NOT_NULL(1, 4);
 
+/* WASMI_CALL_FILL_MEMORY, _COPY_MEMORY and _INIT_MEMORY: NO_SUCH, MEMORY_ACCESS, MEMORY_OUT_OF_FUEL, at which *number is
+   set to the fuel that is needed; else *number is unchanged. */
+uint8_t wasmi_machine_fill(wasmi_machine *machine, size_t memory, uint64_t to, uint8_t value, uint64_t count,
+                           uint64_t *number) WASMI_CHECKED WASMI_NOT_NULL(1, 6);
+uint8_t wasmi_machine_copy(wasmi_machine *machine, size_t memory, uint64_t to, size_t source, uint64_t from,
+                           uint64_t count, uint64_t *number) WASMI_CHECKED WASMI_NOT_NULL(1, 7);
+uint8_t wasmi_machine_init(wasmi_machine *machine, size_t memory, size_t segment, uint64_t to, uint32_t from,
+                           uint32_t count, uint64_t *number) WASMI_CHECKED WASMI_NOT_NULL(1, 7);
+
 /* WASMI_CALL_GET_FUEL: sets *left to the fuel that is left; METERING_DISABLED, after which *left is unchanged. */
 uint8_t wasmi_machine_fuel_left(wasmi_machine *machine, uint64_t *left) WASMI_CHECKED WASMI_NOT_NULL(1, 2);
 
@@ -265,6 +276,10 @@ wasmi_reply wasmi_machine_write(wasmi_machine *machine, size_t memory, size_t of
 /* Makes an element segment of a copy of references of a type -> number: its index; NO_MACHINE, NO_CALL if type is of no
    references, NO_ROOM, SEGMENT_TOO_MANY_ITEMS, SEGMENT_OUT_OF_MEMORY. */
 wasmi_reply wasmi_machine_new_segment(wasmi_machine *machine, uint8_t type, const uint32_t *items, size_t len)
+    WASMI_CHECKED WASMI_NOT_NULL(1);
+
+/* Makes a data segment of a copy of bytes -> number: its index; NO_MACHINE, NO_ROOM. */
+wasmi_reply wasmi_machine_new_data(wasmi_machine *machine, const uint8_t *bytes, size_t len)
     WASMI_CHECKED WASMI_NOT_NULL(1);
 
 /* Takes fuel for what the caller does itself, as an interpreter's instructions -> number: what is left then;

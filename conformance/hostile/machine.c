@@ -9,7 +9,7 @@
 #include <pthread.h>
 #include <stdarg.h>
 
-enum { PAGE = 65536, TEXT = 1 << 16, SEQUENCE = 60, THREADS = 4, KINDS = 31, REGISTERS = 5, MOST_LINE = 512 };
+enum { PAGE = 65536, TEXT = 1 << 16, SEQUENCE = 60, THREADS = 4, KINDS = 33, REGISTERS = 5, MOST_LINE = 512 };
 enum { MOST_ANSWERS = 24, FRONT = 1024 };
 
 static _Thread_local long calls;
@@ -66,11 +66,26 @@ enum { FIRST_VECTOR_LOAD = 12, VECTOR_STORE = 7 };
 static int is_direct(const wasmi_call *c) {
     switch (c->kind) {
         case WASMI_CALL_GET_FUEL:
-        case WASMI_CALL_GROW_MEMORY: return 1;
+        case WASMI_CALL_GROW_MEMORY:
+        case WASMI_CALL_FILL_MEMORY:
+        case WASMI_CALL_COPY_MEMORY: return 1;
+        case WASMI_CALL_INIT_MEMORY: return c->from <= UINT32_MAX && c->count <= UINT32_MAX;
         case WASMI_CALL_LOAD: return c->op < FIRST_VECTOR_LOAD || c->op >= sizeof LOADS / sizeof LOADS[0];
         case WASMI_CALL_STORE: return c->op != VECTOR_STORE;
         case WASMI_CALL_BINARY: return c->op < FIRST_SHIFT || c->op >= sizeof BINARIES / sizeof BINARIES[0];
         default: return 0;
+    }
+}
+
+/* The status that the function of a write over a range of a memory leaves. */
+static uint8_t ranged_directly(wasmi_machine *machine, const wasmi_call *c, uint64_t *word) {
+    switch (c->kind) {
+        case WASMI_CALL_FILL_MEMORY:
+            return wasmi_machine_fill(machine, c->index, c->to, (uint8_t)c->value.lo, c->count, word);
+        case WASMI_CALL_COPY_MEMORY:
+            return wasmi_machine_copy(machine, c->index, c->to, c->source, c->from, c->count, word);
+        default:
+            return wasmi_machine_init(machine, c->index, c->source, c->to, (uint32_t)c->from, (uint32_t)c->count, word);
     }
 }
 
@@ -93,9 +108,16 @@ static wasmi_reply called_directly(wasmi_machine *machine, const wasmi_call *c) 
             reply.status = wasmi_machine_fuel_left(machine, word);
             reply.number = reply.status == WASMI_DONE ? *word : 0;
             break;
-        default:
+        case WASMI_CALL_GROW_MEMORY:
             reply.status = wasmi_machine_grow(machine, c->index, c->count, word);
             reply.number = reply.status == WASMI_DONE || reply.status == WASMI_MEMORY_OUT_OF_FUEL ? *word : 0;
+            break;
+        default:
+            reply.status = ranged_directly(machine, c, word);
+            reply.number = reply.status == WASMI_MEMORY_OUT_OF_FUEL ? *word : 0;
+            if (reply.status == WASMI_DONE && *word != before) {
+                differs("a write over a range", "a word was written");
+            }
     }
     if (reply.status != WASMI_DONE && reply.status != WASMI_MEMORY_OUT_OF_FUEL && *word != before) {
         differs("a refusal", "a word was written");
@@ -142,6 +164,9 @@ static char *memory_line(char *at, const wasmi_call *c) {
             return put(at, "mfill %zu" U " %d" U, c->index, c->to, (int)(c->value.lo & 255), c->count);
         case WASMI_CALL_COPY_MEMORY:
             return put(at, "mcopy %zu" U " %zu" U U, c->index, c->to, c->source, c->from, c->count);
+        case WASMI_CALL_INIT_MEMORY:
+            return put(at, "minit %zu %zu" U U U, c->index, c->source, c->to, c->from, c->count);
+        case WASMI_CALL_DROP_DATA: return put(at, "dempty %zu", c->index);
         case WASMI_CALL_LOAD:
             return c->op < FIRST_VECTOR_LOAD
                 ? put(at, "load %s %zu" U U, NAME_OF(LOADS, c->op), c->index, c->ptr, c->offset)
@@ -220,11 +245,11 @@ static char *line_of(char *at, const wasmi_call *c) {
         case WASMI_CALL_SET_REGISTER: return put(at, "set %d" U U, c->dst, c->value.lo, c->value.hi);
         case WASMI_CALL_GET_REGISTER: return put(at, "show %d", c->a);
         default:
-            return c->kind == WASMI_CALL_FILL_MEMORY || c->kind == WASMI_CALL_COPY_MEMORY ? memory_line(at, c)
-                 : c->kind <= WASMI_CALL_STORE_LANE  ? memory_line(at, c)
-                 : c->kind <= WASMI_CALL_DROP_ITEMS  ? table_line(at, c)
-                 : c->kind <= WASMI_CALL_SHUFFLE     ? vector_line(at, c)
-                                                     : put(at, "unknown");
+            return c->kind <= WASMI_CALL_STORE_LANE ? memory_line(at, c)
+                 : c->kind <= WASMI_CALL_DROP_ITEMS ? table_line(at, c)
+                 : c->kind <= WASMI_CALL_SHUFFLE    ? vector_line(at, c)
+                 : c->kind <= WASMI_CALL_DROP_DATA  ? memory_line(at, c)
+                                                    : put(at, "unknown");
     }
 }
 
@@ -388,6 +413,23 @@ static void one_write(struct sequence *s, size_t memory, size_t offset, size_t l
     take(s, line, (size_t)(end - line), reply, reply.status ? refusal_text(at, reply) : put(at, "done\n"));
 }
 
+static void some_data(struct sequence *s) {
+    char line[2 * MOST_LINE];
+    uint8_t bytes[24];
+    size_t len = (size_t)below(sizeof bytes);
+    char *end = put(line, "data");
+    for (size_t i = 0; i < len; i++) {
+        bytes[i] = (uint8_t)any();
+        end = put(end, " %d", bytes[i]);
+    }
+    end = put(end, "\n");
+    calls++;
+    wasmi_reply reply = wasmi_machine_new_data(&s->machine, at_edge(OF_ARRAY, bytes, len), len);
+    char *at = s->expected_end;
+    at = reply.status ? refusal_text(at, reply) : put(at, "data" U "\n", reply.number);
+    take(s, line, (size_t)(end - line), reply, at);
+}
+
 static void some_write(struct sequence *s) {
     size_t len = (size_t)below(32), memory = (size_t)below(3), offset = (size_t)number();
     one_write(s, memory, offset, len);
@@ -457,7 +499,7 @@ static wasmi_call of_kind(uint16_t kind) {
     return call;
 }
 
-/* A memory whose front has random bytes, a table and an element segment to begin with, and numbers in the registers. */
+/* A memory whose front has random bytes, a table and a segment of each kind to begin with, and numbers in the registers. */
 static void fill(struct sequence *s) {
     wasmi_call table = of_kind(WASMI_CALL_NEW_TABLE), set = of_kind(WASMI_CALL_SET_REGISTER);
     table.count = 6;
@@ -465,6 +507,7 @@ static void fill(struct sequence *s) {
     one_write(s, 0, 0, FRONT);
     one_call(s, table);
     some_segment(s);
+    some_data(s);
     for (set.dst = 0; set.dst < REGISTERS; set.dst++) {
         set.value = (wasmi_words){any(), any()};
         one_call(s, set);
@@ -562,11 +605,12 @@ static uint64_t run_sequence(struct sequence *s, uint64_t seed) {
     begin(s);
     fill(s);
     for (int i = 0; i < SEQUENCE; i++) {
-        switch (below(12)) {
+        switch (below(13)) {
             case 0: some_write(s); break;
             case 1: one_read(s, (size_t)below(3), (size_t)number(), (size_t)below(32)); break;
             case 2: some_segment(s); break;
             case 3: some_fuel(s); break;
+            case 4: some_data(s); break;
             default: one_call(s, random_call());
         }
     }
@@ -605,6 +649,9 @@ static void small_machine(wasmi_machine *machine) {
         }
     }
     if (wasmi_machine_new_segment(machine, WASMI_TYPE_FUNCREF, items, 3).status != WASMI_DONE) {
+        exit(2);
+    }
+    if (wasmi_machine_new_data(machine, (const uint8_t *)"bytes", 5).status != WASMI_DONE) {
         exit(2);
     }
 }
@@ -690,11 +737,12 @@ static void without_machine(void) {
     count += wasmi_machine_read(&machine, 0, 0, bytes, 3).status == WASMI_NO_MACHINE;
     count += wasmi_machine_write(&machine, 0, 0, bytes, 3).status == WASMI_NO_MACHINE;
     count += wasmi_machine_new_segment(&machine, UINT8_MAX, items, 1).status == WASMI_NO_MACHINE;
+    count += wasmi_machine_new_data(&machine, bytes, 3).status == WASMI_NO_MACHINE;
     count += wasmi_machine_consume_fuel(&machine, 1).status == WASMI_NO_MACHINE;
     count += wasmi_machine_totals(&machine).status == WASMI_NO_MACHINE;
     wasmi_machine_drop(&machine);
-    calls += 5;
-    if (count != 8 * KINDS + 5 || machine.at != zeros.at || machine.is_made || bytes[0] != 1 || bytes[2] != 3) {
+    calls += 6;
+    if (count != 8 * KINDS + 6 || machine.at != zeros.at || machine.is_made || bytes[0] != 1 || bytes[2] != 3) {
         differs("a handle of zeros", "a call found a machine");
     }
 }
@@ -777,9 +825,10 @@ static wasmi_reply step_of(wasmi_machine *machine, int step, size_t answers) {
     static const uint16_t kinds[] = {
         WASMI_CALL_NEW_MEMORY, WASMI_CALL_NEW_TABLE, WASMI_CALL_NEW_GLOBAL, WASMI_CALL_SET_FUEL, WASMI_CALL_GROW_MEMORY,
         WASMI_CALL_GROW_TABLE, WASMI_CALL_NEW_MEMORY, WASMI_CALL_STORE, WASMI_CALL_FILL_TABLE, WASMI_CALL_INIT_TABLE,
+        WASMI_CALL_INIT_MEMORY,
     };
     static const uint32_t items[3] = {4, 5, 6};
-    wasmi_call call = of_kind(kinds[step % 10]);
+    wasmi_call call = of_kind(kinds[step % 11]);
     if (step == 0) {
         static const uint8_t permits[STEPS];
         wasmi_reply reply = {.status = answers == 0 ? wasmi_machine_new(machine, &LIMITS)
@@ -788,6 +837,9 @@ static wasmi_reply step_of(wasmi_machine *machine, int step, size_t answers) {
     }
     if (step == 1) {
         return wasmi_machine_new_segment(machine, WASMI_TYPE_FUNCREF, items, 3);
+    }
+    if (step % 5 == 2) {
+        return wasmi_machine_new_data(machine, (const uint8_t *)"bytes", 5);
     }
     if (step % 3 == 0) {
         return wasmi_machine_write(machine, 0, 0, (const uint8_t *)"written", 7);

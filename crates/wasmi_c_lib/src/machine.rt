@@ -1,6 +1,6 @@
 //! A machine by a handle, and a pool of machines. `include/wasmi_machine.h` describes each call.
 ghost use Rattle.std.specs.Prelude.{◌≡◌, ℕ, List, None, Some};
-ghost use Rattle.wasmi_machine.specs.declared.calls.Call.TheVariants.{GetFuel, GrowMemory, Write};
+ghost use Rattle.wasmi_machine.specs.declared.calls.Call.TheVariants.{CopyMemory, FillMemory, GetFuel, GrowMemory, InitMemory, NewData, Write};
 ghost use Rattle.wasmi_c.specs.Machine.Calls.{RepliesInStatus, RepliesInWord, item_load, item_store, vector_binary, ActsOnHeld, OnHeld, ReadsOut, RepliesToCopy, RepliesToSegment, RepliesToStruct, PaysFuel, no_totals, totals_of, RunsLines};
 ghost use Rattle.wasmi_c.specs.Machine.NewMachines.{IsNewMachine, MakesMachine, MakesWithAnswers};
 ghost use Rattle.wasmi_c.specs.Machine.Replies.{only};
@@ -97,6 +97,18 @@ pub extern "C" fn wasmi_machine_new_segment(
 }
 
 #[unsafe(no_mangle)]
+pub extern "C" fn wasmi_machine_new_data(
+    alloc: Global,
+    handle: &mut Handle,
+    bytes: &[u8],
+) -> ReplyStruct
+    ensures { OnHeld (RepliesToCopy NewData bytes.now) (only NO_MACHINE)
+        handle.old.machine.held result handle.new.machine.held }
+{
+    on_machine!(handle, machine => machine.new_data(alloc, bytes))
+}
+
+#[unsafe(no_mangle)]
 pub extern "C" fn wasmi_machine_totals(handle: &mut Handle) -> Totals
     ensures { OnHeld
         (λ machine totals machine'. (machine' ≡ machine) × (totals ≡ totals_of machine))
@@ -164,6 +176,56 @@ pub extern "C" fn wasmi_machine_grow(
         handle.old.machine.held (result, number.new) handle.new.machine.held }
 {
     on_machine!(handle, NO_MACHINE, machine => machine.grow(memory, pages, number))
+}
+
+#[unsafe(no_mangle)]
+pub extern "C" fn wasmi_machine_fill(
+    handle: &mut Handle,
+    memory: usize,
+    to: u64,
+    value: u8,
+    count: u64,
+    number: &mut u64,
+) -> u8
+    ensures { OnHeld (RepliesInWord (Some (FillMemory memory to value count)) number.old)
+        (NO_MACHINE, number.old)
+        handle.old.machine.held (result, number.new) handle.new.machine.held }
+{
+    on_machine!(handle, NO_MACHINE, machine => machine.fill(memory, to, value, count, number))
+}
+
+#[unsafe(no_mangle)]
+pub extern "C" fn wasmi_machine_copy(
+    handle: &mut Handle,
+    memory: usize,
+    to: u64,
+    source: usize,
+    from: u64,
+    count: u64,
+    number: &mut u64,
+) -> u8
+    ensures { OnHeld (RepliesInWord (Some (CopyMemory memory to source from count)) number.old)
+        (NO_MACHINE, number.old)
+        handle.old.machine.held (result, number.new) handle.new.machine.held }
+{
+    on_machine!(handle, NO_MACHINE, machine => machine.copy(memory, to, source, from, count, number))
+}
+
+#[unsafe(no_mangle)]
+pub extern "C" fn wasmi_machine_init(
+    handle: &mut Handle,
+    memory: usize,
+    segment: usize,
+    to: u64,
+    from: u32,
+    count: u32,
+    number: &mut u64,
+) -> u8
+    ensures { OnHeld (RepliesInWord (Some (InitMemory memory segment to from count)) number.old)
+        (NO_MACHINE, number.old)
+        handle.old.machine.held (result, number.new) handle.new.machine.held }
+{
+    on_machine!(handle, NO_MACHINE, machine => machine.init(memory, segment, to, from, count, number))
 }
 
 #[unsafe(no_mangle)]

@@ -1574,9 +1574,9 @@ pub mod machine {
             pub page_size_log2: u8,
             /// A reference.
             pub reference: u32,
-            /// The memory, table, element segment or global, by its index.
+            /// The memory, table, segment or global, by its index.
             pub index: usize,
-            /// The memory, table or element segment that is copied from, by its index.
+            /// The memory, table or segment that is copied from, by its index.
             pub source: usize,
             /// Fuel, pages, bytes, elements, or a minimum of them.
             pub count: u64,
@@ -1642,19 +1642,43 @@ pub mod machine {
                         ptr: self.ptr,
                         offset: self.offset,
                     },
+                    _ => return self.range_call(),
+                })
+            }
+
+            /// A call that writes over a range of a memory or drops a data segment, or one on tables,
+            /// element segments, globals and registers.
+            ///
+            /// # Contract
+            ///
+            /// ```text
+            /// ensures: result ≡ range_call self.now
+            /// ```
+            #[inline]
+            fn range_call(&self) -> Option<Call> {
+                let (memory, dst, len) = (self.index, self.to, self.count);
+                Some(match self.kind {
                     29 => Call::FillMemory {
-                        memory: self.index,
-                        dst: self.to,
+                        memory,
+                        dst,
                         value: self.byte(),
-                        len: count,
+                        len,
                     },
                     30 => Call::CopyMemory {
-                        dst_memory: self.index,
-                        dst: self.to,
+                        dst_memory: memory,
+                        dst,
                         src_memory: self.source,
                         src: self.from,
-                        len: count,
+                        len,
                     },
+                    31 => Call::InitMemory {
+                        memory,
+                        segment: self.source,
+                        dst,
+                        src: to_u32(self.from)?,
+                        len: to_u32(len)?,
+                    },
+                    32 => Call::DropData(self.index),
                     _ => return self.table_call(),
                 })
             }
@@ -2461,6 +2485,98 @@ pub mod machine {
                     .grow_memory_lending(memory, pages, &mut self.limiter)
             }
 
+            /// Fills a range of a memory with a byte, and leaves a status and a word of the reply.
+            ///
+            /// # Contract
+            ///
+            /// ```text
+            /// ensures step: RepliesInWord (Some (FillMemory memory dst value len)) number.old self.old
+            ///     (result, number.new) self.new
+            /// ensures caps: caps_of self.new.limiter ≡ caps_of self.old.limiter
+            /// ```
+            ///
+            /// Definitions: [`caps_of`](crate::specs::meter::AnyLimiterSpecs#caps_of).
+            #[inline(always)]
+            pub fn fill(
+                &mut self,
+                memory: usize,
+                dst: u64,
+                value: u8,
+                len: u64,
+                number: &mut u64,
+            ) -> u8 {
+                let call = Call::FillMemory {
+                    memory,
+                    dst,
+                    value,
+                    len,
+                };
+                leave(self.reply(&call), number)
+            }
+
+            /// Copies a range of a memory to another one, or within it, and leaves a status and a word of
+            /// the reply.
+            ///
+            /// # Contract
+            ///
+            /// ```text
+            /// ensures step: RepliesInWord (Some (CopyMemory dst_memory dst src_memory src len))
+            ///     number.old self.old (result, number.new) self.new
+            /// ensures caps: caps_of self.new.limiter ≡ caps_of self.old.limiter
+            /// ```
+            ///
+            /// Definitions: [`caps_of`](crate::specs::meter::AnyLimiterSpecs#caps_of).
+            #[inline(always)]
+            pub fn copy(
+                &mut self,
+                dst_memory: usize,
+                dst: u64,
+                src_memory: usize,
+                src: u64,
+                len: u64,
+                number: &mut u64,
+            ) -> u8 {
+                let call = Call::CopyMemory {
+                    dst_memory,
+                    dst,
+                    src_memory,
+                    src,
+                    len,
+                };
+                leave(self.reply(&call), number)
+            }
+
+            /// Copies a range of a data segment to a memory, and leaves a status and a word of the reply.
+            ///
+            /// # Contract
+            ///
+            /// ```text
+            /// ensures step: RepliesInWord (Some (InitMemory memory segment dst src len)) number.old
+            ///     self.old (result, number.new) self.new
+            /// ensures caps: caps_of self.new.limiter ≡ caps_of self.old.limiter
+            /// ```
+            ///
+            /// Definitions: [`caps_of`](crate::specs::meter::AnyLimiterSpecs#caps_of).
+            #[inline(always)]
+            pub fn init(
+                &mut self,
+                memory: usize,
+                segment: usize,
+                dst: u64,
+                src: u32,
+                len: u32,
+                number: &mut u64,
+            ) -> u8 {
+                let call = Call::InitMemory {
+                    memory,
+                    segment,
+                    dst,
+                    src,
+                    len,
+                };
+                leave(self.reply(&call), number)
+            }
+
             /// Copies the bytes of a memory from an offset on to the caller's.
             ///
             /// # Contract
@@ -2514,6 +2630,24 @@ pub mod machine {
                     return ReplyStruct::only(NO_ROOM);
                 };
                 self.reply_in_struct(&Call::NewSegment { ty, items })
+            }
+
+            /// Makes a data segment of a copy of the caller's bytes.
+            ///
+            /// # Contract
+            ///
+            /// ```text
+            /// ensures step: RepliesToCopy NewData bytes.now self.old result self.new
+            /// ensures caps: caps_of self.new.limiter ≡ caps_of self.old.limiter
+            /// ```
+            ///
+            /// Definitions: [`caps_of`](crate::specs::meter::AnyLimiterSpecs#caps_of).
+            #[inline]
+            pub fn new_data(&mut self, bytes: &[u8]) -> ReplyStruct {
+                let Ok(copy) = Vec::from_slice(bytes) else {
+                    return ReplyStruct::only(NO_ROOM);
+                };
+                self.reply_in_struct(&Call::NewData(copy))
             }
 
             /// How many bytes and elements the machine has, as a quota holds them; else they are added up.

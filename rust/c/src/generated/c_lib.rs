@@ -726,6 +726,23 @@ mod machine {
     /// # Contract
     ///
     /// ```text
+    /// ensures: OnHeld (RepliesToCopy NewData bytes.now) (only NO_MACHINE)
+    ///     handle.old.machine.held result handle.new.machine.held
+    /// ```
+    #[unsafe(no_mangle)]
+    pub unsafe extern "C" fn wasmi_machine_new_data(
+        handle: &mut Handle,
+        bytes: *const u8,
+        bytes_len: usize,
+    ) -> ReplyStruct {
+        let bytes = unsafe { crate::memory::items(bytes, bytes_len) };
+
+        on_machine!(handle, machine => machine.new_data(bytes))
+    }
+
+    /// # Contract
+    ///
+    /// ```text
     /// ensures: OnHeld
     ///     (λ machine totals machine'. (machine' ≡ machine) × (totals ≡ totals_of machine))
     ///     no_totals handle.old.machine.held result handle.new.machine.held
@@ -815,6 +832,65 @@ mod machine {
         number: &mut u64,
     ) -> u8 {
         on_machine!(handle, NO_MACHINE, machine => machine.grow(memory, pages, number))
+    }
+
+    /// # Contract
+    ///
+    /// ```text
+    /// ensures: OnHeld (RepliesInWord (Some (FillMemory memory to value count)) number.old)
+    ///     (NO_MACHINE, number.old)
+    ///     handle.old.machine.held (result, number.new) handle.new.machine.held
+    /// ```
+    #[unsafe(no_mangle)]
+    pub extern "C" fn wasmi_machine_fill(
+        handle: &mut Handle,
+        memory: usize,
+        to: u64,
+        value: u8,
+        count: u64,
+        number: &mut u64,
+    ) -> u8 {
+        on_machine!(handle, NO_MACHINE, machine => machine.fill(memory, to, value, count, number))
+    }
+
+    /// # Contract
+    ///
+    /// ```text
+    /// ensures: OnHeld (RepliesInWord (Some (CopyMemory memory to source from count)) number.old)
+    ///     (NO_MACHINE, number.old)
+    ///     handle.old.machine.held (result, number.new) handle.new.machine.held
+    /// ```
+    #[unsafe(no_mangle)]
+    pub extern "C" fn wasmi_machine_copy(
+        handle: &mut Handle,
+        memory: usize,
+        to: u64,
+        source: usize,
+        from: u64,
+        count: u64,
+        number: &mut u64,
+    ) -> u8 {
+        on_machine!(handle, NO_MACHINE, machine => machine.copy(memory, to, source, from, count, number))
+    }
+
+    /// # Contract
+    ///
+    /// ```text
+    /// ensures: OnHeld (RepliesInWord (Some (InitMemory memory segment to from count)) number.old)
+    ///     (NO_MACHINE, number.old)
+    ///     handle.old.machine.held (result, number.new) handle.new.machine.held
+    /// ```
+    #[unsafe(no_mangle)]
+    pub extern "C" fn wasmi_machine_init(
+        handle: &mut Handle,
+        memory: usize,
+        segment: usize,
+        to: u64,
+        from: u32,
+        count: u32,
+        number: &mut u64,
+    ) -> u8 {
+        on_machine!(handle, NO_MACHINE, machine => machine.init(memory, segment, to, from, count, number))
     }
 
     /// # Contract
