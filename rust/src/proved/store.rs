@@ -1941,7 +1941,7 @@ pub mod range {
     #[inline]
     pub fn lies_within<T>(items: &[T], index: u64, len: u64) -> bool {
         let size = items.len() as u64;
-        index <= size && len <= size - index
+        index.checked_add(len).is_some_and(|end| end <= size)
     }
 
     /// Fills a buffer with the bytes from an offset on.
@@ -1962,11 +1962,11 @@ pub mod range {
     /// Definitions: [`at`](crate::specs::types::AccessSpecs#at).
     #[inline]
     pub fn read_bytes(bytes: &[u8], offset: usize, buffer: &mut [u8]) -> Result<(), MemoryError> {
-        let end = offset.checked_add(buffer.len());
-        let Some(part) = end.and_then(|end| bytes.get(offset..end)) else {
+        if !lies_within(bytes, offset as u64, buffer.len() as u64) {
             return Err(MemoryError::OutOfBoundsAccess);
-        };
-        buffer.copy_from_slice(part);
+        }
+        let end = offset + buffer.len();
+        buffer.copy_from_slice(&bytes[offset..end]);
         Ok(())
     }
 
@@ -1989,11 +1989,10 @@ pub mod range {
     /// Definitions: [`overwrite`](crate::specs::types::AccessSpecs#overwrite).
     #[inline]
     pub fn write_bytes(bytes: &mut [u8], offset: usize, buffer: &[u8]) -> Result<(), MemoryError> {
-        let end = offset.checked_add(buffer.len());
-        let Some(part) = end.and_then(|end| bytes.get_mut(offset..end)) else {
+        if !lies_within(bytes, offset as u64, buffer.len() as u64) {
             return Err(MemoryError::OutOfBoundsAccess);
-        };
-        part.copy_from_slice(buffer);
+        }
+        write_range(bytes, offset, buffer);
         Ok(())
     }
 
@@ -2010,7 +2009,7 @@ pub mod range {
     /// Definitions: [`overwrite`](crate::specs::types::AccessSpecs#overwrite).
     #[inline]
     pub fn write_range<T: Copy>(elements: &mut [T], index: usize, items: &[T]) {
-        let part = &mut elements[index..][..items.len()];
+        let part = &mut elements[index..index + items.len()];
         part.copy_from_slice(items);
     }
 
