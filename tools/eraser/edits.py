@@ -122,16 +122,27 @@ EDITS += [("machine", "#[derive(Debug)] pub struct DataSegment", "pub struct Dat
 EDITS += [("store", "#[derive(Clone, Copy, Debug)] pub struct ElementSegmentRef", "#[derive(Clone, Copy)]\npub struct ElementSegmentRef", 1)]
 
 # Texts that rustc's LLVM compiles badly, or that older compilers lack.
+TESTED = "if !lies_within(bytes, offset as u64, buffer.len() as u64) { return Err(MemoryError::OutOfBoundsAccess); }"
+PART = """        let end = offset.checked_add(buffer.len());
+        let Some(part) = end.and_then(|end| bytes.{}(offset..end)) else {{
+            return Err(MemoryError::OutOfBoundsAccess);
+        }};"""
 EDITS += [
     ("grammar", "let Some(words) = words.as_array::<16>() else {", "let Ok(words) = <&[&str; 16]>::try_from(words) else {", 1),
     # Rust's search for a char takes a word of memory at a time, and words of scripts are shorter.
     ("operands", "line.split(' ')", "crate::rattle::between_spaces(line)", 1),
     ("accesses", "for i in 0..N { memory[address + i] = bytes[i]; }", "memory[address..][..N].copy_from_slice(bytes);", 1),
     ("accesses", "memory[address..address + N].split_first_chunk::<N>()", "memory[address..].split_first_chunk::<N>()", 1),
-    # One comparison, after which LLVM tests no range again.
-    ("store", "index <= size && len <= size - index", "index.checked_add(len).is_some_and(|end| end <= size)", 1),
+    # The bounds one by one, as they were tested before: LLVM tests their sum once more.
+    ("store", "elements[index..index + items.len()]", "elements[index..][..items.len()]", 1),
+    ("machine", "memory[offset..offset + len]", "memory[offset..][..len]", 1),
     ("store", "#[inline] fn front_mut(&mut self, end: usize) -> &mut [u8] { match self {",
      "#[inline(always)]\n            fn front_mut(&mut self, end: usize) -> &mut [u8] {\n                match self {", 1),
+    # The bounds and the range by one sum, which is one comparison.
+    ("store", f"{TESTED} let end = offset + buffer.len(); buffer.copy_from_slice(&bytes[offset..end]);", f"""{PART.format("get")}
+        buffer.copy_from_slice(part);""", 1),
+    ("store", f"{TESTED} write_range(bytes, offset, buffer);", f"""{PART.format("get_mut")}
+        part.copy_from_slice(buffer);""", 1),
     # A panic without numbers, for which none is in a register.
     ("store", "&block[..self.len]", "crate::rattle::front(block, self.len)", 1),
     ("store", "&mut self[..end]", "crate::rattle::front_mut(self, end)", 1),

@@ -1392,7 +1392,7 @@ mod memories {
         if !lies_within(memory, offset as u64, len as u64) {
             return Reply::Memory(MemoryError::OutOfBoundsAccess);
         }
-        match memory[offset..offset + len].try_to_vec() {
+        match memory[offset..][..len].try_to_vec() {
             Ok(bytes) => Reply::Bytes(ByteList::from(bytes)),
             Err(_) => Reply::NoRoom,
         }

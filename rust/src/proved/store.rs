@@ -1941,7 +1941,7 @@ pub mod range {
     #[inline]
     pub fn lies_within<T>(items: &[T], index: u64, len: u64) -> bool {
         let size = items.len() as u64;
-        index.checked_add(len).is_some_and(|end| end <= size)
+        index <= size && len <= size - index
     }
 
     /// Fills a buffer with the bytes from an offset on.
@@ -1962,11 +1962,11 @@ pub mod range {
     /// Definitions: [`at`](crate::specs::types::AccessSpecs#at).
     #[inline]
     pub fn read_bytes(bytes: &[u8], offset: usize, buffer: &mut [u8]) -> Result<(), MemoryError> {
-        if !lies_within(bytes, offset as u64, buffer.len() as u64) {
+        let end = offset.checked_add(buffer.len());
+        let Some(part) = end.and_then(|end| bytes.get(offset..end)) else {
             return Err(MemoryError::OutOfBoundsAccess);
-        }
-        let end = offset + buffer.len();
-        buffer.copy_from_slice(&bytes[offset..end]);
+        };
+        buffer.copy_from_slice(part);
         Ok(())
     }
 
@@ -1989,10 +1989,11 @@ pub mod range {
     /// Definitions: [`overwrite`](crate::specs::types::AccessSpecs#overwrite).
     #[inline]
     pub fn write_bytes(bytes: &mut [u8], offset: usize, buffer: &[u8]) -> Result<(), MemoryError> {
-        if !lies_within(bytes, offset as u64, buffer.len() as u64) {
+        let end = offset.checked_add(buffer.len());
+        let Some(part) = end.and_then(|end| bytes.get_mut(offset..end)) else {
             return Err(MemoryError::OutOfBoundsAccess);
-        }
-        write_range(bytes, offset, buffer);
+        };
+        part.copy_from_slice(buffer);
         Ok(())
     }
 
@@ -2009,7 +2010,7 @@ pub mod range {
     /// Definitions: [`overwrite`](crate::specs::types::AccessSpecs#overwrite).
     #[inline]
     pub fn write_range<T: Copy>(elements: &mut [T], index: usize, items: &[T]) {
-        let part = &mut elements[index..index + items.len()];
+        let part = &mut elements[index..][..items.len()];
         part.copy_from_slice(items);
     }
 

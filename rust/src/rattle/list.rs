@@ -1,7 +1,6 @@
 //! Lists whose memory can be refused.
 
 use super::alloc::{AllocError, AllocFailed};
-use ::alloc::boxed::Box;
 
 /// A list whose memory can be refused. It is a `std::vec::Vec`, from which and into which it converts for nothing.
 #[derive(PartialEq, Eq)]
@@ -26,14 +25,6 @@ macro_rules! fallible {
 }
 
 impl<T: Copy> Vec<T> {
-    /// The items by themselves are returned in registers, which a list isn't.
-    #[inline(never)]
-    fn filled_with_some(item: T, count: usize) -> Result<Box<[T]>, AllocError> {
-        let mut list = Vec::with_capacity(count)?;
-        list.0.resize(count, item);
-        Ok(list.0.into_boxed_slice())
-    }
-
     fallible! {
         /// A list of `count` copies of an item.
         #[inline]
@@ -41,7 +32,14 @@ impl<T: Copy> Vec<T> {
             if count == 0 {
                 return Ok(Vec::new());
             }
-            Self::filled_with_some(item, count).map(|items| Vec(items.into_vec()))
+            Self::filled_with_some(item, count)
+        }
+
+        #[inline(never)]
+        fn filled_with_some(item: T, count: usize) -> Self {
+            let mut list = Vec::with_capacity(count)?;
+            list.0.resize(count, item);
+            Ok(list)
         }
 
         /// A list of the items of a slice.
