@@ -89,8 +89,8 @@
 //!
 //! - Floats have no arithmetic: what moves their bits is there, and the other 120 functions aren't.
 //! - If the system refuses memory, a memory or table isn't made or doesn't grow, and an error says so.
-//!   [`FuncType::new`] and [`ElementSegment::new`] panic. A [`Trap`], and a [`FuncType`] of more than
-//!   21 types, may abort.
+//!   [`FuncType::new`] panics. A [`Trap`], an [`ElementSegment`], and a [`FuncType`] of more than 21
+//!   types, may abort; [`machine::ElementSegment::new`] returns an error.
 //! - [`Memory::data_ptr`] returns a `*const u8`, so a write through it doesn't compile.
 //! - Where `usize` has 32 bits, sizes of 2^32 and more are refused, and a greater maximum counts as
 //!   2^32 - 1: that of a table too, which `wasmi_core` doesn't make then.

@@ -141,3 +141,36 @@ pub fn between_spaces(line: &str) -> impl Iterator<Item = &str> {
         Some(&text[..end.unwrap_or(text.len())])
     })
 }
+
+/// The first items of a slice, up to an end. The panic names no numbers, so that none is kept in a register for it.
+///
+/// # Panics
+///
+/// Panics if the slice is shorter.
+#[must_use]
+#[inline(always)]
+pub fn front<T>(items: &[T], end: usize) -> &[T] {
+    match items.get(..end) {
+        Some(front) => front,
+        None => ends_before(),
+    }
+}
+
+/// As `front`, of items which may be overwritten.
+///
+/// # Panics
+///
+/// Panics if the slice is shorter.
+#[inline(always)]
+pub fn front_mut<T>(items: &mut [T], end: usize) -> &mut [T] {
+    match items.get_mut(..end) {
+        Some(front) => front,
+        None => ends_before(),
+    }
+}
+
+#[cold]
+#[inline(never)]
+fn ends_before() -> ! {
+    panic!("a range ends past its items")
+}

@@ -7,6 +7,7 @@ use crate::{
     ElementSegmentRef, Fuel, RawRef, RefType, ResourceLimiterRef, TableError, TableType,
     TypedRawRef,
 };
+use ::alloc::boxed::Box;
 
 /// A table: references of one type, whose number grows up to the maximum of its [`TableType`].
 ///
@@ -35,27 +36,33 @@ impl ElementSegment {
     /// `None`.
     ///
     /// The contract is that of [`machine::ElementSegment::new`](crate::machine::ElementSegment::new),
-    /// which returns an error where this panics.
+    /// which returns an error where this panics or aborts.
     ///
     /// # Panics
     ///
-    /// If there are more than 2^32 - 1 items, or if the system refuses memory for them.
+    /// If there are more than 2^32 - 1 items, or if the iterator says so.
+    ///
+    /// # Aborts
+    ///
+    /// If the system refuses memory for the items, as [`Vec`](::alloc::vec::Vec) does.
     #[inline]
     pub fn new<I>(ty: RefType, items: I) -> Self
     where
         I: IntoIterator<Item = RawRef>,
     {
-        // The proved function reads one item after another.
-        let mut list = Vec::new();
         let most = usize::try_from(u32::MAX).unwrap_or(usize::MAX);
-        if list
-            .read_all(items.into_iter(), most.saturating_add(1))
-            .is_err()
-        {
-            panic!("out of memory for an element segment");
-        }
-        assert!(list.len() <= most, "element segment has too many items");
-        Self(ProvedSegment { ty, items: list })
+        let test = |count| assert!(count <= most, "element segment has too many items");
+        let items = items.into_iter();
+        let (at_least, at_most) = items.size_hint();
+        test(at_least);
+        // The proved function reads one item after another. Behind `take`, `collect` takes more time.
+        let list: Box<[RawRef]> = match at_most {
+            Some(at_most) if at_most <= most => items.collect(),
+            _ => items.take(most.saturating_add(1)).collect(),
+        };
+        test(list.len());
+        let items = Vec::from(list.into_vec());
+        Self(ProvedSegment { ty, items })
     }
 
     methods!(store ElementSegment: as_ref ty items size drop_items);

@@ -1,6 +1,6 @@
 //! Each request for memory of some works is refused in turn: nothing aborts, up to the refusal a work gives what it gives
-//! without one, and what it gives first otherwise says that there was no memory. A `Trap`, and a `FuncType` of more than 21
-//! types, aren't among the works, since they may abort.
+//! without one, and what it gives first otherwise says that there was no memory. A `Trap`, a `FuncType` of more than 21
+//! types, and the root's `ElementSegment::new` aren't among the works, since they may abort.
 #![cfg(all(feature = "std", feature = "simd"))]
 use std::alloc::{GlobalAlloc, Layout, System};
 use std::cell::Cell;
@@ -11,8 +11,8 @@ use wasmi_core_proved::machine::{self, Call, Machine, NoLimits, Quota, Reply};
 use wasmi_core_proved::pool::Pool;
 use wasmi_core_proved::script::{Status, replay};
 use wasmi_core_proved::{
-    ElementSegment, Fuel, FuelCostsProvider, FuncType, GlobalType, Memory, MemoryType, Mutability,
-    RawRef, RawVal, RefType, ResourceLimiterRef, Table, TableType, TypedRawRef, ValType,
+    Fuel, FuelCostsProvider, FuncType, GlobalType, Memory, MemoryType, Mutability, RawRef, RawVal,
+    RefType, ResourceLimiterRef, Table, TableType, TypedRawRef, ValType,
 };
 
 thread_local! {
@@ -163,10 +163,9 @@ fn segments_and_function_types() {
     let items = (0..100).map(RawRef::from);
     refuses_each(|steps| {
         steps.step(|| machine::ElementSegment::new(RefType::Func, items.clone()));
-        steps.step(|| ElementSegment::new(RefType::Func, items.clone()).size());
         // As many items, of which the iterator doesn't say how many they are.
         let kept = items.clone().filter(|_| true);
-        steps.step(|| ElementSegment::new(RefType::Func, kept).size());
+        steps.step(|| machine::ElementSegment::new(RefType::Func, kept).map(|it| it.size()));
         let types = |count| std::iter::repeat_n(ValType::I64, count);
         steps.step(|| FuncType::new(types(11), types(10)).map(|ty| ty.clone().len_params()));
     });

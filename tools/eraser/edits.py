@@ -122,6 +122,11 @@ EDITS += [("machine", "#[derive(Debug)] pub struct DataSegment", "pub struct Dat
 EDITS += [("store", "#[derive(Clone, Copy, Debug)] pub struct ElementSegmentRef", "#[derive(Clone, Copy)]\npub struct ElementSegmentRef", 1)]
 
 # Texts that rustc's LLVM compiles badly, or that older compilers lack.
+TESTED = "if !lies_within(bytes, offset as u64, buffer.len() as u64) { return Err(MemoryError::OutOfBoundsAccess); }"
+PART = """        let end = offset.checked_add(buffer.len());
+        let Some(part) = end.and_then(|end| bytes.{}(offset..end)) else {{
+            return Err(MemoryError::OutOfBoundsAccess);
+        }};"""
 EDITS += [
     ("grammar", "let Some(words) = words.as_array::<16>() else {", "let Ok(words) = <&[&str; 16]>::try_from(words) else {", 1),
     # Rust's search for a char takes a word of memory at a time, and words of scripts are shorter.
@@ -133,8 +138,16 @@ EDITS += [
     ("machine", "memory[offset..offset + len]", "memory[offset..][..len]", 1),
     ("store", "#[inline] fn front_mut(&mut self, end: usize) -> &mut [u8] { match self {",
      "#[inline(always)]\n            fn front_mut(&mut self, end: usize) -> &mut [u8] {\n                match self {", 1),
-    ("store", "let end = offset + buffer.len(); buffer.copy_from_slice(&bytes[offset..end]);",
-     "        buffer.copy_from_slice(&bytes[offset..][..buffer.len()]);", 1),
+    # The bounds and the range by one sum, which is one comparison.
+    ("store", f"{TESTED} let end = offset + buffer.len(); buffer.copy_from_slice(&bytes[offset..end]);", f"""{PART.format("get")}
+        buffer.copy_from_slice(part);""", 1),
+    ("store", f"{TESTED} write_range(bytes, offset, buffer);", f"""{PART.format("get_mut")}
+        part.copy_from_slice(buffer);""", 1),
+    # A panic without numbers, for which none is in a register.
+    ("store", "&block[..self.len]", "crate::rattle::front(block, self.len)", 1),
+    ("store", "&mut self[..end]", "crate::rattle::front_mut(self, end)", 1),
+    # LLVM makes two instructions more of the quotient.
+    ("store", "self.buffer.len() as u64 / u64::from(self.ty.page_size())", "self.buffer.len() as u64 >> self.ty.page_size_log2()", 1),
 ]
 
 # Function types: an array is filled by one loop over its cells, which LLVM unrolls; what is above it is made out of line; and no gap of 7

@@ -606,7 +606,7 @@ mod memory {
 
             #[inline]
             fn front_mut(&mut self, end: usize) -> &mut [u8] {
-                &mut self[..end]
+                crate::rattle::front_mut(self, end)
             }
         }
 
@@ -678,7 +678,7 @@ mod memory {
                     Storage::Owned(bytes) => bytes.as_slice(),
                     Storage::Lent(region) => region.whole(),
                 };
-                &block[..self.len]
+                crate::rattle::front(block, self.len)
             }
 
             /// The bytes, which may be overwritten.
@@ -1492,7 +1492,7 @@ mod memory {
         #[must_use]
         #[inline]
         pub fn size(&self) -> u64 {
-            self.buffer.len() as u64 / u64::from(self.ty.page_size())
+            self.buffer.len() as u64 >> self.ty.page_size_log2()
         }
 
         /// The size in bytes: whole pages, as many as its type allows.
@@ -1962,10 +1962,11 @@ pub mod range {
     /// Definitions: [`at`](crate::specs::types::AccessSpecs#at).
     #[inline]
     pub fn read_bytes(bytes: &[u8], offset: usize, buffer: &mut [u8]) -> Result<(), MemoryError> {
-        if !lies_within(bytes, offset as u64, buffer.len() as u64) {
+        let end = offset.checked_add(buffer.len());
+        let Some(part) = end.and_then(|end| bytes.get(offset..end)) else {
             return Err(MemoryError::OutOfBoundsAccess);
-        }
-        buffer.copy_from_slice(&bytes[offset..][..buffer.len()]);
+        };
+        buffer.copy_from_slice(part);
         Ok(())
     }
 
@@ -1988,10 +1989,11 @@ pub mod range {
     /// Definitions: [`overwrite`](crate::specs::types::AccessSpecs#overwrite).
     #[inline]
     pub fn write_bytes(bytes: &mut [u8], offset: usize, buffer: &[u8]) -> Result<(), MemoryError> {
-        if !lies_within(bytes, offset as u64, buffer.len() as u64) {
+        let end = offset.checked_add(buffer.len());
+        let Some(part) = end.and_then(|end| bytes.get_mut(offset..end)) else {
             return Err(MemoryError::OutOfBoundsAccess);
-        }
-        write_range(bytes, offset, buffer);
+        };
+        part.copy_from_slice(buffer);
         Ok(())
     }
 

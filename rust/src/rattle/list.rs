@@ -228,7 +228,7 @@ impl<T> Vec<T> {
     /// Panics if the range ends past them.
     #[inline]
     pub fn slice_mut(&mut self, range: core::ops::RangeTo<usize>) -> &mut [T] {
-        &mut self.0[range]
+        super::front_mut(&mut self.0, range.end)
     }
 
     /// The list as Rust has it.

@@ -348,3 +348,68 @@ fn segments() {
         assert_eq!(read(&segment), (kind, Vec::new(), 0));
     }
 }
+
+/// So many references, one `None`, after which nothing may be read, and what is said of their number.
+struct Said {
+    count: u32,
+    read: u32,
+    said: (usize, Option<usize>),
+}
+
+impl Iterator for Said {
+    type Item = RawRef;
+
+    fn next(&mut self) -> Option<RawRef> {
+        self.read += 1;
+        assert!(self.read <= self.count + 1, "read past the end");
+        (self.read <= self.count).then_some(RawRef::from(self.read))
+    }
+
+    fn size_hint(&self) -> (usize, Option<usize>) {
+        self.said
+    }
+}
+
+#[test]
+fn segments_have_all_items_up_to_the_first_none_whatever_is_said() {
+    let most = u32::MAX as usize;
+    for count in [0, 1, 3, 5, 9] {
+        for said in [
+            (0, None),
+            (0, Some(0)),
+            (0, Some(most)),
+            (0, Some(usize::MAX)),
+            (3, Some(3)),
+            (9, None),
+            (9, Some(9)),
+        ] {
+            let items = Said {
+                count,
+                read: 0,
+                said,
+            };
+            let segment = ElementSegment::new(RefType::Func, items);
+            let expected: Vec<RawRef> = (1..=count).map(RawRef::from).collect();
+            assert_eq!(segment.items(), expected, "{count} {said:?}");
+        }
+    }
+    // No room is made for what is said before there is an item.
+    let items = Said {
+        count: 0,
+        read: 0,
+        said: (most, Some(most)),
+    };
+    assert_eq!(ElementSegment::new(RefType::Func, items).size(), 0);
+}
+
+#[test]
+#[should_panic = "element segment has too many items"]
+#[cfg(target_pointer_width = "64")]
+fn too_many_items_by_what_is_said_are_refused_unread() {
+    let items = Said {
+        count: 0,
+        read: 1,
+        said: (1 << 32, None),
+    };
+    ElementSegment::new(RefType::Func, items);
+}
