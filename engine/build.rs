@@ -9,7 +9,7 @@ fn main() {
     let is = |name: &str, values: &[&str]| env::var(name).is_ok_and(|it| values.contains(&it.as_str()));
     let is_one_unit = option_env!("CARGO_PRIMARY_PACKAGE").is_some() || env::var_os("CARGO_FEATURE_JUMPS").is_some();
     let makes_jumps = is_one_unit
-        && is("OPT_LEVEL", &["2", "3", "s"])
+        && is("OPT_LEVEL", &["2", "3"])
         && is("CARGO_CFG_TARGET_ARCH", &["x86_64", "aarch64"])
         && !is("CARGO_CFG_TARGET_OS", &["windows"])
         && (env::var_os("CARGO_FEATURE_CRATE").is_none() || is("PROFILE", &["release"]))
