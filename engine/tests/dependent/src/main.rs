@@ -1,6 +1,7 @@
-//! A host in a package of its own, in which the engine is compiled in several codegen units. It runs the guests on a thread
-//! with a small stack, which would end if an instruction took some of it and didn't give it back: they execute millions.
-//! It prints the number of calls. Its status isn't 0 if one gives another result than `guests/list` says.
+//! A host in a package of its own, in which the engine is compiled in several codegen units. It executes each handler, and
+//! looks whether one takes stack. Then it runs the guests on a thread with a small stack, which would end if an instruction
+//! took some of it and didn't give it back: they execute millions. It prints the number of calls. Its status isn't 0 if a
+//! handler takes stack, or if a call gives another result than `guests/list` says.
 
 use engine::{Config, Engine, Error, Linker, Module, Store, Val, ValType};
 use std::error::Error as AnyError;
@@ -75,7 +76,11 @@ fn calls_all_others() -> Vec<u8> {
 }
 
 fn run() -> Outcome<usize> {
-    let mut count = 0;
+    let (found, mut count) = engine::taking_stack();
+    if !found.is_empty() || count < 1000 {
+        return Err(format!("of {count} handlers these take stack: {found:?}").into());
+    }
+    count = 0;
     for is_metered in [false, true] {
         let engine = Engine::new(Config::default().consume_fuel(is_metered));
         count += guests(&engine)?;
