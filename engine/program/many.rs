@@ -3,8 +3,11 @@
 //! guest's memories are also made alone, and the first write to each 4,096 of them is timed alone, since the system may take
 //! longer for them than all else takes.
 //!
-//! usage: `cargo run --release --example many -- FILE FUNCTION ARGUMENT COUNT`. Times are those of the processor, as
-//! Linux counts them; the bytes are those of the machine's memory that the process has more while all instances are there.
+//! usage: `cargo run --release --example many -- FILE FUNCTION ARGUMENT COUNT [BYTES MICROSECONDS]`. Times are those of the
+//! processor, as Linux counts them; the bytes are those of the machine's memory that the process has more while all
+//! instances are there. All tenants are made, run and dropped seven times. The first time the system gives the process
+//! memory, and later there is that of the tenants before. If a tenant takes more bytes than BYTES in the first round, or
+//! more than MICROSECONDS in the fastest one, the status is 1.
 
 use engine::{Caps, Config, Engine, Instance, Linker, Module, Store, TypedFunc};
 use std::error::Error;
@@ -99,6 +102,31 @@ fn evict((mut store, made): (Store<()>, Made)) -> Outcome<()> {
     if store.caps() == CAPS { Ok(()) } else { Err("a tenant hasn't got back its caps".into()) }
 }
 
+const ROUNDS: usize = 7;
+
+/// Makes, runs and drops so many tenants in each round. It gives the bytes of each in the first round, and the least time
+/// of making and running one.
+fn rounds(guest: &Guest, count: u32) -> Outcome<(u64, Duration)> {
+    // Something above the memory of the tenants stays, so that the process keeps that memory when they are dropped.
+    let (mut above, mut bytes, mut least) = (vec![], 0, Duration::MAX);
+    for round in 0..ROUNDS {
+        let tenants = measured(count, |_| tenant(guest), |(store, made)| guest.run(made, store))?;
+        above.push(tenant(guest)?);
+        let time = tenants.made + tenants.run;
+        let begun = processor_time()?;
+        tenants.all.into_iter().try_for_each(evict)?;
+        let dropped = (processor_time()? - begun) / count;
+        if round == 0 {
+            bytes = tenants.bytes;
+            let Measured { made, run, .. } = tenants;
+            println!("tenants, first: {time:?} ({made:?} made, {run:?} run), {dropped:?} dropped, {bytes} bytes each");
+        }
+        least = least.min(time);
+    }
+    println!("tenants, least of {ROUNDS}: {least:?}");
+    Ok((bytes, least))
+}
+
 /// Calls an instance so often on each of so many threads. The time is the longest one of a thread.
 fn on_threads(guest: &Guest, threads: u32, count: u32) -> Outcome<Duration> {
     let run = move |guest: Guest| -> Outcome<Duration> {
@@ -128,35 +156,52 @@ fn resident() -> Outcome<u64> {
     Ok(line.trim().trim_end_matches(" kB").parse::<u64>()? * 1024)
 }
 
-fn main() -> Outcome<()> {
-    let words: Vec<String> = env::args().skip(1).collect();
-    let [file, function, argument, count] = &words[..] else {
-        return Err("usage: many FILE FUNCTION ARGUMENT COUNT".into());
-    };
-    let engine = Engine::new(Config::default().consume_fuel(true));
-    let module = Module::new(&engine, &fs::read(file)?)?;
-    let guest = Guest { engine, module, function: function.clone(), argument: argument.parse()? };
-    let count: u32 = count.parse()?;
-    println!("one after another: {:?} each", one_after_another(&guest, count)?);
+/// Instances of one store that are there at once, in memory that the process has.
+fn in_one_store(guest: &Guest, count: u32) -> Outcome<()> {
     let mut store = guest.store()?;
     let here = measured(count, |_| guest.instance(&mut store), |_| Ok(()))?;
-    println!("instances: {:?} made, {} bytes each", here.made, here.bytes);
-    let tenants = measured(count, |_| tenant(&guest), |(store, made)| guest.run(made, store))?;
-    println!("tenants: {:?} made, {:?} run, {} bytes each", tenants.made, tenants.run, tenants.bytes);
-    let size = guest.instance(&mut store)?.0.contents(&store).memories.iter().map(|it| it.data_size()).sum();
-    let alone = measured(count, |it| Ok(vec![it as u8 | 1; size]), |_| Ok(()))?;
-    println!("{size} bytes alone: {:?} made, {} bytes each", alone.made, alone.bytes);
-    println!("the first write to each 4096 of {size} bytes: {:?}", first_writes(size, count)?);
     let begun = processor_time()?;
     drop(here.all);
     if store.caps() != CAPS {
         return Err("a store hasn't got back its caps".into());
     }
-    let dropped = processor_time()?;
-    tenants.all.into_iter().try_for_each(evict)?;
-    let evicted = processor_time()?;
-    println!("dropped: {:?} an instance, {:?} a tenant", (dropped - begun) / count, (evicted - dropped) / count);
+    let dropped = (processor_time()? - begun) / count;
+    println!("instances: {:?} made, {dropped:?} dropped", here.made);
+    Ok(())
+}
+
+/// The bytes of a guest's memories without the guest: in memory that the process has, and as the system gives it.
+fn bytes_alone(guest: &Guest, count: u32) -> Outcome<()> {
+    let mut store = guest.store()?;
+    let size = guest.instance(&mut store)?.0.contents(&store).memories.iter().map(|it| it.data_size()).sum();
+    let alone = measured(count, |it| Ok(vec![it as u8 | 1; size]), |_| Ok(()))?;
+    println!("{size} bytes alone: {:?}", alone.made);
+    println!("the first write to each 4096 of {size} bytes: {:?}", first_writes(size, count)?);
+    Ok(())
+}
+
+fn main() -> Outcome<()> {
+    let words: Vec<String> = env::args().skip(1).collect();
+    let (file, function, argument, count, bounds) = match &words[..] {
+        [file, function, argument, count] => (file, function, argument, count, None),
+        [file, function, argument, count, bytes, time] => {
+            (file, function, argument, count, Some((bytes.parse()?, Duration::from_micros(time.parse()?))))
+        }
+        _ => return Err("usage: many FILE FUNCTION ARGUMENT COUNT [BYTES MICROSECONDS]".into()),
+    };
+    let engine = Engine::new(Config::default().consume_fuel(true));
+    let module = Module::new(&engine, &fs::read(file)?)?;
+    let guest = Guest { engine, module, function: function.clone(), argument: argument.parse()? };
+    let count: u32 = count.parse()?;
+    let (bytes, time) = rounds(&guest, count)?;
+    println!("one after another: {:?} each", one_after_another(&guest, count)?);
+    in_one_store(&guest, count)?;
+    bytes_alone(&guest, count)?;
     println!("a thread: {:?} a call", on_threads(&guest, 1, count)?);
     println!("four threads: {:?} a call", on_threads(&guest, 4, count)?);
-    Ok(())
+    match bounds {
+        Some((most, _)) if bytes > most => Err(format!("a tenant takes {bytes} bytes").into()),
+        Some((_, most)) if time > most => Err(format!("a tenant takes {time:?}").into()),
+        _ => Ok(()),
+    }
 }

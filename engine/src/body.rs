@@ -70,7 +70,7 @@ impl Lazy {
     }
 }
 
-#[cfg(test)]
+#[cfg(any(test, feature = "handlers"))]
 impl From<Body> for Lazy {
     fn from(body: Body) -> Lazy {
         Lazy { body: body.into(), function: Mutex::default() }

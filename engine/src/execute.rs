@@ -99,7 +99,7 @@ fn run(inner: &mut Inner, at: &mut Activation, memory: usize) -> Result<Ran, Tra
         tables: (tables, &items.tables),
         globals: (globals, &mut items.globals),
         exit: Exit::Done,
-        #[cfg(not(all(jumps, not(debug_assertions))))]
+        #[cfg(not(all(one_unit, not(debug_assertions))))]
         place: (code, slots, 0),
     };
     let outcome = state.run(code, slots);
@@ -212,5 +212,7 @@ macro_rules! traps {
 traps!(of_memory, MemoryError, OutOfBoundsGrowth, MemoryOutOfBounds);
 traps!(of_table, TableError, GrowOutOfBounds, TableOutOfBounds);
 
-#[cfg(test)]
+#[cfg(any(test, feature = "handlers"))]
 mod tests;
+#[cfg(feature = "handlers")]
+pub use tests::taking_stack;

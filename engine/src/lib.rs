@@ -120,6 +120,9 @@ pub use compiled::{ExternType, ImportType, Module};
 pub use context::{AsContext, AsContextMut, StoreContext, StoreContextMut};
 pub use engine::{Config, Engine};
 pub use error::Error;
+#[cfg(feature = "handlers")]
+#[doc(hidden)]
+pub use execute::taking_stack;
 pub use floats::FloatInstruction;
 pub use func::{Func, IntoFunc, TypedFunc};
 pub use instance::{Contents, Instance};

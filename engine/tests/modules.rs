@@ -496,6 +496,18 @@ fn tail_calls_take_no_stack() {
 }
 
 #[test]
+fn first_calls_take_no_stack() {
+    // f calls each of 20,000 functions once. What is executed of a function is made when it is first called.
+    const COUNT: u64 = 20_000;
+    let calls = (1..=COUNT).flat_map(|it| [vec![0x10], leb(it)].concat());
+    let code: Vec<u8> = calls.chain([0x42, 7]).collect();
+    let wasm = Wasm::default().function(&[], &[I64], &[], &code);
+    let wasm = (0..COUNT).fold(wasm, |it, _| it.function(&[], &[], &[], &[]));
+    let run = move || called(&wasm, &mut store(SOME), &[]);
+    assert_eq!(thread::Builder::new().stack_size(1 << 18).spawn(run).unwrap().join().unwrap(), Ok(7));
+}
+
+#[test]
 fn a_tail_call_has_operands_and_results_of_its_own() {
     // f(a) = g(a, 2, 3) with more parameters than f has slots, and g gives three results to the caller of f.
     let module = |of_callee: &[u8]| {

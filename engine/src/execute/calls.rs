@@ -129,8 +129,16 @@ fn enter<'a>(
 #[cold]
 #[inline(never)]
 fn make<'a>(code: &'a [Instruction], slots: Slots<'a>, state: &mut State<'a>, callee: u32) -> Outcome {
-    state.bodies[callee as usize].body(state.module.config);
+    make_apart(state, callee);
     next(code, slots, state, 0)
+}
+
+/// Makes what is executed of a function. A function of its own has the variables in memory, which would be in the way of
+/// the jump at the end of `make`: each function that is called for the first time would take stack then.
+#[cold]
+#[inline(never)]
+fn make_apart(state: &State, callee: u32) {
+    state.bodies[callee as usize].body(state.module.config);
 }
 
 /// Makes room for more frames, and repeats the call.

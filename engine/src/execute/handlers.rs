@@ -62,9 +62,15 @@ impl Value for V128 {
     }
 }
 
-/// A handler after which the next instruction is executed. It gives the last result.
+/// A handler after which the next instruction is executed. It gives the last result. `by loop` is before a handler that may
+/// have variables in memory, and `by loop if V128` before one that may have some if one of the types is that of vectors.
 macro_rules! handler {
-    ($name:ident $(<$($way:ident),*>)? |$op:ident, $slots:ident, $state:ident, $last:ident| $body:expr) => {
+    (by loop if V128 in [V128 $($ty:ident)?] $($rest:tt)*) => { handler!(@next_by_loop $($rest)*); };
+    (by loop if V128 in [$ty:ident V128] $($rest:tt)*) => { handler!(@next_by_loop $($rest)*); };
+    (by loop if V128 in [$($ty:ident)*] $($rest:tt)*) => { handler!(@next $($rest)*); };
+    (by loop $($rest:tt)*) => { handler!(@next_by_loop $($rest)*); };
+    ($name:ident $($rest:tt)*) => { handler!(@next $name $($rest)*); };
+    (@$next:ident $name:ident $(<$($way:ident),*>)? |$op:ident, $slots:ident, $state:ident, $last:ident| $body:expr) => {
         #[allow(unused_variables)]
         pub(super) fn $name<'a, $($(const $way: Way),*)?>(
             code: &'a [Instruction],
@@ -74,7 +80,7 @@ macro_rules! handler {
         ) -> Outcome {
             let [$op, _, ..] = code else { return end() };
             let last = $body;
-            next(&code[1..], $slots, $state, last)
+            $next(&code[1..], $slots, $state, last)
         }
     };
 }

@@ -2,7 +2,7 @@
 
 use crate::body::Instruction;
 use crate::execute::handlers::{IMM, LAST, SLOT, Value, Way, branch_to, control, handler, or_trap, ways};
-use crate::execute::state::{Handler, Outcome, Slots, State, end, next, trapped};
+use crate::execute::state::{Handler, Outcome, Slots, State, end, next, next_by_loop, trapped};
 use crate::instructions::{Code, instructions};
 use crate::library::{TrapCode, V128};
 
@@ -130,12 +130,12 @@ macro_rules! accesses {
     ($module:ident, $address:ident, { $($l:ident $lt:ident $lw:literal),* } { $($s:ident $st:ident $sw:literal),* }) => {
         mod $module {
             use super::*;
-            $(handler!($l<TO, A> |op, slots, state, last| {
+            $(handler!(by loop if V128 in [$lt] $l<TO, A> |op, slots, state, last| {
                 let address = $address::<A>(op, slots, last);
                 or_trap!(bounded::<$lw>(state.bytes, address, op.high()));
                 loaded!($l, TO, state.bytes, address, op.high().into(), op.d, slots)
             });)*
-            $(handler!($s<B, A> |op, slots, state, last| {
+            $(handler!(by loop $s<B, A> |op, slots, state, last| {
                 let address = $address::<A>(op, slots, last);
                 or_trap!(bounded::<$sw>(state.bytes, address, op.high()));
                 or_trap!(library::$s(state.bytes, address, op.high().into(), slots.get(op.d)));
@@ -175,14 +175,14 @@ macro_rules! handlers {
     ) => {
         mod plain {
             use super::*;
-            $($(handler!($u<TO, A> |op, slots, state, last| {
+            $($(handler!(by loop if V128 in [$ua $ur] $u<TO, A> |op, slots, state, last| {
                 library::$u(Value::read::<A>(op.a, 0, slots, last)).write::<TO>(op.d, slots)
             });)*)*
-            $($(handler!($b<TO, A, B> |op, slots, state, last| {
+            $($(handler!(by loop if V128 in [$ba $br] $b<TO, A, B> |op, slots, state, last| {
                 let a = Value::read::<A>(op.a, 0, slots, last);
                 library::$b(a, Value::read::<B>(op.low(), op.number(), slots, last)).write::<TO>(op.d, slots)
             });)*)*
-            $(handler!($t |op, slots, state, last| {
+            $(handler!(by loop $t |op, slots, state, last| {
                 library::$t(slots.get(op.a), slots.get(op.low()), slots.get(op.high())).write::<SLOT>(op.d, slots)
             });)*
             $($(handler!($d<TO, A, B> |op, slots, state, last| {
@@ -190,29 +190,29 @@ macro_rules! handlers {
                 let b = Value::read::<B>(op.low(), op.number(), slots, last);
                 or_trap!(library::$d(a, b)).write::<TO>(op.d, slots)
             });)*)*
-            $($(handler!($l<TO, A> |op, slots, state, last| {
+            $($(handler!(by loop if V128 in [$lt] $l<TO, A> |op, slots, state, last| {
                 let address = Value::read::<A>(op.a, 0, slots, last);
                 loaded!($l, TO, state.bytes, address, op.imm.into(), op.d, slots)
             });)*)*
-            $($(handler!($s<B, A> |op, slots, state, last| {
+            $($(handler!(by loop $s<B, A> |op, slots, state, last| {
                 let address = Value::read::<A>(op.a, 0, slots, last);
                 let value = Value::read::<B>(op.d, op.short(), slots, last);
                 or_trap!(library::$s(state.bytes, address, op.imm.into(), value));
                 last
             });)*)*
-            $($(handler!($e |op, slots, state, last| {
+            $($(handler!(by loop $e |op, slots, state, last| {
                 library::$e(slots.get(op.a), or_trap!(lane(op.high()))).write::<SLOT>(op.d, slots)
             });)*)*
-            $($(handler!($r |op, slots, state, last| {
+            $($(handler!(by loop $r |op, slots, state, last| {
                 library::$r(slots.get(op.a), or_trap!(lane(op.high())), slots.get(op.low())).write::<SLOT>(op.d, slots)
             });)*)*
-            $(handler!($ll |op, slots, state, last| {
+            $(handler!(by loop $ll |op, slots, state, last| {
                 let op = state.body.wide[op.imm as usize];
                 let lane = or_trap!(lane(op.lane));
                 let value = library::$ll(state.bytes, slots.number(op.a), op.imm.into(), slots.get(op.b), lane);
                 or_trap!(value).write::<SLOT>(op.d, slots)
             });)*
-            $(handler!($sl |op, slots, state, last| {
+            $(handler!(by loop $sl |op, slots, state, last| {
                 let op = state.body.wide[op.imm as usize];
                 let lane = or_trap!(lane(op.lane));
                 or_trap!(library::$sl(state.bytes, slots.number(op.a), op.imm.into(), slots.get(op.b), lane));

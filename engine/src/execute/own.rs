@@ -4,7 +4,7 @@ use crate::body::Instruction;
 use crate::execute::Exit;
 use crate::execute::calls::{call, call_indirect, ret, ret_many, ret_one, return_call, return_call_indirect};
 use crate::execute::handlers::{LAST, SLOT, Value, Way, branch_to, control, handler, or_trap, ways};
-use crate::execute::state::{Handler, Outcome, Slots, State, end, next, trapped};
+use crate::execute::state::{Handler, Outcome, Slots, State, end, next, next_by_loop, trapped};
 use crate::instructions::Code;
 use crate::library::{RawVal, ReadAs, TrapCode, TypedRawVal, simd, wasm};
 
@@ -152,7 +152,7 @@ handler! { select<TO, C> |op, slots, state, last| {
     slots.number(from)
 } }
 
-handler! { shuffle |op, slots, state, last| {
+handler! { by loop shuffle |op, slots, state, last| {
     let op = state.body.wide[op.imm as usize];
     let lanes = state.body.shuffles[op.imm as usize];
     slots.set(op.d, simd::i8x16_shuffle(slots.get(op.a), slots.get(op.b), lanes));

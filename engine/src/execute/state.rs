@@ -70,8 +70,9 @@ impl<'a> Slots<'a> {
     #[inline(always)]
     pub fn zero<const COUNT: u8>(self, from: u16) {
         let from = usize::from(from);
-        let cells = self.0.get(from..from + usize::from(COUNT));
-        cells.into_iter().flatten().for_each(|it| it.set(RawVal::default()));
+        for it in self.0.get(from..from + usize::from(COUNT)).unwrap_or_default() {
+            it.set(RawVal::default());
+        }
     }
 
     /// Makes the frame of a function whose parameters lie there already.
@@ -105,7 +106,7 @@ pub(crate) struct State<'a> {
     /// What handlers end for.
     pub exit: Exit,
     /// What is executed next, where handlers return to the loop.
-    #[cfg(not(all(jumps, not(debug_assertions))))]
+    #[cfg(not(all(one_unit, not(debug_assertions))))]
     pub place: (&'a [Instruction], Slots<'a>, u64),
 }
 
@@ -113,7 +114,7 @@ pub(crate) struct State<'a> {
 #[derive(Clone, Copy)]
 pub(crate) enum Outcome {
     /// The next instruction is to be executed.
-    #[cfg(not(all(jumps, not(debug_assertions))))]
+    #[cfg(not(all(one_unit, not(debug_assertions))))]
     Next,
     /// The loop is to end for `exit`.
     Exit,
@@ -153,19 +154,34 @@ pub(crate) fn next<'a>(code: &'a [Instruction], slots: Slots<'a>, state: &mut St
 #[cfg(not(all(jumps, not(debug_assertions))))]
 #[inline(always)]
 pub(crate) fn next<'a>(code: &'a [Instruction], slots: Slots<'a>, state: &mut State<'a>, last: u64) -> Outcome {
+    next_by_loop(code, slots, state, last)
+}
+
+/// As [`next`], in a handler that has variables in memory unless the compiler sees all that it calls. They would be in the
+/// way of a jump, so it returns to the loop where that isn't certain.
+#[cfg(all(one_unit, not(debug_assertions)))]
+#[inline(always)]
+pub(crate) fn next_by_loop<'a>(code: &'a [Instruction], slots: Slots<'a>, state: &mut State<'a>, last: u64) -> Outcome {
+    next(code, slots, state, last)
+}
+
+/// Says what is executed next.
+#[cfg(not(all(one_unit, not(debug_assertions))))]
+#[inline(always)]
+pub(crate) fn next_by_loop<'a>(code: &'a [Instruction], slots: Slots<'a>, state: &mut State<'a>, last: u64) -> Outcome {
     state.place = (code, slots, last);
     Outcome::Next
 }
 
 impl<'a> State<'a> {
     /// Executes instructions until one of them ends the handlers.
-    #[cfg(all(jumps, not(debug_assertions)))]
+    #[cfg(all(one_unit, not(debug_assertions)))]
     pub fn run(&mut self, code: &'a [Instruction], slots: Slots<'a>) -> Outcome {
         next(code, slots, self, 0)
     }
 
     /// Executes instructions until one of them ends the handlers.
-    #[cfg(not(all(jumps, not(debug_assertions))))]
+    #[cfg(not(all(one_unit, not(debug_assertions))))]
     pub fn run(&mut self, code: &'a [Instruction], slots: Slots<'a>) -> Outcome {
         self.place = (code, slots, 0);
         loop {

@@ -99,15 +99,15 @@ fn height(body: Body) -> Option<usize> {
         tables: (&[], &Arena::default()),
         globals: (&[], &mut Arena::default()),
         exit: Exit::Done,
-        #[cfg(not(all(jumps, not(debug_assertions))))]
+        #[cfg(not(all(one_unit, not(debug_assertions))))]
         place: (&body.code, slots, 0),
     };
     let outcome = state.run(&body.code, slots);
     matches!(outcome, Outcome::Exit).then_some(state.frame.base)
 }
 
-#[test]
-fn handlers_take_no_stack() {
+/// The handlers that take stack, and how many have been executed.
+pub fn taking_stack() -> (Vec<String>, usize) {
     let opcodes = (0..0x100).chain(0xfc000..0xfc020).chain(0xfd000..0xfd120);
     let codes = opcodes.filter_map(|it| instructions::row(it).map(|(code, _)| *code)).chain(OWN);
     let (mut count, mut found) = (0, vec![]);
@@ -123,6 +123,12 @@ fn handlers_take_no_stack() {
             }
         }
     }
+    (found, count)
+}
+
+#[test]
+fn handlers_take_no_stack() {
+    let (found, count) = taking_stack();
     assert!(found.is_empty(), "{found:?}");
     assert!(count > 1000, "{count} handlers");
 }
