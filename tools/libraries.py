@@ -74,6 +74,12 @@ def other_text(crate, top=TOP):
     return None
 
 
+def other_text_of(program):
+    """Returns why a program isn't built from the sources as they are, if it is one that a build left here; of another program nothing is known."""
+    path = pathlib.Path(program).resolve()
+    return next((other_text(it) for it in crates() if path in [product.resolve() for product in products(it)]), None)
+
+
 def build(command, folder=None):
     """Runs a command, and says of what it builds from what text it is; of a crate whose text has changed since, nothing is said. The status of the command.
 
