@@ -8,9 +8,14 @@ Prints a table: the least user and system time of RUNS (9) of each, and PROGRAM'
 
 import hashlib
 import os
+import pathlib
 import subprocess
 import sys
 import tempfile
+
+sys.dont_write_bytecode = True
+sys.path.append(str(pathlib.Path(__file__).resolve().parents[1] / "tools"))
+from libraries import other_text_of
 
 # The greatest script that a replay takes, in bytes.
 LIMIT = 1_048_576
@@ -63,10 +68,18 @@ def output(program, path):
     return printed.digest()
 
 
+def asked(least, runs):
+    """The programs and the number of runs that are asked for. A program that a build left here has to be of the sources as they are."""
+    if not least <= len(sys.argv) <= 4:
+        sys.exit(sys.modules["__main__"].__doc__)
+    programs = sys.argv[1:3]
+    if stale := [why for why in map(other_text_of, programs) if why]:
+        sys.exit(f"{sys.argv[0]}: {stale[0]}")
+    return programs, int(sys.argv[3]) if len(sys.argv) == 4 else runs
+
+
 def main():
-    if len(sys.argv) not in (3, 4):
-        sys.exit(__doc__)
-    programs, runs = sys.argv[1:3], int(sys.argv[3]) if len(sys.argv) == 4 else 9
+    programs, runs = asked(3, 9)
     print("| script | lines | here, ms | the other, ms | here / the other |\n|---|---|---|---|---|")
     product = 1.0
     with tempfile.TemporaryDirectory() as folder:

@@ -14,7 +14,7 @@ import sys
 import tempfile
 
 sys.dont_write_bytecode = True
-from replay import KINDS, LIMIT, output, script, seconds
+from replay import KINDS, LIMIT, asked, output, script, seconds
 
 MOST_GROWTH, MOST_SHARE = 14, 1.1
 # Words are found byte by byte (docs/DECISIONS.md, 45), so a script of spaces takes longer than over the Rust crate's program.
@@ -110,9 +110,7 @@ def measured(programs, make, path, runs):
 
 
 def main():
-    if len(sys.argv) not in (2, 3, 4):
-        sys.exit(__doc__)
-    programs, runs = sys.argv[1:3], int(sys.argv[3]) if len(sys.argv) == 4 else 5
+    programs, runs = asked(2, 5)
     other = " the other, a tenth, ms | greatest, ms | growth | here / the other |" if len(programs) == 2 else ""
     print(f"| script | a tenth, ms | greatest, ms | growth |{other}\n|{'---|' * (4 + other.count('|'))}")
     above = 0

@@ -49,9 +49,9 @@ def text_of(crate, top=TOP):
 
 
 def products(crate, top=TOP):
-    """Returns what a build has left of a crate: the library's folder, the program, the archives."""
+    """Returns what a build has left of a crate: the library's folder, the program, the archives and their bitcode."""
     out = top / "crates" / crate / "out"
-    return [it for it in [out / f"rlib/{crate}.rlib", out / crate, *sorted(out.glob("*.a"))] if it.exists()]
+    return [it for it in [out / f"rlib/{crate}.rlib", out / crate, *sorted(out.glob("*.a")), *sorted(out.glob("*.bc"))] if it.exists()]
 
 
 def sums_of(crate, top=TOP):
@@ -74,12 +74,24 @@ def other_text(crate, top=TOP):
     return None
 
 
+def other_text_of(program):
+    """Returns why a program isn't built from the sources as they are, if it is one that a build left here; of another program nothing is known."""
+    path = pathlib.Path(program).resolve()
+    return next((other_text(it) for it in crates() if path in [product.resolve() for product in products(it)]), None)
+
+
 def build(command, folder=None):
-    """Runs a command, and says of what it builds from what text it is; of a crate whose text has changed since, nothing is said. The status of the command."""
-    texts, start = {it: text_of(it) for it in crates()}, time.time()
+    """Runs a command, and says of what it builds from what text it is; of a crate whose text has changed since, nothing is said. The status of the command.
+
+    An archive of another text that the command leaves as it was is removed: nothing would tell it from those that are new."""
+    texts, stale, start = {it: text_of(it) for it in crates()}, {it for it in crates() if other_text(it)}, time.time()
     status = subprocess.run(command, cwd=folder).returncode
     for crate in crates() if status == 0 else ():
-        is_new = any(it.stat().st_mtime >= start for it in products(crate))
-        if is_new and text_of(crate) == texts[crate]:
-            leave_text(crate, texts[crate])
+        left = [it for it in products(crate) if it.stat().st_mtime < start]
+        if len(left) == len(products(crate)) or text_of(crate) != texts[crate]:
+            continue
+        for it in left if crate in stale else ():
+            if it.suffix in (".a", ".bc"):
+                it.unlink()
+        leave_text(crate, texts[crate])
     return status

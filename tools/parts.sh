@@ -2,6 +2,7 @@
 # `program`, their name in messages, and `parts`, the names that --without takes.
 passed=0
 failed=0
+lacked=0
 omitted=()
 logs=
 
@@ -34,6 +35,7 @@ lacking() {
     is_left_out "$1" && return
     echo "${program%/run} $1: FAILED, since there is no $2; --without $1 leaves it out"
     failed=$((failed + 1))
+    lacked=$((lacked + 1))
 }
 
 # can_run PART TOOL..: whether a part is wanted and its tools are there; says which one lacks
@@ -80,7 +82,7 @@ tried() {
 # ended: the last line, and the status of the program: 2 where nothing was run
 ended() {
     [ -z "$logs" ] || rm -rf "$logs"
-    [ $((passed + failed)) -gt 0 ] || stop "nothing was run${omitted[*]:+; left out: ${omitted[*]}}"
     echo "$passed passed, $failed failed${omitted[*]:+; left out: ${omitted[*]}}"
+    [ $((passed + failed)) -gt "$lacked" ] || stop 'nothing was run'
     [ "$failed" -eq 0 ]
 }

@@ -9,7 +9,7 @@
 #include <pthread.h>
 #include <stdarg.h>
 
-enum { PAGE = 65536, TEXT = 1 << 16, SEQUENCE = 60, THREADS = 4, KINDS = 33, REGISTERS = 5, MOST_LINE = 512 };
+enum { PAGE = 65536, TEXT = 1 << 16, SEQUENCE = 60, THREADS = 4, REGISTERS = 5, MOST_LINE = 512 };
 enum { MOST_ANSWERS = 24, FRONT = 1024 };
 
 static _Thread_local long calls;
