@@ -137,7 +137,7 @@ static char *called(char *at, size_t tenant) {
             at += sprintf(at, "set %u %" PRIu64 " 0\n", call.dst, call.value.lo);
             break;
         default:
-            call.kind = (uint16_t)(WASMI_CALL_COPY_MEMORY + 1 + below(1000));
+            call.kind = (uint16_t)(WASMI_CALL_DROP_DATA + 1 + below(1000));
             if (wasmi_pool_call(&pool, tenant, at_edge(0, &call, sizeof call)).status != WASMI_NO_CALL) {
                 differs("a kind that there isn't", script);
             }
