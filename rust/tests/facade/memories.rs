@@ -329,3 +329,13 @@ fn reads_and_writes() {
         assert_eq!(seen(&mut memory), seen_of(&model), "write {range:?}");
     }
 }
+
+/// The text of a memory has its type and its size, and nothing of its bytes.
+#[test]
+fn debug_texts() {
+    let (mut memory, _) = filled();
+    let before = format!("{memory:?}");
+    assert!(before.starts_with("Memory { ty: ") && before.ends_with(", size: 4, .. }"));
+    memory.data_mut().fill(171);
+    assert_eq!(format!("{memory:?}"), before);
+}

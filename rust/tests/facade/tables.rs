@@ -413,3 +413,21 @@ fn too_many_items_by_what_is_said_are_refused_unread() {
     };
     ElementSegment::new(RefType::Func, items);
 }
+
+/// The texts of a table and of an element segment have the type and the size, and nothing of the references.
+#[test]
+fn debug_texts() {
+    for kind in KINDS {
+        let [one, other] = [171, 172].map(|item| {
+            let table = Table::new(TableType::new(kind, 2, None), of(item, kind), &mut nobody());
+            let segment = ElementSegment::new(kind, [RawRef::from(item), RawRef::from(0)]);
+            (
+                format!("{:?}", table.expect("a table")),
+                format!("{segment:?}"),
+            )
+        });
+        assert!(one.0.starts_with("Table { ty: ") && one.0.ends_with(", size: 2, .. }"));
+        assert!(one.1.starts_with("ElementSegment { ty: ") && one.1.ends_with(", size: 2, .. }"));
+        assert_eq!(one, other);
+    }
+}
