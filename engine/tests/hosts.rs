@@ -143,6 +143,13 @@ fn functions_of_any_type() {
         Ok(())
     });
     assert!(matches!(wrong.call(&mut store, &[]), Err(Error::Trap(_))));
+    let ty = FuncType::new([ValType::I64, ValType::I32], [ValType::I32, ValType::I64]).unwrap();
+    let swapped = Func::new(&mut store, ty, |_, args, results| {
+        results.copy_from_slice(&[args[1], args[0]]);
+        Ok(())
+    });
+    let results = swapped.call(&mut store, &[Val::from(-7_i64), Val::from(5_i32)]).unwrap();
+    assert_eq!((i32::from(results[0]), i64::from(results[1])), (5, -7));
 }
 
 #[test]

@@ -59,6 +59,18 @@ fn arguments_and_variables() {
 }
 
 #[test]
+fn caps() {
+    let place = Place::new("caps");
+    fs::write(place.0.join("arrays.wasm"), include_bytes!("../guests/arrays.wasm")).unwrap();
+    // The guest begins with two pages of memory and a table of nine elements, and grows the memory by a page.
+    place.prints("arrays.wasm sieve 10 --table-cap 9 --memory-cap 196608", "17000055\n");
+    for words in ["--table-cap 8", "--memory-cap 131071", "--max-memory 131071"] {
+        let (output, errors) = place.ends(&format!("arrays.wasm sieve 10 {words}"), 1);
+        assert_eq!((output.as_str(), errors.as_str()), ("", "trap: growth operation limited\n"), "{words}");
+    }
+}
+
+#[test]
 fn the_standard_streams() {
     let place = Place::new("streams");
     let text = "a line\n".repeat(1000);
