@@ -17,15 +17,13 @@ PROFILES = ("release", "linked")
 COUNTED = 500
 # Rows that may take more than MOST: docs/SPEED.md has the reasons. What isn't there takes more instructions alone, on a quiet machine.
 EXPECTED = {
-    "ElementSegment::new_0": 1.2, "ElementSegment::new_4": 1.3, "ElementSegment::new_100_mapped": 1.6,
-    "ElementSegment::new_100": 1.1, "ElementSegment::new_100_of_a_list": 2.2, "ElementSegment::drop_items": 1.1,
-    "FuncType::new_3_of_slices": 1.1, "FuncType::new_40": 1.2, "FuncType::new_40_of_slices": 1.3, "FuncType::new_refused": 1.2,
-    "FuncType::clone_3": 1.3, "FuncType::eq_40": 1.1, "FuncType::cmp_40": 1.15, "FuncType::params": 1.15,
-    "Memory::data": 1.25, "Memory::data_mut": 1.3, "Memory::size": 1.3, "Memory::grow_0": 1.2, "Memory::read_8": 1.3,
-    "Memory::read_refused": 1.3, "Memory::write_8": 1.3, "Memory::write_100": 1.3,
-    "Table::new_empty": 1.3, "Table::new_100": 1.2, "Table::new_limited": 1.2, "Table::new_refused": 1.3, "Table::grow_refused": 1.2,
+    "ElementSegment::new_0": 1.1, "ElementSegment::drop_items": 1.1,
+    "FuncType::new_3_of_slices": 1.15, "FuncType::new_40": 1.15, "FuncType::new_40_of_slices": 1.3, "FuncType::new_refused": 1.15,
+    "FuncType::clone_3": 1.2, "FuncType::cmp_40": 1.15, "FuncType::params": 1.15,
+    "Memory::data": 1.2, "Memory::data_mut": 1.2,
+    "Table::new_empty": 1.3, "Table::new_limited": 1.15, "Table::new_refused": 1.25, "Table::grow_refused": 1.1,
     "Table::copy_refused": 1.1, "Table::fill_raw_free": 1.2,
-    "Fuel::consume_fuel_refused": 1.1, "Trap::downcast_ref": 1.25,
+    "Fuel::consume_fuel_refused": 1.1, "Trap::downcast_ref": 1.1,
 }
 
 
