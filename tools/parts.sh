@@ -6,6 +6,11 @@ lacked=0
 omitted=()
 logs=
 
+# at_end COMMAND: what the program does when it ends. A background process that is killed before it has begun would do it too.
+at_end() {
+    trap "if [ \$BASHPID = $$ ]; then $1; fi" EXIT
+}
+
 # stop TEXT: ends with 2, since nothing can be run as asked
 stop() {
     echo "$program: $1" >&2
