@@ -281,19 +281,31 @@ pub fn run_within(pool: &mut Pool, index: usize, calls: &[Call]) -> Result<Vec<R
     pool.run(index, calls)
 }
 
-/// Removes a tenant. What its machine has counts no more, all that are left stay within the caps,
-/// and whatever calls on the pool follow, no tenant has its index.
+/// Removes a tenant. All that are left stay within the caps, and whatever calls on the pool follow,
+/// no tenant has its index.
 pub fn remove_for_good<'r>(pool: &mut Pool<'r>, index: usize) -> Option<Machine<'r>>
-    ensures less { IfSome result (λ machine. (kind : Kind)
-        → pools.total_of pool.new.machines kind + total machine kind
-        ≡ pools.total_of pool.old.machines kind) }
     ensures later { KeepsCaps pool.old.caps pool.new }
     ensures vacant { OnSome result (StaysVacant index pool.new) }
 {
     pool_laws::caps_hold();
-    pool_laws::removals_give_back();
     pool_laws::removed_stay_removed();
     pool.remove(index)
+}
+
+/// Removes two tenants. What both their machines have counts no more.
+pub fn remove_both<'r>(
+    pool: &mut Pool<'r>,
+    one: usize,
+    other: usize,
+) -> (Option<Machine<'r>>, Option<Machine<'r>>)
+    ensures less { IfSome result.0 (λ first. IfSome result.1 (λ second. (kind : Kind)
+        → pools.total_of pool.new.machines kind + total first kind + total second kind
+        ≡ pools.total_of pool.old.machines kind)) }
+{
+    pool_laws::removals_give_back();
+    let first = pool.remove(one);
+    let second = pool.remove(other);
+    (first, second)
 }
 
 /// Makes the same calls on a tenant's machine in two equal pools: if no reply is that memory ran
