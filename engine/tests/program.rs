@@ -222,12 +222,16 @@ fn calls_are_traced() {
 #[test]
 fn a_closed_output_ends_quietly() {
     let place = Place::new("closed");
-    let mut command = Command::new(env!("CARGO_BIN_EXE_engine"));
-    command.current_dir(&place.0).args(["terminal.wasm", "--", "echo"]);
-    let mut child = command.stdin(Stdio::piped()).stdout(Stdio::piped()).stderr(Stdio::piped()).spawn().unwrap();
-    drop(child.stdout.take());
-    let _ = child.stdin.take().unwrap().write_all(b"a line\nand another one\n");
-    let output = child.wait_with_output().unwrap();
+    let ended = || {
+        let mut command = Command::new(env!("CARGO_BIN_EXE_engine"));
+        command.current_dir(&place.0).args(["terminal.wasm", "--", "echo"]);
+        let mut child = command.stdin(Stdio::piped()).stdout(Stdio::piped()).stderr(Stdio::piped()).spawn().unwrap();
+        drop(child.stdout.take());
+        let _ = child.stdin.take().unwrap().write_all(b"a line\nand another one\n");
+        child.wait_with_output().unwrap()
+    };
+    // A process that another test begins has the reading end too, until it executes its program.
+    let output = (0..20).map(|_| ended()).find(|it| it.status.code() != Some(0)).expect("a closed output");
     assert_eq!(output.status.code(), Some(141));
     assert_eq!(output.stderr, b"");
 }
