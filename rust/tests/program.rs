@@ -90,10 +90,12 @@ fn lost(script: &str, output: impl Into<Stdio>, closed: impl FnOnce(&mut Child))
 #[test]
 fn an_output_that_fails() {
     for script in ["show 0\n", "bad\n", &"show 0\n".repeat(20_000)] {
+        // A process that another test begins has the reading end too, until it executes its program.
         let close = |child: &mut Child| drop(child.stdout.take());
+        let mut ends = (0..20).map(|_| lost(script, Stdio::piped(), close));
         assert_eq!(
-            lost(script, Stdio::piped(), close),
-            Some(4),
+            ends.find(|end| *end != Some(0)),
+            Some(Some(4)),
             "a pipe that nobody reads"
         );
         #[cfg(target_os = "linux")]
