@@ -1,6 +1,6 @@
 //! Writes the functions of instructions, by the names of include/numbers.tsv. With the feature `library` it links the static library of C,
-//! which is in crates/*/out, or else in the folder that WASMI_ARCHIVES names, and the C part of the kit, of which RATTLE_C names the folder.
-//! It links anew if the variable WASMI_LIBRARY has another text.
+//! which is in crates/*/out, or else in the folder that WASMI_ARCHIVES names, as that of a release. It links anew if the variable
+//! WASMI_LIBRARY has another text.
 use std::env::var;
 use std::fmt::Write;
 use std::{fs, path};
@@ -50,15 +50,10 @@ fn tables(rows: &str) -> [String; 2] {
 }
 
 fn link() {
-    let kit = var("RATTLE_C").expect("RATTLE_C has to name a folder");
     let archives = var("WASMI_ARCHIVES").unwrap_or_else(|_| "../../crates/wasmi_c_lib/out".into());
-    for folder in [&archives, &kit] {
-        println!("cargo:rustc-link-search=native={}", fs::canonicalize(folder).expect("a folder").display());
-    }
-    for name in ["WASMI_ARCHIVES", "WASMI_LIBRARY", "RATTLE_C"] {
+    println!("cargo:rustc-link-search=native={}", fs::canonicalize(archives).expect("a folder").display());
+    println!("cargo:rustc-link-lib=static=wasmi_core");
+    for name in ["WASMI_ARCHIVES", "WASMI_LIBRARY"] {
         println!("cargo:rerun-if-env-changed={name}");
-    }
-    for library in ["wasmi_core", "libc_c"] {
-        println!("cargo:rustc-link-lib=static={library}");
     }
 }
