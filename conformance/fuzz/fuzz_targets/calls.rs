@@ -1,5 +1,5 @@
 //! Calls on a memory and a table, as bytes, with each meter and under a limiter, beside the plain models of the crate's tests.
-#![no_main]
+#![cfg_attr(not(kept), no_main)]
 // Of the files of tests only the models are taken.
 #![allow(dead_code, unused_imports, unused_macros)]
 use model::{ANSWERS, Asked, Meter, Source, with_each, write};

@@ -1,6 +1,6 @@
 //! The engine's decoder and validator: whatever the bytes are, a module is made or refused with a text, and what is taken without floats
 //! is taken with them.
-#![no_main]
+#![cfg_attr(not(kept), no_main)]
 use engine::{Engine, Module};
 use std::sync::LazyLock;
 use wasmi_fuzz::{agree, fuzz_target, is_planted};

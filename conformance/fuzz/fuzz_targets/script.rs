@@ -1,5 +1,5 @@
 //! A script over the Rust crate's own types, in the crate of rust/, and with the feature `library` in the archive, whole and by lines in parts.
-#![no_main]
+#![cfg_attr(not(kept), no_main)]
 use conformance::comparison::mutant;
 use conformance::generator::{Generator, PROFILES};
 use conformance::random::Random;

@@ -1,7 +1,9 @@
 //! What the targets share: how libFuzzer calls them, and what is said where two sides differ.
 use std::ffi::{c_char, c_int, c_long, c_ulong};
 use std::fmt::Debug;
+use std::path::PathBuf;
 use std::sync::LazyLock;
+use std::{env, fs, io};
 
 unsafe extern "C" {
     /// libFuzzer's own change of an input; the length of the new one.
@@ -12,8 +14,40 @@ unsafe extern "C" {
     pub fn strtoul(text: *const c_char, end: *mut *mut c_char, base: c_int) -> c_ulong;
 }
 
+/// Runs the inputs in the files and folders that the program is given, each once, and prints how many there were.
+pub fn run_kept(tried: fn(&[u8]) -> bool) -> io::Result<()> {
+    let mut paths: Vec<PathBuf> = env::args_os().skip(1).map(PathBuf::from).collect();
+    let mut count = 0;
+    while let Some(path) = paths.pop() {
+        if path.is_dir() {
+            paths.extend(fs::read_dir(path)?.map(|entry| Ok(entry?.path())).collect::<io::Result<Vec<_>>>()?);
+        } else {
+            eprintln!("input {}", path.display());
+            tried(&fs::read(path)?);
+            count += 1;
+        }
+    }
+    println!("{count} inputs");
+    Ok(())
+}
+
+/// A target that runs inputs from files, where there is no libFuzzer.
+#[cfg(kept)]
+#[macro_export]
+macro_rules! fuzz_target {
+    ($tried:path $(, $changed:path)?) => {
+        $(#[allow(dead_code)]
+        const CHANGED: fn(&[u8], u32) -> Option<Vec<u8>> = $changed;)?
+
+        fn main() -> std::io::Result<()> {
+            $crate::run_kept($tried)
+        }
+    };
+}
+
 /// Has libFuzzer call a function, which is false for an input that isn't worth keeping, and make inputs by another one,
 /// which may leave that to libFuzzer.
+#[cfg(not(kept))]
 #[macro_export]
 macro_rules! fuzz_target {
     ($tried:path $(, $changed:path)?) => {
