@@ -128,12 +128,12 @@ static wasmi_result store_vector(any function, uint8_t *memory, uint64_t ptr, wa
         LOAD_TYPE(uint64_t): load_u64, LOAD_TYPE(wasmi_words): load_vector, STORE_TYPE(int32_t): store_i32, \
         STORE_TYPE(uint32_t): store_u32, STORE_TYPE(int64_t): store_i64, STORE_TYPE(uint64_t): store_u64, \
         STORE_TYPE(wasmi_words): store_vector)
-#define CALLED(name) {#name, (any)wasm_##name, CALL_OF(&wasm_##name), NULL},
-#define ACCESSED(name) {#name, (any)wasm_##name, NULL, ACCESS_OF(&wasm_##name)},
-static const struct by_name UNARIES[] = {WASM_UNARY_FUNCTIONS(CALLED)};
-static const struct by_name BINARIES[] = {WASM_BINARY_FUNCTIONS(CALLED)};
-static const struct by_name LOADS[] = {WASM_LOAD_FUNCTIONS(ACCESSED)};
-static const struct by_name STORES[] = {WASM_STORE_FUNCTIONS(ACCESSED) ACCESSED(v128_store)};
+#define CALLED(name) {#name, (any)wasmi_##name, CALL_OF(&wasmi_##name), NULL},
+#define ACCESSED(name) {#name, (any)wasmi_##name, NULL, ACCESS_OF(&wasmi_##name)},
+static const struct by_name UNARIES[] = {WASMI_UNARY_FUNCTIONS(CALLED)};
+static const struct by_name BINARIES[] = {WASMI_BINARY_FUNCTIONS(CALLED)};
+static const struct by_name LOADS[] = {WASMI_LOAD_FUNCTIONS(ACCESSED)};
+static const struct by_name STORES[] = {WASMI_STORE_FUNCTIONS(ACCESSED) ACCESSED(v128_store)};
 #define COUNT(list) (sizeof list / sizeof list[0])
 
 #define NAME(number, name) [number] = #name,
@@ -242,7 +242,7 @@ static void compare_shuffles(void) {
         for (int i = 0; i < 16; i++) {
             lanes[i] = (uint8_t)(shift + 15 - i);
         }
-        uint8_t status = wasm_i8x16_shuffle(a, b, lanes, &value);
+        uint8_t status = wasmi_i8x16_shuffle(a, b, lanes, &value);
         int agrees = status == WASMI_DONE;
         for (int i = 0; i < 16; i++) {
             agrees &= ((const uint8_t *)&value)[i] == bytes[lanes[i]];
@@ -250,7 +250,7 @@ static void compare_shuffles(void) {
         compare("i8x16_shuffle", agrees);
         wasmi_words kept = value;
         lanes[shift % 16] = 32;
-        agrees = wasm_i8x16_shuffle(b, a, lanes, &value) == WASMI_NO_LANE;
+        agrees = wasmi_i8x16_shuffle(b, a, lanes, &value) == WASMI_NO_LANE;
         compare("i8x16_shuffle of no lane", agrees && value.lo == kept.lo && value.hi == kept.hi);
     }
 }

@@ -1,7 +1,7 @@
 /* The calls of wasmi_core for C and C++, in libwasmi_core.a.
 
    Processors: the archive that is proved is for Linux on x86-64, and takes a processor of x86-64-v2 (SSE4.2 and popcnt,
-   since 2009); on an older one an instruction such as wasm_i32_popcnt ends the program. The library that is built from
+   since 2009); on an older one an instruction such as wasmi_i32_popcnt ends the program. The library that is built from
    source (rust/c) has the same calls for any target of Rust, and is tested, not proved.
 
    State: there is none. Instructions work on values and bytes of the caller's, and a script is run as a whole
@@ -32,20 +32,23 @@ extern "C" {
    as a call or a status. 1.0.0 had this header without a version, 1.1.0 came with wasmi_machine.h and wasmi_memory.h,
    1.2.0 with wasmi_instructions.h, 1.3.0 with the pools of wasmi_machine.h, and 1.4.0 with writes over a range of a
    machine's memory, data segments, wasmi_pool_remove, wasmi_quota_release_memory and _table, wasmi_memory_new_zeroed
-   and wasmi_memory_grow_zeroed. */
-#define WASMI_CORE_VERSION "1.4.0"
-#define WASMI_CORE_VERSION_MAJOR 1
-#define WASMI_CORE_VERSION_MINOR 4
+   and wasmi_memory_grow_zeroed. Since 2.0.0 the functions of wasmi_instructions.h have the prefix wasmi_, in place of
+   wasm_; it came with wasmi_table_copy_within. */
+#define WASMI_CORE_VERSION "2.0.0"
+#define WASMI_CORE_VERSION_MAJOR 2
+#define WASMI_CORE_VERSION_MINOR 0
 #define WASMI_CORE_VERSION_PATCH 0
 
-/* What a compiler is told of a call: that its status has to be looked at, and which parameters aren't NULL. It is told
-   nothing where WASMI_CORE_NO_ATTRIBUTES is defined. */
+/* What a compiler is told of a call: that its status has to be looked at, which parameters aren't NULL, and which call
+   has taken its place. It is told nothing where WASMI_CORE_NO_ATTRIBUTES is defined. */
 #if defined(__GNUC__) && !defined(WASMI_CORE_NO_ATTRIBUTES)
 #define WASMI_CHECKED __attribute__((warn_unused_result))
 #define WASMI_NOT_NULL(...) __attribute__((nonnull(__VA_ARGS__)))
+#define WASMI_DEPRECATED(other) __attribute__((deprecated("call " other)))
 #else
 #define WASMI_CHECKED
 #define WASMI_NOT_NULL(...)
+#define WASMI_DEPRECATED(other)
 #endif
 
 /* A value: an item of up to 64 bits in lo, or bits 0 to 63 and bits 64 to 127 of a vector, so that lo is the first 8 of

@@ -26,12 +26,12 @@ extern "C" {
 
 /* A function without traps of one operand or of two. */
 #define WASMI_INLINE_UNARY(name, R, T, result) \
-    WASMI_INLINE R wasm_##name(T value) { return (R)(result); }
+    WASMI_INLINE R wasmi_##name(T value) { return (R)(result); }
 #define WASMI_INLINE_BINARY(name, R, T, result) \
-    WASMI_INLINE R wasm_##name(T lhs, T rhs) { return (R)(result); }
+    WASMI_INLINE R wasmi_##name(T lhs, T rhs) { return (R)(result); }
 /* A division or a remainder: where the quotient of signed operands overflows, a division traps, a remainder is 0. */
 #define WASMI_INLINE_DIVISION(name, T, overflows, status_then, result) \
-    WASMI_INLINE uint8_t wasm_##name(T lhs, T rhs, T *value) { \
+    WASMI_INLINE uint8_t wasmi_##name(T lhs, T rhs, T *value) { \
         if (rhs == 0) \
             return WASMI_INTEGER_DIVISION_BY_ZERO; \
         if ((status_then) != WASMI_DONE && (overflows)) \
@@ -81,14 +81,14 @@ WASMI_INLINE_UNARY(i64_extend_i32_s, int64_t, int32_t, value)
 WASMI_INLINE_UNARY(i64_extend_i32_u, uint64_t, uint32_t, value)
 WASMI_INLINE_UNARY(i64_extend32_s, int64_t, int64_t, (int32_t)value)
 
-WASMI_INLINE void wasm_i64_add128(int64_t lhs_lo, int64_t lhs_hi, int64_t rhs_lo, int64_t rhs_hi, int64_t *lo,
+WASMI_INLINE void wasmi_i64_add128(int64_t lhs_lo, int64_t lhs_hi, int64_t rhs_lo, int64_t rhs_hi, int64_t *lo,
                                    int64_t *hi) {
     uint64_t sum = (uint64_t)lhs_lo + (uint64_t)rhs_lo;
     *lo = (int64_t)sum;
     *hi = (int64_t)((uint64_t)lhs_hi + (uint64_t)rhs_hi + (sum < (uint64_t)lhs_lo));
 }
 
-WASMI_INLINE void wasm_i64_sub128(int64_t lhs_lo, int64_t lhs_hi, int64_t rhs_lo, int64_t rhs_hi, int64_t *lo,
+WASMI_INLINE void wasmi_i64_sub128(int64_t lhs_lo, int64_t lhs_hi, int64_t rhs_lo, int64_t rhs_hi, int64_t *lo,
                                    int64_t *hi) {
     *lo = (int64_t)((uint64_t)lhs_lo - (uint64_t)rhs_lo);
     *hi = (int64_t)((uint64_t)lhs_hi - (uint64_t)rhs_hi - ((uint64_t)lhs_lo < (uint64_t)rhs_lo));
@@ -102,8 +102,8 @@ WASMI_INLINE bool wasmi_inline_lies_within(size_t memory_len, uint64_t ptr, uint
 
 /* A load of an item of type M, of which `loaded` is the value, and a store of what is made of the value, an M. */
 #define WASMI_INLINE_LOAD(name, M, T, loaded) \
-    WASMI_INLINE uint8_t wasm_##name(const uint8_t *memory, size_t memory_len, uint64_t ptr, uint64_t offset, \
-                                     T *value) { \
+    WASMI_INLINE uint8_t wasmi_##name(const uint8_t *memory, size_t memory_len, uint64_t ptr, uint64_t offset, \
+                                      T *value) { \
         uint64_t at; \
         M item; \
         if (!wasmi_inline_lies_within(memory_len, ptr, offset, sizeof item, &at)) \
@@ -113,7 +113,7 @@ WASMI_INLINE bool wasmi_inline_lies_within(size_t memory_len, uint64_t ptr, uint
         return WASMI_DONE; \
     }
 #define WASMI_INLINE_STORE(name, M, T, stored) \
-    WASMI_INLINE uint8_t wasm_##name(uint8_t *memory, size_t memory_len, uint64_t ptr, uint64_t offset, T value) { \
+    WASMI_INLINE uint8_t wasmi_##name(uint8_t *memory, size_t memory_len, uint64_t ptr, uint64_t offset, T value) { \
         uint64_t at; \
         M item = stored; \
         if (!wasmi_inline_lies_within(memory_len, ptr, offset, sizeof item, &at)) \

@@ -22,7 +22,8 @@
 
    What the caller owes, which no call tests:
    - A pointer leads to what its type says, and isn't NULL, except for an array of length 0; an array has at most
-     PTRDIFF_MAX bytes. What a call writes doesn't overlap with anything else that it takes. No pointer is kept.
+     PTRDIFF_MAX bytes. What a call writes doesn't overlap with anything else that it takes, but for the source of
+     wasmi_memory_write, _copy and _init, and of wasmi_table_copy_from and _init. No pointer is kept.
    - No other thread writes what a call takes, or reads what it writes, while the call runs.
    - Between calls, a struct stays with its region: that the bytes and references are those of before is the caller's
      matter.
@@ -174,7 +175,8 @@ uint8_t wasmi_memory_read(const wasmi_memory *memory, const uint8_t *region, siz
                           uint8_t *bytes, size_t len) WASMI_CHECKED WASMI_NOT_NULL(1);
 
 /* Writes len bytes over those of a memory from offset on; INVALID_STATE, then MEMORY_ACCESS where they end past it.
-   The bytes must not lie in the region. */
+   Bytes that lie in the memory itself are copied as wasmi_memory_copy_within copies them; MEMORY_ACCESS where they lie
+   in the region, past the memory. */
 uint8_t wasmi_memory_write(const wasmi_memory *memory, uint8_t *region, size_t region_len, size_t offset,
                            const uint8_t *bytes, size_t len) WASMI_CHECKED WASMI_NOT_NULL(1);
 
@@ -196,13 +198,14 @@ uint8_t wasmi_memory_copy_within(const wasmi_memory *memory, uint8_t *region, si
                                  const wasmi_range *range, wasmi_meter *meter, uint64_t *number)
     WASMI_CHECKED WASMI_NOT_NULL(1, 4, 5, 6);
 
-/* Copies bytes of another memory over those of a memory. The two regions must not overlap: where both are one memory,
-   as a memory.copy may have it, call wasmi_memory_copy_within, or the bytes of an overlap are wrong. */
+/* Copies bytes of another memory over those of a memory. Where both regions begin at one address, as a memory.copy may
+   have it, this is wasmi_memory_copy_within, and source isn't read; where they overlap otherwise, it is INVALID_STATE. */
 uint8_t wasmi_memory_copy(const wasmi_memory *memory, uint8_t *region, size_t region_len, const wasmi_memory *source,
                           const uint8_t *source_region, size_t source_len, const wasmi_range *range,
                           wasmi_meter *meter, uint64_t *number) WASMI_CHECKED WASMI_NOT_NULL(1, 4, 7, 8, 9);
 
-/* Copies bytes, such as a data segment's, over those of a memory. */
+/* Copies bytes, such as a data segment's, over those of a memory. Bytes that lie in its region are as those of
+   wasmi_memory_write. */
 uint8_t wasmi_memory_init(const wasmi_memory *memory, uint8_t *region, size_t region_len, const uint8_t *bytes,
                           size_t len, const wasmi_range *range, wasmi_meter *meter, uint64_t *number)
     WASMI_CHECKED WASMI_NOT_NULL(1, 6, 7, 8);
@@ -284,23 +287,118 @@ uint8_t wasmi_table_fill(const wasmi_table *table, uint32_t *elements, size_t el
 /* Copies elements of a table over others of it. Where the ranges overlap, the old elements are copied. Refusals in
    their order: INVALID_STATE; TABLE_COPY where a range ends past the table; TABLE_OUT_OF_FUEL with what is needed in
    *number. */
-uint8_t wasmi_table_copy(const wasmi_table *table, uint32_t *elements, size_t elements_len, const wasmi_range *range,
-                         wasmi_meter *meter, uint64_t *number) WASMI_CHECKED WASMI_NOT_NULL(1, 4, 5, 6);
+uint8_t wasmi_table_copy_within(const wasmi_table *table, uint32_t *elements, size_t elements_len,
+                                const wasmi_range *range, wasmi_meter *meter, uint64_t *number)
+    WASMI_CHECKED WASMI_NOT_NULL(1, 4, 5, 6);
 
-/* Copies elements of another table, in another region, over those of a table. Refusals in their order: INVALID_STATE,
-   for either; TABLE_TYPE where their types differ; TABLE_COPY where a range ends past its table; TABLE_OUT_OF_FUEL with
-   what is needed in *number. */
+/* Its former name. */
+uint8_t wasmi_table_copy(const wasmi_table *table, uint32_t *elements, size_t elements_len, const wasmi_range *range,
+                         wasmi_meter *meter, uint64_t *number)
+    WASMI_CHECKED WASMI_NOT_NULL(1, 4, 5, 6) WASMI_DEPRECATED("wasmi_table_copy_within");
+
+/* Copies elements of another table over those of a table. Refusals in their order: INVALID_STATE, for either; TABLE_TYPE
+   where their types differ; TABLE_COPY where a range ends past its table; TABLE_OUT_OF_FUEL with what is needed in
+   *number. Where both regions begin at one address, this is wasmi_table_copy_within, and source isn't read; where they
+   overlap otherwise, it is INVALID_STATE. */
 uint8_t wasmi_table_copy_from(const wasmi_table *table, uint32_t *elements, size_t elements_len,
                               const wasmi_table *source, const uint32_t *source_elements, size_t source_len,
                               const wasmi_range *range, wasmi_meter *meter, uint64_t *number)
     WASMI_CHECKED WASMI_NOT_NULL(1, 4, 7, 8, 9);
 
 /* Copies items, such as an element segment's, over the elements of a table; to copy no item costs nothing. Refusals in
-   their order: INVALID_STATE; TABLE_INIT where a range ends past the items or the table; TABLE_OUT_OF_FUEL with what is
-   needed in *number. */
+   their order: INVALID_STATE; TABLE_INIT where a range ends past the items or the table, or items lie in its region;
+   TABLE_OUT_OF_FUEL with what is needed in *number. */
 uint8_t wasmi_table_init(const wasmi_table *table, uint32_t *elements, size_t elements_len, const uint32_t *items,
                          size_t items_len, const wasmi_range *range, wasmi_meter *meter, uint64_t *number)
     WASMI_CHECKED WASMI_NOT_NULL(1, 6, 7, 8);
+
+/* The library's functions take arrays that don't overlap. These compare the addresses, and call them or a copy within
+   a region. */
+
+#ifdef __cplusplus
+#define WASMI_INLINE_ADDRESS(pointer) reinterpret_cast<uintptr_t>(pointer)
+#else
+#define WASMI_INLINE_ADDRESS(pointer) ((uintptr_t)(pointer))
+#endif
+
+/* Whether two arrays of so many bytes have no byte in common. */
+static inline bool wasmi_inline_lies_apart(const void *one, size_t one_size, const void *other, size_t other_size) {
+    const uintptr_t at = WASMI_INLINE_ADDRESS(one), other_at = WASMI_INLINE_ADDRESS(other);
+    if (one_size == 0 || other_size == 0)
+        return true;
+    return at <= other_at ? other_at - at >= one_size : at - other_at >= other_size;
+}
+
+/* An array that overlaps with the region but doesn't begin in it has an index above each size here. */
+WASMI_CHECKED WASMI_NOT_NULL(1)
+static inline uint8_t wasmi_inline_memory_write(const wasmi_memory *memory, uint8_t *region, size_t region_len,
+                                                size_t offset, const uint8_t *bytes, size_t len) {
+    if (wasmi_inline_lies_apart(region, region_len, bytes, len))
+        return wasmi_memory_write(memory, region, region_len, offset, bytes, len);
+    const wasmi_range range = {offset, WASMI_INLINE_ADDRESS(bytes) - WASMI_INLINE_ADDRESS(region), len};
+    wasmi_meter no_meter = {0, 0, 0, 0, 0};
+    uint64_t number = 0;
+    return wasmi_memory_copy_within(memory, region, region_len, &range, &no_meter, &number);
+}
+
+WASMI_CHECKED WASMI_NOT_NULL(1, 4, 7, 8, 9)
+static inline uint8_t wasmi_inline_memory_copy(const wasmi_memory *memory, uint8_t *region, size_t region_len,
+                                               const wasmi_memory *source, const uint8_t *source_region,
+                                               size_t source_len, const wasmi_range *range, wasmi_meter *meter,
+                                               uint64_t *number) {
+    if (wasmi_inline_lies_apart(region, region_len, source_region, source_len))
+        return wasmi_memory_copy(memory, region, region_len, source, source_region, source_len, range, meter, number);
+    if (region == source_region)
+        return wasmi_memory_copy_within(memory, region, region_len, range, meter, number);
+    return WASMI_INVALID_STATE;
+}
+
+/* A range that ends past the bytes is one that ends past each memory. */
+WASMI_CHECKED WASMI_NOT_NULL(1, 6, 7, 8)
+static inline uint8_t wasmi_inline_memory_init(const wasmi_memory *memory, uint8_t *region, size_t region_len,
+                                               const uint8_t *bytes, size_t len, const wasmi_range *range,
+                                               wasmi_meter *meter, uint64_t *number) {
+    if (wasmi_inline_lies_apart(region, region_len, bytes, len))
+        return wasmi_memory_init(memory, region, region_len, bytes, len, range, meter, number);
+    const bool is_past = range->from > len || range->count > len - range->from;
+    const uint64_t from = range->from + (WASMI_INLINE_ADDRESS(bytes) - WASMI_INLINE_ADDRESS(region));
+    const wasmi_range moved = {range->to, is_past ? UINT64_MAX : from, is_past ? 1 : range->count};
+    return wasmi_memory_copy_within(memory, region, region_len, &moved, meter, number);
+}
+
+WASMI_CHECKED WASMI_NOT_NULL(1, 4, 7, 8, 9)
+static inline uint8_t wasmi_inline_table_copy_from(const wasmi_table *table, uint32_t *elements, size_t elements_len,
+                                                   const wasmi_table *source, const uint32_t *source_elements,
+                                                   size_t source_len, const wasmi_range *range, wasmi_meter *meter,
+                                                   uint64_t *number) {
+    const size_t size = elements_len * sizeof *elements, source_size = source_len * sizeof *source_elements;
+    if (wasmi_inline_lies_apart(elements, size, source_elements, source_size))
+        return wasmi_table_copy_from(table, elements, elements_len, source, source_elements, source_len, range, meter,
+                                     number);
+    if (elements == source_elements)
+        return wasmi_table_copy_within(table, elements, elements_len, range, meter, number);
+    return WASMI_INVALID_STATE;
+}
+
+WASMI_CHECKED WASMI_NOT_NULL(1, 6, 7, 8)
+static inline uint8_t wasmi_inline_table_init(const wasmi_table *table, uint32_t *elements, size_t elements_len,
+                                              const uint32_t *items, size_t items_len, const wasmi_range *range,
+                                              wasmi_meter *meter, uint64_t *number) {
+    if (wasmi_inline_lies_apart(elements, elements_len * sizeof *elements, items, items_len * sizeof *items))
+        return wasmi_table_init(table, elements, elements_len, items, items_len, range, meter, number);
+    uint64_t size = 0;
+    const uint8_t status = wasmi_table_size(table, elements, elements_len, &size);
+    if (status != WASMI_DONE)
+        return status;
+    return WASMI_TABLE_INIT;
+}
+
+/* Who needs the library's own functions, which must not be given arrays that overlap, undefines these names. */
+#define wasmi_memory_write wasmi_inline_memory_write
+#define wasmi_memory_copy wasmi_inline_memory_copy
+#define wasmi_memory_init wasmi_inline_memory_init
+#define wasmi_table_copy_from wasmi_inline_table_copy_from
+#define wasmi_table_init wasmi_inline_table_init
 
 #ifdef __cplusplus
 }

@@ -1,5 +1,5 @@
 """The functions of C for scalar instructions, loads and stores by name, which tools/header writes: in crates/wasmi_c_lib/src those of
-C, each with the equation of the function of its name in the library, and in include/wasmi_instructions.h their prototypes."""
+C, each with the equation of the function of its name in the library, and in include/wasmi_instructions.h their prototypes and short names."""
 import pathlib
 import re
 import sys
@@ -24,6 +24,7 @@ MODULES = {
     "vector_loads": ("The loads of vectors by name", ("VECTOR_LOADS",), "wasmi_vector_access/src/**/*.rt", "wasmi_vector_access", "simd"),
     "stores": ("The stores by name", ("STORES",), "wasmi_access/src/wasm.rt", "wasmi_access", "wasm"),
 }
+BY_HAND = ("i8x16_shuffle", "v128_store")   # the functions of the header that no list has
 SHAPES = {"UNARY": ("SCALAR_UNARIES",), "BINARY": ("SCALAR_BINARIES",), "LOAD": ("LOADS", "VECTOR_LOADS"), "STORE": ("STORES",)}
 # The words of clauses that the functions of the library don't have, and where they stand.
 OWN = {
@@ -67,7 +68,7 @@ class Exported:
 
     def __init__(self, name, function, module):
         self.parameters, given, clause = function
-        self.name, self.given = f"wasm_{name}", given
+        self.name, self.given = f"wasmi_{name}", given
         call = f"{module}::{name}({', '.join(it for it, _ in self.parameters)})"
         trapping = re.fullmatch(r"Result<(.*), TrapCode>", given)
         if given == "(i64, i64)":
@@ -150,8 +151,15 @@ def prototypes():
     for shape, lists in SHAPES.items():
         words = " ".join(f"X({name})" for it in lists for name in names_of(it))
         rows = textwrap.wrap(words, 114, initial_indent="    ", subsequent_indent="    ")
-        lines.append(f"#define WASM_{shape}_FUNCTIONS(X) \\\n" + " \\\n".join(rows) + "\n")
-    return "".join(lines)
+        lines.append(f"#define WASMI_{shape}_FUNCTIONS(X) \\\n" + " \\\n".join(rows) + "\n")
+    return "".join(lines) + short_names()
+
+
+def short_names():
+    """The lines by which each function can be called without the i of its prefix."""
+    names = [*BY_HAND, *(it.name.removeprefix("wasmi_") for key in MODULES for it in exported(key))]
+    defined = "".join(f"#define wasm_{name} wasmi_{name}\n" for name in names)
+    return f"\n/* Their short names. */\n#ifndef WASMI_CORE_NO_SHORT_NAMES\n{defined}#endif\n"
 
 
 def broken(line):

@@ -44,7 +44,8 @@ def without_comments(text):
     return re.sub(r"/\*.*?\*/", "", text, flags=re.S)
 
 
-PROTOTYPE = re.compile(r"^([\w ]+?) (wasmi?_\w+)\(([^)]*)\)(\s+WASMI_[A-Z_]+(?:\([\d, ]+\))?)*;", re.M)
+PROTOTYPE = re.compile(r"^(\w[\w ]*?) (wasmi_\w+)\(([^)]*)\)(\s+WASMI_[A-Z_]+(?:\([\w\", ]+\))?)*;", re.M)
+DEPRECATED = {"wasmi_table_copy": "wasmi_table_copy_within"}    # former names of calls
 
 
 def prototypes(header):
@@ -67,7 +68,10 @@ def with_attributes(header):
     def written(found):
         given, name, parameters, _ = found.groups()
         bare = f"{given} {name}({parameters})"
-        added = " ".join(attributes(given, list(map(spaced, parameters.split(",")))))
+        made = attributes(given, list(map(spaced, parameters.split(","))))
+        if name in DEPRECATED:
+            made.append(f'WASMI_DEPRECATED("{DEPRECATED[name]}")')
+        added = " ".join(made)
         if not added:
             return f"{bare};"
         return f"{bare} {added};" if len(f"{bare} {added};".splitlines()[-1]) <= 120 else f"{bare}\n    {added};"

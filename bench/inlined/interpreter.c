@@ -47,16 +47,16 @@ static inline uint8_t stored(uint8_t *memory, instruction it, uint64_t ptr, uint
 #define SHIFTED(a, b) ((uint32_t)(a) >> ((b)&31))
 #define IS_LESS(a, b) ((uint32_t)(a) < (uint32_t)(b))
 #else
-#define loaded(memory, it, ptr, value) wasm_load_u32(memory, MEMORY, ptr, it.immediate, value)
-#define loaded_byte(memory, it, ptr, value) wasm_i32_load8_s(memory, MEMORY, ptr, it.immediate, value)
-#define stored(memory, it, ptr, value) wasm_store32(memory, MEMORY, ptr, it.immediate, value)
-#define ADDED(a, b) wasm_i32_add(a, b)
-#define SUBTRACTED(a, b) wasm_i32_sub(a, b)
-#define MULTIPLIED(a, b) wasm_i32_mul(a, b)
-#define EITHER(a, b) wasm_i32_bitxor(a, b)
-#define ROTATED(a, b) wasm_i32_rotl(a, b)
-#define SHIFTED(a, b) wasm_i32_shr_u((uint32_t)(a), (uint32_t)(b))
-#define IS_LESS(a, b) wasm_i32_lt_u((uint32_t)(a), (uint32_t)(b))
+#define loaded(memory, it, ptr, value) wasmi_load_u32(memory, MEMORY, ptr, it.immediate, value)
+#define loaded_byte(memory, it, ptr, value) wasmi_i32_load8_s(memory, MEMORY, ptr, it.immediate, value)
+#define stored(memory, it, ptr, value) wasmi_store32(memory, MEMORY, ptr, it.immediate, value)
+#define ADDED(a, b) wasmi_i32_add(a, b)
+#define SUBTRACTED(a, b) wasmi_i32_sub(a, b)
+#define MULTIPLIED(a, b) wasmi_i32_mul(a, b)
+#define EITHER(a, b) wasmi_i32_bitxor(a, b)
+#define ROTATED(a, b) wasmi_i32_rotl(a, b)
+#define SHIFTED(a, b) wasmi_i32_shr_u((uint32_t)(a), (uint32_t)(b))
+#define IS_LESS(a, b) wasmi_i32_lt_u((uint32_t)(a), (uint32_t)(b))
 #endif
 
 /* A loop that mixes 1,024 numbers of the memory with a state. */

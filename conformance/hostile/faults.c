@@ -1,7 +1,7 @@
 /* Wrong calls in front of the proved ones, which `plant` links in one at a time: FAULT is the number of the fault. Each
    function takes the place of the library's by --wrap, and passes on everything but what its fault changes. */
 #include "wasmi_oracle.h"
-#include "wasmi_machine.h"
+#include "wasmi_memory.h"
 
 uint8_t __real_wasmi_binary(uint16_t number, wasmi_words a, wasmi_words b, wasmi_words *value);
 uint8_t __real_wasmi_binary_each(uint16_t number, const wasmi_words *a, size_t a_len, const wasmi_words *b, size_t b_len,
@@ -99,5 +99,29 @@ uint8_t __real_wasmi_pool_store(wasmi_pool *pool, size_t tenant, uint16_t op, si
 uint8_t __wrap_wasmi_pool_store(wasmi_pool *pool, size_t tenant, uint16_t op, size_t memory, uint64_t ptr, uint64_t offset,
                                 uint64_t value) {
     return __real_wasmi_pool_store(pool, tenant, op, memory, ptr, offset, op == 3 ? value & UINT8_MAX : value);
+}
+#endif
+
+#if FAULT == 12
+uint8_t __real_wasmi_memory_copy_within(const wasmi_memory *memory, uint8_t *region, size_t region_len,
+                                        const wasmi_range *range, wasmi_meter *meter, uint64_t *number);
+
+uint8_t __wrap_wasmi_memory_copy_within(const wasmi_memory *memory, uint8_t *region, size_t region_len,
+                                        const wasmi_range *range, wasmi_meter *meter, uint64_t *number) {
+    uint8_t status = __real_wasmi_memory_copy_within(memory, region, region_len, range, meter, number);
+    for (uint64_t k = 0; status == WASMI_DONE && k < range->count; k++)
+        region[range->to + k] = region[range->from + k];
+    return status;
+}
+#endif
+
+#if FAULT == 13
+uint8_t __real_wasmi_table_copy_within(const wasmi_table *table, uint32_t *elements, size_t elements_len,
+                                       const wasmi_range *range, wasmi_meter *meter, uint64_t *number);
+
+uint8_t __wrap_wasmi_table_copy_within(const wasmi_table *table, uint32_t *elements, size_t elements_len,
+                                       const wasmi_range *range, wasmi_meter *meter, uint64_t *number) {
+    const wasmi_range exchanged = {range->from, range->to, range->count};
+    return __real_wasmi_table_copy_within(table, elements, elements_len, &exchanged, meter, number);
 }
 #endif

@@ -1,7 +1,7 @@
 /* Hostile use of include/wasmi_memory.h's memories and fuel, beside a plain model of them: structs with each field at its
    extremes, regions and arrays of any length that end at an inaccessible page, two memories under one meter and one
-   quota, and calls in random order. usage: memory SEQUENCES [SEED]; its last line is `N sequences, M calls, 0 differ`.
-   It is built with -fsanitize=address,undefined. */
+   quota, and calls in random order; first, copies of a memory onto itself. usage: memory SEQUENCES [SEED]; its last line
+   is `N sequences, M calls, 0 differ`. It is built with -fsanitize=address,undefined. */
 #include "hostile.h"
 
 enum { MEMORIES = 2, SMALL = 96, LONG = 70000, PAGE = 65536, MOST = 3 * PAGE };
@@ -315,7 +315,7 @@ static wasmi_range some_range(const state *s, int i, size_t source) {
 
 /* A range of a memory is written over. */
 static bool write_agrees(state *s, state *model, int i) {
-    int other = 1 - i;
+    int other = below(4) ? 1 - i : i;
     wasmi_memory *m = &s->memory[i];
     const wasmi_memory *o = &s->memory[other];
     uint8_t value = (uint8_t)any();
@@ -408,6 +408,59 @@ static bool call_agrees(state *s, state *model) {
     }
 }
 
+/* ---- sources that lie in the region */
+
+enum { OWN = 64, REGION = 80, COUNT = 24, PLACES = 40 };
+static const wasmi_memory OWN_MEMORY = {OWN, 0, OWN, 0, 0, 0};
+static wasmi_meter no_meter;
+
+/* Copies COUNT bytes of a region over others by one of the calls that take a source. */
+static uint8_t copied_onto_itself(int call, uint8_t *region, size_t to, size_t from) {
+    const wasmi_memory *m = &OWN_MEMORY;
+    const wasmi_range range = {to, from, COUNT}, part = {to, from % 5, COUNT};
+    uint64_t number = 0;
+    switch (call) {
+    case 0: return wasmi_memory_copy(m, region, REGION, m, region, REGION, &range, &no_meter, &number);
+    case 1: return wasmi_memory_write(m, region, REGION, to, region + from, COUNT);
+    default:
+        return wasmi_memory_init(m, region, REGION, region + from - part.from, COUNT + part.from, &part, &no_meter,
+                                 &number);
+    }
+}
+
+/* Each does what memmove does, or is refused and writes nothing where the bytes don't all lie in the memory. */
+static bool own_copies_agree(void) {
+    uint8_t region[REGION], expected[REGION];
+    bool agree = true;
+    for (int call = 0; call < 3; call++)
+        for (size_t to = 0; to < PLACES; to++)
+            for (size_t from = 0; from <= REGION - COUNT; from++) {
+                for (size_t k = 0; k < REGION; k++)
+                    region[k] = expected[k] = (uint8_t)(k * 37 + 5);
+                bool is_within = from + COUNT <= OWN;
+                if (is_within)
+                    memmove(expected + to, expected + from, COUNT);
+                uint8_t status = copied_onto_itself(call, region, to, from);
+                agree &= status == (is_within ? WASMI_DONE : WASMI_MEMORY_ACCESS) && !memcmp(region, expected, REGION);
+            }
+    return agree;
+}
+
+/* The other ways to overlap with a region are refused; to touch it isn't. */
+static bool overlaps_are_refused(void) {
+    const wasmi_memory *m = &OWN_MEMORY;
+    const wasmi_range range = {0, 1, COUNT}, past = {0, 1, 8};
+    uint8_t bytes[2 * REGION] = {1, 2, 3}, *region = bytes + 8;
+    uint64_t number = 0;
+    bool agree = wasmi_memory_copy(m, region, REGION, m, bytes, REGION, &range, &no_meter, &number) == WASMI_INVALID_STATE &&
+                 wasmi_memory_copy(m, bytes, REGION, m, region, REGION, &range, &no_meter, &number) == WASMI_INVALID_STATE &&
+                 wasmi_memory_write(m, region, REGION, 0, bytes, COUNT) == WASMI_MEMORY_ACCESS &&
+                 wasmi_memory_init(m, region, REGION, region, 8, &past, &no_meter, &number) == WASMI_MEMORY_ACCESS &&
+                 bytes[2] == 3 && region[0] == 0;
+    agree &= wasmi_memory_copy(m, bytes + REGION, REGION, m, bytes, REGION, &range, &no_meter, &number) == WASMI_DONE;
+    return agree && bytes[REGION] == 2 && bytes[REGION + 1] == 3;
+}
+
 static state own, by_model;
 
 static void begin_both(void) {
@@ -424,5 +477,9 @@ int main(int count, char **words) {
         model_end[i] = fenced(MOST);
     }
     bytes_end = fenced(LONG);
+    if (!own_copies_agree() || !overlaps_are_refused()) {
+        printf("a copy of a memory onto itself differs\n");
+        return 1;
+    }
     return try_sequences(count, words, begin_both, next_agrees);
 }

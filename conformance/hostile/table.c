@@ -1,6 +1,6 @@
 /* Hostile use of include/wasmi_memory.h's tables, beside a plain model of them: structs with each field at its extremes,
    regions and items of any length that end at an inaccessible page, two tables under one meter and one quota, and calls in
-   random order. usage: table SEQUENCES [SEED]; its last line is `N sequences, M calls, 0 differ`. It is built with
+   random order; first, sources that lie in the region. usage: table SEQUENCES [SEED]; its last line is `N sequences, M calls, 0 differ`. It is built with
    -fsanitize=address,undefined. */
 #include "table_model.h"
 
@@ -108,8 +108,21 @@ static bool growth_agrees(state *s, state *model, int i) {
     }
 }
 
+#pragma GCC diagnostic push
+#pragma GCC diagnostic ignored "-Wdeprecated-declarations"
+static uint8_t (*const former_copy)(const wasmi_table *, uint32_t *, size_t, const wasmi_range *, wasmi_meter *,
+                                    uint64_t *) = wasmi_table_copy;
+#pragma GCC diagnostic pop
+
+static bool copy_agrees(state *s, state *model, int i, const wasmi_range *range) {
+    uint8_t (*copy)(const wasmi_table *, uint32_t *, size_t, const wasmi_range *, wasmi_meter *, uint64_t *) =
+        below(2) ? wasmi_table_copy_within : former_copy;
+    return copy(&s->table[i], s->region[i], s->length[i], range, &s->meter, &s->number) ==
+           copy_by_model(model, i, i, range);
+}
+
 static bool call_agrees(state *s, state *model) {
-    int i = (int)below(TABLES), other = 1 - i;
+    int i = (int)below(TABLES), other = below(4) ? 1 - i : i;
     wasmi_table *t = &s->table[i];
     const wasmi_range range = {place(s, i), place(s, below(2) ? i : other), below(3) ? below(6) : any_number()};
     uint32_t reference = (uint32_t)any();
@@ -119,9 +132,7 @@ static bool call_agrees(state *s, state *model) {
     case 2:
         return wasmi_table_fill(t, s->region[i], s->length[i], &range, reference, &s->meter, &s->number) ==
                fill_by_model(model, i, &range, reference);
-    case 3:
-        return wasmi_table_copy(t, s->region[i], s->length[i], &range, &s->meter, &s->number) ==
-               copy_by_model(model, i, i, &range);
+    case 3: return copy_agrees(s, model, i, &range);
     case 4:
         return wasmi_table_copy_from(t, s->region[i], s->length[i], &s->table[other], s->region[other], s->length[other],
                                      &range, &s->meter, &s->number) == copy_by_model(model, i, other, &range);
@@ -132,6 +143,26 @@ static bool call_agrees(state *s, state *model) {
         return size_agrees(s, i);
     default: return growth_agrees(s, model, i);
     }
+}
+
+/* ---- sources that lie in the region */
+
+/* A table is copied onto itself, and all other sources in its region are refused. */
+static bool own_copies_agree(void) {
+    const wasmi_table t = {6, 0, 6, 0, 0, WASMI_TYPE_FUNCREF};
+    const wasmi_range up = {2, 0, 4}, item = {0, 0, 1};
+    uint32_t elements[16] = {1, 2, 3, 4, 5, 6}, *others = elements + 1;
+    wasmi_meter meter = {0, 0, 0, 0, 0};
+    uint64_t number = 0;
+    bool agree = wasmi_table_copy_from(&t, elements, 8, &t, elements, 8, &up, &meter, &number) == WASMI_DONE &&
+                 elements[2] == 1 && elements[5] == 4 && elements[6] == 0;
+    agree &= wasmi_table_copy_from(&t, elements, 8, &t, others, 8, &item, &meter, &number) == WASMI_INVALID_STATE &&
+             wasmi_table_copy_from(&t, others, 8, &t, elements, 8, &item, &meter, &number) == WASMI_INVALID_STATE &&
+             wasmi_table_init(&t, elements, 8, others, 1, &item, &meter, &number) == WASMI_TABLE_INIT &&
+             wasmi_table_init(&t, others, 8, elements, 2, &item, &meter, &number) == WASMI_TABLE_INIT &&
+             wasmi_table_init(&t, elements, 5, others, 1, &item, &meter, &number) == WASMI_INVALID_STATE;
+    agree &= elements[0] == 1 && elements[1] == 2;
+    return agree && wasmi_table_init(&t, others, 8, elements, 1, &item, &meter, &number) == WASMI_DONE && others[0] == 1;
 }
 
 static state own, by_model;
@@ -150,5 +181,9 @@ int main(int count, char **words) {
         model_end[i] = (uint32_t *)(void *)fenced(MOST * sizeof(uint32_t));
     }
     items_end = (uint32_t *)(void *)fenced(MOST * sizeof(uint32_t));
+    if (!own_copies_agree()) {
+        printf("a copy of a table onto itself differs\n");
+        return 1;
+    }
     return try_sequences(count, words, begin_both, next_agrees);
 }

@@ -2,6 +2,9 @@
    place of libwasmi_core.a prints what it should print. examples/run does so with examples/c/table.c. */
 #include "table_model.h"
 
+#undef wasmi_table_copy_from
+#undef wasmi_table_init
+
 /* All that a call takes, as the model has it; what it doesn't take is zeros. */
 static state taken(const wasmi_table *table, uint32_t *elements, size_t length) {
     state s;
@@ -95,8 +98,8 @@ uint8_t wasmi_table_fill(const wasmi_table *table, uint32_t *elements, size_t le
     return given(&s, fill_by_model(&s, 0, range, reference), meter, number);
 }
 
-uint8_t wasmi_table_copy(const wasmi_table *table, uint32_t *elements, size_t length, const wasmi_range *range,
-                         wasmi_meter *meter, uint64_t *number) {
+uint8_t wasmi_table_copy_within(const wasmi_table *table, uint32_t *elements, size_t length, const wasmi_range *range,
+                                wasmi_meter *meter, uint64_t *number) {
     state s = taken_metered(table, elements, length, meter, number);
     return given(&s, copy_by_model(&s, 0, 0, range), meter, number);
 }

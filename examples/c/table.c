@@ -50,8 +50,8 @@ static void writes(void) {
     said("set past the end", wasmi_table_set(&table, elements, ROOM, 6, 5));
     said("init", wasmi_table_init(&table, elements, ROOM, items, ITEMS, &init, &meter, &number));
     said("init past the items", wasmi_table_init(&table, elements, ROOM, items, 2, &init, &meter, &number));
-    said("copy onto itself", wasmi_table_copy(&table, elements, ROOM, &up, &meter, &number));
-    said("copy past the end", wasmi_table_copy(&table, elements, ROOM, &past, &meter, &number));
+    said("copy onto itself", wasmi_table_copy_within(&table, elements, ROOM, &up, &meter, &number));
+    said("copy past the end", wasmi_table_copy_within(&table, elements, ROOM, &past, &meter, &number));
     said("fill", wasmi_table_fill(&table, elements, ROOM, &fill, 9, &meter, &number));
     said("copy from another", wasmi_table_copy_from(&table, elements, ROOM, &other, others, ROOM, &init, &meter, &number));
     other.type = WASMI_TYPE_EXTERNREF;

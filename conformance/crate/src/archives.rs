@@ -191,7 +191,7 @@ unsafe extern "C" {
     pub fn wasmi_table_get(table: &PlainTable, elements: *const u32, elements_len: usize, index: u64, reference: &mut u32) -> u8;
     pub fn wasmi_table_set(table: &PlainTable, elements: *mut u32, elements_len: usize, index: u64, reference: u32) -> u8;
     pub fn wasmi_table_fill(table: &PlainTable, elements: *mut u32, elements_len: usize, range: &Range, reference: u32, meter: &mut Meter, number: &mut u64) -> u8;
-    pub fn wasmi_table_copy(table: &PlainTable, elements: *mut u32, elements_len: usize, range: &Range, meter: &mut Meter, number: &mut u64) -> u8;
+    pub fn wasmi_table_copy_within(table: &PlainTable, elements: *mut u32, elements_len: usize, range: &Range, meter: &mut Meter, number: &mut u64) -> u8;
     pub fn wasmi_table_copy_from(table: &PlainTable, elements: *mut u32, elements_len: usize, source: &PlainTable, source_elements: *const u32, source_len: usize, range: &Range, meter: &mut Meter, number: &mut u64) -> u8;
     pub fn wasmi_table_init(table: &PlainTable, elements: *mut u32, elements_len: usize, items: *const u32, items_len: usize, range: &Range, meter: &mut Meter, number: &mut u64) -> u8;
 }

@@ -194,7 +194,7 @@ pub extern "C" fn wasmi_store_lane(
 }
 
 #[unsafe(no_mangle)]
-pub extern "C" fn wasm_i8x16_shuffle(
+pub extern "C" fn wasmi_i8x16_shuffle(
     a: RawVal,
     b: RawVal,
     lanes: &[u8; 16],
@@ -206,7 +206,7 @@ pub extern "C" fn wasm_i8x16_shuffle(
 }
 
 #[unsafe(no_mangle)]
-pub extern "C" fn wasm_v128_store(memory: &mut [u8], ptr: u64, offset: u64, value: RawVal) -> u8
+pub extern "C" fn wasmi_v128_store(memory: &mut [u8], ptr: u64, offset: u64, value: RawVal) -> u8
     ensures { StoresBytes memory.old (ptr + offset) (le_bytes 16 (vector_in value)) memory.new result }
 {
     status_of(simd::v128_store(memory, ptr, offset, value.into()))

@@ -11,7 +11,7 @@ use wasmi_access::wasm;
 use wasmi_c::instruction::result::status_of;
 
 #[unsafe(no_mangle)]
-pub extern "C" fn wasm_i32_store8(memory: &mut [u8], ptr: u64, offset: u64, value: i32) -> u8
+pub extern "C" fn wasmi_i32_store8(memory: &mut [u8], ptr: u64, offset: u64, value: i32) -> u8
     ensures { StoresBytes memory.old (ptr + offset) (le_bytes 1 (cast_unsigned w32 value % 2 ^ 8))
         memory.new result }
 {
@@ -19,7 +19,7 @@ pub extern "C" fn wasm_i32_store8(memory: &mut [u8], ptr: u64, offset: u64, valu
 }
 
 #[unsafe(no_mangle)]
-pub extern "C" fn wasm_i32_store16(memory: &mut [u8], ptr: u64, offset: u64, value: i32) -> u8
+pub extern "C" fn wasmi_i32_store16(memory: &mut [u8], ptr: u64, offset: u64, value: i32) -> u8
     ensures { StoresBytes memory.old (ptr + offset) (le_bytes 2 (cast_unsigned w32 value % 2 ^ 16))
         memory.new result }
 {
@@ -27,7 +27,7 @@ pub extern "C" fn wasm_i32_store16(memory: &mut [u8], ptr: u64, offset: u64, val
 }
 
 #[unsafe(no_mangle)]
-pub extern "C" fn wasm_i64_store8(memory: &mut [u8], ptr: u64, offset: u64, value: i64) -> u8
+pub extern "C" fn wasmi_i64_store8(memory: &mut [u8], ptr: u64, offset: u64, value: i64) -> u8
     ensures { StoresBytes memory.old (ptr + offset) (le_bytes 1 (cast_unsigned w64 value % 2 ^ 8))
         memory.new result }
 {
@@ -35,7 +35,7 @@ pub extern "C" fn wasm_i64_store8(memory: &mut [u8], ptr: u64, offset: u64, valu
 }
 
 #[unsafe(no_mangle)]
-pub extern "C" fn wasm_i64_store16(memory: &mut [u8], ptr: u64, offset: u64, value: i64) -> u8
+pub extern "C" fn wasmi_i64_store16(memory: &mut [u8], ptr: u64, offset: u64, value: i64) -> u8
     ensures { StoresBytes memory.old (ptr + offset) (le_bytes 2 (cast_unsigned w64 value % 2 ^ 16))
         memory.new result }
 {
@@ -43,7 +43,7 @@ pub extern "C" fn wasm_i64_store16(memory: &mut [u8], ptr: u64, offset: u64, val
 }
 
 #[unsafe(no_mangle)]
-pub extern "C" fn wasm_i64_store32(memory: &mut [u8], ptr: u64, offset: u64, value: i64) -> u8
+pub extern "C" fn wasmi_i64_store32(memory: &mut [u8], ptr: u64, offset: u64, value: i64) -> u8
     ensures { StoresBytes memory.old (ptr + offset) (le_bytes 4 (cast_unsigned w64 value % 2 ^ 32))
         memory.new result }
 {
@@ -51,14 +51,14 @@ pub extern "C" fn wasm_i64_store32(memory: &mut [u8], ptr: u64, offset: u64, val
 }
 
 #[unsafe(no_mangle)]
-pub extern "C" fn wasm_store32(memory: &mut [u8], ptr: u64, offset: u64, value: u32) -> u8
+pub extern "C" fn wasmi_store32(memory: &mut [u8], ptr: u64, offset: u64, value: u32) -> u8
     ensures { StoresBytes memory.old (ptr + offset) (le_bytes 4 value) memory.new result }
 {
     status_of(wasm::store32(memory, ptr, offset, value))
 }
 
 #[unsafe(no_mangle)]
-pub extern "C" fn wasm_store64(memory: &mut [u8], ptr: u64, offset: u64, value: u64) -> u8
+pub extern "C" fn wasmi_store64(memory: &mut [u8], ptr: u64, offset: u64, value: u64) -> u8
     ensures { StoresBytes memory.old (ptr + offset) (le_bytes 8 value) memory.new result }
 {
     status_of(wasm::store64(memory, ptr, offset, value))

@@ -141,6 +141,22 @@ pub extern "C" fn wasmi_table_fill(
 }
 
 #[unsafe(no_mangle)]
+pub extern "C" fn wasmi_table_copy_within(
+    table: &TableNumbers,
+    region: &mut [u32],
+    range: &Range,
+    meter: &mut MeterNumbers,
+    number: &mut u64,
+) -> u8
+    ensures { WritesTableEmbedded (λ ty. copy_of range.now.to range.now.from range.now.count
+        (table_in ty region.old table.now.size))
+        table.now (metered_region region.old meter.old number.old) result
+        (metered_region region.new meter.new number.new) }
+{
+    on_table::copy_within(table, region, range, meter, number)
+}
+
+#[unsafe(no_mangle)]
 pub extern "C" fn wasmi_table_copy(
     table: &TableNumbers,
     region: &mut [u32],

@@ -16,7 +16,7 @@ use wasmi_raw::RawVal;
 use wasmi_vector_access::simd;
 
 #[unsafe(no_mangle)]
-pub extern "C" fn wasm_v128_load(memory: &[u8], ptr: u64, offset: u64, value: &mut RawVal) -> u8
+pub extern "C" fn wasmi_v128_load(memory: &[u8], ptr: u64, offset: u64, value: &mut RawVal) -> u8
     ensures { Gives (as_raw raw_of_vector (loaded 16 (λ n. n) memory.now (ptr + offset))) value.old
         value.new result }
 {
@@ -24,7 +24,7 @@ pub extern "C" fn wasm_v128_load(memory: &[u8], ptr: u64, offset: u64, value: &m
 }
 
 #[unsafe(no_mangle)]
-pub extern "C" fn wasm_v128_load8x8_s(
+pub extern "C" fn wasmi_v128_load8x8_s(
     memory: &[u8],
     ptr: u64,
     offset: u64,
@@ -37,7 +37,7 @@ pub extern "C" fn wasm_v128_load8x8_s(
 }
 
 #[unsafe(no_mangle)]
-pub extern "C" fn wasm_v128_load8x8_u(
+pub extern "C" fn wasmi_v128_load8x8_u(
     memory: &[u8],
     ptr: u64,
     offset: u64,
@@ -50,7 +50,7 @@ pub extern "C" fn wasm_v128_load8x8_u(
 }
 
 #[unsafe(no_mangle)]
-pub extern "C" fn wasm_v128_load16x4_s(
+pub extern "C" fn wasmi_v128_load16x4_s(
     memory: &[u8],
     ptr: u64,
     offset: u64,
@@ -63,7 +63,7 @@ pub extern "C" fn wasm_v128_load16x4_s(
 }
 
 #[unsafe(no_mangle)]
-pub extern "C" fn wasm_v128_load16x4_u(
+pub extern "C" fn wasmi_v128_load16x4_u(
     memory: &[u8],
     ptr: u64,
     offset: u64,
@@ -76,7 +76,7 @@ pub extern "C" fn wasm_v128_load16x4_u(
 }
 
 #[unsafe(no_mangle)]
-pub extern "C" fn wasm_v128_load32x2_s(
+pub extern "C" fn wasmi_v128_load32x2_s(
     memory: &[u8],
     ptr: u64,
     offset: u64,
@@ -89,7 +89,7 @@ pub extern "C" fn wasm_v128_load32x2_s(
 }
 
 #[unsafe(no_mangle)]
-pub extern "C" fn wasm_v128_load32x2_u(
+pub extern "C" fn wasmi_v128_load32x2_u(
     memory: &[u8],
     ptr: u64,
     offset: u64,
@@ -102,7 +102,7 @@ pub extern "C" fn wasm_v128_load32x2_u(
 }
 
 #[unsafe(no_mangle)]
-pub extern "C" fn wasm_v128_load8_splat(
+pub extern "C" fn wasmi_v128_load8_splat(
     memory: &[u8],
     ptr: u64,
     offset: u64,
@@ -115,7 +115,7 @@ pub extern "C" fn wasm_v128_load8_splat(
 }
 
 #[unsafe(no_mangle)]
-pub extern "C" fn wasm_v128_load16_splat(
+pub extern "C" fn wasmi_v128_load16_splat(
     memory: &[u8],
     ptr: u64,
     offset: u64,
@@ -128,7 +128,7 @@ pub extern "C" fn wasm_v128_load16_splat(
 }
 
 #[unsafe(no_mangle)]
-pub extern "C" fn wasm_v128_load32_splat(
+pub extern "C" fn wasmi_v128_load32_splat(
     memory: &[u8],
     ptr: u64,
     offset: u64,
@@ -141,7 +141,7 @@ pub extern "C" fn wasm_v128_load32_splat(
 }
 
 #[unsafe(no_mangle)]
-pub extern "C" fn wasm_v128_load64_splat(
+pub extern "C" fn wasmi_v128_load64_splat(
     memory: &[u8],
     ptr: u64,
     offset: u64,
@@ -154,7 +154,7 @@ pub extern "C" fn wasm_v128_load64_splat(
 }
 
 #[unsafe(no_mangle)]
-pub extern "C" fn wasm_v128_load32_zero(
+pub extern "C" fn wasmi_v128_load32_zero(
     memory: &[u8],
     ptr: u64,
     offset: u64,
@@ -167,7 +167,7 @@ pub extern "C" fn wasm_v128_load32_zero(
 }
 
 #[unsafe(no_mangle)]
-pub extern "C" fn wasm_v128_load64_zero(
+pub extern "C" fn wasmi_v128_load64_zero(
     memory: &[u8],
     ptr: u64,
     offset: u64,

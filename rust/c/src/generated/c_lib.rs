@@ -301,7 +301,7 @@ mod instructions {
     /// ensures: Leaves (shuffle_result a b lanes.now) value.old value.new result
     /// ```
     #[unsafe(no_mangle)]
-    pub extern "C" fn wasm_i8x16_shuffle(
+    pub extern "C" fn wasmi_i8x16_shuffle(
         a: RawVal,
         b: RawVal,
         lanes: &[u8; 16],
@@ -318,7 +318,7 @@ mod instructions {
     ///
     /// Definitions: [`le_bytes`](crate::specs::types::NumbersSpecs#le_bytes), [`vector_in`](crate::specs::raw::RawValSpecs#vector_in).
     #[unsafe(no_mangle)]
-    pub unsafe extern "C" fn wasm_v128_store(
+    pub unsafe extern "C" fn wasmi_v128_store(
         memory: *mut u8,
         memory_len: usize,
         ptr: u64,
@@ -367,7 +367,7 @@ mod loads {
     ///
     /// Definitions: [`loaded`](crate::specs::accesses::LoadStoreSpecs#loaded).
     #[unsafe(no_mangle)]
-    pub unsafe extern "C" fn wasm_i32_load8_s(
+    pub unsafe extern "C" fn wasmi_i32_load8_s(
         memory: *const u8,
         memory_len: usize,
         ptr: u64,
@@ -387,7 +387,7 @@ mod loads {
     ///
     /// Definitions: [`loaded`](crate::specs::accesses::LoadStoreSpecs#loaded).
     #[unsafe(no_mangle)]
-    pub unsafe extern "C" fn wasm_i32_load8_u(
+    pub unsafe extern "C" fn wasmi_i32_load8_u(
         memory: *const u8,
         memory_len: usize,
         ptr: u64,
@@ -408,7 +408,7 @@ mod loads {
     ///
     /// Definitions: [`loaded`](crate::specs::accesses::LoadStoreSpecs#loaded).
     #[unsafe(no_mangle)]
-    pub unsafe extern "C" fn wasm_i32_load16_s(
+    pub unsafe extern "C" fn wasmi_i32_load16_s(
         memory: *const u8,
         memory_len: usize,
         ptr: u64,
@@ -428,7 +428,7 @@ mod loads {
     ///
     /// Definitions: [`loaded`](crate::specs::accesses::LoadStoreSpecs#loaded).
     #[unsafe(no_mangle)]
-    pub unsafe extern "C" fn wasm_i32_load16_u(
+    pub unsafe extern "C" fn wasmi_i32_load16_u(
         memory: *const u8,
         memory_len: usize,
         ptr: u64,
@@ -449,7 +449,7 @@ mod loads {
     ///
     /// Definitions: [`loaded`](crate::specs::accesses::LoadStoreSpecs#loaded).
     #[unsafe(no_mangle)]
-    pub unsafe extern "C" fn wasm_i64_load8_s(
+    pub unsafe extern "C" fn wasmi_i64_load8_s(
         memory: *const u8,
         memory_len: usize,
         ptr: u64,
@@ -469,7 +469,7 @@ mod loads {
     ///
     /// Definitions: [`loaded`](crate::specs::accesses::LoadStoreSpecs#loaded).
     #[unsafe(no_mangle)]
-    pub unsafe extern "C" fn wasm_i64_load8_u(
+    pub unsafe extern "C" fn wasmi_i64_load8_u(
         memory: *const u8,
         memory_len: usize,
         ptr: u64,
@@ -490,7 +490,7 @@ mod loads {
     ///
     /// Definitions: [`loaded`](crate::specs::accesses::LoadStoreSpecs#loaded).
     #[unsafe(no_mangle)]
-    pub unsafe extern "C" fn wasm_i64_load16_s(
+    pub unsafe extern "C" fn wasmi_i64_load16_s(
         memory: *const u8,
         memory_len: usize,
         ptr: u64,
@@ -510,7 +510,7 @@ mod loads {
     ///
     /// Definitions: [`loaded`](crate::specs::accesses::LoadStoreSpecs#loaded).
     #[unsafe(no_mangle)]
-    pub unsafe extern "C" fn wasm_i64_load16_u(
+    pub unsafe extern "C" fn wasmi_i64_load16_u(
         memory: *const u8,
         memory_len: usize,
         ptr: u64,
@@ -531,7 +531,7 @@ mod loads {
     ///
     /// Definitions: [`loaded`](crate::specs::accesses::LoadStoreSpecs#loaded).
     #[unsafe(no_mangle)]
-    pub unsafe extern "C" fn wasm_i64_load32_s(
+    pub unsafe extern "C" fn wasmi_i64_load32_s(
         memory: *const u8,
         memory_len: usize,
         ptr: u64,
@@ -551,7 +551,7 @@ mod loads {
     ///
     /// Definitions: [`loaded`](crate::specs::accesses::LoadStoreSpecs#loaded).
     #[unsafe(no_mangle)]
-    pub unsafe extern "C" fn wasm_i64_load32_u(
+    pub unsafe extern "C" fn wasmi_i64_load32_u(
         memory: *const u8,
         memory_len: usize,
         ptr: u64,
@@ -571,7 +571,7 @@ mod loads {
     ///
     /// Definitions: [`loaded`](crate::specs::accesses::LoadStoreSpecs#loaded).
     #[unsafe(no_mangle)]
-    pub unsafe extern "C" fn wasm_load_u32(
+    pub unsafe extern "C" fn wasmi_load_u32(
         memory: *const u8,
         memory_len: usize,
         ptr: u64,
@@ -591,7 +591,7 @@ mod loads {
     ///
     /// Definitions: [`loaded`](crate::specs::accesses::LoadStoreSpecs#loaded).
     #[unsafe(no_mangle)]
-    pub unsafe extern "C" fn wasm_load_u64(
+    pub unsafe extern "C" fn wasmi_load_u64(
         memory: *const u8,
         memory_len: usize,
         ptr: u64,
@@ -1582,7 +1582,7 @@ mod scalar {
     ///
     /// Definitions: [`iclz`](crate::specs::scalar::NumericsSpecs#iclz).
     #[unsafe(no_mangle)]
-    pub extern "C" fn wasm_i32_clz(value: i32) -> i32 {
+    pub extern "C" fn wasmi_i32_clz(value: i32) -> i32 {
         wasm::i32_clz(value)
     }
 
@@ -1594,7 +1594,7 @@ mod scalar {
     ///
     /// Definitions: [`ictz`](crate::specs::scalar::NumericsSpecs#ictz).
     #[unsafe(no_mangle)]
-    pub extern "C" fn wasm_i32_ctz(value: i32) -> i32 {
+    pub extern "C" fn wasmi_i32_ctz(value: i32) -> i32 {
         wasm::i32_ctz(value)
     }
 
@@ -1606,7 +1606,7 @@ mod scalar {
     ///
     /// Definitions: [`ipopcnt`](crate::specs::scalar::NumericsSpecs#ipopcnt).
     #[unsafe(no_mangle)]
-    pub extern "C" fn wasm_i32_popcnt(value: i32) -> i32 {
+    pub extern "C" fn wasmi_i32_popcnt(value: i32) -> i32 {
         wasm::i32_popcnt(value)
     }
 
@@ -1618,7 +1618,7 @@ mod scalar {
     ///
     /// Definitions: [`ieqz`](crate::specs::scalar::NumericsSpecs#ieqz).
     #[unsafe(no_mangle)]
-    pub extern "C" fn wasm_i32_eqz(value: i32) -> bool {
+    pub extern "C" fn wasmi_i32_eqz(value: i32) -> bool {
         wasm::i32_eqz(value)
     }
 
@@ -1630,7 +1630,7 @@ mod scalar {
     ///
     /// Definitions: [`iclz`](crate::specs::scalar::NumericsSpecs#iclz).
     #[unsafe(no_mangle)]
-    pub extern "C" fn wasm_i64_clz(value: i64) -> i64 {
+    pub extern "C" fn wasmi_i64_clz(value: i64) -> i64 {
         wasm::i64_clz(value)
     }
 
@@ -1642,7 +1642,7 @@ mod scalar {
     ///
     /// Definitions: [`ictz`](crate::specs::scalar::NumericsSpecs#ictz).
     #[unsafe(no_mangle)]
-    pub extern "C" fn wasm_i64_ctz(value: i64) -> i64 {
+    pub extern "C" fn wasmi_i64_ctz(value: i64) -> i64 {
         wasm::i64_ctz(value)
     }
 
@@ -1654,7 +1654,7 @@ mod scalar {
     ///
     /// Definitions: [`ipopcnt`](crate::specs::scalar::NumericsSpecs#ipopcnt).
     #[unsafe(no_mangle)]
-    pub extern "C" fn wasm_i64_popcnt(value: i64) -> i64 {
+    pub extern "C" fn wasmi_i64_popcnt(value: i64) -> i64 {
         wasm::i64_popcnt(value)
     }
 
@@ -1666,7 +1666,7 @@ mod scalar {
     ///
     /// Definitions: [`ieqz`](crate::specs::scalar::NumericsSpecs#ieqz).
     #[unsafe(no_mangle)]
-    pub extern "C" fn wasm_i64_eqz(value: i64) -> bool {
+    pub extern "C" fn wasmi_i64_eqz(value: i64) -> bool {
         wasm::i64_eqz(value)
     }
 
@@ -1676,7 +1676,7 @@ mod scalar {
     /// ensures: result ≡ int_wrap w32 value
     /// ```
     #[unsafe(no_mangle)]
-    pub extern "C" fn wasm_i32_wrap_i64(value: i64) -> i32 {
+    pub extern "C" fn wasmi_i32_wrap_i64(value: i64) -> i32 {
         wasm::i32_wrap_i64(value)
     }
 
@@ -1686,7 +1686,7 @@ mod scalar {
     /// ensures: result ≡ value
     /// ```
     #[unsafe(no_mangle)]
-    pub extern "C" fn wasm_i64_extend_i32_s(value: i32) -> i64 {
+    pub extern "C" fn wasmi_i64_extend_i32_s(value: i32) -> i64 {
         wasm::i64_extend_i32_s(value)
     }
 
@@ -1696,7 +1696,7 @@ mod scalar {
     /// ensures: result ≡ value
     /// ```
     #[unsafe(no_mangle)]
-    pub extern "C" fn wasm_i64_extend_i32_u(value: u32) -> u64 {
+    pub extern "C" fn wasmi_i64_extend_i32_u(value: u32) -> u64 {
         wasm::i64_extend_i32_u(value)
     }
 
@@ -1706,7 +1706,7 @@ mod scalar {
     /// ensures: result ≡ int_wrap w8 value
     /// ```
     #[unsafe(no_mangle)]
-    pub extern "C" fn wasm_i32_extend8_s(value: i32) -> i32 {
+    pub extern "C" fn wasmi_i32_extend8_s(value: i32) -> i32 {
         wasm::i32_extend8_s(value)
     }
 
@@ -1716,7 +1716,7 @@ mod scalar {
     /// ensures: result ≡ int_wrap w16 value
     /// ```
     #[unsafe(no_mangle)]
-    pub extern "C" fn wasm_i32_extend16_s(value: i32) -> i32 {
+    pub extern "C" fn wasmi_i32_extend16_s(value: i32) -> i32 {
         wasm::i32_extend16_s(value)
     }
 
@@ -1726,7 +1726,7 @@ mod scalar {
     /// ensures: result ≡ int_wrap w8 value
     /// ```
     #[unsafe(no_mangle)]
-    pub extern "C" fn wasm_i64_extend8_s(value: i64) -> i64 {
+    pub extern "C" fn wasmi_i64_extend8_s(value: i64) -> i64 {
         wasm::i64_extend8_s(value)
     }
 
@@ -1736,7 +1736,7 @@ mod scalar {
     /// ensures: result ≡ int_wrap w16 value
     /// ```
     #[unsafe(no_mangle)]
-    pub extern "C" fn wasm_i64_extend16_s(value: i64) -> i64 {
+    pub extern "C" fn wasmi_i64_extend16_s(value: i64) -> i64 {
         wasm::i64_extend16_s(value)
     }
 
@@ -1746,7 +1746,7 @@ mod scalar {
     /// ensures: result ≡ int_wrap w32 value
     /// ```
     #[unsafe(no_mangle)]
-    pub extern "C" fn wasm_i64_extend32_s(value: i64) -> i64 {
+    pub extern "C" fn wasmi_i64_extend32_s(value: i64) -> i64 {
         wasm::i64_extend32_s(value)
     }
 
@@ -1758,7 +1758,7 @@ mod scalar {
     ///
     /// Definitions: [`iadd`](crate::specs::scalar::NumericsSpecs#iadd).
     #[unsafe(no_mangle)]
-    pub extern "C" fn wasm_i32_add(lhs: i32, rhs: i32) -> i32 {
+    pub extern "C" fn wasmi_i32_add(lhs: i32, rhs: i32) -> i32 {
         wasm::i32_add(lhs, rhs)
     }
 
@@ -1770,7 +1770,7 @@ mod scalar {
     ///
     /// Definitions: [`isub`](crate::specs::scalar::NumericsSpecs#isub).
     #[unsafe(no_mangle)]
-    pub extern "C" fn wasm_i32_sub(lhs: i32, rhs: i32) -> i32 {
+    pub extern "C" fn wasmi_i32_sub(lhs: i32, rhs: i32) -> i32 {
         wasm::i32_sub(lhs, rhs)
     }
 
@@ -1782,7 +1782,7 @@ mod scalar {
     ///
     /// Definitions: [`imul`](crate::specs::scalar::NumericsSpecs#imul).
     #[unsafe(no_mangle)]
-    pub extern "C" fn wasm_i32_mul(lhs: i32, rhs: i32) -> i32 {
+    pub extern "C" fn wasmi_i32_mul(lhs: i32, rhs: i32) -> i32 {
         wasm::i32_mul(lhs, rhs)
     }
 
@@ -1794,7 +1794,7 @@ mod scalar {
     ///
     /// Definitions: [`iand`](crate::specs::scalar::NumericsSpecs#iand).
     #[unsafe(no_mangle)]
-    pub extern "C" fn wasm_i32_bitand(lhs: i32, rhs: i32) -> i32 {
+    pub extern "C" fn wasmi_i32_bitand(lhs: i32, rhs: i32) -> i32 {
         wasm::i32_bitand(lhs, rhs)
     }
 
@@ -1806,7 +1806,7 @@ mod scalar {
     ///
     /// Definitions: [`ior`](crate::specs::scalar::NumericsSpecs#ior).
     #[unsafe(no_mangle)]
-    pub extern "C" fn wasm_i32_bitor(lhs: i32, rhs: i32) -> i32 {
+    pub extern "C" fn wasmi_i32_bitor(lhs: i32, rhs: i32) -> i32 {
         wasm::i32_bitor(lhs, rhs)
     }
 
@@ -1818,7 +1818,7 @@ mod scalar {
     ///
     /// Definitions: [`ixor`](crate::specs::scalar::NumericsSpecs#ixor).
     #[unsafe(no_mangle)]
-    pub extern "C" fn wasm_i32_bitxor(lhs: i32, rhs: i32) -> i32 {
+    pub extern "C" fn wasmi_i32_bitxor(lhs: i32, rhs: i32) -> i32 {
         wasm::i32_bitxor(lhs, rhs)
     }
 
@@ -1830,7 +1830,7 @@ mod scalar {
     ///
     /// Definitions: [`ishl`](crate::specs::scalar::NumericsSpecs#ishl).
     #[unsafe(no_mangle)]
-    pub extern "C" fn wasm_i32_shl(lhs: i32, rhs: i32) -> i32 {
+    pub extern "C" fn wasmi_i32_shl(lhs: i32, rhs: i32) -> i32 {
         wasm::i32_shl(lhs, rhs)
     }
 
@@ -1842,7 +1842,7 @@ mod scalar {
     ///
     /// Definitions: [`ishr_s`](crate::specs::scalar::NumericsSpecs#ishr_s).
     #[unsafe(no_mangle)]
-    pub extern "C" fn wasm_i32_shr_s(lhs: i32, rhs: i32) -> i32 {
+    pub extern "C" fn wasmi_i32_shr_s(lhs: i32, rhs: i32) -> i32 {
         wasm::i32_shr_s(lhs, rhs)
     }
 
@@ -1854,7 +1854,7 @@ mod scalar {
     ///
     /// Definitions: [`ishr_u`](crate::specs::scalar::NumericsSpecs#ishr_u).
     #[unsafe(no_mangle)]
-    pub extern "C" fn wasm_i32_shr_u(lhs: u32, rhs: u32) -> u32 {
+    pub extern "C" fn wasmi_i32_shr_u(lhs: u32, rhs: u32) -> u32 {
         wasm::i32_shr_u(lhs, rhs)
     }
 
@@ -1866,7 +1866,7 @@ mod scalar {
     ///
     /// Definitions: [`irotl`](crate::specs::scalar::NumericsSpecs#irotl).
     #[unsafe(no_mangle)]
-    pub extern "C" fn wasm_i32_rotl(lhs: i32, rhs: i32) -> i32 {
+    pub extern "C" fn wasmi_i32_rotl(lhs: i32, rhs: i32) -> i32 {
         wasm::i32_rotl(lhs, rhs)
     }
 
@@ -1878,7 +1878,7 @@ mod scalar {
     ///
     /// Definitions: [`irotr`](crate::specs::scalar::NumericsSpecs#irotr).
     #[unsafe(no_mangle)]
-    pub extern "C" fn wasm_i32_rotr(lhs: i32, rhs: i32) -> i32 {
+    pub extern "C" fn wasmi_i32_rotr(lhs: i32, rhs: i32) -> i32 {
         wasm::i32_rotr(lhs, rhs)
     }
 
@@ -1890,7 +1890,7 @@ mod scalar {
     ///
     /// Definitions: [`idiv_s`](crate::specs::scalar::NumericsSpecs#idiv_s).
     #[unsafe(no_mangle)]
-    pub extern "C" fn wasm_i32_div_s(lhs: i32, rhs: i32, value: &mut i32) -> u8 {
+    pub extern "C" fn wasmi_i32_div_s(lhs: i32, rhs: i32, value: &mut i32) -> u8 {
         leave_item(wasm::i32_div_s(lhs, rhs), value)
     }
 
@@ -1902,7 +1902,7 @@ mod scalar {
     ///
     /// Definitions: [`idiv_u`](crate::specs::scalar::NumericsSpecs#idiv_u).
     #[unsafe(no_mangle)]
-    pub extern "C" fn wasm_i32_div_u(lhs: u32, rhs: u32, value: &mut u32) -> u8 {
+    pub extern "C" fn wasmi_i32_div_u(lhs: u32, rhs: u32, value: &mut u32) -> u8 {
         leave_item(wasm::i32_div_u(lhs, rhs), value)
     }
 
@@ -1914,7 +1914,7 @@ mod scalar {
     ///
     /// Definitions: [`irem_s`](crate::specs::scalar::NumericsSpecs#irem_s).
     #[unsafe(no_mangle)]
-    pub extern "C" fn wasm_i32_rem_s(lhs: i32, rhs: i32, value: &mut i32) -> u8 {
+    pub extern "C" fn wasmi_i32_rem_s(lhs: i32, rhs: i32, value: &mut i32) -> u8 {
         leave_item(wasm::i32_rem_s(lhs, rhs), value)
     }
 
@@ -1926,7 +1926,7 @@ mod scalar {
     ///
     /// Definitions: [`irem_u`](crate::specs::scalar::NumericsSpecs#irem_u).
     #[unsafe(no_mangle)]
-    pub extern "C" fn wasm_i32_rem_u(lhs: u32, rhs: u32, value: &mut u32) -> u8 {
+    pub extern "C" fn wasmi_i32_rem_u(lhs: u32, rhs: u32, value: &mut u32) -> u8 {
         leave_item(wasm::i32_rem_u(lhs, rhs), value)
     }
 
@@ -1938,7 +1938,7 @@ mod scalar {
     ///
     /// Definitions: [`ieq`](crate::specs::scalar::NumericsSpecs#ieq).
     #[unsafe(no_mangle)]
-    pub extern "C" fn wasm_i32_eq(lhs: i32, rhs: i32) -> bool {
+    pub extern "C" fn wasmi_i32_eq(lhs: i32, rhs: i32) -> bool {
         wasm::i32_eq(lhs, rhs)
     }
 
@@ -1950,7 +1950,7 @@ mod scalar {
     ///
     /// Definitions: [`ine`](crate::specs::scalar::NumericsSpecs#ine).
     #[unsafe(no_mangle)]
-    pub extern "C" fn wasm_i32_ne(lhs: i32, rhs: i32) -> bool {
+    pub extern "C" fn wasmi_i32_ne(lhs: i32, rhs: i32) -> bool {
         wasm::i32_ne(lhs, rhs)
     }
 
@@ -1962,7 +1962,7 @@ mod scalar {
     ///
     /// Definitions: [`ilt_s`](crate::specs::scalar::NumericsSpecs#ilt_s).
     #[unsafe(no_mangle)]
-    pub extern "C" fn wasm_i32_lt_s(lhs: i32, rhs: i32) -> bool {
+    pub extern "C" fn wasmi_i32_lt_s(lhs: i32, rhs: i32) -> bool {
         wasm::i32_lt_s(lhs, rhs)
     }
 
@@ -1974,7 +1974,7 @@ mod scalar {
     ///
     /// Definitions: [`ilt_u`](crate::specs::scalar::NumericsSpecs#ilt_u).
     #[unsafe(no_mangle)]
-    pub extern "C" fn wasm_i32_lt_u(lhs: u32, rhs: u32) -> bool {
+    pub extern "C" fn wasmi_i32_lt_u(lhs: u32, rhs: u32) -> bool {
         wasm::i32_lt_u(lhs, rhs)
     }
 
@@ -1986,7 +1986,7 @@ mod scalar {
     ///
     /// Definitions: [`ile_s`](crate::specs::scalar::NumericsSpecs#ile_s).
     #[unsafe(no_mangle)]
-    pub extern "C" fn wasm_i32_le_s(lhs: i32, rhs: i32) -> bool {
+    pub extern "C" fn wasmi_i32_le_s(lhs: i32, rhs: i32) -> bool {
         wasm::i32_le_s(lhs, rhs)
     }
 
@@ -1998,7 +1998,7 @@ mod scalar {
     ///
     /// Definitions: [`ile_u`](crate::specs::scalar::NumericsSpecs#ile_u).
     #[unsafe(no_mangle)]
-    pub extern "C" fn wasm_i32_le_u(lhs: u32, rhs: u32) -> bool {
+    pub extern "C" fn wasmi_i32_le_u(lhs: u32, rhs: u32) -> bool {
         wasm::i32_le_u(lhs, rhs)
     }
 
@@ -2010,7 +2010,7 @@ mod scalar {
     ///
     /// Definitions: [`igt_s`](crate::specs::scalar::NumericsSpecs#igt_s).
     #[unsafe(no_mangle)]
-    pub extern "C" fn wasm_i32_gt_s(lhs: i32, rhs: i32) -> bool {
+    pub extern "C" fn wasmi_i32_gt_s(lhs: i32, rhs: i32) -> bool {
         wasm::i32_gt_s(lhs, rhs)
     }
 
@@ -2022,7 +2022,7 @@ mod scalar {
     ///
     /// Definitions: [`igt_u`](crate::specs::scalar::NumericsSpecs#igt_u).
     #[unsafe(no_mangle)]
-    pub extern "C" fn wasm_i32_gt_u(lhs: u32, rhs: u32) -> bool {
+    pub extern "C" fn wasmi_i32_gt_u(lhs: u32, rhs: u32) -> bool {
         wasm::i32_gt_u(lhs, rhs)
     }
 
@@ -2034,7 +2034,7 @@ mod scalar {
     ///
     /// Definitions: [`ige_s`](crate::specs::scalar::NumericsSpecs#ige_s).
     #[unsafe(no_mangle)]
-    pub extern "C" fn wasm_i32_ge_s(lhs: i32, rhs: i32) -> bool {
+    pub extern "C" fn wasmi_i32_ge_s(lhs: i32, rhs: i32) -> bool {
         wasm::i32_ge_s(lhs, rhs)
     }
 
@@ -2046,7 +2046,7 @@ mod scalar {
     ///
     /// Definitions: [`ige_u`](crate::specs::scalar::NumericsSpecs#ige_u).
     #[unsafe(no_mangle)]
-    pub extern "C" fn wasm_i32_ge_u(lhs: u32, rhs: u32) -> bool {
+    pub extern "C" fn wasmi_i32_ge_u(lhs: u32, rhs: u32) -> bool {
         wasm::i32_ge_u(lhs, rhs)
     }
 
@@ -2058,7 +2058,7 @@ mod scalar {
     ///
     /// Definitions: [`iadd`](crate::specs::scalar::NumericsSpecs#iadd).
     #[unsafe(no_mangle)]
-    pub extern "C" fn wasm_i64_add(lhs: i64, rhs: i64) -> i64 {
+    pub extern "C" fn wasmi_i64_add(lhs: i64, rhs: i64) -> i64 {
         wasm::i64_add(lhs, rhs)
     }
 
@@ -2070,7 +2070,7 @@ mod scalar {
     ///
     /// Definitions: [`isub`](crate::specs::scalar::NumericsSpecs#isub).
     #[unsafe(no_mangle)]
-    pub extern "C" fn wasm_i64_sub(lhs: i64, rhs: i64) -> i64 {
+    pub extern "C" fn wasmi_i64_sub(lhs: i64, rhs: i64) -> i64 {
         wasm::i64_sub(lhs, rhs)
     }
 
@@ -2082,7 +2082,7 @@ mod scalar {
     ///
     /// Definitions: [`imul`](crate::specs::scalar::NumericsSpecs#imul).
     #[unsafe(no_mangle)]
-    pub extern "C" fn wasm_i64_mul(lhs: i64, rhs: i64) -> i64 {
+    pub extern "C" fn wasmi_i64_mul(lhs: i64, rhs: i64) -> i64 {
         wasm::i64_mul(lhs, rhs)
     }
 
@@ -2094,7 +2094,7 @@ mod scalar {
     ///
     /// Definitions: [`iand`](crate::specs::scalar::NumericsSpecs#iand).
     #[unsafe(no_mangle)]
-    pub extern "C" fn wasm_i64_bitand(lhs: i64, rhs: i64) -> i64 {
+    pub extern "C" fn wasmi_i64_bitand(lhs: i64, rhs: i64) -> i64 {
         wasm::i64_bitand(lhs, rhs)
     }
 
@@ -2106,7 +2106,7 @@ mod scalar {
     ///
     /// Definitions: [`ior`](crate::specs::scalar::NumericsSpecs#ior).
     #[unsafe(no_mangle)]
-    pub extern "C" fn wasm_i64_bitor(lhs: i64, rhs: i64) -> i64 {
+    pub extern "C" fn wasmi_i64_bitor(lhs: i64, rhs: i64) -> i64 {
         wasm::i64_bitor(lhs, rhs)
     }
 
@@ -2118,7 +2118,7 @@ mod scalar {
     ///
     /// Definitions: [`ixor`](crate::specs::scalar::NumericsSpecs#ixor).
     #[unsafe(no_mangle)]
-    pub extern "C" fn wasm_i64_bitxor(lhs: i64, rhs: i64) -> i64 {
+    pub extern "C" fn wasmi_i64_bitxor(lhs: i64, rhs: i64) -> i64 {
         wasm::i64_bitxor(lhs, rhs)
     }
 
@@ -2130,7 +2130,7 @@ mod scalar {
     ///
     /// Definitions: [`ishl`](crate::specs::scalar::NumericsSpecs#ishl).
     #[unsafe(no_mangle)]
-    pub extern "C" fn wasm_i64_shl(lhs: i64, rhs: i64) -> i64 {
+    pub extern "C" fn wasmi_i64_shl(lhs: i64, rhs: i64) -> i64 {
         wasm::i64_shl(lhs, rhs)
     }
 
@@ -2142,7 +2142,7 @@ mod scalar {
     ///
     /// Definitions: [`ishr_s`](crate::specs::scalar::NumericsSpecs#ishr_s).
     #[unsafe(no_mangle)]
-    pub extern "C" fn wasm_i64_shr_s(lhs: i64, rhs: i64) -> i64 {
+    pub extern "C" fn wasmi_i64_shr_s(lhs: i64, rhs: i64) -> i64 {
         wasm::i64_shr_s(lhs, rhs)
     }
 
@@ -2154,7 +2154,7 @@ mod scalar {
     ///
     /// Definitions: [`ishr_u`](crate::specs::scalar::NumericsSpecs#ishr_u).
     #[unsafe(no_mangle)]
-    pub extern "C" fn wasm_i64_shr_u(lhs: u64, rhs: u64) -> u64 {
+    pub extern "C" fn wasmi_i64_shr_u(lhs: u64, rhs: u64) -> u64 {
         wasm::i64_shr_u(lhs, rhs)
     }
 
@@ -2166,7 +2166,7 @@ mod scalar {
     ///
     /// Definitions: [`irotl`](crate::specs::scalar::NumericsSpecs#irotl).
     #[unsafe(no_mangle)]
-    pub extern "C" fn wasm_i64_rotl(lhs: i64, rhs: i64) -> i64 {
+    pub extern "C" fn wasmi_i64_rotl(lhs: i64, rhs: i64) -> i64 {
         wasm::i64_rotl(lhs, rhs)
     }
 
@@ -2178,7 +2178,7 @@ mod scalar {
     ///
     /// Definitions: [`irotr`](crate::specs::scalar::NumericsSpecs#irotr).
     #[unsafe(no_mangle)]
-    pub extern "C" fn wasm_i64_rotr(lhs: i64, rhs: i64) -> i64 {
+    pub extern "C" fn wasmi_i64_rotr(lhs: i64, rhs: i64) -> i64 {
         wasm::i64_rotr(lhs, rhs)
     }
 
@@ -2190,7 +2190,7 @@ mod scalar {
     ///
     /// Definitions: [`idiv_s`](crate::specs::scalar::NumericsSpecs#idiv_s).
     #[unsafe(no_mangle)]
-    pub extern "C" fn wasm_i64_div_s(lhs: i64, rhs: i64, value: &mut i64) -> u8 {
+    pub extern "C" fn wasmi_i64_div_s(lhs: i64, rhs: i64, value: &mut i64) -> u8 {
         leave_item(wasm::i64_div_s(lhs, rhs), value)
     }
 
@@ -2202,7 +2202,7 @@ mod scalar {
     ///
     /// Definitions: [`idiv_u`](crate::specs::scalar::NumericsSpecs#idiv_u).
     #[unsafe(no_mangle)]
-    pub extern "C" fn wasm_i64_div_u(lhs: u64, rhs: u64, value: &mut u64) -> u8 {
+    pub extern "C" fn wasmi_i64_div_u(lhs: u64, rhs: u64, value: &mut u64) -> u8 {
         leave_item(wasm::i64_div_u(lhs, rhs), value)
     }
 
@@ -2214,7 +2214,7 @@ mod scalar {
     ///
     /// Definitions: [`irem_s`](crate::specs::scalar::NumericsSpecs#irem_s).
     #[unsafe(no_mangle)]
-    pub extern "C" fn wasm_i64_rem_s(lhs: i64, rhs: i64, value: &mut i64) -> u8 {
+    pub extern "C" fn wasmi_i64_rem_s(lhs: i64, rhs: i64, value: &mut i64) -> u8 {
         leave_item(wasm::i64_rem_s(lhs, rhs), value)
     }
 
@@ -2226,7 +2226,7 @@ mod scalar {
     ///
     /// Definitions: [`irem_u`](crate::specs::scalar::NumericsSpecs#irem_u).
     #[unsafe(no_mangle)]
-    pub extern "C" fn wasm_i64_rem_u(lhs: u64, rhs: u64, value: &mut u64) -> u8 {
+    pub extern "C" fn wasmi_i64_rem_u(lhs: u64, rhs: u64, value: &mut u64) -> u8 {
         leave_item(wasm::i64_rem_u(lhs, rhs), value)
     }
 
@@ -2238,7 +2238,7 @@ mod scalar {
     ///
     /// Definitions: [`ieq`](crate::specs::scalar::NumericsSpecs#ieq).
     #[unsafe(no_mangle)]
-    pub extern "C" fn wasm_i64_eq(lhs: i64, rhs: i64) -> bool {
+    pub extern "C" fn wasmi_i64_eq(lhs: i64, rhs: i64) -> bool {
         wasm::i64_eq(lhs, rhs)
     }
 
@@ -2250,7 +2250,7 @@ mod scalar {
     ///
     /// Definitions: [`ine`](crate::specs::scalar::NumericsSpecs#ine).
     #[unsafe(no_mangle)]
-    pub extern "C" fn wasm_i64_ne(lhs: i64, rhs: i64) -> bool {
+    pub extern "C" fn wasmi_i64_ne(lhs: i64, rhs: i64) -> bool {
         wasm::i64_ne(lhs, rhs)
     }
 
@@ -2262,7 +2262,7 @@ mod scalar {
     ///
     /// Definitions: [`ilt_s`](crate::specs::scalar::NumericsSpecs#ilt_s).
     #[unsafe(no_mangle)]
-    pub extern "C" fn wasm_i64_lt_s(lhs: i64, rhs: i64) -> bool {
+    pub extern "C" fn wasmi_i64_lt_s(lhs: i64, rhs: i64) -> bool {
         wasm::i64_lt_s(lhs, rhs)
     }
 
@@ -2274,7 +2274,7 @@ mod scalar {
     ///
     /// Definitions: [`ilt_u`](crate::specs::scalar::NumericsSpecs#ilt_u).
     #[unsafe(no_mangle)]
-    pub extern "C" fn wasm_i64_lt_u(lhs: u64, rhs: u64) -> bool {
+    pub extern "C" fn wasmi_i64_lt_u(lhs: u64, rhs: u64) -> bool {
         wasm::i64_lt_u(lhs, rhs)
     }
 
@@ -2286,7 +2286,7 @@ mod scalar {
     ///
     /// Definitions: [`ile_s`](crate::specs::scalar::NumericsSpecs#ile_s).
     #[unsafe(no_mangle)]
-    pub extern "C" fn wasm_i64_le_s(lhs: i64, rhs: i64) -> bool {
+    pub extern "C" fn wasmi_i64_le_s(lhs: i64, rhs: i64) -> bool {
         wasm::i64_le_s(lhs, rhs)
     }
 
@@ -2298,7 +2298,7 @@ mod scalar {
     ///
     /// Definitions: [`ile_u`](crate::specs::scalar::NumericsSpecs#ile_u).
     #[unsafe(no_mangle)]
-    pub extern "C" fn wasm_i64_le_u(lhs: u64, rhs: u64) -> bool {
+    pub extern "C" fn wasmi_i64_le_u(lhs: u64, rhs: u64) -> bool {
         wasm::i64_le_u(lhs, rhs)
     }
 
@@ -2310,7 +2310,7 @@ mod scalar {
     ///
     /// Definitions: [`igt_s`](crate::specs::scalar::NumericsSpecs#igt_s).
     #[unsafe(no_mangle)]
-    pub extern "C" fn wasm_i64_gt_s(lhs: i64, rhs: i64) -> bool {
+    pub extern "C" fn wasmi_i64_gt_s(lhs: i64, rhs: i64) -> bool {
         wasm::i64_gt_s(lhs, rhs)
     }
 
@@ -2322,7 +2322,7 @@ mod scalar {
     ///
     /// Definitions: [`igt_u`](crate::specs::scalar::NumericsSpecs#igt_u).
     #[unsafe(no_mangle)]
-    pub extern "C" fn wasm_i64_gt_u(lhs: u64, rhs: u64) -> bool {
+    pub extern "C" fn wasmi_i64_gt_u(lhs: u64, rhs: u64) -> bool {
         wasm::i64_gt_u(lhs, rhs)
     }
 
@@ -2334,7 +2334,7 @@ mod scalar {
     ///
     /// Definitions: [`ige_s`](crate::specs::scalar::NumericsSpecs#ige_s).
     #[unsafe(no_mangle)]
-    pub extern "C" fn wasm_i64_ge_s(lhs: i64, rhs: i64) -> bool {
+    pub extern "C" fn wasmi_i64_ge_s(lhs: i64, rhs: i64) -> bool {
         wasm::i64_ge_s(lhs, rhs)
     }
 
@@ -2346,7 +2346,7 @@ mod scalar {
     ///
     /// Definitions: [`ige_u`](crate::specs::scalar::NumericsSpecs#ige_u).
     #[unsafe(no_mangle)]
-    pub extern "C" fn wasm_i64_ge_u(lhs: u64, rhs: u64) -> bool {
+    pub extern "C" fn wasmi_i64_ge_u(lhs: u64, rhs: u64) -> bool {
         wasm::i64_ge_u(lhs, rhs)
     }
 
@@ -2359,7 +2359,7 @@ mod scalar {
     ///
     /// Definitions: [`unsigned_of`](crate::specs::scalar::NumericsSpecs#unsigned_of), [`add128`](crate::specs::scalar::NumericsSpecs#add128).
     #[unsafe(no_mangle)]
-    pub extern "C" fn wasm_i64_add128(
+    pub extern "C" fn wasmi_i64_add128(
         lhs_lo: i64,
         lhs_hi: i64,
         rhs_lo: i64,
@@ -2379,7 +2379,7 @@ mod scalar {
     ///
     /// Definitions: [`unsigned_of`](crate::specs::scalar::NumericsSpecs#unsigned_of), [`sub128`](crate::specs::scalar::NumericsSpecs#sub128).
     #[unsafe(no_mangle)]
-    pub extern "C" fn wasm_i64_sub128(
+    pub extern "C" fn wasmi_i64_sub128(
         lhs_lo: i64,
         lhs_hi: i64,
         rhs_lo: i64,
@@ -2398,7 +2398,7 @@ mod scalar {
     ///
     /// Definitions: [`signed_of`](crate::specs::scalar::NumericsSpecs#signed_of).
     #[unsafe(no_mangle)]
-    pub extern "C" fn wasm_i64_mul_wide_s(lhs: i64, rhs: i64, lo: &mut i64, hi: &mut i64) {
+    pub extern "C" fn wasmi_i64_mul_wide_s(lhs: i64, rhs: i64, lo: &mut i64, hi: &mut i64) {
         leave_pair(wasm::i64_mul_wide_s(lhs, rhs), lo, hi)
     }
 
@@ -2410,7 +2410,7 @@ mod scalar {
     ///
     /// Definitions: [`unsigned_of`](crate::specs::scalar::NumericsSpecs#unsigned_of).
     #[unsafe(no_mangle)]
-    pub extern "C" fn wasm_i64_mul_wide_u(lhs: i64, rhs: i64, lo: &mut i64, hi: &mut i64) {
+    pub extern "C" fn wasmi_i64_mul_wide_u(lhs: i64, rhs: i64, lo: &mut i64, hi: &mut i64) {
         leave_pair(wasm::i64_mul_wide_u(lhs, rhs), lo, hi)
     }
 }
@@ -2432,7 +2432,7 @@ mod stores {
     ///
     /// Definitions: [`le_bytes`](crate::specs::types::NumbersSpecs#le_bytes).
     #[unsafe(no_mangle)]
-    pub unsafe extern "C" fn wasm_i32_store8(
+    pub unsafe extern "C" fn wasmi_i32_store8(
         memory: *mut u8,
         memory_len: usize,
         ptr: u64,
@@ -2453,7 +2453,7 @@ mod stores {
     ///
     /// Definitions: [`le_bytes`](crate::specs::types::NumbersSpecs#le_bytes).
     #[unsafe(no_mangle)]
-    pub unsafe extern "C" fn wasm_i32_store16(
+    pub unsafe extern "C" fn wasmi_i32_store16(
         memory: *mut u8,
         memory_len: usize,
         ptr: u64,
@@ -2474,7 +2474,7 @@ mod stores {
     ///
     /// Definitions: [`le_bytes`](crate::specs::types::NumbersSpecs#le_bytes).
     #[unsafe(no_mangle)]
-    pub unsafe extern "C" fn wasm_i64_store8(
+    pub unsafe extern "C" fn wasmi_i64_store8(
         memory: *mut u8,
         memory_len: usize,
         ptr: u64,
@@ -2495,7 +2495,7 @@ mod stores {
     ///
     /// Definitions: [`le_bytes`](crate::specs::types::NumbersSpecs#le_bytes).
     #[unsafe(no_mangle)]
-    pub unsafe extern "C" fn wasm_i64_store16(
+    pub unsafe extern "C" fn wasmi_i64_store16(
         memory: *mut u8,
         memory_len: usize,
         ptr: u64,
@@ -2516,7 +2516,7 @@ mod stores {
     ///
     /// Definitions: [`le_bytes`](crate::specs::types::NumbersSpecs#le_bytes).
     #[unsafe(no_mangle)]
-    pub unsafe extern "C" fn wasm_i64_store32(
+    pub unsafe extern "C" fn wasmi_i64_store32(
         memory: *mut u8,
         memory_len: usize,
         ptr: u64,
@@ -2536,7 +2536,7 @@ mod stores {
     ///
     /// Definitions: [`le_bytes`](crate::specs::types::NumbersSpecs#le_bytes).
     #[unsafe(no_mangle)]
-    pub unsafe extern "C" fn wasm_store32(
+    pub unsafe extern "C" fn wasmi_store32(
         memory: *mut u8,
         memory_len: usize,
         ptr: u64,
@@ -2556,7 +2556,7 @@ mod stores {
     ///
     /// Definitions: [`le_bytes`](crate::specs::types::NumbersSpecs#le_bytes).
     #[unsafe(no_mangle)]
-    pub unsafe extern "C" fn wasm_store64(
+    pub unsafe extern "C" fn wasmi_store64(
         memory: *mut u8,
         memory_len: usize,
         ptr: u64,
@@ -2776,6 +2776,30 @@ mod table {
     ///
     /// Definitions: [`copy_of`](crate::specs::store::TableSpecs#copy_of), [`table_in`](crate::specs::region::TableSpecs#table_in).
     #[unsafe(no_mangle)]
+    pub unsafe extern "C" fn wasmi_table_copy_within(
+        table: &TableNumbers,
+        region: *mut u32,
+        region_len: usize,
+        range: &Range,
+        meter: &mut MeterNumbers,
+        number: &mut u64,
+    ) -> u8 {
+        let region = unsafe { crate::memory::items_mut(region, region_len) };
+
+        on_table::copy_within(table, region, range, meter, number)
+    }
+
+    /// # Contract
+    ///
+    /// ```text
+    /// ensures: WritesTableEmbedded (λ ty. copy_of range.now.to range.now.from range.now.count
+    ///     (table_in ty region.old table.now.size))
+    ///     table.now (metered_region region.old meter.old number.old) result
+    ///     (metered_region region.new meter.new number.new)
+    /// ```
+    ///
+    /// Definitions: [`copy_of`](crate::specs::store::TableSpecs#copy_of), [`table_in`](crate::specs::region::TableSpecs#table_in).
+    #[unsafe(no_mangle)]
     pub unsafe extern "C" fn wasmi_table_copy(
         table: &TableNumbers,
         region: *mut u32,
@@ -2860,7 +2884,7 @@ mod vector_loads {
     ///
     /// Definitions: [`as_raw`](crate::specs::ops::LoadStoreOpsSpecs#as_raw), [`raw_of_vector`](crate::specs::raw::RawValSpecs#raw_of_vector), [`loaded`](crate::specs::accesses::LoadStoreSpecs#loaded).
     #[unsafe(no_mangle)]
-    pub unsafe extern "C" fn wasm_v128_load(
+    pub unsafe extern "C" fn wasmi_v128_load(
         memory: *const u8,
         memory_len: usize,
         ptr: u64,
@@ -2881,7 +2905,7 @@ mod vector_loads {
     ///
     /// Definitions: [`as_raw`](crate::specs::ops::LoadStoreOpsSpecs#as_raw), [`raw_of_vector`](crate::specs::raw::RawValSpecs#raw_of_vector), [`loaded`](crate::specs::accesses::LoadStoreSpecs#loaded), [`widen_s`](crate::specs::widening::WideningTableSpecs#widen_s).
     #[unsafe(no_mangle)]
-    pub unsafe extern "C" fn wasm_v128_load8x8_s(
+    pub unsafe extern "C" fn wasmi_v128_load8x8_s(
         memory: *const u8,
         memory_len: usize,
         ptr: u64,
@@ -2902,7 +2926,7 @@ mod vector_loads {
     ///
     /// Definitions: [`as_raw`](crate::specs::ops::LoadStoreOpsSpecs#as_raw), [`raw_of_vector`](crate::specs::raw::RawValSpecs#raw_of_vector), [`loaded`](crate::specs::accesses::LoadStoreSpecs#loaded), [`widen_u`](crate::specs::widening::WideningTableSpecs#widen_u).
     #[unsafe(no_mangle)]
-    pub unsafe extern "C" fn wasm_v128_load8x8_u(
+    pub unsafe extern "C" fn wasmi_v128_load8x8_u(
         memory: *const u8,
         memory_len: usize,
         ptr: u64,
@@ -2923,7 +2947,7 @@ mod vector_loads {
     ///
     /// Definitions: [`as_raw`](crate::specs::ops::LoadStoreOpsSpecs#as_raw), [`raw_of_vector`](crate::specs::raw::RawValSpecs#raw_of_vector), [`loaded`](crate::specs::accesses::LoadStoreSpecs#loaded), [`widen_s`](crate::specs::widening::WideningTableSpecs#widen_s).
     #[unsafe(no_mangle)]
-    pub unsafe extern "C" fn wasm_v128_load16x4_s(
+    pub unsafe extern "C" fn wasmi_v128_load16x4_s(
         memory: *const u8,
         memory_len: usize,
         ptr: u64,
@@ -2944,7 +2968,7 @@ mod vector_loads {
     ///
     /// Definitions: [`as_raw`](crate::specs::ops::LoadStoreOpsSpecs#as_raw), [`raw_of_vector`](crate::specs::raw::RawValSpecs#raw_of_vector), [`loaded`](crate::specs::accesses::LoadStoreSpecs#loaded), [`widen_u`](crate::specs::widening::WideningTableSpecs#widen_u).
     #[unsafe(no_mangle)]
-    pub unsafe extern "C" fn wasm_v128_load16x4_u(
+    pub unsafe extern "C" fn wasmi_v128_load16x4_u(
         memory: *const u8,
         memory_len: usize,
         ptr: u64,
@@ -2965,7 +2989,7 @@ mod vector_loads {
     ///
     /// Definitions: [`as_raw`](crate::specs::ops::LoadStoreOpsSpecs#as_raw), [`raw_of_vector`](crate::specs::raw::RawValSpecs#raw_of_vector), [`loaded`](crate::specs::accesses::LoadStoreSpecs#loaded), [`widen_s`](crate::specs::widening::WideningTableSpecs#widen_s).
     #[unsafe(no_mangle)]
-    pub unsafe extern "C" fn wasm_v128_load32x2_s(
+    pub unsafe extern "C" fn wasmi_v128_load32x2_s(
         memory: *const u8,
         memory_len: usize,
         ptr: u64,
@@ -2986,7 +3010,7 @@ mod vector_loads {
     ///
     /// Definitions: [`as_raw`](crate::specs::ops::LoadStoreOpsSpecs#as_raw), [`raw_of_vector`](crate::specs::raw::RawValSpecs#raw_of_vector), [`loaded`](crate::specs::accesses::LoadStoreSpecs#loaded), [`widen_u`](crate::specs::widening::WideningTableSpecs#widen_u).
     #[unsafe(no_mangle)]
-    pub unsafe extern "C" fn wasm_v128_load32x2_u(
+    pub unsafe extern "C" fn wasmi_v128_load32x2_u(
         memory: *const u8,
         memory_len: usize,
         ptr: u64,
@@ -3007,7 +3031,7 @@ mod vector_loads {
     ///
     /// Definitions: [`as_raw`](crate::specs::ops::LoadStoreOpsSpecs#as_raw), [`raw_of_vector`](crate::specs::raw::RawValSpecs#raw_of_vector), [`loaded`](crate::specs::accesses::LoadStoreSpecs#loaded), [`splat_of`](crate::specs::lanes::VectorSpecs#splat_of).
     #[unsafe(no_mangle)]
-    pub unsafe extern "C" fn wasm_v128_load8_splat(
+    pub unsafe extern "C" fn wasmi_v128_load8_splat(
         memory: *const u8,
         memory_len: usize,
         ptr: u64,
@@ -3028,7 +3052,7 @@ mod vector_loads {
     ///
     /// Definitions: [`as_raw`](crate::specs::ops::LoadStoreOpsSpecs#as_raw), [`raw_of_vector`](crate::specs::raw::RawValSpecs#raw_of_vector), [`loaded`](crate::specs::accesses::LoadStoreSpecs#loaded), [`splat_of`](crate::specs::lanes::VectorSpecs#splat_of).
     #[unsafe(no_mangle)]
-    pub unsafe extern "C" fn wasm_v128_load16_splat(
+    pub unsafe extern "C" fn wasmi_v128_load16_splat(
         memory: *const u8,
         memory_len: usize,
         ptr: u64,
@@ -3049,7 +3073,7 @@ mod vector_loads {
     ///
     /// Definitions: [`as_raw`](crate::specs::ops::LoadStoreOpsSpecs#as_raw), [`raw_of_vector`](crate::specs::raw::RawValSpecs#raw_of_vector), [`loaded`](crate::specs::accesses::LoadStoreSpecs#loaded), [`splat_of`](crate::specs::lanes::VectorSpecs#splat_of).
     #[unsafe(no_mangle)]
-    pub unsafe extern "C" fn wasm_v128_load32_splat(
+    pub unsafe extern "C" fn wasmi_v128_load32_splat(
         memory: *const u8,
         memory_len: usize,
         ptr: u64,
@@ -3070,7 +3094,7 @@ mod vector_loads {
     ///
     /// Definitions: [`as_raw`](crate::specs::ops::LoadStoreOpsSpecs#as_raw), [`raw_of_vector`](crate::specs::raw::RawValSpecs#raw_of_vector), [`loaded`](crate::specs::accesses::LoadStoreSpecs#loaded), [`splat_of`](crate::specs::lanes::VectorSpecs#splat_of).
     #[unsafe(no_mangle)]
-    pub unsafe extern "C" fn wasm_v128_load64_splat(
+    pub unsafe extern "C" fn wasmi_v128_load64_splat(
         memory: *const u8,
         memory_len: usize,
         ptr: u64,
@@ -3091,7 +3115,7 @@ mod vector_loads {
     ///
     /// Definitions: [`as_raw`](crate::specs::ops::LoadStoreOpsSpecs#as_raw), [`raw_of_vector`](crate::specs::raw::RawValSpecs#raw_of_vector), [`loaded`](crate::specs::accesses::LoadStoreSpecs#loaded), [`low_zero`](crate::specs::widening::WideningTableSpecs#low_zero).
     #[unsafe(no_mangle)]
-    pub unsafe extern "C" fn wasm_v128_load32_zero(
+    pub unsafe extern "C" fn wasmi_v128_load32_zero(
         memory: *const u8,
         memory_len: usize,
         ptr: u64,
@@ -3112,7 +3136,7 @@ mod vector_loads {
     ///
     /// Definitions: [`as_raw`](crate::specs::ops::LoadStoreOpsSpecs#as_raw), [`raw_of_vector`](crate::specs::raw::RawValSpecs#raw_of_vector), [`loaded`](crate::specs::accesses::LoadStoreSpecs#loaded), [`low_zero`](crate::specs::widening::WideningTableSpecs#low_zero).
     #[unsafe(no_mangle)]
-    pub unsafe extern "C" fn wasm_v128_load64_zero(
+    pub unsafe extern "C" fn wasmi_v128_load64_zero(
         memory: *const u8,
         memory_len: usize,
         ptr: u64,

@@ -148,7 +148,7 @@ impl Thrice {
 
     fn copy_within(&mut self, range: &Range, meters: &mut Meters) -> [Status; 3] {
         let (at, mut number) = (self.region.as_mut_ptr(), 0);
-        let there = unsafe { wasmi_table_copy(&self.plain, at, ROOM, range, &mut meters.plain, &mut number) };
+        let there = unsafe { wasmi_table_copy_within(&self.plain, at, ROOM, range, &mut meters.plain, &mut number) };
         let Range { to, from, count } = *range;
         let here = self.table.copy_within(to, from, count, Some(&mut meters.fuel));
         let own = &mut self.elements[..self.size];
