@@ -4,16 +4,17 @@ use Rattle.std.proofs.lemmas.Bool.{cases_lt}
 use Rattle.std.proofs.lemmas.List.{get_or_append_left, get_or_past, get_or-set_other, get_or-set_same, length-append, length-set}
 use Rattle.std.proofs.lemmas.Option.{same_Some, none-some}
 use Rattle.wasmi_meter.specs.declared.limiter.Kind.{Kind}
-use Rattle.wasmi_meter.specs.Capped.{amount_of, amounts_of, IsWithin, Asked, Noticed, held_together}
+use Rattle.wasmi_meter.specs.Capped.{amount_of, amounts_of, nothing, IsWithin, Asked, Noticed, held_together}
 use Rattle.wasmi_meter.specs.Limiter.{Question, Answer, Failure, NoticeAnswer, optional_rules}
 use Rattle.wasmi_meter.proofs.CappedLemmas.{KeepsCaps, caps_kept, others_kept, asked_is_within, noticed_is_within}
 use Rattle.wasmi_machine.specs.State.{World, Turn, world, State, total, HoldsTotals}
+use Rattle.wasmi_machine.specs.Effects.{Changes}
 use Rattle.wasmi_machine.specs.Steps.{Run, IsRunOf, RepliesWith}
 use Rattle.wasmi_machine.specs.Determinism.{IsDeterministic, AcceptsNotices}
 use Rattle.wasmi_machine.proofs.DeterminismLemmas.{capped_unique}
 use Rattle.wasmi_machine.proofs.HoldingLemmas.{run_keeps, totals_are_held}
 use Rattle.wasmi_budget.specs.declared.tenant.Tenant.{Tenant}
-use Rattle.wasmi_budget.specs.Pool.{capped_tenant, tenant_rules, holdings, PoolValue, total_of, IsWithinCaps, IsKept, HasNothing, tenant_at, machine_of, total_at, AddsTenant, RemovesTenant, RunsMachine, RunsTenant}
+use Rattle.wasmi_budget.specs.Pool.{capped_tenant, tenant_rules, holdings, PoolValue, total_of, IsWithinCaps, IsKept, HasNothing, tenant_at, machine_of, total_at, AddsTenant, RemovesTenant, IsUnasked, RepliesUnasked, RunsMachine, RunsTenant, RunsUnasked}
 use Rattle.std.proofs.lemmas.List.Sums.{sum_by-remove, sum_by-set, sum_by_push}
 use Rattle.std.specs.Option.{option_map}
 use Rattle.std.specs.Prelude.{slice_set, remove}
@@ -21,6 +22,7 @@ use Rattle.wasmi_meter.specs.declared.limiter.Kind.TheVariants.{Bytes, Elements}
 use Rattle.wasmi_meter.specs.declared.amounts.Amounts.{Amounts}
 use Rattle.wasmi_meter.specs.CappedProofs.{asked_reserves, noticed_gives_back}
 use Rattle.wasmi_machine.specs.declared.calls.Call.{Call}
+use Rattle.wasmi_machine.specs.declared.calls.Call.TheVariants.{Binary, Store}
 use Rattle.wasmi_machine.specs.declared.calls.Reply.{Reply}
 use Rattle.wasmi_budget.specs.Laws.{PoolTurn, Added, Ran, Removed, Refused, PoolStep, PoolRun, RemovalsGiveBack, RemovedStayRemoved}
 
@@ -342,6 +344,87 @@ step_holds w w' call reply held (charge, written, step) =
     (record { reserves = asked_reserves capped_tenant; gives_back = noticed_gives_back capped_tenant }) w.state w.limiter
     held (record { call = call; reply = reply; charge = charge; written = written } ∷ []) (lent w') (lent w', step, refl) in
     subst (λ tenant. HoldsTotals (holdings tenant) w'.state) (sym (same_Some w'.limiter after.0 after.1)) after.2
+
+-- what a machine has after a reply without its tenant is what it had
+total_unasked : (s s' : State) (call : Call) (reply : Reply) → RepliesUnasked call s reply s' → (kind : Kind)
+    → total s' kind ≡ total s kind
+total_unasked s s' call reply unasked kind =
+    let tenant : Tenant =
+    record { caps = nothing; others = nothing; holdings = record { held = amounts_of (total s); last = None } } in
+    let held = step_holds (world s tenant) (world s' tenant) call reply (record { bytes = refl; elements = refl })
+    (unasked tenant) in
+    sym (amount_held_total tenant s' held kind) ∙ amount_of-amounts_of (total s) kind
+
+-- so amounts that were those of the machine are so then
+pub counted_unasked : (s s' : State) (call : Call) (reply : Reply) (held : Amounts) → RepliesUnasked call s reply s'
+    → held ≡ amounts_of (total s) → held ≡ amounts_of (total s')
+counted_unasked s s' call reply held unasked is =
+    is ∙ amounts_same (total s) (total s') (λ kind. sym (total_unasked s s' call reply unasked kind))
+
+-- a change without the limiter is the same under each tenant
+changes_under_each : (s s' : State) (turn : Turn) (Effect : Reply → State → Type 0) (limiter limiter' : Option Tenant)
+    → Changes (world s limiter) turn (world s' limiter') Effect → (tenant : Tenant)
+    → Changes (world s (Some tenant)) turn (world s' (Some tenant)) Effect
+changes_under_each s s' turn Effect limiter limiter' changes tenant = record {
+  free = changes.free;
+  machine = changes.machine;
+  effect = changes.effect;
+  after = ap (λ (w : World (Option Tenant)). world w.state (Some tenant)) changes.after;
+}
+
+-- a call that asks no limiter is replied to in the same way under each tenant
+pub replies_unasked : (call : Call) → IsUnasked call → (s : State) (reply : Reply) (s' : State)
+    (limiter limiter' : Option Tenant)
+    → RepliesWith (optional_rules tenant_rules) call (world s limiter) reply (world s' limiter')
+    → RepliesUnasked call s reply s'
+replies_unasked (Store op memory ptr offset value) unasked s reply s' limiter limiter' (charge, written, changes) tenant =
+    (charge, written, changes_under_each s s' _ _ limiter limiter' changes tenant)
+replies_unasked (Binary op dst a b) unasked s reply s' limiter limiter' (charge, written, changes) tenant =
+    (charge, written, changes_under_each s s' _ _ limiter limiter' changes tenant)
+replies_unasked call unasked s reply s' limiter limiter' step tenant = absurd unasked
+
+-- what `Pool::step_unasked` has done with the machine of an index
+module _ (pool now : PoolValue) (same : pool ≡ now) (index : ℕ) (call : Call) (reply : Reply)
+    (machines' : List (Option State)) (ran : RunsUnasked pool.machines index call reply machines') where
+  -- the tenant of the machine
+  abbrev own_tenant : Tenant
+  own_tenant = tenant_at pool index ran.machine
+
+  -- it is the one that the pool gives out
+  own_given : option_map (tenant_at now index) (machine_of now index) ≡ Some own_tenant
+  own_given = subst (λ p. option_map (tenant_at p index) (machine_of p index) ≡ Some own_tenant) same
+      (ap (option_map (tenant_at pool index)) ran.found)
+
+  -- the reply is that of a run under it
+  own_ran : RunsMachine pool.machines index own_tenant (call ∷ []) (reply ∷ []) machines' own_tenant
+  own_ran =
+      let (charge, written, step) = ran.replied own_tenant in record {
+        machine = ran.machine;
+        found = ran.found;
+        machine' = ran.machine';
+        ran = (
+          record { call = call; reply = reply; charge = charge; written = written } ∷ [],
+          refl,
+          refl,
+          (world ran.machine' (Some own_tenant), step, refl),
+        );
+        after = ran.after;
+        held = step_holds (world ran.machine own_tenant) (world ran.machine' own_tenant) call reply
+            (record { bytes = refl; elements = refl }) (ran.replied own_tenant);
+      }
+
+  -- the pool is kept with the same amounts
+  pub unasked_kept : (held : Amounts) → IsKept pool held → IsKept (record pool { machines = machines' }) held
+  unasked_kept held kept =
+      machine_kept pool now same index own_tenant own_tenant own_given (call ∷ []) (reply ∷ []) machines' own_ran held
+      held kept
+      (kept.counted ∙ amounts_same (total_of pool.machines) (held_together capped_tenant own_tenant)
+      (λ kind. sym (tenant_held_together pool index ran.machine ran.found kind)))
+
+  -- it is an accepted run
+  pub unasked_runs : RunsTenant now index (call ∷ []) (reply ∷ []) (record pool { machines = machines' })
+  unasked_runs =
+      machine_runs pool now same index own_tenant own_tenant own_given (call ∷ []) (reply ∷ []) machines' own_ran
 
 -- a run keeps the pool within its caps
 pub runs_within : (pool : PoolValue) (index : ℕ) (calls : List Call) (replies : List Reply) (pool' : PoolValue)

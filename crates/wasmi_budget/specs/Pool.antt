@@ -3,14 +3,15 @@ use Rattle.wasmi_meter.specs.declared.holdings.Holdings.{Holdings}
 use Rattle.wasmi_meter.specs.Capped.{amount_of, nothing, amounts_of, Capped, capped_rules}
 use Rattle.wasmi_meter.specs.Limiter.{Rules, optional_rules}
 use Rattle.wasmi_budget.specs.declared.tenant.Tenant.{Tenant}
-use Rattle.std.specs.Prelude.{◌≡◌, ◌≤◌, ◌<◌, ◌^◌, ◌++◌, ℕ, List, [], ◌∷◌, Option, Some, None, slice_index_or, slice_set, sum_by, remove, codes}
+use Rattle.std.specs.Prelude.{◌≡◌, ◌≤◌, ◌<◌, ◌^◌, ◌++◌, ⊤, ℕ, List, [], ◌∷◌, Option, Some, None, slice_index_or, slice_set, sum_by, remove, codes}
 use Rattle.wasmi_meter.specs.declared.limiter.Kind.{Kind}
 use Rattle.wasmi_meter.specs.declared.limiter.Kind.TheVariants.{Bytes, Elements}
 use Rattle.wasmi_meter.specs.declared.amounts.Amounts.{Amounts}
 use Rattle.wasmi_machine.specs.declared.calls.Call.{Call}
+use Rattle.wasmi_machine.specs.declared.calls.Call.TheVariants.{Binary, Store}
 use Rattle.wasmi_machine.specs.declared.calls.Reply.{Reply}
 use Rattle.wasmi_machine.specs.State.{State, total, world, HoldsTotals}
-use Rattle.wasmi_machine.specs.Steps.{IsRunOf}
+use Rattle.wasmi_machine.specs.Steps.{IsRunOf, RepliesWith}
 use Rattle.wasmi_budget.specs.declared.error.AddError.{AddError}
 use Rattle.wasmi_budget.specs.declared.error.AddError.TheVariants.{NotEmpty, NoRoom}
 use Rattle.wasmi_budget.specs.declared.error.PoolError.{PoolError}
@@ -114,6 +115,26 @@ pub record RunsMachine (machines : List (Option State)) (index : ℕ) (tenant : 
       (world machine' (Some tenant'))
   pub after : machines' ≡ slice_set machines index (Some machine')
   pub held : HoldsTotals (holdings tenant') machine'
+
+-- a call is a store of an item or an instruction on two vectors, which asks no limiter
+abbrev pub IsUnasked : Call → Type 0
+IsUnasked (Store op memory ptr offset value) = ⊤
+IsUnasked (Binary op dst a b) = ⊤
+IsUnasked call = ⊥
+
+-- a machine replies to a call in the same way under each tenant, which is then as it was
+abbrev pub RepliesUnasked : Call → State → Reply → State → Type 0
+RepliesUnasked call s reply s' = (tenant : Tenant)
+    → RepliesWith (optional_rules tenant_rules) call (world s (Some tenant)) reply (world s' (Some tenant))
+
+-- the machine at an index has replied to a call without its tenant, and all others are the same
+pub record RunsUnasked (machines : List (Option State)) (index : ℕ) (call : Call) (reply : Reply)
+    (machines' : List (Option State)) : Type 0 where
+  pub machine : State
+  pub found : slice_index_or machines index None ≡ Some machine
+  pub machine' : State
+  pub replied : RepliesUnasked call machine reply machine'
+  pub after : machines' ≡ slice_set machines index (Some machine')
 
 -- the machine of a tenant was taken off: its index has none from then on, and all else is the same
 pub record RemovesTenant (pool : PoolValue) (index : ℕ) (s : State) (pool' : PoolValue) : Type 0 where

@@ -4,7 +4,7 @@ ghost use Rattle.std.specs.Option.{option_map, option_copied};
 ghost use Rattle.wasmi_meter.specs.declared.limiter.Kind.TheVariants.{Bytes, Elements};
 ghost use Rattle.wasmi_meter.specs.Capped.{amounts_of};
 ghost use Rattle.wasmi_machine.specs.State.{total};
-ghost use Rattle.wasmi_budget.specs.Pool.{IsWithinCaps, machine_of, tenant_at, total_of, AddsTenant, IsAddRefusal, RemovesTenant, RunsTenant};
+ghost use Rattle.wasmi_budget.specs.Pool.{IsUnasked, IsWithinCaps, machine_of, tenant_at, total_of, AddsTenant, IsAddRefusal, RemovesTenant, RunsTenant};
 
 use crate::error::{AddError, PoolError};
 use crate::tenant::{CountedMachine, Tenant};
@@ -151,6 +151,9 @@ impl<'r> Pool<'r> {
             × (machine_of self.old index ≡ None) × (self.new ≡ self.old)) }
         ensures within { IsWithinCaps self.new }
     {
+        if let Call::Store { .. } | Call::Binary { .. } = call {
+            return self.step_unasked(index, call);
+        }
         let Some(mut tenant) = self.tenant(index) else {
             return Err(PoolError::NoTenant);
         };
@@ -161,7 +164,24 @@ impl<'r> Pool<'r> {
         Ok(reply)
     }
 
+    /// Executes a call that asks no limiter, so that none is made, and what is held stays.
+    #[inline(always)]
+    fn step_unasked(&mut self, index: usize, call: &Call) -> Result<Reply, PoolError>
+        requires unasked { IsUnasked call.now }
+        ensures ran { IfOk result
+            (λ reply. RunsTenant self.old index (call.now ∷ []) (reply ∷ []) self.new) }
+        ensures refused { IfErr result (λ error. (error ≡ PoolError.NoTenant)
+            × (machine_of self.old index ≡ None) × (self.new ≡ self.old)) }
+        ensures within { IsWithinCaps self.new }
+    {
+        let Some(reply) = self.tenants.step_unasked(index, call) else {
+            return Err(PoolError::NoTenant);
+        };
+        Ok(reply)
+    }
+
     /// The machine of a tenant, if one has the index.
+    #[inline(always)]
     pub fn machine(&self, index: usize) -> Option<&Machine<'r>>
         ensures machine { option_copied result ≡ machine_of self.now index }
         ensures within { IsWithinCaps self.now }
@@ -192,6 +212,7 @@ impl<'r> Pool<'r> {
     }
 
     /// What a tenant's machine has.
+    #[inline(always)]
     fn held(&self, index: usize) -> Option<Amounts>
         ensures { result
             ≡ option_map (λ s. amounts_of (total s)) (machine_of self.now index) }
@@ -200,6 +221,7 @@ impl<'r> Pool<'r> {
     }
 
     /// The limiter under which a tenant's machine runs.
+    #[inline(always)]
     fn tenant(&self, index: usize) -> Option<Tenant>
         ensures { result
             ≡ option_map (tenant_at self.now index) (machine_of self.now index) }

@@ -5,12 +5,12 @@ ghost use Rattle.wasmi_meter.specs.Capped.{amounts_of, held_together};
 ghost use Rattle.wasmi_meter.specs.Limiter.{optional_rules};
 ghost use Rattle.wasmi_machine.specs.Steps.{IsRunOf};
 ghost use Rattle.wasmi_machine.specs.State.{total, HoldsTotals, world};
-ghost use Rattle.wasmi_budget.specs.Pool.{holdings, capped_tenant, tenant_rules};
+ghost use Rattle.wasmi_budget.specs.Pool.{holdings, capped_tenant, tenant_rules, IsUnasked, RepliesUnasked};
 
 use std::alloc::AllocError;
 use std::marker::Model;
 use wasmi_machine::{Call, Machine, Reply, run_reserving};
-use wasmi_meter::{Amounts, CappedLimiter, Holdings, Kind};
+use wasmi_meter::{Amounts, CappedLimiter, Holdings, Kind, ResourceLimiterRef};
 
 /// The limiter of one machine of a pool: it permits what keeps all tenants together within the
 /// caps, and denies the rest. It counts each difference that it permitted. At a notice it takes
@@ -117,6 +117,15 @@ impl<'r> CountedMachine<'r> {
         self.held = tenant.holdings.held();
         reply
     }
+
+    /// Executes one call that asks no limiter. What the machine has stays, so no tenant holds it.
+    #[inline(always)]
+    pub(crate) fn step_unasked(&mut self, call: &Call) -> Reply
+        requires unasked { IsUnasked call.now }
+        ensures replied { RepliesUnasked call.now self.old result self.new }
+    {
+        step_without_tenant(&mut self.machine, call)
+    }
 }
 
 /// Executes one call under a tenant that holds what the machine has, and does so again afterwards.
@@ -127,5 +136,30 @@ fn step_holding(machine: &mut Machine, call: &Call, tenant: &mut Tenant) -> Repl
         (world machine.old (Some tenant.old)) (result ∷ []) (world machine.new (Some tenant.new)) }
     ensures held { HoldsTotals (holdings tenant.new) machine.new }
 {
+    // By itself, so that a growth by plain arguments is no `Call` in memory.
+    if let Call::GrowMemory { memory, pages } = call {
+        return machine.grow_memory_lending(*memory, *pages, tenant);
+    }
     machine.step_lending(call, tenant)
+}
+
+/// Executes one call that asks no limiter on a machine, whatever its tenant is.
+#[inline(always)]
+fn step_without_tenant(machine: &mut Machine, call: &Call) -> Reply
+    requires unasked { IsUnasked call.now }
+    ensures replied { RepliesUnasked call.now machine.old result machine.new }
+{
+    match call {
+        Call::Store {
+            op,
+            memory,
+            ptr,
+            offset,
+            value,
+        } => machine.store_item(*op, *memory, *ptr, *offset, *value),
+        _ => {
+            let mut nobody = ResourceLimiterRef::<Tenant>::default();
+            machine.step(call, &mut nobody)
+        }
+    }
 }

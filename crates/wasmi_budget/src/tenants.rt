@@ -2,7 +2,7 @@
 ghost use Rattle.std.specs.Prelude.{◌≡◌, ◌∷◌, ◌++◌, ◌↔◌, [], length, slice_index_or, slice_set, None, Some, MatchOption, IfOk, IfErr, OnErr, OnOk, IsErrOf};
 ghost use Rattle.std.specs.Option.{option_copied};
 ghost use Rattle.wasmi_machine.specs.State.{State, HoldsTotals};
-ghost use Rattle.wasmi_budget.specs.Pool.{holdings, RunsMachine};
+ghost use Rattle.wasmi_budget.specs.Pool.{holdings, IsUnasked, RunsMachine, RunsUnasked};
 ghost use Rattle.wasmi_budget.specs.Tenants.{IsPlace, Rises};
 
 use crate::error::PoolError;
@@ -67,6 +67,7 @@ impl<'r> Tenants<'r> {
     }
 
     /// The machine at an index, if there is one.
+    #[inline(always)]
     pub(crate) fn get(&self, index: usize) -> Option<&CountedMachine<'r>>
         ensures { option_copied result ≡ slice_index_or self.now index None }
     {
@@ -143,5 +144,17 @@ impl<'r> Tenants<'r> {
     {
         let place = place_of(&self.indices, index)?;
         Some(self.machines[place].step(call, tenant))
+    }
+
+    /// Executes one call that asks no limiter on the machine at an index, if there is one.
+    #[inline(always)]
+    pub(crate) fn step_unasked(&mut self, index: usize, call: &Call) -> Option<Reply>
+        requires unasked { IsUnasked call.now }
+        ensures stepped { MatchOption result
+            ((slice_index_or self.old index None ≡ None) × (self.new ≡ self.old))
+            (λ reply. RunsUnasked self.old index call.now reply self.new) }
+    {
+        let place = place_of(&self.indices, index)?;
+        Some(self.machines[place].step_unasked(call))
     }
 }

@@ -8,6 +8,7 @@ pub mod MemoryCalls
 pub mod Numbers
 pub mod Placement
 pub mod Pool
+pub mod PoolLending
 pub mod ReleasedNumbers
 pub mod Script
 pub mod SharedQuota

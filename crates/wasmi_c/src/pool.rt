@@ -1,5 +1,5 @@
-//! A pool of machines under common caps that C holds by a handle, or none. A call takes the pool
-//! out and puts it back. `include/wasmi_machine.h` says which statuses calls return, in which order.
+//! A pool of machines under common caps that C holds by a handle, or none. A call works on the pool
+//! where it is. `include/wasmi_machine.h` says which statuses calls return, in which order.
 ghost use Rattle.std.specs.Prelude.{◌≡◌, ◌∷◌, [], IfErr, IfOk, Some, None, is_some, MatchOption};
 ghost use Rattle.wasmi_budget.specs.Pool.{tenant_rules};
 ghost use Rattle.wasmi_budget.specs.declared.tenant.Tenant.{Tenant};
@@ -35,15 +35,16 @@ use wasmi_raw::RawVal;
 /// What a call on the pool of a handle returns; or what is returned where there is none.
 #[macro_export]
 macro_rules! on_pool {
-    ($handle:expr, $alloc:expr, $pool:ident => $call:expr) => {
-        $crate::on_pool!($handle, $alloc, ReplyStruct::only(NO_POOL), $pool => $call)
+    ($handle:expr, $pool:ident => $call:expr) => {
+        $crate::on_pool!($handle, ReplyStruct::only(NO_POOL), $pool => $call)
     };
-    ($handle:expr, $alloc:expr, $none:expr, $pool:ident => $call:expr) => {{
-        let Some(mut $pool) = $handle.take($alloc) else {
+    ($handle:expr, $none:expr, $pool:ident => $call:expr) => {{
+        if !$handle.is_made() {
             return $none;
-        };
+        }
+        let $pool = $handle.pool.pool_mut();
         let reply = $call;
-        $handle.put($pool);
+        $pool.show_within();
         reply
     }};
 }
@@ -59,6 +60,13 @@ pub struct PoolHandle {
 
 impl PoolHandle {
     ghost use Rattle.wasmi_budget.specs.Pool.{IsWithinCaps};
+
+    /// Whether there is a pool.
+    pub fn is_made(&self) -> bool
+        ensures { result ≡ is_some self.now.pool.held }
+    {
+        self.is_made
+    }
 
     /// Takes the pool out, if there is one. It takes no memory.
     pub fn take(&mut self, alloc: Global) -> Option<Box<TenantPool>>
@@ -119,12 +127,13 @@ impl PoolHandle {
     }
 
     /// Replies to a call on the machine of a tenant, if the numbers stand for one.
-    pub fn call(&mut self, alloc: Global, tenant: usize, call: &CallStruct) -> ReplyStruct
+    #[inline(always)]
+    pub fn call(&mut self, tenant: usize, call: &CallStruct) -> ReplyStruct
         ensures step { ActsOnHeld (only NO_POOL) self.old.pool.held result self.new.pool.held
             (TenantRepliesToStruct tenant call.now result) }
         ensures caps { KeepsCaps self.old.pool.held self.new.pool.held }
     {
-        on_pool!(self, alloc, pool => pool.reply_to_struct(tenant, call))
+        on_pool!(self, pool => pool.reply_to_struct(tenant, call))
     }
 }
 

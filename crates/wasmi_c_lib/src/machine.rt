@@ -280,21 +280,20 @@ pub extern "C" fn wasmi_pool_add(
         (AddsNewTenant limits.now result) }
     ensures caps { KeepsCaps handle.old.pool.held handle.new.pool.held }
 {
-    on_pool!(handle, alloc, pool => pool.add(alloc, limits))
+    on_pool!(handle, pool => pool.add(alloc, limits))
 }
 
 #[unsafe(no_mangle)]
-pub extern "C" fn wasmi_pool_remove(alloc: Global, handle: &mut PoolHandle, tenant: usize) -> u8
+pub extern "C" fn wasmi_pool_remove(handle: &mut PoolHandle, tenant: usize) -> u8
     ensures step { ActsOnHeld NO_POOL handle.old.pool.held result handle.new.pool.held
         (RemovesByStatus tenant result) }
     ensures caps { KeepsCaps handle.old.pool.held handle.new.pool.held }
 {
-    on_pool!(handle, alloc, NO_POOL, pool => pool.remove(tenant))
+    on_pool!(handle, NO_POOL, pool => pool.remove(tenant))
 }
 
 #[unsafe(no_mangle)]
 pub extern "C" fn wasmi_pool_call(
-    alloc: Global,
     handle: &mut PoolHandle,
     tenant: usize,
     call: &CallStruct,
@@ -303,12 +302,11 @@ pub extern "C" fn wasmi_pool_call(
         (TenantRepliesToStruct tenant call.now result) }
     ensures caps { KeepsCaps handle.old.pool.held handle.new.pool.held }
 {
-    handle.call(alloc, tenant, call)
+    handle.call(tenant, call)
 }
 
 #[unsafe(no_mangle)]
 pub extern "C" fn wasmi_pool_load(
-    alloc: Global,
     handle: &mut PoolHandle,
     tenant: usize,
     op: u16,
@@ -323,12 +321,11 @@ pub extern "C" fn wasmi_pool_load(
         (result, value.new)) }
     ensures caps { KeepsCaps handle.old.pool.held handle.new.pool.held }
 {
-    on_pool!(handle, alloc, NO_POOL, pool => pool.load(tenant, op, memory, ptr, offset, value))
+    on_pool!(handle, NO_POOL, pool => pool.load(tenant, op, memory, ptr, offset, value))
 }
 
 #[unsafe(no_mangle)]
 pub extern "C" fn wasmi_pool_store(
-    alloc: Global,
     handle: &mut PoolHandle,
     tenant: usize,
     op: u16,
@@ -341,12 +338,11 @@ pub extern "C" fn wasmi_pool_store(
         (TenantRepliesInStatus tenant (item_store op memory ptr offset value) result) }
     ensures caps { KeepsCaps handle.old.pool.held handle.new.pool.held }
 {
-    on_pool!(handle, alloc, NO_POOL, pool => pool.store(tenant, op, memory, ptr, offset, value))
+    on_pool!(handle, NO_POOL, pool => pool.store(tenant, op, memory, ptr, offset, value))
 }
 
 #[unsafe(no_mangle)]
 pub extern "C" fn wasmi_pool_binary(
-    alloc: Global,
     handle: &mut PoolHandle,
     tenant: usize,
     op: u16,
@@ -358,12 +354,11 @@ pub extern "C" fn wasmi_pool_binary(
         (TenantRepliesInStatus tenant (vector_binary op dst a b) result) }
     ensures caps { KeepsCaps handle.old.pool.held handle.new.pool.held }
 {
-    on_pool!(handle, alloc, NO_POOL, pool => pool.binary(tenant, op, dst, a, b))
+    on_pool!(handle, NO_POOL, pool => pool.binary(tenant, op, dst, a, b))
 }
 
 #[unsafe(no_mangle)]
 pub extern "C" fn wasmi_pool_grow(
-    alloc: Global,
     handle: &mut PoolHandle,
     tenant: usize,
     memory: usize,
@@ -376,27 +371,21 @@ pub extern "C" fn wasmi_pool_grow(
         (result, number.new)) }
     ensures caps { KeepsCaps handle.old.pool.held handle.new.pool.held }
 {
-    on_pool!(handle, alloc, NO_POOL, pool => pool.grow(tenant, memory, pages, number))
+    on_pool!(handle, NO_POOL, pool => pool.grow(tenant, memory, pages, number))
 }
 
 #[unsafe(no_mangle)]
-pub extern "C" fn wasmi_pool_fuel_left(
-    alloc: Global,
-    handle: &mut PoolHandle,
-    tenant: usize,
-    left: &mut u64,
-) -> u8
+pub extern "C" fn wasmi_pool_fuel_left(handle: &mut PoolHandle, tenant: usize, left: &mut u64) -> u8
     ensures step { ActsOnHeld {R = ℕ × ℕ} (NO_POOL, left.old)
         handle.old.pool.held (result, left.new) handle.new.pool.held
         (TenantRepliesInWord tenant (Some GetFuel) left.old (result, left.new)) }
     ensures caps { KeepsCaps handle.old.pool.held handle.new.pool.held }
 {
-    on_pool!(handle, alloc, NO_POOL, pool => pool.fuel_left(tenant, left))
+    on_pool!(handle, NO_POOL, pool => pool.fuel_left(tenant, left))
 }
 
 #[unsafe(no_mangle)]
 pub extern "C" fn wasmi_pool_read(
-    alloc: Global,
     handle: &mut PoolHandle,
     tenant: usize,
     memory: usize,
@@ -408,7 +397,7 @@ pub extern "C" fn wasmi_pool_read(
         (TenantReadsOut tenant memory offset bytes.old result bytes.new) }
     ensures caps { KeepsCaps handle.old.pool.held handle.new.pool.held }
 {
-    on_pool!(handle, alloc, pool => pool.read(tenant, memory, offset, bytes))
+    on_pool!(handle, pool => pool.read(tenant, memory, offset, bytes))
 }
 
 #[unsafe(no_mangle)]
@@ -424,7 +413,7 @@ pub extern "C" fn wasmi_pool_write(
         (TenantRepliesToCopy tenant (Write memory offset) bytes.now result) }
     ensures caps { KeepsCaps handle.old.pool.held handle.new.pool.held }
 {
-    on_pool!(handle, alloc, pool => pool.write(alloc, tenant, memory, offset, bytes))
+    on_pool!(handle, pool => pool.write(alloc, tenant, memory, offset, bytes))
 }
 
 #[unsafe(no_mangle)]
@@ -440,27 +429,23 @@ pub extern "C" fn wasmi_pool_run_lines(
         (RunsTenantLines tenant lines.now text.old result text.new) }
     ensures caps { KeepsCaps handle.old.pool.held handle.new.pool.held }
 {
-    on_pool!(handle, alloc, pool => pool.run_lines(alloc, tenant, lines, text))
+    on_pool!(handle, pool => pool.run_lines(alloc, tenant, lines, text))
 }
 
 #[unsafe(no_mangle)]
-pub extern "C" fn wasmi_pool_tenant_totals(
-    alloc: Global,
-    handle: &mut PoolHandle,
-    tenant: usize,
-) -> Totals
+pub extern "C" fn wasmi_pool_tenant_totals(handle: &mut PoolHandle, tenant: usize) -> Totals
     ensures step { ActsOnHeld no_pool_totals handle.old.pool.held result handle.new.pool.held
         (λ pool pool'. (pool' ≡ pool) × (result ≡ tenant_totals tenant pool)) }
     ensures caps { KeepsCaps handle.old.pool.held handle.new.pool.held }
 {
-    on_pool!(handle, alloc, Totals::from_amounts(NO_POOL, 0, 0), pool => pool.tenant_totals(tenant))
+    on_pool!(handle, Totals::from_amounts(NO_POOL, 0, 0), pool => pool.tenant_totals(tenant))
 }
 
 #[unsafe(no_mangle)]
-pub extern "C" fn wasmi_pool_totals(alloc: Global, handle: &mut PoolHandle) -> Totals
+pub extern "C" fn wasmi_pool_totals(handle: &mut PoolHandle) -> Totals
     ensures step { ActsOnHeld no_pool_totals handle.old.pool.held result handle.new.pool.held
         (λ pool pool'. (pool' ≡ pool) × (result ≡ pool_totals pool)) }
     ensures caps { KeepsCaps handle.old.pool.held handle.new.pool.held }
 {
-    on_pool!(handle, alloc, Totals::from_amounts(NO_POOL, 0, 0), pool => pool.totals())
+    on_pool!(handle, Totals::from_amounts(NO_POOL, 0, 0), pool => pool.totals())
 }

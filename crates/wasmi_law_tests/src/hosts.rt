@@ -23,7 +23,6 @@ ghost use Rattle.wasmi_c.specs.MemoryCalls.{by_pages, of_memory};
 ghost use Rattle.wasmi_c.specs.TableCalls.{by_elements, of_table};
 ghost use Rattle.wasmi_c.specs.declared.status.TheConstants.{NOT_HELD};
 
-use std::alloc::Global;
 use wasmi_c::instruction::binary::{Binary, binary_numbered};
 use wasmi_c::laws::{
     calls_are_runs, numbers_are_released, one_quota_holds_all, one_quota_holds_each,
@@ -59,16 +58,11 @@ pub fn call_twice(
 }
 
 /// Makes a call on a tenant of a pool. Whatever it is, the machine of each other tenant stays.
-pub fn call_beside(
-    handle: &mut PoolHandle,
-    alloc: Global,
-    tenant: usize,
-    call: &CallStruct,
-) -> ReplyStruct
+pub fn call_beside(handle: &mut PoolHandle, tenant: usize, call: &CallStruct) -> ReplyStruct
     ensures others { (pool : PoolValue) (other : ℕ) → handle.old.pool.held ≡ Some pool
         → tenant ≢ other → KeepsTenant other pool handle.new.pool.held }
 {
-    handle.call(alloc, tenant, call)
+    handle.call(tenant, call)
 }
 
 /// Makes a memory, and a table of null references, under one quota that is on and holds nothing,

@@ -100,5 +100,10 @@ pub mod pool_box {
         pub fn into_held(self) -> HeldBox<TenantPool> {
             HeldBox(self.0)
         }
+
+        /// The pool, of which it is proved that it is there wherever this is called.
+        pub fn pool_mut(&mut self) -> &mut TenantPool {
+            self.0.as_deref_mut().expect("there is a pool")
+        }
     }
 }

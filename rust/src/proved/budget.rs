@@ -366,6 +366,9 @@ mod pool {
         /// Definitions: [`RunsTenant`](crate::specs::budget::PoolSpecs#RunsTenant), [`machine_of`](crate::specs::budget::PoolSpecs#machine_of), [`IsWithinCaps`](crate::specs::budget::PoolSpecs#IsWithinCaps).
         #[inline(always)]
         pub fn step(&mut self, index: usize, call: &Call) -> Result<Reply, PoolError> {
+            if let Call::Store { .. } | Call::Binary { .. } = call {
+                return self.step_unasked(index, call);
+            }
             let Some(mut tenant) = self.tenant(index) else {
                 return Err(PoolError::NoTenant);
             };
@@ -373,6 +376,28 @@ mod pool {
                 return Err(PoolError::NoTenant);
             };
             self.held_by_all = tenant.held_by_all();
+            Ok(reply)
+        }
+
+        /// Executes a call that asks no limiter, so that none is made, and what is held stays.
+        ///
+        /// # Contract
+        ///
+        /// ```text
+        /// requires unasked: IsUnasked call.now
+        /// ensures ran: IfOk result
+        ///     (λ reply. RunsTenant self.old index (call.now ∷ []) (reply ∷ []) self.new)
+        /// ensures refused: IfErr result (λ error. (error ≡ PoolError.NoTenant)
+        ///     × (machine_of self.old index ≡ None) × (self.new ≡ self.old))
+        /// ensures within: IsWithinCaps self.new
+        /// ```
+        ///
+        /// Definitions: [`IsUnasked`](crate::specs::budget::PoolSpecs#IsUnasked), [`RunsTenant`](crate::specs::budget::PoolSpecs#RunsTenant), [`machine_of`](crate::specs::budget::PoolSpecs#machine_of), [`IsWithinCaps`](crate::specs::budget::PoolSpecs#IsWithinCaps).
+        #[inline(always)]
+        fn step_unasked(&mut self, index: usize, call: &Call) -> Result<Reply, PoolError> {
+            let Some(reply) = self.tenants.step_unasked(index, call) else {
+                return Err(PoolError::NoTenant);
+            };
             Ok(reply)
         }
 
@@ -386,8 +411,8 @@ mod pool {
         /// ```
         ///
         /// Definitions: [`machine_of`](crate::specs::budget::PoolSpecs#machine_of), [`IsWithinCaps`](crate::specs::budget::PoolSpecs#IsWithinCaps).
+        #[inline(always)]
         #[must_use]
-        #[inline]
         pub fn machine(&self, index: usize) -> Option<&Machine<'r>> {
             Some(&self.tenants.get(index)?.machine)
         }
@@ -448,7 +473,7 @@ mod pool {
         /// ```
         ///
         /// Definitions: [`amounts_of`](crate::specs::meter::CappedSpecs#amounts_of), [`total`](crate::specs::machine::StateSpecs#total), [`machine_of`](crate::specs::budget::PoolSpecs#machine_of).
-        #[inline]
+        #[inline(always)]
         fn held(&self, index: usize) -> Option<Amounts> {
             Some(self.tenants.get(index)?.held)
         }
@@ -463,7 +488,7 @@ mod pool {
         /// ```
         ///
         /// Definitions: [`tenant_at`](crate::specs::budget::PoolSpecs#tenant_at), [`machine_of`](crate::specs::budget::PoolSpecs#machine_of).
-        #[inline]
+        #[inline(always)]
         fn tenant(&self, index: usize) -> Option<Tenant> {
             let held = self.held(index)?;
             let others = Amounts {
@@ -478,7 +503,7 @@ mod tenant {
     //! One machine of a pool, with what it has, and its limiter.
 
     use crate::proved::machine::{Call, Machine, Reply, run_reserving};
-    use crate::proved::meter::{Amounts, CappedLimiter, Holdings, Kind};
+    use crate::proved::meter::{Amounts, CappedLimiter, Holdings, Kind, ResourceLimiterRef};
     use crate::rattle::Vec;
     use crate::rattle::alloc::AllocError;
 
@@ -620,6 +645,21 @@ mod tenant {
             self.held = tenant.holdings.held();
             reply
         }
+
+        /// Executes one call that asks no limiter. What the machine has stays, so no tenant holds it.
+        ///
+        /// # Contract
+        ///
+        /// ```text
+        /// requires unasked: IsUnasked call.now
+        /// ensures replied: RepliesUnasked call.now self.old result self.new
+        /// ```
+        ///
+        /// Definitions: [`IsUnasked`](crate::specs::budget::PoolSpecs#IsUnasked), [`RepliesUnasked`](crate::specs::budget::PoolSpecs#RepliesUnasked).
+        #[inline(always)]
+        pub(crate) fn step_unasked(&mut self, call: &Call) -> Reply {
+            step_without_tenant(&mut self.machine, call)
+        }
     }
 
     /// Executes one call under a tenant that holds what the machine has, and does so again afterwards.
@@ -636,7 +676,38 @@ mod tenant {
     /// Definitions: [`HoldsTotals`](crate::specs::machine::StateSpecs#HoldsTotals), [`holdings`](crate::specs::budget::PoolSpecs#holdings), [`IsRunOf`](crate::specs::machine::StepsSpecs#IsRunOf), [`optional_rules`](crate::specs::meter::LimiterSpecs#optional_rules), [`tenant_rules`](crate::specs::budget::PoolSpecs#tenant_rules), [`world`](crate::specs::machine::StateSpecs#world).
     #[inline(always)]
     fn step_holding(machine: &mut Machine, call: &Call, tenant: &mut Tenant) -> Reply {
+        // By itself, so that a growth by plain arguments is no `Call` in memory.
+        if let Call::GrowMemory { memory, pages } = call {
+            return machine.grow_memory_lending(*memory, *pages, tenant);
+        }
         machine.step_lending(call, tenant)
+    }
+
+    /// Executes one call that asks no limiter on a machine, whatever its tenant is.
+    ///
+    /// # Contract
+    ///
+    /// ```text
+    /// requires unasked: IsUnasked call.now
+    /// ensures replied: RepliesUnasked call.now machine.old result machine.new
+    /// ```
+    ///
+    /// Definitions: [`IsUnasked`](crate::specs::budget::PoolSpecs#IsUnasked), [`RepliesUnasked`](crate::specs::budget::PoolSpecs#RepliesUnasked).
+    #[inline(always)]
+    fn step_without_tenant(machine: &mut Machine, call: &Call) -> Reply {
+        match call {
+            Call::Store {
+                op,
+                memory,
+                ptr,
+                offset,
+                value,
+            } => machine.store_item(*op, *memory, *ptr, *offset, *value),
+            _ => {
+                let mut nobody = ResourceLimiterRef::<Tenant>::default();
+                machine.step(call, &mut nobody)
+            }
+        }
     }
 }
 mod tenants {
@@ -723,7 +794,7 @@ mod tenants {
         /// ```text
         /// ensures: option_copied result ≡ slice_index_or self.now index None
         /// ```
-        #[inline]
+        #[inline(always)]
         pub(crate) fn get(&self, index: usize) -> Option<&CountedMachine<'r>> {
             let place = place_of(&self.indices, index)?;
             Some(&self.machines[place])
@@ -829,6 +900,24 @@ mod tenants {
         ) -> Option<Reply> {
             let place = place_of(&self.indices, index)?;
             Some(self.machines[place].step(call, tenant))
+        }
+
+        /// Executes one call that asks no limiter on the machine at an index, if there is one.
+        ///
+        /// # Contract
+        ///
+        /// ```text
+        /// requires unasked: IsUnasked call.now
+        /// ensures stepped: MatchOption result
+        ///     ((slice_index_or self.old index None ≡ None) × (self.new ≡ self.old))
+        ///     (λ reply. RunsUnasked self.old index call.now reply self.new)
+        /// ```
+        ///
+        /// Definitions: [`IsUnasked`](crate::specs::budget::PoolSpecs#IsUnasked), [`RunsUnasked`](crate::specs::budget::PoolSpecs#RunsUnasked).
+        #[inline(always)]
+        pub(crate) fn step_unasked(&mut self, index: usize, call: &Call) -> Option<Reply> {
+            let place = place_of(&self.indices, index)?;
+            Some(self.machines[place].step_unasked(call))
         }
     }
 }

@@ -5675,14 +5675,15 @@ abbrev pub <b id="RemovedStayRemoved">RemovedStayRemoved</b> : Type 0
 use Rattle.wasmi_meter.specs.Capped.{<a href="../../meter/CappedSpecs/index.html#amount_of">amount_of</a>, <a href="../../meter/CappedSpecs/index.html#nothing">nothing</a>, <a href="../../meter/CappedSpecs/index.html#amounts_of">amounts_of</a>, <a href="../../meter/CappedSpecs/index.html#Capped">Capped</a>, <a href="../../meter/CappedSpecs/index.html#capped_rules">capped_rules</a>}
 use Rattle.wasmi_meter.specs.Limiter.{<a href="../../meter/LimiterSpecs/index.html#Rules">Rules</a>, <a href="../../meter/LimiterSpecs/index.html#optional_rules">optional_rules</a>}
 use Rattle.wasmi_budget.specs.declared.tenant.Tenant.{Tenant}
-use Rattle.std.specs.Prelude.{◌≡◌, ◌≤◌, ◌&lt;◌, ◌^◌, ◌++◌, ℕ, List, [], ◌∷◌, Option, Some, None, slice_index_or, slice_set, sum_by, remove, codes}
+use Rattle.std.specs.Prelude.{◌≡◌, ◌≤◌, ◌&lt;◌, ◌^◌, ◌++◌, ⊤, ℕ, List, [], ◌∷◌, Option, Some, None, slice_index_or, slice_set, sum_by, remove, codes}
 use Rattle.wasmi_meter.specs.declared.limiter.Kind.{Kind}
 use Rattle.wasmi_meter.specs.declared.limiter.Kind.TheVariants.{Bytes, Elements}
 use Rattle.wasmi_meter.specs.declared.amounts.Amounts.{Amounts}
 use Rattle.wasmi_machine.specs.declared.calls.Call.{Call}
+use Rattle.wasmi_machine.specs.declared.calls.Call.TheVariants.{Binary, Store}
 use Rattle.wasmi_machine.specs.declared.calls.Reply.{Reply}
 use Rattle.wasmi_machine.specs.State.{<a href="../../machine/StateSpecs/index.html#State">State</a>, <a href="../../machine/StateSpecs/index.html#total">total</a>, <a href="../../machine/StateSpecs/index.html#world">world</a>, <a href="../../machine/StateSpecs/index.html#HoldsTotals">HoldsTotals</a>}
-use Rattle.wasmi_machine.specs.Steps.{<a href="../../machine/StepsSpecs/index.html#IsRunOf">IsRunOf</a>}
+use Rattle.wasmi_machine.specs.Steps.{<a href="../../machine/StepsSpecs/index.html#IsRunOf">IsRunOf</a>, <a href="../../machine/StepsSpecs/index.html#RepliesWith">RepliesWith</a>}
 use Rattle.wasmi_budget.specs.declared.error.AddError.{AddError}
 use Rattle.wasmi_budget.specs.declared.error.AddError.TheVariants.{NotEmpty, NoRoom}
 use Rattle.wasmi_budget.specs.declared.error.PoolError.{PoolError}
@@ -5786,6 +5787,26 @@ pub record <b id="RunsMachine">RunsMachine</b> (<a href="../../budget/PoolSpecs/
       (<a href="../../machine/StateSpecs/index.html#world">world</a> <a href="../../budget/PoolSpecs/index.html#machine%27">machine&#x27;</a> (Some <a href="../../budget/PoolSpecs/index.html#tenant%27">tenant&#x27;</a>))
   pub <b id="after">after</b> : machines&#x27; ≡ slice_set <a href="../../budget/PoolSpecs/index.html#machines">machines</a> index (Some <a href="../../budget/PoolSpecs/index.html#machine%27">machine&#x27;</a>)
   pub <b id="held">held</b> : <a href="../../machine/StateSpecs/index.html#HoldsTotals">HoldsTotals</a> (<a href="../../budget/PoolSpecs/index.html#holdings">holdings</a> <a href="../../budget/PoolSpecs/index.html#tenant%27">tenant&#x27;</a>) <a href="../../budget/PoolSpecs/index.html#machine%27">machine&#x27;</a>
+
+-- a call is a store of an item or an instruction on two vectors, which asks no limiter
+abbrev pub <b id="IsUnasked">IsUnasked</b> : Call → Type 0
+<a href="../../budget/PoolSpecs/index.html#IsUnasked">IsUnasked</a> (Store op memory ptr offset value) = ⊤
+<a href="../../budget/PoolSpecs/index.html#IsUnasked">IsUnasked</a> (Binary op dst a b) = ⊤
+<a href="../../budget/PoolSpecs/index.html#IsUnasked">IsUnasked</a> call = ⊥
+
+-- a machine replies to a call in the same way under each tenant, which is then as it was
+abbrev pub <b id="RepliesUnasked">RepliesUnasked</b> : Call → <a href="../../machine/StateSpecs/index.html#State">State</a> → Reply → <a href="../../machine/StateSpecs/index.html#State">State</a> → Type 0
+<a href="../../budget/PoolSpecs/index.html#RepliesUnasked">RepliesUnasked</a> call s reply s&#x27; = (tenant : Tenant)
+    → <a href="../../machine/StepsSpecs/index.html#RepliesWith">RepliesWith</a> (<a href="../../meter/LimiterSpecs/index.html#optional_rules">optional_rules</a> <a href="../../budget/PoolSpecs/index.html#tenant_rules">tenant_rules</a>) call (<a href="../../machine/StateSpecs/index.html#world">world</a> s (Some tenant)) reply (<a href="../../machine/StateSpecs/index.html#world">world</a> s&#x27; (Some tenant))
+
+-- the machine at an index has replied to a call without its tenant, and all others are the same
+pub record <b id="RunsUnasked">RunsUnasked</b> (<a href="../../budget/PoolSpecs/index.html#machines">machines</a> : List (Option <a href="../../machine/StateSpecs/index.html#State">State</a>)) (index : ℕ) (call : Call) (reply : Reply)
+    (machines&#x27; : List (Option <a href="../../machine/StateSpecs/index.html#State">State</a>)) : Type 0 where
+  pub <b id="machine">machine</b> : <a href="../../machine/StateSpecs/index.html#State">State</a>
+  pub <b id="found">found</b> : slice_index_or <a href="../../budget/PoolSpecs/index.html#machines">machines</a> index None ≡ Some <a href="../../budget/PoolSpecs/index.html#machine">machine</a>
+  pub <b id="machine&#x27;">machine&#x27;</b> : <a href="../../machine/StateSpecs/index.html#State">State</a>
+  pub <b id="replied">replied</b> : <a href="../../budget/PoolSpecs/index.html#RepliesUnasked">RepliesUnasked</a> call <a href="../../budget/PoolSpecs/index.html#machine">machine</a> reply <a href="../../budget/PoolSpecs/index.html#machine%27">machine&#x27;</a>
+  pub <b id="after">after</b> : machines&#x27; ≡ slice_set <a href="../../budget/PoolSpecs/index.html#machines">machines</a> index (Some <a href="../../budget/PoolSpecs/index.html#machine%27">machine&#x27;</a>)
 
 -- the machine of a tenant was taken off: its index has none from then on, and all else is the same
 pub record <b id="RemovesTenant">RemovesTenant</b> (pool : <a href="../../budget/PoolSpecs/index.html#PoolValue">PoolValue</a>) (index : ℕ) (s : <a href="../../machine/StateSpecs/index.html#State">State</a>) (pool&#x27; : <a href="../../budget/PoolSpecs/index.html#PoolValue">PoolValue</a>) : Type 0 where

@@ -1,6 +1,6 @@
 //! A pool on the heap, or none, as C holds it.
 ghost use Rattle.std.specs.Coded.{coded_option};
-ghost use Rattle.std.specs.Prelude.{◌≡◌, Option};
+ghost use Rattle.std.specs.Prelude.{◌≡◌, Option, IsSome};
 ghost use Rattle.wasmi_budget.specs.Pool.{PoolValue};
 ghost use Rattle.wasmi_c.specs.HeldBox.{box_or_none_owns, global_token, pool_row};
 
@@ -26,6 +26,10 @@ impl Model for PoolBox {
 unsafe impl Send for PoolBox {}
 
 impl PoolBox {
+    ghost use Rattle.std.specs.Borrow.{sem};
+    ghost use Rattle.std.specs.Prelude.{Some};
+    ghost use Rattle.wasmi_c.specs.PoolLending.{LendsPool};
+
     /// The pool or none, as C has it.
     pub fn from_held(held: HeldBox<TenantPool, Global>) -> PoolBox
         ensures { result.held ≡ held.held }
@@ -46,5 +50,14 @@ impl PoolBox {
             at: at as *mut TenantPool,
             alloc,
         }
+    }
+
+    /// The pool, in its place.
+    pub fn pool_mut(&mut self) -> &mut TenantPool
+        requires there { IsSome self.old.held }
+        ensures* writes_back { sem 𝓛 (LendsPool self.entry result) }
+        ensures value { Some result.now ≡ self.old.held }
+    {
+        unsafe { &mut *(self.at as *mut TenantPool) }
     }
 }

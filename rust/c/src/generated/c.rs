@@ -4057,8 +4057,8 @@ pub mod numbers {
     }
 }
 pub mod pool {
-    //! A pool of machines under common caps that C holds by a handle, or none. A call takes the pool
-    //! out and puts it back. `include/wasmi_machine.h` says which statuses calls return, in which order.
+    //! A pool of machines under common caps that C holds by a handle, or none. A call works on the pool
+    //! where it is. `include/wasmi_machine.h` says which statuses calls return, in which order.
 
     pub use crate::by_hand::pool_box;
     use crate::rattle::Vec;
@@ -4086,11 +4086,12 @@ pub mod pool {
         $crate::on_pool!($handle, ReplyStruct::only(NO_POOL), $pool => $call)
     };
     ($handle:expr, $none:expr, $pool:ident => $call:expr) => {{
-        let Some(mut $pool) = $handle.take() else {
+        if !$handle.is_made() {
             return $none;
-        };
+        }
+        let $pool = $handle.pool.pool_mut();
         let reply = $call;
-        $handle.put($pool);
+        $pool.show_within();
         reply
     }};
 }
@@ -4110,6 +4111,19 @@ pub mod pool {
     }
 
     impl PoolHandle {
+        /// Whether there is a pool.
+        ///
+        /// # Contract
+        ///
+        /// ```text
+        /// ensures: result ≡ is_some self.now.pool.held
+        /// ```
+        #[must_use]
+        #[inline]
+        pub fn is_made(&self) -> bool {
+            self.is_made
+        }
+
         /// Takes the pool out, if there is one. It takes no memory.
         ///
         /// # Contract
@@ -4199,7 +4213,7 @@ pub mod pool {
         ///     (TenantRepliesToStruct tenant call.now result)
         /// ensures caps: KeepsCaps self.old.pool.held self.new.pool.held
         /// ```
-        #[inline]
+        #[inline(always)]
         pub fn call(&mut self, tenant: usize, call: &CallStruct) -> ReplyStruct {
             on_pool!(self, pool => pool.reply_to_struct(tenant, call))
         }

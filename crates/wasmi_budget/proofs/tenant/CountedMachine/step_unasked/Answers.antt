@@ -1,0 +1,15 @@
+use Rattle.std.proofs.Common.{subst}
+use Rattle.wasmi_budget.specs.Pool.{RepliesUnasked}
+use Rattle.wasmi_budget.proofs.PoolLemmas.{counted_unasked}
+use Rattle.wasmi_budget.proofs.tenant.CountedMachine.step_unasked.Goals as goal
+
+pub invariant_of-self : goal.invariant_of-self
+invariant_of-self c =
+    counted_unasked _ _ c.args.call.now _ _ c.step_without_tenant.ensures.replied c.self.invariant
+
+pub returns : goal.returns
+returns c = record {
+  replied = subst
+      (λ s. RepliesUnasked c.args.call.now s c.step_without_tenant.result c.step_without_tenant.new.machine)
+      c.self.view_is c.step_without_tenant.ensures.replied;
+}
