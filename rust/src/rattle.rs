@@ -67,7 +67,7 @@ pub mod rc {
     impl<T> RcSlice<T> {
         /// The slice of a list. Rust has no fallible form of it: a refusal of memory aborts.
         pub fn from_vec(list: super::Vec<T>) -> Result<Self, AllocError> {
-            Ok(RcSlice(Arc::from(list.into_inner())))
+            Ok(RcSlice(Arc::from(::alloc::vec::Vec::from(list))))
         }
 
         /// The slice.

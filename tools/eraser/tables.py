@@ -77,6 +77,8 @@ UNTESTED = {
 MODULES = {"wasmi_core": "facade", "wasmi_simd": "widening", "wasmi_access": "accesses"}
 # The crates that have laws alone: pages of the reference.
 CRATES_OF_LAWS = {"wasmi_laws"}
+# The crates whose laws have a page in the module `laws` of the Rust crate's root.
+PAGES_OF_LAWS = [f"wasmi_{it}" for it in "access budget grammar lanes machine raw script store simd".split()]
 # The crates that tests alone use: rust/src/machine.rs has what the facade re-exports.
 CRATES_OF_TESTS = {"wasmi_core"}
 # The modules of the Rust crate's root that have another name than under `proved`.

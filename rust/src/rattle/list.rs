@@ -230,13 +230,6 @@ impl<T> Vec<T> {
     pub fn slice_mut(&mut self, range: core::ops::RangeTo<usize>) -> &mut [T] {
         super::front_mut(&mut self.0, range.end)
     }
-
-    /// The list as Rust has it.
-    #[must_use]
-    #[inline]
-    pub fn into_inner(self) -> ::alloc::vec::Vec<T> {
-        self.0
-    }
 }
 
 impl<T> Default for Vec<T> {

@@ -68,7 +68,7 @@ fn lists_are_read_and_cleared() {
     let list = Vec::from(vec![1, 2]);
     assert_eq!(
         vec::Vec::from(Vec::of([1, 2]).expect("memory")),
-        list.into_inner()
+        vec::Vec::from(list)
     );
     assert_eq!(
         Vec::from(vec![1, 2])
