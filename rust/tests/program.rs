@@ -89,12 +89,13 @@ fn lost(script: &str, output: impl Into<Stdio>, closed: impl FnOnce(&mut Child))
 
 #[test]
 fn an_output_that_fails() {
-    for script in ["show 0\n", "bad\n", &"show 0\n".repeat(20_000)] {
+    let long = "show 0\n".repeat(20_000);
+    for (script, written) in [("show 0\n", 0), ("bad\n", 2), (&long, 0)] {
         // A process that another test begins has the reading end too, until it executes its program.
         let close = |child: &mut Child| drop(child.stdout.take());
         let mut ends = (0..20).map(|_| lost(script, Stdio::piped(), close));
         assert_eq!(
-            ends.find(|end| *end != Some(0)),
+            ends.find(|end| *end != Some(written)),
             Some(Some(4)),
             "a pipe that nobody reads"
         );
