@@ -5,10 +5,11 @@ use Rattle.std.proofs.lemmas.List.{get_or_append_left, get_or_past, get_or-set_o
 use Rattle.std.proofs.lemmas.Option.{same_Some, none-some}
 use Rattle.wasmi_meter.specs.declared.limiter.Kind.{Kind}
 use Rattle.wasmi_meter.specs.Capped.{amount_of, amounts_of, nothing, IsWithin, Asked, Noticed, held_together}
+use Rattle.wasmi_meter.specs.Attempt.{MeteredValue}
 use Rattle.wasmi_meter.specs.Limiter.{Question, Answer, Failure, NoticeAnswer, optional_rules}
 use Rattle.wasmi_meter.proofs.CappedLemmas.{KeepsCaps, caps_kept, others_kept, asked_is_within, noticed_is_within}
 use Rattle.wasmi_machine.specs.State.{World, Turn, world, State, total, HoldsTotals}
-use Rattle.wasmi_machine.specs.Effects.{Changes}
+use Rattle.wasmi_machine.specs.Effects.{ActsMeteredUnasked, Changes}
 use Rattle.wasmi_machine.specs.Steps.{Run, IsRunOf, RepliesWith}
 use Rattle.wasmi_machine.specs.Determinism.{IsDeterministic, AcceptsNotices}
 use Rattle.wasmi_machine.proofs.DeterminismLemmas.{capped_unique}
@@ -22,7 +23,7 @@ use Rattle.wasmi_meter.specs.declared.limiter.Kind.TheVariants.{Bytes, Elements}
 use Rattle.wasmi_meter.specs.declared.amounts.Amounts.{Amounts}
 use Rattle.wasmi_meter.specs.CappedProofs.{asked_reserves, noticed_gives_back}
 use Rattle.wasmi_machine.specs.declared.calls.Call.{Call}
-use Rattle.wasmi_machine.specs.declared.calls.Call.TheVariants.{Binary, Store}
+use Rattle.wasmi_machine.specs.declared.calls.Call.TheVariants.{Binary, CopyMemory, FillMemory, InitMemory, SetFuel, Store}
 use Rattle.wasmi_machine.specs.declared.calls.Reply.{Reply}
 use Rattle.wasmi_budget.specs.Laws.{PoolTurn, Added, Ran, Removed, Refused, PoolStep, PoolRun, RemovalsGiveBack, RemovedStayRemoved}
 
@@ -372,6 +373,20 @@ changes_under_each s s' turn Effect limiter limiter' changes tenant = record {
   after = ap (λ (w : World (Option Tenant)). world w.state (Some tenant)) changes.after;
 }
 
+-- a metered turn without the limiter is the same under each tenant
+acts_under_each : {A : Type 0} (s s' : State) (turn : Turn) (old : A) (with_part : A → State)
+    (Effect : MeteredValue A (Unit {0}) → Reply → ℕ → MeteredValue A (Unit {0}) → Type 0) (bytes : Reply → ℕ)
+    (limiter limiter' : Option Tenant)
+    → ActsMeteredUnasked (world s limiter) turn (world s' limiter') old with_part Effect bytes → (tenant : Tenant)
+    → ActsMeteredUnasked (world s (Some tenant)) turn (world s' (Some tenant)) old with_part Effect bytes
+acts_under_each s s' turn old with_part Effect bytes limiter limiter' acts tenant = record {
+  part = acts.part;
+  meter = acts.meter;
+  effect = acts.effect;
+  wrote = acts.wrote;
+  after = ap (λ (w : World (Option Tenant)). world w.state (Some tenant)) acts.after;
+}
+
 -- a call that asks no limiter is replied to in the same way under each tenant
 pub replies_unasked : (call : Call) → IsUnasked call → (s : State) (reply : Reply) (s' : State)
     (limiter limiter' : Option Tenant)
@@ -380,6 +395,14 @@ pub replies_unasked : (call : Call) → IsUnasked call → (s : State) (reply : 
 replies_unasked (Store op memory ptr offset value) unasked s reply s' limiter limiter' (charge, written, changes) tenant =
     (charge, written, changes_under_each s s' _ _ limiter limiter' changes tenant)
 replies_unasked (Binary op dst a b) unasked s reply s' limiter limiter' (charge, written, changes) tenant =
+    (charge, written, changes_under_each s s' _ _ limiter limiter' changes tenant)
+replies_unasked (FillMemory memory dst value len) unasked s reply s' limiter limiter' (charge, written, acts) tenant =
+    (charge, written, acts_under_each s s' _ _ _ _ _ limiter limiter' acts tenant)
+replies_unasked (CopyMemory into dst from src len) unasked s reply s' limiter limiter' (charge, written, acts) tenant =
+    (charge, written, acts_under_each s s' _ _ _ _ _ limiter limiter' acts tenant)
+replies_unasked (InitMemory memory segment dst src len) unasked s reply s' limiter limiter' (charge, written, acts) tenant =
+    (charge, written, acts_under_each s s' _ _ _ _ _ limiter limiter' acts tenant)
+replies_unasked (SetFuel fuel) unasked s reply s' limiter limiter' (charge, written, changes) tenant =
     (charge, written, changes_under_each s s' _ _ limiter limiter' changes tenant)
 replies_unasked call unasked s reply s' limiter limiter' step tenant = absurd unasked
 

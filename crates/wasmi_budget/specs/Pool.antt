@@ -8,7 +8,7 @@ use Rattle.wasmi_meter.specs.declared.limiter.Kind.{Kind}
 use Rattle.wasmi_meter.specs.declared.limiter.Kind.TheVariants.{Bytes, Elements}
 use Rattle.wasmi_meter.specs.declared.amounts.Amounts.{Amounts}
 use Rattle.wasmi_machine.specs.declared.calls.Call.{Call}
-use Rattle.wasmi_machine.specs.declared.calls.Call.TheVariants.{Binary, Store}
+use Rattle.wasmi_machine.specs.declared.calls.Call.TheVariants.{Binary, CopyMemory, FillMemory, InitMemory, SetFuel, Store}
 use Rattle.wasmi_machine.specs.declared.calls.Reply.{Reply}
 use Rattle.wasmi_machine.specs.State.{State, total, world, HoldsTotals}
 use Rattle.wasmi_machine.specs.Steps.{IsRunOf, RepliesWith}
@@ -116,10 +116,15 @@ pub record RunsMachine (machines : List (Option State)) (index : ℕ) (tenant : 
   pub after : machines' ≡ slice_set machines index (Some machine')
   pub held : HoldsTotals (holdings tenant') machine'
 
--- a call is a store of an item or an instruction on two vectors, which asks no limiter
+-- a call is a store of an item, an instruction on two vectors, a write over a range of a memory or a setting of the
+-- fuel, which asks no limiter
 abbrev pub IsUnasked : Call → Type 0
 IsUnasked (Store op memory ptr offset value) = ⊤
 IsUnasked (Binary op dst a b) = ⊤
+IsUnasked (FillMemory memory dst value len) = ⊤
+IsUnasked (CopyMemory into dst from src len) = ⊤
+IsUnasked (InitMemory memory segment dst src len) = ⊤
+IsUnasked (SetFuel fuel) = ⊤
 IsUnasked call = ⊥
 
 -- a machine replies to a call in the same way under each tenant, which is then as it was

@@ -7,7 +7,7 @@ ghost use Rattle.wasmi_machine.specs.State.{total};
 ghost use Rattle.wasmi_budget.specs.Pool.{IsUnasked, IsWithinCaps, machine_of, tenant_at, total_of, AddsTenant, IsAddRefusal, RemovesTenant, RunsTenant};
 
 use crate::error::{AddError, PoolError};
-use crate::tenant::{CountedMachine, Tenant};
+use crate::tenant::{CountedMachine, Tenant, replace_amounts};
 use crate::tenants::Tenants;
 use std::alloc::Global as Allocator;
 use std::marker::Model;
@@ -151,7 +151,13 @@ impl<'r> Pool<'r> {
             × (machine_of self.old index ≡ None) × (self.new ≡ self.old)) }
         ensures within { IsWithinCaps self.new }
     {
-        if let Call::Store { .. } | Call::Binary { .. } = call {
+        if let Call::Store { .. }
+        | Call::Binary { .. }
+        | Call::FillMemory { .. }
+        | Call::CopyMemory { .. }
+        | Call::InitMemory { .. }
+        | Call::SetFuel(_) = call
+        {
             return self.step_unasked(index, call);
         }
         let Some(mut tenant) = self.tenant(index) else {
@@ -160,7 +166,7 @@ impl<'r> Pool<'r> {
         let Some(reply) = self.tenants.step(index, call, &mut tenant) else {
             return Err(PoolError::NoTenant);
         };
-        self.held_by_all = tenant.held_by_all();
+        replace_amounts(&mut self.held_by_all, tenant.held_by_all());
         Ok(reply)
     }
 

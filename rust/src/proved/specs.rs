@@ -5680,7 +5680,7 @@ use Rattle.wasmi_meter.specs.declared.limiter.Kind.{Kind}
 use Rattle.wasmi_meter.specs.declared.limiter.Kind.TheVariants.{Bytes, Elements}
 use Rattle.wasmi_meter.specs.declared.amounts.Amounts.{Amounts}
 use Rattle.wasmi_machine.specs.declared.calls.Call.{Call}
-use Rattle.wasmi_machine.specs.declared.calls.Call.TheVariants.{Binary, Store}
+use Rattle.wasmi_machine.specs.declared.calls.Call.TheVariants.{Binary, CopyMemory, FillMemory, InitMemory, SetFuel, Store}
 use Rattle.wasmi_machine.specs.declared.calls.Reply.{Reply}
 use Rattle.wasmi_machine.specs.State.{<a href="../../machine/StateSpecs/index.html#State">State</a>, <a href="../../machine/StateSpecs/index.html#total">total</a>, <a href="../../machine/StateSpecs/index.html#world">world</a>, <a href="../../machine/StateSpecs/index.html#HoldsTotals">HoldsTotals</a>}
 use Rattle.wasmi_machine.specs.Steps.{<a href="../../machine/StepsSpecs/index.html#IsRunOf">IsRunOf</a>, <a href="../../machine/StepsSpecs/index.html#RepliesWith">RepliesWith</a>}
@@ -5788,10 +5788,15 @@ pub record <b id="RunsMachine">RunsMachine</b> (<a href="../../budget/PoolSpecs/
   pub <b id="after">after</b> : machines&#x27; ≡ slice_set <a href="../../budget/PoolSpecs/index.html#machines">machines</a> index (Some <a href="../../budget/PoolSpecs/index.html#machine%27">machine&#x27;</a>)
   pub <b id="held">held</b> : <a href="../../machine/StateSpecs/index.html#HoldsTotals">HoldsTotals</a> (<a href="../../budget/PoolSpecs/index.html#holdings">holdings</a> <a href="../../budget/PoolSpecs/index.html#tenant%27">tenant&#x27;</a>) <a href="../../budget/PoolSpecs/index.html#machine%27">machine&#x27;</a>
 
--- a call is a store of an item or an instruction on two vectors, which asks no limiter
+-- a call is a store of an item, an instruction on two vectors, a write over a range of a memory or a setting of the
+-- fuel, which asks no limiter
 abbrev pub <b id="IsUnasked">IsUnasked</b> : Call → Type 0
 <a href="../../budget/PoolSpecs/index.html#IsUnasked">IsUnasked</a> (Store op memory ptr offset value) = ⊤
 <a href="../../budget/PoolSpecs/index.html#IsUnasked">IsUnasked</a> (Binary op dst a b) = ⊤
+<a href="../../budget/PoolSpecs/index.html#IsUnasked">IsUnasked</a> (FillMemory memory dst value len) = ⊤
+<a href="../../budget/PoolSpecs/index.html#IsUnasked">IsUnasked</a> (CopyMemory into dst from src len) = ⊤
+<a href="../../budget/PoolSpecs/index.html#IsUnasked">IsUnasked</a> (InitMemory memory segment dst src len) = ⊤
+<a href="../../budget/PoolSpecs/index.html#IsUnasked">IsUnasked</a> (SetFuel fuel) = ⊤
 <a href="../../budget/PoolSpecs/index.html#IsUnasked">IsUnasked</a> call = ⊥
 
 -- a machine replies to a call in the same way under each tenant, which is then as it was

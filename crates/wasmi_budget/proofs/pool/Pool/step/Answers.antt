@@ -8,8 +8,8 @@ step-requires c = record {
       c.in-Some.tenant (sym c.tenant.ensures ∙ c.in-Some.is) s found);
 }
 
-pub held_by_all-self-inside-requires : goal.held_by_all-self-inside-requires
-held_by_all-self-inside-requires c = record {
+pub held_by_all-requires : goal.held_by_all-requires
+held_by_all-requires c = record {
   fits = machine_fits _ c.args.self.now c.self.view_is c.args.index c.in-Some.tenant _
       (sym c.tenant.ensures ∙ c.in-Some.is) _ _ _ c.in-Some-step.ensures.stepped _ c.self.invariant;
 }
@@ -17,7 +17,7 @@ held_by_all-self-inside-requires c = record {
 pub invariant_of-self-2 : goal.invariant_of-self-2
 invariant_of-self-2 c =
     machine_kept _ c.args.self.now c.self.view_is c.args.index c.in-Some.tenant _ (sym c.tenant.ensures ∙ c.in-Some.is)
-    _ _ _ c.in-Some-step.ensures.stepped _ _ c.self.invariant c.held_by_all-self-inside.ensures.value
+    _ _ _ c.in-Some-step.ensures.stepped _ _ c.self.invariant (c.replace_amounts.ensures ∙ c.held_by_all.ensures.value)
 
 pub returns-clause-ran : goal.returns-clause-ran
 returns-clause-ran c =
