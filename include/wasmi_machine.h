@@ -332,8 +332,7 @@ wasmi_reply wasmi_pool_add(wasmi_pool *pool, const wasmi_limits *limits) WASMI_C
 uint8_t wasmi_pool_remove(wasmi_pool *pool, size_t tenant) WASMI_CHECKED WASMI_NOT_NULL(1);
 
 /* Replies to a call on the machine of a tenant. Before all else: NO_POOL, NO_CALL, NO_TENANT. It takes no memory but what
-   the call takes on the machine. Fuel for what the caller does itself is taken by WASMI_CALL_GET_FUEL, then a
-   WASMI_CALL_SET_FUEL to what is left. */
+   the call takes on the machine. */
 wasmi_reply wasmi_pool_call(wasmi_pool *pool, size_t tenant, const wasmi_call *call) WASMI_CHECKED WASMI_NOT_NULL(1, 3);
 
 /* The calls that engines make most, with plain arguments: each does what wasmi_pool_call does with the same operands, in
@@ -347,6 +346,12 @@ uint8_t wasmi_pool_binary(wasmi_pool *pool, size_t tenant, uint16_t op, uint8_t 
     WASMI_CHECKED WASMI_NOT_NULL(1);
 uint8_t wasmi_pool_grow(wasmi_pool *pool, size_t tenant, size_t memory, uint64_t pages, uint64_t *number)
     WASMI_CHECKED WASMI_NOT_NULL(1, 5);
+uint8_t wasmi_pool_fill(wasmi_pool *pool, size_t tenant, size_t memory, uint64_t to, uint8_t value, uint64_t count,
+                        uint64_t *number) WASMI_CHECKED WASMI_NOT_NULL(1, 7);
+uint8_t wasmi_pool_copy(wasmi_pool *pool, size_t tenant, size_t memory, uint64_t to, size_t source, uint64_t from,
+                        uint64_t count, uint64_t *number) WASMI_CHECKED WASMI_NOT_NULL(1, 8);
+uint8_t wasmi_pool_init(wasmi_pool *pool, size_t tenant, size_t memory, size_t segment, uint64_t to, uint32_t from,
+                        uint32_t count, uint64_t *number) WASMI_CHECKED WASMI_NOT_NULL(1, 8);
 uint8_t wasmi_pool_fuel_left(wasmi_pool *pool, size_t tenant, uint64_t *left) WASMI_CHECKED WASMI_NOT_NULL(1, 3);
 
 /* As wasmi_machine_read on a tenant's machine; before all else: NO_POOL, NO_TENANT. */
@@ -356,6 +361,17 @@ wasmi_reply wasmi_pool_read(wasmi_pool *pool, size_t tenant, size_t memory, size
 /* As wasmi_machine_write on a tenant's machine; before all else: NO_POOL, NO_ROOM, NO_TENANT. */
 wasmi_reply wasmi_pool_write(wasmi_pool *pool, size_t tenant, size_t memory, size_t offset, const uint8_t *bytes,
                              size_t len) WASMI_CHECKED WASMI_NOT_NULL(1);
+
+/* As wasmi_machine_new_segment on a tenant's machine; before all else: NO_POOL, NO_CALL, NO_ROOM, NO_TENANT. */
+wasmi_reply wasmi_pool_new_segment(wasmi_pool *pool, size_t tenant, uint8_t type, const uint32_t *items, size_t len)
+    WASMI_CHECKED WASMI_NOT_NULL(1);
+
+/* As wasmi_machine_new_data on a tenant's machine; before all else: NO_POOL, NO_ROOM, NO_TENANT. */
+wasmi_reply wasmi_pool_new_data(wasmi_pool *pool, size_t tenant, const uint8_t *bytes, size_t len)
+    WASMI_CHECKED WASMI_NOT_NULL(1);
+
+/* As wasmi_machine_consume_fuel on a tenant's machine; before all else: NO_POOL, NO_TENANT. */
+wasmi_reply wasmi_pool_consume_fuel(wasmi_pool *pool, size_t tenant, uint64_t amount) WASMI_CHECKED WASMI_NOT_NULL(1);
 
 /* As wasmi_machine_run_lines on a tenant's machine; before all else NO_POOL, and before the run NO_TENANT, then NO_ROOM
    if memory for the replies is refused. An `as` line is a bad line. */

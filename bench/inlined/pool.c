@@ -12,6 +12,7 @@ enum { CALLS = 200000, TENANTS = 8, TENANT = 5, PAGE = 65536 };
 static wasmi_machine machine;
 static wasmi_pool pool;
 static uint64_t word, seen;
+static uint8_t bytes[8];
 
 static double now(void) {
     struct timespec at;
@@ -51,6 +52,20 @@ LOOP(machine_grow, wasmi_machine_grow(&machine, 0, 0, &word) + word)
 LOOP(tenant_grow, wasmi_pool_grow(&pool, TENANT, 0, 0, &word) + word)
 LOOP(machine_fuel, wasmi_machine_fuel_left(&machine, &word) + word)
 LOOP(tenant_fuel, wasmi_pool_fuel_left(&pool, TENANT, &word) + word)
+LOOP(machine_denied, wasmi_machine_grow(&machine, 0, 1000, &word) + word)
+LOOP(tenant_denied, wasmi_pool_grow(&pool, TENANT, 0, 1000, &word) + word)
+LOOP(machine_fill, wasmi_machine_fill(&machine, 0, PTR, 7, 8, &word) + word)
+LOOP(tenant_fill, wasmi_pool_fill(&pool, TENANT, 0, PTR, 7, 8, &word) + word)
+LOOP(machine_copy, wasmi_machine_copy(&machine, 0, PTR, 0, 8, 8, &word) + word)
+LOOP(tenant_copy, wasmi_pool_copy(&pool, TENANT, 0, PTR, 0, 8, 8, &word) + word)
+LOOP(machine_init, wasmi_machine_init(&machine, 0, 0, PTR, 0, 8, &word) + word)
+LOOP(tenant_init, wasmi_pool_init(&pool, TENANT, 0, 0, PTR, 0, 8, &word) + word)
+LOOP(machine_take, wasmi_machine_consume_fuel(&machine, 1).number)
+LOOP(tenant_take, wasmi_pool_consume_fuel(&pool, TENANT, 1).number)
+LOOP(machine_read, wasmi_machine_read(&machine, 0, PTR, bytes, sizeof bytes).status)
+LOOP(tenant_read, wasmi_pool_read(&pool, TENANT, 0, PTR, bytes, sizeof bytes).status)
+LOOP(machine_write, wasmi_machine_write(&machine, 0, PTR, bytes, sizeof bytes).status)
+LOOP(tenant_write, wasmi_pool_write(&pool, TENANT, 0, PTR, bytes, sizeof bytes).status)
 LOOP(machine_load_by_struct, on_machine(LOAD).value.lo)
 LOOP(tenant_load_by_struct, on_tenant(LOAD).value.lo)
 LOOP(machine_store_by_struct, on_machine(STORE).status)
@@ -68,19 +83,23 @@ static struct row {
     double (*machine)(void), (*tenant)(void);
     double on_machine, on_tenant;
 } rows[] = {ROW(load),           ROW(store),           ROW(binary),           ROW(grow),           ROW(fuel),
-            ROW(load_by_struct), ROW(store_by_struct), ROW(binary_by_struct), ROW(grow_by_struct), ROW(register_by_struct)};
+            ROW(denied),         ROW(fill),            ROW(copy),             ROW(init),           ROW(take),
+            ROW(read),           ROW(write),           ROW(load_by_struct),   ROW(store_by_struct), ROW(binary_by_struct),
+            ROW(grow_by_struct), ROW(register_by_struct)};
 
 static void made(void) {
     wasmi_limits limits = {.bytes = 64 * PAGE, .elements = 64, .bytes_copied_per_fuel = 64, .is_metered = 1};
     wasmi_call memory = {.kind = WASMI_CALL_NEW_MEMORY, .count = 1, .page_size_log2 = 16};
-    wasmi_call fuel = {.kind = WASMI_CALL_SET_FUEL, .count = 1000000};
+    wasmi_call fuel = {.kind = WASMI_CALL_SET_FUEL, .count = UINT64_MAX};
     if (wasmi_machine_new(&machine, &limits) || wasmi_pool_new(&pool, 64 * PAGE, 64)) {
         exit(1);
     }
     for (int i = 0; i < TENANTS; i++) {
         seen += wasmi_pool_add(&pool, &limits).status;
     }
-    if (on_machine(fuel).status || on_tenant(fuel).status || on_machine(memory).status || on_tenant(memory).status) {
+    if (on_machine(fuel).status || on_tenant(fuel).status || on_machine(memory).status || on_tenant(memory).status
+        || wasmi_machine_new_data(&machine, bytes, sizeof bytes).status
+        || wasmi_pool_new_data(&pool, TENANT, bytes, sizeof bytes).status) {
         exit(1);
     }
 }

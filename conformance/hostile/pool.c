@@ -29,6 +29,10 @@ static void prints_status(uint8_t status) {
     }
 }
 
+static void prints_fuel_needed(uint64_t fuel) {
+    printed_len += (size_t)sprintf(printed + printed_len, "error not enough fuel. required=%" PRIu64 "\n", fuel);
+}
+
 static int same_totals(wasmi_totals a, wasmi_totals b) {
     return a.status == b.status && memcmp(&a.bytes, &b.bytes, sizeof a.bytes) == 0
            && memcmp(&a.elements, &b.elements, sizeof a.elements) == 0;
@@ -217,7 +221,7 @@ static char *grown(char *at, size_t tenant) {
     } else if (status == WASMI_MEMORY_GROWTH) {
         prints("error out of bounds memory growth");
     } else if (status == WASMI_MEMORY_OUT_OF_FUEL) {
-        printed_len += (size_t)sprintf(printed + printed_len, "error not enough fuel. required=%" PRIu64 "\n", word);
+        prints_fuel_needed(word);
     } else {
         prints_status(status);
     }
@@ -249,29 +253,199 @@ static char *direct(char *at, size_t tenant) {
     return at + sprintf(at, "binary i16x8_mul %u %u %u\n", dst, a, b);
 }
 
-/* A memory of one page, made by a line. */
-static char *with_memory(char *at, size_t tenant) {
+/* Good lines that stand at a place already. */
+static char *by_lines(char *at, size_t len, size_t tenant) {
     static char text[TEXT];
-    char *from = at;
-    at += sprintf(at, "memory 1 none 16 32\n");
-    wasmi_reply reply = run(&pool, tenant, from, (size_t)(at - from), text);
+    wasmi_reply reply = run(&pool, tenant, at, len, text);
     if (reply.status != WASMI_DONE) {
-        differs("a memory by a line", script);
-        return from;
+        differs("good lines are refused", script);
+        return at;
     }
     memcpy(printed + printed_len, text, (size_t)reply.number);
     printed_len += (size_t)reply.number;
-    return at;
+    return at + len;
+}
+
+/* A memory of one page, made by a line. */
+static char *with_memory(char *at, size_t tenant) {
+    return by_lines(at, (size_t)sprintf(at, "memory 1 none 16 32\n"), tenant);
+}
+
+/* What a memory has from an offset on, as a script's read prints it. */
+static char *read_back(char *at, size_t tenant, size_t memory, size_t offset) {
+    uint8_t bytes[WRITTEN];
+    wasmi_reply reply = wasmi_pool_read(&pool, tenant, memory, offset, bytes, sizeof bytes);
+    if (reply.status != WASMI_DONE) {
+        prints_status(reply.status);
+    } else {
+        printed_len += (size_t)sprintf(printed + printed_len, "bytes");
+        for (size_t i = 0; i < sizeof bytes; i++) {
+            printed_len += (size_t)sprintf(printed + printed_len, " %u", bytes[i]);
+        }
+        prints("");
+    }
+    return at + sprintf(at, "read %zu %zu %d\n", memory, offset, WRITTEN);
+}
+
+/* The status that the function of a write over a range of a memory leaves. */
+static uint8_t ranged_directly(wasmi_pool *on, size_t tenant, const wasmi_call *call, uint64_t *word) {
+    size_t memory = call->index, source = call->source;
+    switch (call->kind) {
+        case WASMI_CALL_FILL_MEMORY:
+            return wasmi_pool_fill(on, tenant, memory, call->to, (uint8_t)call->value.lo, call->count, word);
+        case WASMI_CALL_COPY_MEMORY:
+            return wasmi_pool_copy(on, tenant, memory, call->to, source, call->from, call->count, word);
+        default:
+            return wasmi_pool_init(on, tenant, memory, source, call->to, (uint32_t)call->from, (uint32_t)call->count,
+                                   word);
+    }
+}
+
+/* The line of a write over a range of a memory. */
+static char *range_line(char *at, const wasmi_call *call) {
+    size_t memory = call->index, source = call->source;
+    switch (call->kind) {
+        case WASMI_CALL_FILL_MEMORY:
+            at += sprintf(at, "mfill %zu %" PRIu64 " %" PRIu64, memory, call->to, call->value.lo);
+            break;
+        case WASMI_CALL_COPY_MEMORY:
+            at += sprintf(at, "mcopy %zu %" PRIu64 " %zu %" PRIu64, memory, call->to, source, call->from);
+            break;
+        default: at += sprintf(at, "minit %zu %zu %" PRIu64 " %" PRIu64, memory, source, call->to, call->from);
+    }
+    return at + sprintf(at, " %" PRIu64 "\n", call->count);
+}
+
+/* A write over a range of a memory by its own call, or by a struct, as a script does it; a read finds what a script's
+   read finds. */
+static char *ranged(char *at, size_t tenant, const wasmi_call *call) {
+    uint64_t before = number(), word = before;
+    if (ranged_directly(&pool, tenants, call, &word) != WASMI_NO_TENANT
+        || ranged_directly(&none, tenant, call, &word) != WASMI_NO_POOL || word != before) {
+        differs("a write over a range on a tenant that there isn't", script);
+    }
+    uint8_t status;
+    if (below(4)) {
+        status = ranged_directly(&pool, tenant, call, &word);
+    } else {
+        wasmi_reply reply = wasmi_pool_call(&pool, tenant, call);
+        status = reply.status, word = status == WASMI_MEMORY_OUT_OF_FUEL ? reply.number : before;
+    }
+    if (status == WASMI_MEMORY_OUT_OF_FUEL) {
+        prints_fuel_needed(word);
+    } else {
+        prints_status(status);
+        if (word != before) {
+            differs("a write over a range changed the caller's word", script);
+        }
+    }
+    return read_back(range_line(at, call), tenant, call->index, (size_t)call->to);
+}
+
+static char *any_range(char *at, size_t tenant) {
+    wasmi_call call = {.kind = (uint16_t)(WASMI_CALL_FILL_MEMORY + below(3)), .to = number()};
+    bool is_init = call.kind == WASMI_CALL_INIT_MEMORY;
+    call.index = (size_t)below(3), call.source = (size_t)below(3), call.value.lo = below(256);
+    call.from = is_init ? below(WRITTEN) : number(), call.count = is_init ? below(WRITTEN) : number();
+    return ranged(at, tenant, &call);
+}
+
+/* Fuel that the caller takes is, in the script, the fuel that is set to what is left. */
+static char *paid(char *at, size_t tenant) {
+    uint64_t amount = number(), left = 0;
+    wasmi_call set = {.kind = WASMI_CALL_SET_FUEL, .count = number()}, get = {.kind = WASMI_CALL_GET_FUEL};
+    if (below(2)) {
+        at += sprintf(at, "fuel %" PRIu64 "\n", set.count);
+        prints_status(wasmi_pool_call(&pool, tenant, &set).status);
+    }
+    uint8_t status = wasmi_pool_fuel_left(&pool, tenant, &left);
+    if (wasmi_pool_consume_fuel(&pool, tenants, amount).status != WASMI_NO_TENANT
+        || wasmi_pool_consume_fuel(&none, tenant, amount).status != WASMI_NO_POOL) {
+        differs("fuel of a tenant that there isn't", script);
+    }
+    bool is_short = status == WASMI_DONE && left < amount, is_paid = status == WASMI_DONE && !is_short;
+    wasmi_reply reply = wasmi_pool_consume_fuel(&pool, tenant, amount), after = wasmi_pool_call(&pool, tenant, &get);
+    if (reply.status != (is_short ? WASMI_OUT_OF_FUEL : status)
+        || reply.number != (is_short ? amount : is_paid ? left - amount : 0) || after.status != status
+        || after.number != (is_paid ? left - amount : left)) {
+        differs("fuel that is taken", script);
+    }
+    if (!is_paid) {
+        return at;
+    }
+    prints("done");
+    return at + sprintf(at, "fuel %" PRIu64 "\n", reply.number);
+}
+
+/* A segment of a copy of an array: of references of a type, or of bytes. */
+static wasmi_reply made(wasmi_pool *on, size_t tenant, bool is_data, uint8_t type, const void *array, size_t len) {
+    return is_data ? wasmi_pool_new_data(on, tenant, array, len) : wasmi_pool_new_segment(on, tenant, type, array, len);
+}
+
+/* No segment for a tenant that there isn't, without a pool, of a type of no references, or without memory, which is
+   told before that there is no tenant. */
+static void refused_segments(size_t tenant, bool is_data, uint8_t type, const void *array, size_t len) {
+    if (made(&pool, tenants, is_data, type, array, len).status != WASMI_NO_TENANT
+        || made(&none, tenant, is_data, type, array, len).status != WASMI_NO_POOL
+        || (!is_data && made(&pool, tenants, is_data, WASMI_TYPE_I64, array, len).status != WASMI_NO_CALL)) {
+        differs("a segment of a tenant that there isn't", script);
+    }
+    requests = 0, refused = 1;
+    if (made(&pool, tenants, is_data, type, array, len).status != (len ? WASMI_NO_ROOM : WASMI_NO_TENANT)) {
+        differs("a segment without memory of a tenant that there isn't", script);
+    }
+    refused = 0;
+}
+
+/* A segment by its own call, as a script makes it, and what it has: its front in a memory, or in a table. */
+static char *segment(char *at, size_t tenant) {
+    uint8_t bytes[WRITTEN], type = (uint8_t)(WASMI_TYPE_FUNCREF + below(2));
+    uint32_t items[WRITTEN];
+    size_t len = (size_t)below(WRITTEN);
+    bool is_data = below(2);
+    const char *word = type == WASMI_TYPE_FUNCREF ? "func" : "extern";
+    at = below(2) ? at : with_memory(at, tenant);
+    at += is_data ? sprintf(at, "data") : sprintf(at, "segment %s", word);
+    for (size_t i = 0; i < len; i++) {
+        items[i] = (uint32_t)number(), bytes[i] = (uint8_t)items[i];
+        at += sprintf(at, " %" PRIu32, is_data ? bytes[i] : items[i]);
+    }
+    at += sprintf(at, "\n");
+    const void *array = is_data ? at_edge(0, bytes, len) : at_edge(0, items, len * sizeof *items);
+    refused_segments(tenant, is_data, type, array, len);
+    requests = 0, refused = 1;
+    wasmi_reply reply = made(&pool, tenant, is_data, type, array, len);
+    bool was_refused = requests >= refused;
+    refused = 0;
+    if (was_refused && reply.status != WASMI_NO_ROOM && reply.status != WASMI_SEGMENT_OUT_OF_MEMORY) {
+        differs("a segment without memory", script);
+    }
+    reply = was_refused ? made(&pool, tenant, is_data, type, array, len) : reply;
+    if (reply.status != WASMI_DONE) {
+        differs("a segment", script);
+    }
+    size_t index = (size_t)reply.number;
+    printed_len += (size_t)sprintf(printed + printed_len, "%s %zu\n", is_data ? "data" : "segment", index);
+    if (is_data) {
+        wasmi_call call = {.kind = WASMI_CALL_INIT_MEMORY, .source = index, .to = number(), .count = len};
+        return ranged(at, tenant, &call);
+    }
+    int size = sprintf(at, "table %s 8 none 64 %s 0\ninit 0 %zu 1 0 %zu\nget 0 1\nget 0 2\n", word, word, index, len);
+    return by_lines(at, (size_t)size, tenant);
 }
 
 /* The calls with plain arguments, with each request for memory refused but that of a growth. */
 static char *plain(char *at, size_t tenant) {
-    uint64_t form = below(5);
+    uint64_t form = below(8);
     at = below(2) ? at : with_memory(at, tenant);
     if (form == 0)
         return grown(at, tenant);
     requests = 0, refused = 1;
-    at = form == 1 ? loaded(at, tenant) : form < 4 ? stored(at, tenant) : direct(at, tenant);
+    at = form == 1   ? loaded(at, tenant)
+         : form < 4  ? stored(at, tenant)
+         : form == 4 ? direct(at, tenant)
+         : form < 7  ? any_range(at, tenant)
+                     : paid(at, tenant);
     if (requests != 0) {
         differs("a call with plain arguments asks for memory", script);
     }
@@ -372,10 +546,11 @@ static void one_script(void) {
     for (uint64_t i = below(TURNS); i > 0; i--) {
         size_t tenant = (size_t)below(tenants);
         at += sprintf(at, "as %zu\n", tenant);
-        uint64_t form = below(12);
+        uint64_t form = below(14);
         at = form < 4   ? lines_of(at, tenant)
              : form < 6 ? written(at, tenant)
              : form < 8 ? called(at, tenant)
+             : form < 9 ? segment(at, tenant)
                         : plain(at, tenant);
     }
     totals();

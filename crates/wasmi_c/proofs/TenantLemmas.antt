@@ -1,17 +1,25 @@
 -- Calls on a tenant's machine.
-use Rattle.std.proofs.Common.{◌≡◌, ◌∷◌, ◌∙◌, [], ℕ, Some, None, ap, inl, inr, refl, subst, sym}
+use Rattle.std.proofs.Common.{◌≡◌, ◌≤◌, ◌<◌, ◌-◌, ◌∷◌, ◌∙◌, [], ℕ, List, Option, Some, None, Result, Ok, Err, ap, arith, inl, inr, length, refl, subst, sym}
 use Rattle.std.proofs.lemmas.List.{set-get_or}
-use Rattle.std.specs.Prelude.{slice_set}
-use Rattle.wasmi_machine.specs.State.{State, world}
-use Rattle.wasmi_machine.specs.Steps.{RepliesWith}
+use Rattle.std.proofs.lemmas.Option.{same_Some}
+use Rattle.std.proofs.lemmas.Result.{IfOk-at_ok}
+use Rattle.std.specs.Option.{option_map}
+use Rattle.std.specs.Prelude.{MatchOption, slice_get, slice_set}
+use Rattle.wasmi_machine.specs.State.{State, World, world}
+use Rattle.wasmi_machine.specs.Steps.{FuelSet, HasEffect, IsRunOf, RepliesWith, effect_of}
 use Rattle.wasmi_machine.specs.declared.calls.Call.{Call}
+use Rattle.wasmi_machine.specs.declared.calls.Call.TheVariants.{SetFuel}
 use Rattle.wasmi_machine.specs.declared.calls.Reply.{Reply}
-use Rattle.wasmi_meter.specs.Limiter.{optional_rules}
+use Rattle.wasmi_meter.specs.Limiter.{Rules, optional_rules}
+use Rattle.wasmi_meter.specs.Meter.{Meter, meter_after, meter_set}
+use Rattle.wasmi_meter.specs.declared.fuel.FuelError.{FuelError}
+use Rattle.wasmi_meter.specs.declared.fuel.FuelError.TheVariants.{FuelMeteringDisabled, OutOfFuel}
 use Rattle.wasmi_budget.specs.Pool.{PoolValue, RunsTenant, machine_of, tenant_at, tenant_rules}
 use Rattle.wasmi_budget.specs.declared.tenant.Tenant.{Tenant}
-use Rattle.wasmi_c.specs.Machine.Calls.{word_after}
-use Rattle.wasmi_c.specs.Machine.Replies.{reply_struct, status_of}
-use Rattle.wasmi_c.specs.Pool.{TenantReplies, TenantRepliesInStatus, TenantRepliesInWord}
+use Rattle.wasmi_c.specs.Machine.Calls.{PaysFuelIn, word_after}
+use Rattle.wasmi_c.specs.Machine.Replies.{fuel_refusal, only, reply_struct, status_of, with_number}
+use Rattle.wasmi_c.specs.Pool.{with_machine_at, TenantPaysFuel, TenantReplies, TenantRepliesInStatus, TenantRepliesInWord}
+use Rattle.wasmi_c.specs.declared.status.TheConstants.{DONE, NO_TENANT}
 use Rattle.wasmi_c.specs.declared.machine.reply_struct.ReplyStruct.{ReplyStruct}
 use Rattle.wasmi_machine.specs.declared.calls.Reply.TheVariants as reply
 
@@ -76,3 +84,72 @@ pub tenant_status : (tenant : ℕ) (call : Call) (told : ReplyStruct) (pool pool
 unfolding TenantReplies TenantRepliesInStatus
 tenant_status tenant call told pool pool' (inl (none, refused, same)) = inl (none, ap ReplyStruct.status refused, same)
 tenant_status tenant call told pool pool' (inr (full, run, is)) = inr (full, run, ap ReplyStruct.status is ∙ status_is full)
+
+-- a run that sets the fuel of a machine has changed its meter, and nothing else of it
+set_by_run : {S : Type 0} (rules : Rules S) (fuel : ℕ) (w : World S) (full : Reply) (w' : World S)
+    → IsRunOf rules (SetFuel fuel ∷ []) w (full ∷ []) w'
+    → w'.state ≡ record w.state { meter = meter_set w.state.meter fuel }
+set_by_run rules fuel w full w' ([], called, told, ran) = absurd (omega (arith, ap length called))
+set_by_run {S} rules fuel w full w' (turn ∷ [], called, told, (v, step, ran)) =
+    let is : turn.call ≡ SetFuel fuel =
+    same_Some turn.call (SetFuel fuel) (ap (λ (calls : List Call). slice_get calls 0) called) in
+    let sets : HasEffect rules (FuelSet fuel) w turn v =
+    subst (λ call. HasEffect rules (effect_of w.state call) w turn v) is step in
+    ap (λ (u : World S). u.state) (ran ∙ sets.after) ∙ sets.effect.1
+set_by_run rules fuel w full w' (turn ∷ t ∷ turns, called, told, ran) = absurd (omega (arith, ap length called))
+
+-- what is left of so much fuel once an amount is taken; or why it isn't
+abbrev LeftAfter : Option ℕ → ℕ → Result ℕ FuelError → Type 0
+LeftAfter had amount result = MatchOption had (result ≡ Err FuelMeteringDisabled)
+    (λ left. (amount ≤ left → result ≡ Ok (left - amount)) × (left < amount → result ≡ Err (OutOfFuel amount)))
+
+module _ (pool : PoolValue) (tenant : ℕ) (s : State) (found : machine_of pool tenant ≡ Some s) (amount : ℕ) where
+  -- the pool in which the tenant's machine has the amount taken
+  abbrev paid_pool : PoolValue
+  paid_pool = with_machine_at pool tenant (record s { meter = meter_after s.meter amount })
+
+  -- a tenant's machine on which the fuel is set to what is left after the amount has that taken
+  paid_by_set : (had : ℕ) → s.meter.left ≡ Some had → (full : Reply) (pool' : PoolValue)
+      → RunsTenant pool tenant (SetFuel (had - amount) ∷ []) (full ∷ []) pool' → pool' ≡ paid_pool
+  paid_by_set had is full pool' run =
+      let taken : meter_set s.meter (had - amount) ≡ meter_after s.meter amount =
+      ap (λ (left : Option ℕ). record s.meter { left = option_map (λ l. had - amount) left }) is
+      ∙ sym (ap (λ (left : Option ℕ). record s.meter { left = option_map (λ l. l - amount) left }) is) in
+      let same : run.machine ≡ s = same_Some run.machine s (sym run.found ∙ found) in
+      let set = set_by_run (optional_rules tenant_rules) (had - amount)
+      (world run.machine (Some (tenant_at pool tenant run.machine))) full (world run.machine' (Some run.tenant'))
+      run.ran in
+      run.after ∙ ap (with_machine_at pool tenant) (set
+      ∙ (ap (λ (m : State). record m { meter = meter_set m.meter (had - amount) }) same
+      ∙ ap (λ (m : Meter). record s { meter = m }) taken))
+
+  module _ (told : ReplyStruct) (pool' : PoolValue) where
+    -- the amount is taken where so much was left
+    abbrev Pays : Option ℕ → Type 0
+    Pays had = MatchOption had ((told ≡ fuel_refusal FuelMeteringDisabled) × (pool' ≡ pool))
+        (λ left. (amount ≤ left → (told ≡ with_number DONE (left - amount)) × (pool' ≡ paid_pool))
+        × (left < amount → (told ≡ fuel_refusal (OutOfFuel amount)) × (pool' ≡ pool)))
+
+    -- what is left of it is set, and told
+    pays_left : (had : Option ℕ) → s.meter.left ≡ had → (left : ℕ) → LeftAfter had amount (Ok left)
+        → told ≡ with_number DONE left → (full : Reply)
+        → RunsTenant pool tenant (SetFuel left ∷ []) (full ∷ []) pool' → Pays had
+    pays_left None is left after told_is full run = absurd (IfOk-at_ok (λ _. ⊥) (sym after) tt)
+    pays_left (Some had) is left after told_is full run = (
+      λ enough.
+          let same : left ≡ had - amount = IfOk-at_ok (λ x. x ≡ had - amount) (sym (after.0 enough)) refl in (
+            told_is ∙ ap (with_number DONE) same,
+            paid_by_set had is full pool'
+                (subst (λ n. RunsTenant pool tenant (SetFuel n ∷ []) (full ∷ []) pool') same run),
+          ),
+      λ short. absurd (IfOk-at_ok (λ _. ⊥) (sym (after.1 short)) tt),
+    )
+
+    -- a tenant pays an amount where its fuel is set to what is left then
+    pub tenant_pays : (left : ℕ) → LeftAfter s.meter.left amount (Ok left) → told ≡ with_number DONE left
+        → (full : Reply) → RunsTenant pool tenant (SetFuel left ∷ []) (full ∷ []) pool'
+        → TenantPaysFuel tenant amount told pool pool'
+    tenant_pays left after told_is full run =
+        subst (λ (there : Option State). MatchOption there ((told ≡ only NO_TENANT) × (pool' ≡ pool))
+        (λ machine. PaysFuelIn pool (with_machine_at pool tenant) amount machine told pool')) (sym found)
+        (pays_left s.meter.left refl left after told_is full run)

@@ -1,17 +1,19 @@
 -- A pool behind a handle: what its calls do, and what they leave.
-use Rattle.std.specs.Prelude.{◌≡◌, ◌⊎◌, ◌∷◌, [], ⊤, ℕ, List, length, Option, Some, None, IsSome, MatchOption, Vec}
+use Rattle.std.specs.Prelude.{◌≡◌, ◌⊎◌, ◌∷◌, [], ⊤, ℕ, List, length, Option, Some, None, IsSome, MatchOption, Vec, slice_set}
 use Rattle.std.specs.Global.{Global}
 use Rattle.wasmi_meter.specs.declared.limiter.Kind.TheVariants.{Bytes, Elements}
 use Rattle.wasmi_machine.specs.State.{State, new_state, total}
 use Rattle.wasmi_machine.specs.declared.calls.Call.{Call}
+use Rattle.wasmi_machine.specs.declared.calls.Call.TheVariants.{NewSegment}
 use Rattle.wasmi_machine.specs.declared.calls.Reply.{Reply}
 use Rattle.wasmi_budget.specs.Pool.{PoolValue, AddsTenant, IsWithinCaps, RemovesTenant, RunsTenant, machine_of, total_of}
 use Rattle.wasmi_grammar.specs.Lines.{WritesScript}
 use Rattle.wasmi_grammar.specs.declared.script.Script.{Script}
-use Rattle.wasmi_c.specs.Machine.Calls.{ReadsOut, totals_in, RefusesLines, RunsScriptBy, no_header, word_after}
+use Rattle.wasmi_c.specs.Machine.Calls.{PaysFuelIn, ReadsOut, totals_in, RefusesLines, RunsScriptBy, no_header, word_after}
 use Rattle.wasmi_c.specs.Machine.CallStructs.{call_of}
 use Rattle.wasmi_c.specs.Machine.NewMachines.{meter_with}
 use Rattle.wasmi_c.specs.Machine.Replies.{only, with_number, reply_struct, status_of}
+use Rattle.wasmi_c.specs.Types.{reference_type_of}
 use Rattle.wasmi_c.specs.declared.status.TheConstants.{DONE, HAS_POOL, NO_CALL, NO_POOL, NO_ROOM, NO_TENANT}
 use Rattle.wasmi_c.specs.declared.machine.call_struct.CallStruct.{CallStruct}
 use Rattle.wasmi_c.specs.declared.machine.limits.Limits.{Limits}
@@ -87,6 +89,22 @@ unfoldable pub TenantRepliesToCopy
     : ℕ → (Vec ℕ Global → Call) → List ℕ → ReplyStruct → PoolValue → PoolValue → Type 0
 TenantRepliesToCopy tenant call items reply pool pool' = ((reply ≡ only NO_ROOM) × (pool' ≡ pool))
     ⊎ ((copy : Vec ℕ Global) × (copy.items ≡ items) × TenantReplies tenant (call copy) reply pool pool')
+
+-- so the making of an element segment; where the number is none of a reference type, the pool is the same
+abbrev pub TenantRepliesToSegment : ℕ → ℕ → List ℕ → ReplyStruct → PoolValue → PoolValue → Type 0
+TenantRepliesToSegment tenant ty items reply pool pool' = MatchOption (reference_type_of ty)
+    ((reply ≡ only NO_CALL) × (pool' ≡ pool))
+    (λ ref. TenantRepliesToCopy tenant (NewSegment ref) items reply pool pool')
+
+-- the pool with another machine at an index
+abbrev pub with_machine_at : PoolValue → ℕ → State → PoolValue
+with_machine_at pool tenant machine = record pool { machines = slice_set pool.machines tenant (Some machine) }
+
+-- an amount of fuel is taken from a tenant's machine, and all else is the same; where there is no such tenant, the pool is
+abbrev pub TenantPaysFuel : ℕ → ℕ → ReplyStruct → PoolValue → PoolValue → Type 0
+TenantPaysFuel tenant amount reply pool pool' = MatchOption (machine_of pool tenant)
+    ((reply ≡ only NO_TENANT) × (pool' ≡ pool))
+    (λ machine. PaysFuelIn pool (with_machine_at pool tenant) amount machine reply pool')
 
 -- the bytes of a memory of a tenant are copied to the caller's; where there is no such tenant, the caller's stay; the
 -- pool is the same

@@ -1,12 +1,13 @@
 //! A pool of machines under common caps that C holds by a handle, or none. A call works on the pool
 //! where it is. `include/wasmi_machine.h` says which statuses calls return, in which order.
-ghost use Rattle.std.specs.Prelude.{◌≡◌, ◌∷◌, [], IfErr, IfOk, Some, None, is_some, MatchOption};
+ghost use Rattle.std.specs.Prelude.{◌≡◌, ◌∷◌, ◌-◌, ◌≤◌, ◌<◌, [], Err, IfErr, IfOk, Ok, Some, None, is_some, MatchOption};
 ghost use Rattle.wasmi_budget.specs.Pool.{tenant_rules};
 ghost use Rattle.wasmi_budget.specs.declared.tenant.Tenant.{Tenant};
 ghost use Rattle.wasmi_machine.specs.State.{world};
 ghost use Rattle.wasmi_machine.specs.Steps.{RepliesWith};
-ghost use Rattle.wasmi_machine.specs.declared.calls.Call.TheVariants.{GetFuel, GrowMemory, Load, Store, Write};
+ghost use Rattle.wasmi_machine.specs.declared.calls.Call.TheVariants.{CopyMemory, FillMemory, GetFuel, GrowMemory, InitMemory, Load, NewData, Store, Write};
 ghost use Rattle.wasmi_meter.specs.Limiter.{optional_rules};
+ghost use Rattle.wasmi_meter.specs.declared.fuel.FuelError.TheVariants.{FuelMeteringDisabled, OutOfFuel};
 ghost use Rattle.wasmi_c.specs.Machine.Calls.{ActsOnHeld, item_load, item_store, vector_binary};
 ghost use Rattle.wasmi_c.specs.Machine.Replies.{only};
 ghost use Rattle.wasmi_c.specs.Pool.{KeepsCaps, MakesPool, TenantRepliesToStruct};
@@ -19,16 +20,18 @@ use crate::machine::call_struct::{
     BINARY, CallStruct, LOAD, STORE, item_load_numbered, item_store_numbered,
     vector_binary_numbered,
 };
-use crate::machine::limited_machine::{headless, leave, read_out, write_out};
+use crate::machine::limited_machine::{headless, leave, read_out, references, write_out};
 use crate::machine::limits::{Limits, Totals};
 use crate::machine::reply_struct::ReplyStruct;
 use crate::pool::pool_box::PoolBox;
 use crate::status::{DONE, HAS_POOL, NO_CALL, NO_POOL, NO_ROOM, NO_TENANT};
+use crate::types::reference_type;
 use std::alloc::Global;
 use std::marker::Model;
 use std::mem;
 use wasmi_budget::{Pool, PoolError};
 use wasmi_machine::{Call, Machine, Reply};
+use wasmi_meter::FuelError;
 use wasmi_ops::{LoadOp, StoreOp};
 use wasmi_raw::RawVal;
 
@@ -153,7 +156,7 @@ impl Model for TenantPool {
 
 impl TenantPool {
     ghost use Rattle.wasmi_budget.specs.Pool.{IsWithinCaps, RunsTenant};
-    ghost use Rattle.wasmi_c.specs.Pool.{AddsNewTenant, RefusesTenant, RemovesByStatus, RunsTenantLines, TenantReadsOut, TenantReplies, TenantRepliesInStatus, TenantRepliesInWord, TenantRepliesToCopy, pool_totals, tenant_totals};
+    ghost use Rattle.wasmi_c.specs.Pool.{AddsNewTenant, RefusesTenant, RemovesByStatus, RunsTenantLines, TenantPaysFuel, TenantReadsOut, TenantReplies, TenantRepliesInStatus, TenantRepliesInWord, TenantRepliesToCopy, TenantRepliesToSegment, pool_totals, tenant_totals};
 
     /// Does nothing: its contract says that the pool is within its caps.
     pub fn show_within(&self)
@@ -275,6 +278,20 @@ impl TenantPool {
         }
     }
 
+    /// Replies to one call on the machine of a tenant, and leaves a status and a word of the reply.
+    #[inline(always)]
+    #[tactic(auto, unfolding(crate::specs::Pool::TenantRepliesInWord))]
+    fn reply_in_word(&mut self, tenant: usize, call: &Call, word: &mut u64) -> u8
+        ensures step { TenantRepliesInWord tenant (Some call.now) word.old (result, word.new)
+            self.old self.new }
+        ensures caps { self.new.caps ≡ self.old.caps }
+    {
+        match self.pool.step(tenant, call) {
+            Ok(reply) => leave(reply, word),
+            Err(_) => NO_TENANT,
+        }
+    }
+
     /// Loads an item from a memory of a tenant by the load that has the number, if there is one.
     #[inline(always)]
     #[tactic(auto, unfolding(crate::specs::Pool::TenantRepliesInWord))]
@@ -360,10 +377,106 @@ impl TenantPool {
             (result, number.new) self.old self.new }
         ensures caps { self.new.caps ≡ self.old.caps }
     {
+        if pages == 0 {
+            return self.grow_by_none(tenant, memory, number);
+        }
         match self.pool.step(tenant, &Call::GrowMemory { memory, pages }) {
             Ok(reply) => leave(reply, number),
             Err(_) => NO_TENANT,
         }
+    }
+
+    /// Grows a memory of a tenant by no page. It asks no limiter, so none is made.
+    #[inline(always)]
+    #[tactic(auto, unfolding(crate::specs::Pool::TenantRepliesInWord))]
+    fn grow_by_none(&self, tenant: usize, memory: usize, number: &mut u64) -> u8
+        ensures { TenantRepliesInWord tenant (Some (GrowMemory memory 0)) number.old
+            (result, number.new) self.now self.now }
+    {
+        match self.pool.machine(tenant) {
+            Some(machine) => leave(size_reply(machine, memory), number),
+            None => NO_TENANT,
+        }
+    }
+
+    /// Fills a range of a memory of a tenant with a byte, and leaves a status and a word of the
+    /// reply.
+    #[inline(always)]
+    pub fn fill(
+        &mut self,
+        tenant: usize,
+        memory: usize,
+        dst: u64,
+        value: u8,
+        len: u64,
+        number: &mut u64,
+    ) -> u8
+        ensures step { TenantRepliesInWord tenant (Some (FillMemory memory dst value len))
+            number.old (result, number.new) self.old self.new }
+        ensures caps { self.new.caps ≡ self.old.caps }
+    {
+        let call = Call::FillMemory {
+            memory,
+            dst,
+            value,
+            len,
+        };
+        self.reply_in_word(tenant, &call, number)
+    }
+
+    /// Copies a range of a memory of a tenant to another one of it, or within it, and leaves a
+    /// status and a word of the reply.
+    #[inline(always)]
+    pub fn copy(
+        &mut self,
+        tenant: usize,
+        dst_memory: usize,
+        dst: u64,
+        src_memory: usize,
+        src: u64,
+        len: u64,
+        number: &mut u64,
+    ) -> u8
+        ensures step { TenantRepliesInWord tenant
+            (Some (CopyMemory dst_memory dst src_memory src len)) number.old (result, number.new)
+            self.old self.new }
+        ensures caps { self.new.caps ≡ self.old.caps }
+    {
+        let call = Call::CopyMemory {
+            dst_memory,
+            dst,
+            src_memory,
+            src,
+            len,
+        };
+        self.reply_in_word(tenant, &call, number)
+    }
+
+    /// Copies a range of a data segment of a tenant to a memory of it, and leaves a status and a
+    /// word of the reply.
+    #[inline(always)]
+    pub fn init(
+        &mut self,
+        tenant: usize,
+        memory: usize,
+        segment: usize,
+        dst: u64,
+        src: u32,
+        len: u32,
+        number: &mut u64,
+    ) -> u8
+        ensures step { TenantRepliesInWord tenant (Some (InitMemory memory segment dst src len))
+            number.old (result, number.new) self.old self.new }
+        ensures caps { self.new.caps ≡ self.old.caps }
+    {
+        let call = Call::InitMemory {
+            memory,
+            segment,
+            dst,
+            src,
+            len,
+        };
+        self.reply_in_word(tenant, &call, number)
     }
 
     /// Runs calls on the machine of a tenant, or says why not; then the pool is the same.
@@ -414,6 +527,57 @@ impl TenantPool {
             bytes,
         };
         self.reply(tenant, &call)
+    }
+
+    /// Makes an element segment of a copy of the caller's references on the machine of a tenant, if
+    /// there is such a type.
+    #[tactic(auto, unfolding(crate::specs::Pool::TenantRepliesToCopy))]
+    pub fn new_segment(
+        &mut self,
+        alloc: Global,
+        tenant: usize,
+        ty: u8,
+        items: &[u32],
+    ) -> ReplyStruct
+        ensures step { TenantRepliesToSegment tenant ty items.now result self.old self.new }
+        ensures caps { self.new.caps ≡ self.old.caps }
+    {
+        let Some(ty) = reference_type(ty) else {
+            return ReplyStruct::only(NO_CALL);
+        };
+        let Ok(items) = references(alloc, items) else {
+            return ReplyStruct::only(NO_ROOM);
+        };
+        self.reply(tenant, &Call::NewSegment { ty, items })
+    }
+
+    /// Makes a data segment of a copy of the caller's bytes on the machine of a tenant.
+    #[tactic(auto, unfolding(crate::specs::Pool::TenantRepliesToCopy))]
+    pub fn new_data(&mut self, alloc: Global, tenant: usize, bytes: &[u8]) -> ReplyStruct
+        ensures step { TenantRepliesToCopy tenant NewData bytes.now result self.old self.new }
+        ensures caps { self.new.caps ≡ self.old.caps }
+    {
+        let Ok(copy) = Vec::from_slice(alloc, bytes) else {
+            return ReplyStruct::only(NO_ROOM);
+        };
+        self.reply(tenant, &Call::NewData(copy))
+    }
+
+    /// Takes fuel that isn't a call's from the machine of a tenant: the meter is set to what is left.
+    pub fn consume_fuel(&mut self, tenant: usize, amount: u64) -> ReplyStruct
+        ensures step { TenantPaysFuel tenant amount result self.old self.new }
+        ensures caps { self.new.caps ≡ self.old.caps }
+    {
+        let Some(machine) = self.pool.machine(tenant) else {
+            return ReplyStruct::only(NO_TENANT);
+        };
+        match left_after(machine, amount) {
+            Ok(left) => match self.pool.step(tenant, &Call::SetFuel(left)) {
+                Ok(_) => ReplyStruct::with_number(DONE, left),
+                Err(_) => ReplyStruct::only(NO_TENANT),
+            },
+            Err(error) => ReplyStruct::from_reply(&Reply::Fuel(error)),
+        }
     }
 
     /// Runs lines of calls on the machine of a tenant, and writes their replies to the front of a
@@ -487,5 +651,30 @@ fn fuel_reply(machine: &Machine) -> Reply
     match machine.fuel().get_fuel() {
         Ok(amount) => Reply::Number(amount),
         Err(error) => Reply::Fuel(error),
+    }
+}
+
+/// The reply of a machine to a growth of a memory by no page, which reaches no limiter.
+#[inline(always)]
+fn size_reply(machine: &Machine, memory: usize) -> Reply
+    ensures { (tenant : Tenant) → RepliesWith (optional_rules tenant_rules) (GrowMemory memory 0)
+        (world machine.now (Some tenant)) result (world machine.now (Some tenant)) }
+{
+    match machine.memory(memory) {
+        Some(memory) => Reply::Number(memory.size()),
+        None => Reply::NoSuch,
+    }
+}
+
+/// What is left of a machine's fuel once an amount is taken; or why so much isn't.
+fn left_after(machine: &Machine, amount: u64) -> Result<u64, FuelError>
+    ensures { MatchOption machine.now.meter.left (result ≡ Err FuelMeteringDisabled)
+        (λ left. (amount ≤ left → result ≡ Ok (left - amount))
+        × (left < amount → result ≡ Err (OutOfFuel amount))) }
+{
+    let left = machine.fuel().get_fuel()?;
+    match left.checked_sub(amount) {
+        Some(left) => Ok(left),
+        None => Err(FuelError::out_of_fuel(amount)),
     }
 }

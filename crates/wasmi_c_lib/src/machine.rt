@@ -4,7 +4,7 @@ ghost use Rattle.wasmi_machine.specs.declared.calls.Call.TheVariants.{CopyMemory
 ghost use Rattle.wasmi_c.specs.Machine.Calls.{RepliesInStatus, RepliesInWord, item_load, item_store, vector_binary, ActsOnHeld, OnHeld, ReadsOut, RepliesToCopy, RepliesToSegment, RepliesToStruct, PaysFuel, no_totals, totals_of, RunsLines};
 ghost use Rattle.wasmi_c.specs.Machine.NewMachines.{IsNewMachine, MakesMachine, MakesWithAnswers};
 ghost use Rattle.wasmi_c.specs.Machine.Replies.{only};
-ghost use Rattle.wasmi_c.specs.Pool.{AddsNewTenant, KeepsCaps, MakesPool, RemovesByStatus, RunsTenantLines, TenantReadsOut, TenantRepliesInStatus, TenantRepliesInWord, TenantRepliesToCopy, TenantRepliesToStruct, no_pool_totals, pool_totals, tenant_totals};
+ghost use Rattle.wasmi_c.specs.Pool.{AddsNewTenant, KeepsCaps, MakesPool, RemovesByStatus, RunsTenantLines, TenantPaysFuel, TenantReadsOut, TenantRepliesInStatus, TenantRepliesInWord, TenantRepliesToCopy, TenantRepliesToSegment, TenantRepliesToStruct, no_pool_totals, pool_totals, tenant_totals};
 ghost use Rattle.wasmi_c.specs.declared.status.TheConstants.{NO_MACHINE, NO_POOL};
 ghost use Rattle.wasmi_c.specs.declared.machine.reply_struct.ReplyStruct.{ReplyStruct};
 
@@ -375,6 +375,65 @@ pub extern "C" fn wasmi_pool_grow(
 }
 
 #[unsafe(no_mangle)]
+pub extern "C" fn wasmi_pool_fill(
+    handle: &mut PoolHandle,
+    tenant: usize,
+    memory: usize,
+    to: u64,
+    value: u8,
+    count: u64,
+    number: &mut u64,
+) -> u8
+    ensures step { ActsOnHeld {R = ℕ × ℕ} (NO_POOL, number.old)
+        handle.old.pool.held (result, number.new) handle.new.pool.held
+        (TenantRepliesInWord tenant (Some (FillMemory memory to value count)) number.old
+        (result, number.new)) }
+    ensures caps { KeepsCaps handle.old.pool.held handle.new.pool.held }
+{
+    on_pool!(handle, NO_POOL, pool => pool.fill(tenant, memory, to, value, count, number))
+}
+
+#[unsafe(no_mangle)]
+pub extern "C" fn wasmi_pool_copy(
+    handle: &mut PoolHandle,
+    tenant: usize,
+    memory: usize,
+    to: u64,
+    source: usize,
+    from: u64,
+    count: u64,
+    number: &mut u64,
+) -> u8
+    ensures step { ActsOnHeld {R = ℕ × ℕ} (NO_POOL, number.old)
+        handle.old.pool.held (result, number.new) handle.new.pool.held
+        (TenantRepliesInWord tenant (Some (CopyMemory memory to source from count)) number.old
+        (result, number.new)) }
+    ensures caps { KeepsCaps handle.old.pool.held handle.new.pool.held }
+{
+    on_pool!(handle, NO_POOL, pool => pool.copy(tenant, memory, to, source, from, count, number))
+}
+
+#[unsafe(no_mangle)]
+pub extern "C" fn wasmi_pool_init(
+    handle: &mut PoolHandle,
+    tenant: usize,
+    memory: usize,
+    segment: usize,
+    to: u64,
+    from: u32,
+    count: u32,
+    number: &mut u64,
+) -> u8
+    ensures step { ActsOnHeld {R = ℕ × ℕ} (NO_POOL, number.old)
+        handle.old.pool.held (result, number.new) handle.new.pool.held
+        (TenantRepliesInWord tenant (Some (InitMemory memory segment to from count)) number.old
+        (result, number.new)) }
+    ensures caps { KeepsCaps handle.old.pool.held handle.new.pool.held }
+{
+    on_pool!(handle, NO_POOL, pool => pool.init(tenant, memory, segment, to, from, count, number))
+}
+
+#[unsafe(no_mangle)]
 pub extern "C" fn wasmi_pool_fuel_left(handle: &mut PoolHandle, tenant: usize, left: &mut u64) -> u8
     ensures step { ActsOnHeld {R = ℕ × ℕ} (NO_POOL, left.old)
         handle.old.pool.held (result, left.new) handle.new.pool.held
@@ -414,6 +473,48 @@ pub extern "C" fn wasmi_pool_write(
     ensures caps { KeepsCaps handle.old.pool.held handle.new.pool.held }
 {
     on_pool!(handle, pool => pool.write(alloc, tenant, memory, offset, bytes))
+}
+
+#[unsafe(no_mangle)]
+pub extern "C" fn wasmi_pool_new_segment(
+    alloc: Global,
+    handle: &mut PoolHandle,
+    tenant: usize,
+    ty: u8,
+    items: &[u32],
+) -> ReplyStruct
+    ensures step { ActsOnHeld (only NO_POOL) handle.old.pool.held result handle.new.pool.held
+        (TenantRepliesToSegment tenant ty items.now result) }
+    ensures caps { KeepsCaps handle.old.pool.held handle.new.pool.held }
+{
+    on_pool!(handle, pool => pool.new_segment(alloc, tenant, ty, items))
+}
+
+#[unsafe(no_mangle)]
+pub extern "C" fn wasmi_pool_new_data(
+    alloc: Global,
+    handle: &mut PoolHandle,
+    tenant: usize,
+    bytes: &[u8],
+) -> ReplyStruct
+    ensures step { ActsOnHeld (only NO_POOL) handle.old.pool.held result handle.new.pool.held
+        (TenantRepliesToCopy tenant NewData bytes.now result) }
+    ensures caps { KeepsCaps handle.old.pool.held handle.new.pool.held }
+{
+    on_pool!(handle, pool => pool.new_data(alloc, tenant, bytes))
+}
+
+#[unsafe(no_mangle)]
+pub extern "C" fn wasmi_pool_consume_fuel(
+    handle: &mut PoolHandle,
+    tenant: usize,
+    amount: u64,
+) -> ReplyStruct
+    ensures step { ActsOnHeld (only NO_POOL) handle.old.pool.held result handle.new.pool.held
+        (TenantPaysFuel tenant amount result) }
+    ensures caps { KeepsCaps handle.old.pool.held handle.new.pool.held }
+{
+    on_pool!(handle, pool => pool.consume_fuel(tenant, amount))
 }
 
 #[unsafe(no_mangle)]

@@ -109,13 +109,18 @@ totals_of machine = totals_in DONE (total machine.state Bytes) (total machine.st
 abbrev pub no_totals : Totals
 no_totals = totals_in NO_MACHINE 0 0
 
--- an amount of fuel is taken where the meter is on and so much is left, and the reply has what is left then
-abbrev pub PaysFuel : ℕ → MachineValue → ReplyStruct → MachineValue → Type 0
-PaysFuel amount machine reply machine' = MatchOption machine.state.meter.left
-    ((reply ≡ fuel_refusal FuelMeteringDisabled) × (machine' ≡ machine))
+-- an amount of fuel is taken from the machine in a holder where its meter is on and so much is left, and the reply has
+-- what is left then; the holder has the machine with that, else it is the same
+abbrev pub PaysFuelIn : {V : Type 0} → V → (State → V) → ℕ → State → ReplyStruct → V → Type 0
+PaysFuelIn holder with_machine amount machine reply holder' = MatchOption machine.meter.left
+    ((reply ≡ fuel_refusal FuelMeteringDisabled) × (holder' ≡ holder))
     (λ left. (amount ≤ left → (reply ≡ with_number DONE (left - amount))
-    × (machine' ≡ record machine { state = record machine.state { meter = meter_after machine.state.meter amount } }))
-    × (left < amount → (reply ≡ fuel_refusal (OutOfFuel amount)) × (machine' ≡ machine)))
+    × (holder' ≡ with_machine (record machine { meter = meter_after machine.meter amount })))
+    × (left < amount → (reply ≡ fuel_refusal (OutOfFuel amount)) × (holder' ≡ holder)))
+
+-- so from a machine with its limiter
+abbrev pub PaysFuel : ℕ → MachineValue → ReplyStruct → MachineValue → Type 0
+PaysFuel amount machine = PaysFuelIn machine (λ state. record machine { state = state }) amount machine.state
 
 -- the load of an item that a load is, if it is one
 abbrev pub item_load_in : Load → Option LoadOp

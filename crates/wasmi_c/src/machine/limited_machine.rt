@@ -438,7 +438,7 @@ pub(crate) fn leave(reply: Reply, word: &mut u64) -> u8
 }
 
 /// A copy of the references.
-fn references(alloc: Global, items: &[u32]) -> Result<Vec<RawRef>, AllocError>
+pub(crate) fn references(alloc: Global, items: &[u32]) -> Result<Vec<RawRef>, AllocError>
     ensures { IfOk result (λ copy. copy.items ≡ items.now) }
 {
     let mut copy = Vec::with_capacity(alloc, items.len())?;

@@ -2762,7 +2762,7 @@ pub mod machine {
         /// ensures: IfOk result (λ copy. copy.items ≡ items.now)
         /// ```
         #[inline]
-        fn references(items: &[u32]) -> Result<Vec<RawRef>, AllocError> {
+        pub(crate) fn references(items: &[u32]) -> Result<Vec<RawRef>, AllocError> {
             let mut copy = Vec::with_capacity(items.len())?;
             for item in items {
                 copy.push_reserved(RawRef::from(*item));
@@ -4068,13 +4068,17 @@ pub mod pool {
         BINARY, CallStruct, LOAD, STORE, item_load_numbered, item_store_numbered,
         vector_binary_numbered,
     };
-    use crate::generated::c::machine::limited_machine::{headless, leave, read_out, write_out};
+    use crate::generated::c::machine::limited_machine::{
+        headless, leave, read_out, references, write_out,
+    };
     use crate::generated::c::machine::limits::{Limits, Totals};
     use crate::generated::c::machine::reply_struct::ReplyStruct;
     use crate::generated::c::pool::pool_box::PoolBox;
     use crate::generated::c::status::{DONE, HAS_POOL, NO_CALL, NO_POOL, NO_ROOM, NO_TENANT};
+    use crate::generated::c::types::reference_type;
     use crate::proved::budget::{Pool, PoolError};
     use crate::proved::machine::{Call, Machine, Reply};
+    use crate::proved::meter::FuelError;
     use crate::proved::ops::{LoadOp, StoreOp};
     use crate::proved::raw::RawVal;
     use std::mem;
@@ -4384,6 +4388,23 @@ pub mod pool {
             }
         }
 
+        /// Replies to one call on the machine of a tenant, and leaves a status and a word of the reply.
+        ///
+        /// # Contract
+        ///
+        /// ```text
+        /// ensures step: TenantRepliesInWord tenant (Some call.now) word.old (result, word.new)
+        ///     self.old self.new
+        /// ensures caps: self.new.caps ≡ self.old.caps
+        /// ```
+        #[inline(always)]
+        fn reply_in_word(&mut self, tenant: usize, call: &Call, word: &mut u64) -> u8 {
+            match self.pool.step(tenant, call) {
+                Ok(reply) => leave(reply, word),
+                Err(_) => NO_TENANT,
+            }
+        }
+
         /// Loads an item from a memory of a tenant by the load that has the number, if there is one.
         ///
         /// # Contract
@@ -4484,10 +4505,121 @@ pub mod pool {
         /// ```
         #[inline(always)]
         pub fn grow(&mut self, tenant: usize, memory: usize, pages: u64, number: &mut u64) -> u8 {
+            if pages == 0 {
+                return self.grow_by_none(tenant, memory, number);
+            }
             match self.pool.step(tenant, &Call::GrowMemory { memory, pages }) {
                 Ok(reply) => leave(reply, number),
                 Err(_) => NO_TENANT,
             }
+        }
+
+        /// Grows a memory of a tenant by no page. It asks no limiter, so none is made.
+        ///
+        /// # Contract
+        ///
+        /// ```text
+        /// ensures: TenantRepliesInWord tenant (Some (GrowMemory memory 0)) number.old
+        ///     (result, number.new) self.now self.now
+        /// ```
+        #[inline(always)]
+        fn grow_by_none(&self, tenant: usize, memory: usize, number: &mut u64) -> u8 {
+            match self.pool.machine(tenant) {
+                Some(machine) => leave(size_reply(machine, memory), number),
+                None => NO_TENANT,
+            }
+        }
+
+        /// Fills a range of a memory of a tenant with a byte, and leaves a status and a word of the
+        /// reply.
+        ///
+        /// # Contract
+        ///
+        /// ```text
+        /// ensures step: TenantRepliesInWord tenant (Some (FillMemory memory dst value len))
+        ///     number.old (result, number.new) self.old self.new
+        /// ensures caps: self.new.caps ≡ self.old.caps
+        /// ```
+        #[inline(always)]
+        pub fn fill(
+            &mut self,
+            tenant: usize,
+            memory: usize,
+            dst: u64,
+            value: u8,
+            len: u64,
+            number: &mut u64,
+        ) -> u8 {
+            let call = Call::FillMemory {
+                memory,
+                dst,
+                value,
+                len,
+            };
+            self.reply_in_word(tenant, &call, number)
+        }
+
+        /// Copies a range of a memory of a tenant to another one of it, or within it, and leaves a
+        /// status and a word of the reply.
+        ///
+        /// # Contract
+        ///
+        /// ```text
+        /// ensures step: TenantRepliesInWord tenant
+        ///     (Some (CopyMemory dst_memory dst src_memory src len)) number.old (result, number.new)
+        ///     self.old self.new
+        /// ensures caps: self.new.caps ≡ self.old.caps
+        /// ```
+        #[inline(always)]
+        pub fn copy(
+            &mut self,
+            tenant: usize,
+            dst_memory: usize,
+            dst: u64,
+            src_memory: usize,
+            src: u64,
+            len: u64,
+            number: &mut u64,
+        ) -> u8 {
+            let call = Call::CopyMemory {
+                dst_memory,
+                dst,
+                src_memory,
+                src,
+                len,
+            };
+            self.reply_in_word(tenant, &call, number)
+        }
+
+        /// Copies a range of a data segment of a tenant to a memory of it, and leaves a status and a
+        /// word of the reply.
+        ///
+        /// # Contract
+        ///
+        /// ```text
+        /// ensures step: TenantRepliesInWord tenant (Some (InitMemory memory segment dst src len))
+        ///     number.old (result, number.new) self.old self.new
+        /// ensures caps: self.new.caps ≡ self.old.caps
+        /// ```
+        #[inline(always)]
+        pub fn init(
+            &mut self,
+            tenant: usize,
+            memory: usize,
+            segment: usize,
+            dst: u64,
+            src: u32,
+            len: u32,
+            number: &mut u64,
+        ) -> u8 {
+            let call = Call::InitMemory {
+                memory,
+                segment,
+                dst,
+                src,
+                len,
+            };
+            self.reply_in_word(tenant, &call, number)
         }
 
         /// Runs calls on the machine of a tenant, or says why not; then the pool is the same.
@@ -4559,6 +4691,64 @@ pub mod pool {
                 bytes,
             };
             self.reply(tenant, &call)
+        }
+
+        /// Makes an element segment of a copy of the caller's references on the machine of a tenant, if
+        /// there is such a type.
+        ///
+        /// # Contract
+        ///
+        /// ```text
+        /// ensures step: TenantRepliesToSegment tenant ty items.now result self.old self.new
+        /// ensures caps: self.new.caps ≡ self.old.caps
+        /// ```
+        #[inline]
+        pub fn new_segment(&mut self, tenant: usize, ty: u8, items: &[u32]) -> ReplyStruct {
+            let Some(ty) = reference_type(ty) else {
+                return ReplyStruct::only(NO_CALL);
+            };
+            let Ok(items) = references(items) else {
+                return ReplyStruct::only(NO_ROOM);
+            };
+            self.reply(tenant, &Call::NewSegment { ty, items })
+        }
+
+        /// Makes a data segment of a copy of the caller's bytes on the machine of a tenant.
+        ///
+        /// # Contract
+        ///
+        /// ```text
+        /// ensures step: TenantRepliesToCopy tenant NewData bytes.now result self.old self.new
+        /// ensures caps: self.new.caps ≡ self.old.caps
+        /// ```
+        #[inline]
+        pub fn new_data(&mut self, tenant: usize, bytes: &[u8]) -> ReplyStruct {
+            let Ok(copy) = Vec::from_slice(bytes) else {
+                return ReplyStruct::only(NO_ROOM);
+            };
+            self.reply(tenant, &Call::NewData(copy))
+        }
+
+        /// Takes fuel that isn't a call's from the machine of a tenant: the meter is set to what is left.
+        ///
+        /// # Contract
+        ///
+        /// ```text
+        /// ensures step: TenantPaysFuel tenant amount result self.old self.new
+        /// ensures caps: self.new.caps ≡ self.old.caps
+        /// ```
+        #[inline]
+        pub fn consume_fuel(&mut self, tenant: usize, amount: u64) -> ReplyStruct {
+            let Some(machine) = self.pool.machine(tenant) else {
+                return ReplyStruct::only(NO_TENANT);
+            };
+            match left_after(machine, amount) {
+                Ok(left) => match self.pool.step(tenant, &Call::SetFuel(left)) {
+                    Ok(_) => ReplyStruct::with_number(DONE, left),
+                    Err(_) => ReplyStruct::only(NO_TENANT),
+                },
+                Err(error) => ReplyStruct::from_reply(&Reply::Fuel(error)),
+            }
         }
 
         /// Runs lines of calls on the machine of a tenant, and writes their replies to the front of a
@@ -4654,6 +4844,42 @@ pub mod pool {
         match machine.fuel().get_fuel() {
             Ok(amount) => Reply::Number(amount),
             Err(error) => Reply::Fuel(error),
+        }
+    }
+
+    /// The reply of a machine to a growth of a memory by no page, which reaches no limiter.
+    ///
+    /// # Contract
+    ///
+    /// ```text
+    /// ensures: (tenant : Tenant) → RepliesWith (optional_rules tenant_rules) (GrowMemory memory 0)
+    ///     (world machine.now (Some tenant)) result (world machine.now (Some tenant))
+    /// ```
+    ///
+    /// Definitions: [`RepliesWith`](crate::specs::machine::StepsSpecs#RepliesWith), [`optional_rules`](crate::specs::meter::LimiterSpecs#optional_rules), [`tenant_rules`](crate::specs::budget::PoolSpecs#tenant_rules), [`world`](crate::specs::machine::StateSpecs#world).
+    #[inline(always)]
+    fn size_reply(machine: &Machine, memory: usize) -> Reply {
+        match machine.memory(memory) {
+            Some(memory) => Reply::Number(memory.size()),
+            None => Reply::NoSuch,
+        }
+    }
+
+    /// What is left of a machine's fuel once an amount is taken; or why so much isn't.
+    ///
+    /// # Contract
+    ///
+    /// ```text
+    /// ensures: MatchOption machine.now.meter.left (result ≡ Err FuelMeteringDisabled)
+    ///     (λ left. (amount ≤ left → result ≡ Ok (left - amount))
+    ///     × (left < amount → result ≡ Err (OutOfFuel amount)))
+    /// ```
+    #[inline]
+    fn left_after(machine: &Machine, amount: u64) -> Result<u64, FuelError> {
+        let left = machine.fuel().get_fuel()?;
+        match left.checked_sub(amount) {
+            Some(left) => Ok(left),
+            None => Err(FuelError::out_of_fuel(amount)),
         }
     }
 }

@@ -1070,6 +1070,74 @@ mod machine {
     /// # Contract
     ///
     /// ```text
+    /// ensures step: ActsOnHeld {R = ℕ × ℕ} (NO_POOL, number.old)
+    ///     handle.old.pool.held (result, number.new) handle.new.pool.held
+    ///     (TenantRepliesInWord tenant (Some (FillMemory memory to value count)) number.old
+    ///     (result, number.new))
+    /// ensures caps: KeepsCaps handle.old.pool.held handle.new.pool.held
+    /// ```
+    #[unsafe(no_mangle)]
+    pub extern "C" fn wasmi_pool_fill(
+        handle: &mut PoolHandle,
+        tenant: usize,
+        memory: usize,
+        to: u64,
+        value: u8,
+        count: u64,
+        number: &mut u64,
+    ) -> u8 {
+        on_pool!(handle, NO_POOL, pool => pool.fill(tenant, memory, to, value, count, number))
+    }
+
+    /// # Contract
+    ///
+    /// ```text
+    /// ensures step: ActsOnHeld {R = ℕ × ℕ} (NO_POOL, number.old)
+    ///     handle.old.pool.held (result, number.new) handle.new.pool.held
+    ///     (TenantRepliesInWord tenant (Some (CopyMemory memory to source from count)) number.old
+    ///     (result, number.new))
+    /// ensures caps: KeepsCaps handle.old.pool.held handle.new.pool.held
+    /// ```
+    #[unsafe(no_mangle)]
+    pub extern "C" fn wasmi_pool_copy(
+        handle: &mut PoolHandle,
+        tenant: usize,
+        memory: usize,
+        to: u64,
+        source: usize,
+        from: u64,
+        count: u64,
+        number: &mut u64,
+    ) -> u8 {
+        on_pool!(handle, NO_POOL, pool => pool.copy(tenant, memory, to, source, from, count, number))
+    }
+
+    /// # Contract
+    ///
+    /// ```text
+    /// ensures step: ActsOnHeld {R = ℕ × ℕ} (NO_POOL, number.old)
+    ///     handle.old.pool.held (result, number.new) handle.new.pool.held
+    ///     (TenantRepliesInWord tenant (Some (InitMemory memory segment to from count)) number.old
+    ///     (result, number.new))
+    /// ensures caps: KeepsCaps handle.old.pool.held handle.new.pool.held
+    /// ```
+    #[unsafe(no_mangle)]
+    pub extern "C" fn wasmi_pool_init(
+        handle: &mut PoolHandle,
+        tenant: usize,
+        memory: usize,
+        segment: usize,
+        to: u64,
+        from: u32,
+        count: u32,
+        number: &mut u64,
+    ) -> u8 {
+        on_pool!(handle, NO_POOL, pool => pool.init(tenant, memory, segment, to, from, count, number))
+    }
+
+    /// # Contract
+    ///
+    /// ```text
     /// ensures step: ActsOnHeld {R = ℕ × ℕ} (NO_POOL, left.old)
     ///     handle.old.pool.held (result, left.new) handle.new.pool.held
     ///     (TenantRepliesInWord tenant (Some GetFuel) left.old (result, left.new))
@@ -1125,6 +1193,61 @@ mod machine {
         let bytes = unsafe { crate::memory::items(bytes, bytes_len) };
 
         on_pool!(handle, pool => pool.write(tenant, memory, offset, bytes))
+    }
+
+    /// # Contract
+    ///
+    /// ```text
+    /// ensures step: ActsOnHeld (only NO_POOL) handle.old.pool.held result handle.new.pool.held
+    ///     (TenantRepliesToSegment tenant ty items.now result)
+    /// ensures caps: KeepsCaps handle.old.pool.held handle.new.pool.held
+    /// ```
+    #[unsafe(no_mangle)]
+    pub unsafe extern "C" fn wasmi_pool_new_segment(
+        handle: &mut PoolHandle,
+        tenant: usize,
+        ty: u8,
+        items: *const u32,
+        items_len: usize,
+    ) -> ReplyStruct {
+        let items = unsafe { crate::memory::items(items, items_len) };
+
+        on_pool!(handle, pool => pool.new_segment(tenant, ty, items))
+    }
+
+    /// # Contract
+    ///
+    /// ```text
+    /// ensures step: ActsOnHeld (only NO_POOL) handle.old.pool.held result handle.new.pool.held
+    ///     (TenantRepliesToCopy tenant NewData bytes.now result)
+    /// ensures caps: KeepsCaps handle.old.pool.held handle.new.pool.held
+    /// ```
+    #[unsafe(no_mangle)]
+    pub unsafe extern "C" fn wasmi_pool_new_data(
+        handle: &mut PoolHandle,
+        tenant: usize,
+        bytes: *const u8,
+        bytes_len: usize,
+    ) -> ReplyStruct {
+        let bytes = unsafe { crate::memory::items(bytes, bytes_len) };
+
+        on_pool!(handle, pool => pool.new_data(tenant, bytes))
+    }
+
+    /// # Contract
+    ///
+    /// ```text
+    /// ensures step: ActsOnHeld (only NO_POOL) handle.old.pool.held result handle.new.pool.held
+    ///     (TenantPaysFuel tenant amount result)
+    /// ensures caps: KeepsCaps handle.old.pool.held handle.new.pool.held
+    /// ```
+    #[unsafe(no_mangle)]
+    pub extern "C" fn wasmi_pool_consume_fuel(
+        handle: &mut PoolHandle,
+        tenant: usize,
+        amount: u64,
+    ) -> ReplyStruct {
+        on_pool!(handle, pool => pool.consume_fuel(tenant, amount))
     }
 
     /// # Contract
