@@ -166,7 +166,7 @@ typedef struct {
     uint8_t is_mutable;          /* 0: a constant */
     uint8_t is_64;               /* 0: addresses or indices of 32 bits; else of 64 */
     uint8_t has_maximum;         /* 0: maximum isn't read */
-    uint8_t page_size_log2;
+    uint8_t page_size_log2;      /* 16: pages of 64 KiB; 0: pages of one byte */
     uint32_t reference;
     size_t index, source;
     uint64_t count, maximum;
