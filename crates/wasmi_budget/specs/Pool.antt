@@ -1,9 +1,9 @@
 -- A pool of tenants: a tenant's rules, what the machines hold together, what a run of one of them does, and what its errors print.
 use Rattle.wasmi_meter.specs.declared.holdings.Holdings.{Holdings}
-use Rattle.wasmi_meter.specs.Capped.{amount_of, nothing, amounts_of, Capped, capped_rules}
+use Rattle.wasmi_meter.specs.Capped.{amount_of, nothing, amounts_of, Capped, capped_rules, held_together}
 use Rattle.wasmi_meter.specs.Limiter.{Rules, optional_rules}
 use Rattle.wasmi_budget.specs.declared.tenant.Tenant.{Tenant}
-use Rattle.std.specs.Prelude.{◌≡◌, ◌≤◌, ◌<◌, ◌^◌, ◌++◌, ⊤, ℕ, List, [], ◌∷◌, Option, Some, None, slice_index_or, slice_set, sum_by, remove, codes}
+use Rattle.std.specs.Prelude.{◌≡◌, ◌≤◌, ◌<◌, ◌+◌, ◌-◌, ◌^◌, ◌++◌, ⊤, ℕ, List, [], ◌∷◌, Option, Some, None, slice_index_or, slice_set, sum_by, remove, codes}
 use Rattle.wasmi_meter.specs.declared.limiter.Kind.{Kind}
 use Rattle.wasmi_meter.specs.declared.limiter.Kind.TheVariants.{Bytes, Elements}
 use Rattle.wasmi_meter.specs.declared.amounts.Amounts.{Amounts}
@@ -56,6 +56,10 @@ total_at None kind = 0
 abbrev pub total_of : List (Option State) → Kind → ℕ
 total_of machines kind = sum_by (λ s. total_at s kind) machines
 
+-- a pool with these caps and machines
+abbrev pub pool_of : Amounts → List (Option State) → PoolValue
+pool_of caps machines = record { caps = caps; machines = machines }
+
 -- all machines together are within the caps
 abbrev pub IsWithinCaps : PoolValue → Type 0
 IsWithinCaps pool = (kind : Kind) → total_of pool.machines kind ≤ amount_of pool.caps kind
@@ -105,16 +109,32 @@ pub record RunsTenantBy (rules : Rules (Option Tenant)) (pool : PoolValue) (inde
 abbrev pub RunsTenant : PoolValue → ℕ → List Call → List Reply → PoolValue → Type 0
 RunsTenant = RunsTenantBy (optional_rules tenant_rules)
 
--- the machine at an index has run these calls under a tenant, which holds what it has then, and all others are the same
-pub record RunsMachine (machines : List (Option State)) (index : ℕ) (tenant : Tenant) (calls : List Call)
-    (replies : List Reply) (machines' : List (Option State)) (tenant' : Tenant) : Type 0 where
-  pub machine : State
-  pub found : slice_index_or machines index None ≡ Some machine
-  pub machine' : State
-  pub ran : IsRunOf (optional_rules tenant_rules) calls (world machine (Some tenant)) replies
-      (world machine' (Some tenant'))
-  pub after : machines' ≡ slice_set machines index (Some machine')
-  pub held : HoldsTotals (holdings tenant') machine'
+-- the tenant that holds so much of what all hold, under the caps
+abbrev pub tenant_of : Amounts → Amounts → Amounts → Tenant
+tenant_of caps all held = record {
+  caps = caps;
+  others = record { bytes = all.bytes - held.bytes; elements = all.elements - held.elements };
+  holdings = record { held = held; last = None };
+}
+
+-- what all hold of a kind where a tenant holds so much
+abbrev pub held_before : Tenant → Amounts → Kind → ℕ
+held_before tenant held kind = amount_of tenant.others kind + amount_of held kind
+
+-- what a machine has is a part of what all hold, which is within the caps, numbers of 64 bits
+pub record IsPart (caps all : Amounts) (s : State) : Type 0 where
+  pub within : (kind : Kind) → amount_of all kind ≤ amount_of caps kind
+  pub fits : (kind : Kind) → amount_of caps kind < 2 ^ 64
+  pub counted : (kind : Kind) → total s kind ≤ amount_of all kind
+
+-- a machine has run these calls under the tenant that it has where all hold so much, and they hold so much then
+pub record RunsAsPart (caps all : Amounts) (s : State) (calls : List Call) (replies : List Reply) (s' : State)
+    (all' : Amounts) : Type 0 where
+  pub tenant' : Tenant
+  pub ran : IsRunOf (optional_rules tenant_rules) calls
+      (world s (Some (tenant_of caps all (amounts_of (total s))))) replies (world s' (Some tenant'))
+  pub holds : HoldsTotals (holdings tenant') s'
+  pub together : all' ≡ amounts_of (held_together capped_tenant tenant')
 
 -- a call is a store of an item, an instruction on two vectors, a write over a range of a memory or a setting of the
 -- fuel, which asks no limiter

@@ -4,10 +4,10 @@ ghost use Rattle.std.specs.Option.{option_map, option_copied};
 ghost use Rattle.wasmi_meter.specs.declared.limiter.Kind.TheVariants.{Bytes, Elements};
 ghost use Rattle.wasmi_meter.specs.Capped.{amounts_of};
 ghost use Rattle.wasmi_machine.specs.State.{total};
-ghost use Rattle.wasmi_budget.specs.Pool.{IsUnasked, IsWithinCaps, machine_of, tenant_at, total_of, AddsTenant, IsAddRefusal, RemovesTenant, RunsTenant};
+ghost use Rattle.wasmi_budget.specs.Pool.{IsUnasked, IsWithinCaps, machine_of, total_of, AddsTenant, IsAddRefusal, RemovesTenant, RunsTenant};
 
 use crate::error::{AddError, PoolError};
-use crate::tenant::{CountedMachine, Tenant, replace_amounts};
+use crate::tenant::CountedMachine;
 use crate::tenants::Tenants;
 use std::alloc::Global as Allocator;
 use std::marker::Model;
@@ -128,12 +128,8 @@ impl<'r> Pool<'r> {
         ensures refused { OnErr result (self.new ≡ self.old) }
         ensures within { IsWithinCaps self.new }
     {
-        let Some(mut tenant) = self.tenant(index) else {
-            return Err(PoolError::NoTenant);
-        };
-        let replies = self.tenants.run(index, calls, &mut tenant)?;
-        self.held_by_all = tenant.held_by_all();
-        Ok(replies)
+        self.tenants
+            .run(index, calls, self.caps, &mut self.held_by_all)
     }
 
     /// Executes one call on the machine of a tenant, as `run` executes a list of it alone. It takes
@@ -160,13 +156,12 @@ impl<'r> Pool<'r> {
         {
             return self.step_unasked(index, call);
         }
-        let Some(mut tenant) = self.tenant(index) else {
+        let stepped = self
+            .tenants
+            .step(index, call, self.caps, &mut self.held_by_all);
+        let Some(reply) = stepped else {
             return Err(PoolError::NoTenant);
         };
-        let Some(reply) = self.tenants.step(index, call, &mut tenant) else {
-            return Err(PoolError::NoTenant);
-        };
-        replace_amounts(&mut self.held_by_all, tenant.held_by_all());
         Ok(reply)
     }
 
@@ -224,19 +219,5 @@ impl<'r> Pool<'r> {
             ≡ option_map (λ s. amounts_of (total s)) (machine_of self.now index) }
     {
         Some(self.tenants.get(index)?.held)
-    }
-
-    /// The limiter under which a tenant's machine runs.
-    #[inline(always)]
-    fn tenant(&self, index: usize) -> Option<Tenant>
-        ensures { result
-            ≡ option_map (tenant_at self.now index) (machine_of self.now index) }
-    {
-        let held = self.held(index)?;
-        let others = Amounts {
-            bytes: self.held_by_all.bytes - held.bytes,
-            elements: self.held_by_all.elements - held.elements,
-        };
-        Some(Tenant::new(self.caps, others, held))
     }
 }

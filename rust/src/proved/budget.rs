@@ -173,7 +173,7 @@ mod pool {
     //! The pool.
 
     use crate::proved::budget::error::{AddError, PoolError};
-    use crate::proved::budget::tenant::{CountedMachine, Tenant, replace_amounts};
+    use crate::proved::budget::tenant::CountedMachine;
     use crate::proved::budget::tenants::Tenants;
     use crate::proved::machine::{Call, Machine, Reply};
     use crate::proved::meter::Amounts;
@@ -337,12 +337,8 @@ mod pool {
         /// Definitions: [`RunsTenant`](crate::specs::budget::PoolSpecs#RunsTenant), [`machine_of`](crate::specs::budget::PoolSpecs#machine_of), [`IsWithinCaps`](crate::specs::budget::PoolSpecs#IsWithinCaps).
         #[inline]
         pub fn run(&mut self, index: usize, calls: &[Call]) -> Result<Vec<Reply>, PoolError> {
-            let Some(mut tenant) = self.tenant(index) else {
-                return Err(PoolError::NoTenant);
-            };
-            let replies = self.tenants.run(index, calls, &mut tenant)?;
-            self.held_by_all = tenant.held_by_all();
-            Ok(replies)
+            self.tenants
+                .run(index, calls, self.caps, &mut self.held_by_all)
         }
 
         /// Executes one call on the machine of a tenant, as `run` executes a list of it alone. It takes
@@ -375,13 +371,12 @@ mod pool {
             {
                 return self.step_unasked(index, call);
             }
-            let Some(mut tenant) = self.tenant(index) else {
+            let stepped = self
+                .tenants
+                .step(index, call, self.caps, &mut self.held_by_all);
+            let Some(reply) = stepped else {
                 return Err(PoolError::NoTenant);
             };
-            let Some(reply) = self.tenants.step(index, call, &mut tenant) else {
-                return Err(PoolError::NoTenant);
-            };
-            replace_amounts(&mut self.held_by_all, tenant.held_by_all());
             Ok(reply)
         }
 
@@ -483,26 +478,6 @@ mod pool {
         fn held(&self, index: usize) -> Option<Amounts> {
             Some(self.tenants.get(index)?.held)
         }
-
-        /// The limiter under which a tenant's machine runs.
-        ///
-        /// # Contract
-        ///
-        /// ```text
-        /// ensures: result
-        ///     ≡ option_map (tenant_at self.now index) (machine_of self.now index)
-        /// ```
-        ///
-        /// Definitions: [`tenant_at`](crate::specs::budget::PoolSpecs#tenant_at), [`machine_of`](crate::specs::budget::PoolSpecs#machine_of).
-        #[inline(always)]
-        fn tenant(&self, index: usize) -> Option<Tenant> {
-            let held = self.held(index)?;
-            let others = Amounts {
-                bytes: self.held_by_all.bytes - held.bytes,
-                elements: self.held_by_all.elements - held.elements,
-            };
-            Some(Tenant::new(self.caps, others, held))
-        }
     }
 }
 mod tenant {
@@ -525,21 +500,25 @@ mod tenant {
     }
 
     impl Tenant {
-        /// A tenant that has these holdings, beside the others', under the caps.
+        /// A tenant that holds so much of what all tenants hold, under the caps.
         ///
         /// # Contract
         ///
         /// ```text
-        /// ensures: result ≡ record
-        ///     { caps = caps; others = others; holdings = record { held = held; last = None } }
+        /// requires bytes: held.bytes ≤ all.bytes
+        /// requires elements: held.elements ≤ all.elements
+        /// ensures value: result ≡ tenant_of caps all held
         /// ```
         ///
-        /// Definitions: [`holdings`](crate::specs::budget::PoolSpecs#holdings).
+        /// Definitions: [`tenant_of`](crate::specs::budget::PoolSpecs#tenant_of).
         #[inline]
-        pub(crate) fn new(caps: Amounts, others: Amounts, held: Amounts) -> Self {
+        fn new(caps: Amounts, all: Amounts, held: Amounts) -> Self {
             Tenant {
                 caps,
-                others,
+                others: Amounts {
+                    bytes: all.bytes - held.bytes,
+                    elements: all.elements - held.elements,
+                },
                 holdings: Holdings::new(held),
             }
         }
@@ -555,11 +534,34 @@ mod tenant {
         ///
         /// Definitions: [`held_together`](crate::specs::meter::CappedSpecs#held_together), [`capped_tenant`](crate::specs::budget::PoolSpecs#capped_tenant), [`amounts_of`](crate::specs::meter::CappedSpecs#amounts_of).
         #[inline]
-        pub(crate) fn held_by_all(&self) -> Amounts {
+        fn held_by_all(&self) -> Amounts {
             let held = self.holdings.held();
             Amounts {
                 bytes: self.others.bytes + held.bytes,
                 elements: self.others.elements + held.elements,
+            }
+        }
+
+        /// Leaves what it holds, and what all tenants hold, in the place of what it held and what all
+        /// held before. Nothing is written where it holds as much, as it does after most calls: it
+        /// takes longer to read both amounts at once after each was written by itself.
+        ///
+        /// # Contract
+        ///
+        /// ```text
+        /// requires fits: (kind : Kind) → held_together capped_tenant self.now kind < 2 ^ 64
+        /// requires before: all.old ≡ amounts_of (held_before self.now held.old)
+        /// ensures held: held.new ≡ (holdings self.now).held
+        /// ensures all: all.new ≡ amounts_of (held_together capped_tenant self.now)
+        /// ```
+        ///
+        /// Definitions: [`held_together`](crate::specs::meter::CappedSpecs#held_together), [`capped_tenant`](crate::specs::budget::PoolSpecs#capped_tenant), [`amounts_of`](crate::specs::meter::CappedSpecs#amounts_of), [`held_before`](crate::specs::budget::PoolSpecs#held_before), [`holdings`](crate::specs::budget::PoolSpecs#holdings).
+        #[inline(always)]
+        fn leave(&self, held: &mut Amounts, all: &mut Amounts) {
+            let now = self.holdings.held();
+            if held.bytes != now.bytes || held.elements != now.elements {
+                *held = now;
+                *all = self.held_by_all();
             }
         }
     }
@@ -608,47 +610,50 @@ mod tenant {
     }
 
     impl<'r> CountedMachine<'r> {
-        /// Executes calls under a tenant that holds what the machine has: it does so again
-        /// afterwards, and what it holds is taken over from it.
+        /// Executes calls under its limiter in a pool with these caps, whose tenants hold `all`, which
+        /// becomes what they hold afterwards.
         ///
         /// # Contract
         ///
         /// ```text
-        /// requires totals: HoldsTotals (holdings tenant.old) self.old
-        /// ensures run: IfOk result (λ replies. IsRunOf (optional_rules tenant_rules) calls.now
-        ///     (world self.old (Some tenant.old)) replies.items (world self.new (Some tenant.new)))
-        /// ensures err: OnErr result ((self.new ≡ self.old) × (tenant.new ≡ tenant.old))
-        /// ensures held: HoldsTotals (holdings tenant.new) self.new
+        /// requires part: IsPart caps all.old self.old
+        /// ensures run: IfOk result (λ replies. RunsAsPart caps all.old self.old calls.now
+        ///     replies.items self.new all.new)
+        /// ensures err: OnErr result ((self.new ≡ self.old) × (all.new ≡ all.old))
         /// ```
         ///
-        /// Definitions: [`HoldsTotals`](crate::specs::machine::StateSpecs#HoldsTotals), [`holdings`](crate::specs::budget::PoolSpecs#holdings), [`IsRunOf`](crate::specs::machine::StepsSpecs#IsRunOf), [`optional_rules`](crate::specs::meter::LimiterSpecs#optional_rules), [`tenant_rules`](crate::specs::budget::PoolSpecs#tenant_rules), [`world`](crate::specs::machine::StateSpecs#world).
+        /// Definitions: [`IsPart`](crate::specs::budget::PoolSpecs#IsPart), [`RunsAsPart`](crate::specs::budget::PoolSpecs#RunsAsPart).
         #[inline]
         pub(crate) fn run(
             &mut self,
             calls: &[Call],
-            tenant: &mut Tenant,
+            caps: Amounts,
+            all: &mut Amounts,
         ) -> Result<Vec<Reply>, AllocError> {
-            let replies = run_reserving(&mut self.machine, calls, tenant)?;
-            self.held = tenant.holdings.held();
+            let mut tenant = Tenant::new(caps, *all, self.held);
+            let replies = run_reserving(&mut self.machine, calls, &mut tenant)?;
+            tenant.leave(&mut self.held, all);
             Ok(replies)
         }
 
-        /// Executes one call, as `run` executes each of a list. It takes no memory for the reply.
+        /// Executes one call, as `run` executes a list of it alone. It takes no memory for the reply.
         ///
         /// # Contract
         ///
         /// ```text
-        /// requires totals: HoldsTotals (holdings tenant.old) self.old
-        /// ensures run: IsRunOf (optional_rules tenant_rules) (call.now ∷ [])
-        ///     (world self.old (Some tenant.old)) (result ∷ []) (world self.new (Some tenant.new))
-        /// ensures held: HoldsTotals (holdings tenant.new) self.new
+        /// requires part: IsPart caps all.old self.old
+        /// ensures run: RunsAsPart caps all.old self.old (call.now ∷ []) (result ∷ []) self.new
+        ///     all.new
         /// ```
         ///
-        /// Definitions: [`HoldsTotals`](crate::specs::machine::StateSpecs#HoldsTotals), [`holdings`](crate::specs::budget::PoolSpecs#holdings), [`IsRunOf`](crate::specs::machine::StepsSpecs#IsRunOf), [`optional_rules`](crate::specs::meter::LimiterSpecs#optional_rules), [`tenant_rules`](crate::specs::budget::PoolSpecs#tenant_rules), [`world`](crate::specs::machine::StateSpecs#world).
+        /// Definitions: [`IsPart`](crate::specs::budget::PoolSpecs#IsPart), [`RunsAsPart`](crate::specs::budget::PoolSpecs#RunsAsPart).
         #[inline(always)]
-        pub(crate) fn step(&mut self, call: &Call, tenant: &mut Tenant) -> Reply {
-            let reply = step_holding(&mut self.machine, call, tenant);
-            replace_amounts(&mut self.held, tenant.holdings.held());
+        pub(crate) fn step(&mut self, call: &Call, caps: Amounts, all: &mut Amounts) -> Reply {
+            let mut tenant = Tenant::new(caps, *all, self.held);
+            let reply = step_lending(&mut self.machine, call, &mut tenant);
+            if !is_refused_growth(&reply) {
+                tenant.leave(&mut self.held, all);
+            }
             reply
         }
 
@@ -668,35 +673,32 @@ mod tenant {
         }
     }
 
-    /// Puts other amounts in the place of some. Nothing is written where they are the same, as they are
-    /// after most calls: it takes longer to read both at once after each was written by itself.
+    /// Whether a reply is an error of a memory or a table, after which a machine has what it had.
     ///
     /// # Contract
     ///
     /// ```text
-    /// ensures: place.new ≡ amounts
+    /// ensures: IsTrue result → IsRefusal reply.now
     /// ```
+    ///
+    /// Definitions: [`IsRefusal`](crate::specs::machine::StateSpecs#IsRefusal).
     #[inline(always)]
-    pub(crate) fn replace_amounts(place: &mut Amounts, amounts: Amounts) {
-        if place.bytes != amounts.bytes || place.elements != amounts.elements {
-            *place = amounts;
-        }
+    fn is_refused_growth(reply: &Reply) -> bool {
+        matches!(reply, Reply::Memory(_) | Reply::Table(_))
     }
 
-    /// Executes one call under a tenant that holds what the machine has, and does so again afterwards.
+    /// Executes one call under a limiter that is known again afterwards.
     ///
     /// # Contract
     ///
     /// ```text
-    /// requires totals: HoldsTotals (holdings tenant.old) machine.old
-    /// ensures run: IsRunOf (optional_rules tenant_rules) (call.now ∷ [])
-    ///     (world machine.old (Some tenant.old)) (result ∷ []) (world machine.new (Some tenant.new))
-    /// ensures held: HoldsTotals (holdings tenant.new) machine.new
+    /// ensures: RepliesWith (optional_rules tenant_rules) call.now
+    ///     (world machine.old (Some tenant.old)) result (world machine.new (Some tenant.new))
     /// ```
     ///
-    /// Definitions: [`HoldsTotals`](crate::specs::machine::StateSpecs#HoldsTotals), [`holdings`](crate::specs::budget::PoolSpecs#holdings), [`IsRunOf`](crate::specs::machine::StepsSpecs#IsRunOf), [`optional_rules`](crate::specs::meter::LimiterSpecs#optional_rules), [`tenant_rules`](crate::specs::budget::PoolSpecs#tenant_rules), [`world`](crate::specs::machine::StateSpecs#world).
+    /// Definitions: [`RepliesWith`](crate::specs::machine::StepsSpecs#RepliesWith), [`optional_rules`](crate::specs::meter::LimiterSpecs#optional_rules), [`tenant_rules`](crate::specs::budget::PoolSpecs#tenant_rules), [`world`](crate::specs::machine::StateSpecs#world).
     #[inline(always)]
-    fn step_holding(machine: &mut Machine, call: &Call, tenant: &mut Tenant) -> Reply {
+    fn step_lending(machine: &mut Machine, call: &Call, tenant: &mut Tenant) -> Reply {
         // By itself, so that a growth by plain arguments is no `Call` in memory.
         if let Call::GrowMemory { memory, pages } = call {
             return machine.grow_memory_lending(*memory, *pages, tenant);
@@ -735,8 +737,9 @@ mod tenants {
     //! The machines of a pool at their indices.
 
     use crate::proved::budget::error::PoolError;
-    use crate::proved::budget::tenant::{CountedMachine, Tenant};
+    use crate::proved::budget::tenant::CountedMachine;
     use crate::proved::machine::{Call, Reply};
+    use crate::proved::meter::Amounts;
     use crate::rattle::Vec;
 
     /// The place of an index among rising ones, if it is one of them. It is found without a search
@@ -865,62 +868,63 @@ mod tenants {
             Some(self.machines.remove(place))
         }
 
-        /// Executes calls on the machine at an index, under a tenant that holds what the machine has.
+        /// Executes calls on the machine at an index, under its limiter in a pool with these caps, whose
+        /// tenants hold `all`, which becomes what they hold afterwards.
         ///
         /// # Contract
         ///
         /// ```text
-        /// requires totals: (s : State) → slice_index_or self.old index None ≡ Some s
-        ///     → HoldsTotals (holdings tenant.old) s
-        /// ensures ran: IfOk result
-        ///     (λ replies. RunsMachine self.old index tenant.old calls.now replies.items self.new
-        ///     tenant.new)
+        /// requires kept: IsKept (pool_of caps self.old) all.old
+        /// ensures ran: IfOk result (λ replies. RunsTenant (pool_of caps self.old) index calls.now
+        ///     replies.items (pool_of caps self.new))
         /// ensures no_tenant: IsErrOf result PoolError.NoTenant
         ///     ↔ (slice_index_or self.old index None ≡ None)
-        /// ensures refused: OnErr result ((self.new ≡ self.old) × (tenant.new ≡ tenant.old))
+        /// ensures refused: OnErr result (self.new ≡ self.old)
+        /// ensures kept: IsKept (pool_of caps self.new) all.new
         /// ```
         ///
-        /// Definitions: [`State`](crate::specs::machine::StateSpecs#State), [`HoldsTotals`](crate::specs::machine::StateSpecs#HoldsTotals), [`holdings`](crate::specs::budget::PoolSpecs#holdings), [`RunsMachine`](crate::specs::budget::PoolSpecs#RunsMachine).
+        /// Definitions: [`IsKept`](crate::specs::budget::PoolSpecs#IsKept), [`pool_of`](crate::specs::budget::PoolSpecs#pool_of), [`RunsTenant`](crate::specs::budget::PoolSpecs#RunsTenant).
         #[inline]
         pub(crate) fn run(
             &mut self,
             index: usize,
             calls: &[Call],
-            tenant: &mut Tenant,
+            caps: Amounts,
+            all: &mut Amounts,
         ) -> Result<Vec<Reply>, PoolError> {
             let Some(place) = place_of(&self.indices, index) else {
                 return Err(PoolError::NoTenant);
             };
             let machine = &mut self.machines[place];
-            let replies = machine.run(calls, tenant)?;
+            let replies = machine.run(calls, caps, all)?;
             Ok(replies)
         }
 
-        /// Executes one call on the machine at an index, if there is one, under a tenant that holds
-        /// what the machine has.
+        /// Executes one call on the machine at an index, if there is one, as `run` executes a list of
+        /// it alone.
         ///
         /// # Contract
         ///
         /// ```text
-        /// requires totals: (s : State) → slice_index_or self.old index None ≡ Some s
-        ///     → HoldsTotals (holdings tenant.old) s
+        /// requires kept: IsKept (pool_of caps self.old) all.old
         /// ensures stepped: MatchOption result
-        ///     ((slice_index_or self.old index None ≡ None) × (self.new ≡ self.old)
-        ///     × (tenant.new ≡ tenant.old))
-        ///     (λ reply. RunsMachine self.old index tenant.old (call.now ∷ []) (reply ∷ []) self.new
-        ///     tenant.new)
+        ///     ((slice_index_or self.old index None ≡ None) × (self.new ≡ self.old))
+        ///     (λ reply. RunsTenant (pool_of caps self.old) index (call.now ∷ []) (reply ∷ [])
+        ///     (pool_of caps self.new))
+        /// ensures kept: IsKept (pool_of caps self.new) all.new
         /// ```
         ///
-        /// Definitions: [`State`](crate::specs::machine::StateSpecs#State), [`HoldsTotals`](crate::specs::machine::StateSpecs#HoldsTotals), [`holdings`](crate::specs::budget::PoolSpecs#holdings), [`RunsMachine`](crate::specs::budget::PoolSpecs#RunsMachine).
+        /// Definitions: [`IsKept`](crate::specs::budget::PoolSpecs#IsKept), [`pool_of`](crate::specs::budget::PoolSpecs#pool_of), [`RunsTenant`](crate::specs::budget::PoolSpecs#RunsTenant).
         #[inline(always)]
         pub(crate) fn step(
             &mut self,
             index: usize,
             call: &Call,
-            tenant: &mut Tenant,
+            caps: Amounts,
+            all: &mut Amounts,
         ) -> Option<Reply> {
             let place = place_of(&self.indices, index)?;
-            Some(self.machines[place].step(call, tenant))
+            Some(self.machines[place].step(call, caps, all))
         }
 
         /// Executes one call that asks no limiter on the machine at an index, if there is one.

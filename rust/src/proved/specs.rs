@@ -5672,10 +5672,10 @@ abbrev pub <b id="RemovedStayRemoved">RemovedStayRemoved</b> : Type 0
     #[doc = r####"A pool of tenants: a tenant's rules, what the machines hold together, what a run of one of them does, and what its errors print.
 
 <pre><code>use Rattle.wasmi_meter.specs.declared.holdings.Holdings.{Holdings}
-use Rattle.wasmi_meter.specs.Capped.{<a href="../../meter/CappedSpecs/index.html#amount_of">amount_of</a>, <a href="../../meter/CappedSpecs/index.html#nothing">nothing</a>, <a href="../../meter/CappedSpecs/index.html#amounts_of">amounts_of</a>, <a href="../../meter/CappedSpecs/index.html#Capped">Capped</a>, <a href="../../meter/CappedSpecs/index.html#capped_rules">capped_rules</a>}
+use Rattle.wasmi_meter.specs.Capped.{<a href="../../meter/CappedSpecs/index.html#amount_of">amount_of</a>, <a href="../../meter/CappedSpecs/index.html#nothing">nothing</a>, <a href="../../meter/CappedSpecs/index.html#amounts_of">amounts_of</a>, <a href="../../meter/CappedSpecs/index.html#Capped">Capped</a>, <a href="../../meter/CappedSpecs/index.html#capped_rules">capped_rules</a>, <a href="../../meter/CappedSpecs/index.html#held_together">held_together</a>}
 use Rattle.wasmi_meter.specs.Limiter.{<a href="../../meter/LimiterSpecs/index.html#Rules">Rules</a>, <a href="../../meter/LimiterSpecs/index.html#optional_rules">optional_rules</a>}
 use Rattle.wasmi_budget.specs.declared.tenant.Tenant.{Tenant}
-use Rattle.std.specs.Prelude.{◌≡◌, ◌≤◌, ◌&lt;◌, ◌^◌, ◌++◌, ⊤, ℕ, List, [], ◌∷◌, Option, Some, None, slice_index_or, slice_set, sum_by, remove, codes}
+use Rattle.std.specs.Prelude.{◌≡◌, ◌≤◌, ◌&lt;◌, ◌+◌, ◌-◌, ◌^◌, ◌++◌, ⊤, ℕ, List, [], ◌∷◌, Option, Some, None, slice_index_or, slice_set, sum_by, remove, codes}
 use Rattle.wasmi_meter.specs.declared.limiter.Kind.{Kind}
 use Rattle.wasmi_meter.specs.declared.limiter.Kind.TheVariants.{Bytes, Elements}
 use Rattle.wasmi_meter.specs.declared.amounts.Amounts.{Amounts}
@@ -5728,15 +5728,19 @@ abbrev pub <b id="total_at">total_at</b> : Option <a href="../../machine/StateSp
 abbrev pub <b id="total_of">total_of</b> : List (Option <a href="../../machine/StateSpecs/index.html#State">State</a>) → Kind → ℕ
 <a href="../../budget/PoolSpecs/index.html#total_of">total_of</a> <a href="../../budget/PoolSpecs/index.html#machines">machines</a> kind = sum_by (λ s. <a href="../../budget/PoolSpecs/index.html#total_at">total_at</a> s kind) <a href="../../budget/PoolSpecs/index.html#machines">machines</a>
 
+-- a pool with these caps and machines
+abbrev pub <b id="pool_of">pool_of</b> : Amounts → List (Option <a href="../../machine/StateSpecs/index.html#State">State</a>) → <a href="../../budget/PoolSpecs/index.html#PoolValue">PoolValue</a>
+<a href="../../budget/PoolSpecs/index.html#pool_of">pool_of</a> <a href="../../budget/PoolSpecs/index.html#caps">caps</a> <a href="../../budget/PoolSpecs/index.html#machines">machines</a> = record { <a href="../../budget/PoolSpecs/index.html#caps">caps</a> = <a href="../../budget/PoolSpecs/index.html#caps">caps</a>; <a href="../../budget/PoolSpecs/index.html#machines">machines</a> = <a href="../../budget/PoolSpecs/index.html#machines">machines</a> }
+
 -- all machines together are within the caps
 abbrev pub <b id="IsWithinCaps">IsWithinCaps</b> : <a href="../../budget/PoolSpecs/index.html#PoolValue">PoolValue</a> → Type 0
 <a href="../../budget/PoolSpecs/index.html#IsWithinCaps">IsWithinCaps</a> pool = (kind : Kind) → <a href="../../budget/PoolSpecs/index.html#total_of">total_of</a> pool.machines kind ≤ <a href="../../meter/CappedSpecs/index.html#amount_of">amount_of</a> pool.caps kind
 
 -- all machines together are within the caps, which are numbers of 64 bits, and have these amounts
-pub record <b id="IsKept">IsKept</b> (pool : <a href="../../budget/PoolSpecs/index.html#PoolValue">PoolValue</a>) (<a href="../../budget/PoolSpecs/index.html#held">held</a> : Amounts) : Type 0 where
+pub record <b id="IsKept">IsKept</b> (pool : <a href="../../budget/PoolSpecs/index.html#PoolValue">PoolValue</a>) (held : Amounts) : Type 0 where
   pub <b id="within">within</b> : <a href="../../budget/PoolSpecs/index.html#IsWithinCaps">IsWithinCaps</a> pool
   pub <b id="fits">fits</b> : (kind : Kind) → <a href="../../meter/CappedSpecs/index.html#amount_of">amount_of</a> pool.caps kind &lt; 2 ^ 64
-  pub <b id="counted">counted</b> : <a href="../../budget/PoolSpecs/index.html#held">held</a> ≡ <a href="../../meter/CappedSpecs/index.html#amounts_of">amounts_of</a> (<a href="../../budget/PoolSpecs/index.html#total_of">total_of</a> pool.machines)
+  pub <b id="counted">counted</b> : held ≡ <a href="../../meter/CappedSpecs/index.html#amounts_of">amounts_of</a> (<a href="../../budget/PoolSpecs/index.html#total_of">total_of</a> pool.machines)
 
 -- the limiter of the machine s of an index: it holds what the machine has, beside what the others have
 abbrev pub <b id="tenant_at">tenant_at</b> : <a href="../../budget/PoolSpecs/index.html#PoolValue">PoolValue</a> → ℕ → <a href="../../machine/StateSpecs/index.html#State">State</a> → Tenant
@@ -5744,7 +5748,7 @@ abbrev pub <b id="tenant_at">tenant_at</b> : <a href="../../budget/PoolSpecs/ind
     record {
       <a href="../../budget/PoolSpecs/index.html#caps">caps</a> = pool.caps;
       others = <a href="../../meter/CappedSpecs/index.html#amounts_of">amounts_of</a> (<a href="../../budget/PoolSpecs/index.html#total_of">total_of</a> (remove pool.machines index));
-      <a href="../../budget/PoolSpecs/index.html#holdings">holdings</a> = record { <a href="../../budget/PoolSpecs/index.html#held">held</a> = <a href="../../meter/CappedSpecs/index.html#amounts_of">amounts_of</a> (<a href="../../machine/StateSpecs/index.html#total">total</a> s); last = None };
+      <a href="../../budget/PoolSpecs/index.html#holdings">holdings</a> = record { held = <a href="../../meter/CappedSpecs/index.html#amounts_of">amounts_of</a> (<a href="../../machine/StateSpecs/index.html#total">total</a> s); last = None };
     }
 
 -- the machine has no bytes and no elements, and dropped none
@@ -5777,16 +5781,32 @@ pub record <b id="RunsTenantBy">RunsTenantBy</b> (rules : <a href="../../meter/L
 abbrev pub <b id="RunsTenant">RunsTenant</b> : <a href="../../budget/PoolSpecs/index.html#PoolValue">PoolValue</a> → ℕ → List Call → List Reply → <a href="../../budget/PoolSpecs/index.html#PoolValue">PoolValue</a> → Type 0
 <a href="../../budget/PoolSpecs/index.html#RunsTenant">RunsTenant</a> = <a href="../../budget/PoolSpecs/index.html#RunsTenantBy">RunsTenantBy</a> (<a href="../../meter/LimiterSpecs/index.html#optional_rules">optional_rules</a> <a href="../../budget/PoolSpecs/index.html#tenant_rules">tenant_rules</a>)
 
--- the machine at an index has run these calls under a tenant, which holds what it has then, and all others are the same
-pub record <b id="RunsMachine">RunsMachine</b> (<a href="../../budget/PoolSpecs/index.html#machines">machines</a> : List (Option <a href="../../machine/StateSpecs/index.html#State">State</a>)) (index : ℕ) (tenant : Tenant) (calls : List Call)
-    (replies : List Reply) (machines&#x27; : List (Option <a href="../../machine/StateSpecs/index.html#State">State</a>)) (<a href="../../budget/PoolSpecs/index.html#tenant%27">tenant&#x27;</a> : Tenant) : Type 0 where
-  pub <b id="machine">machine</b> : <a href="../../machine/StateSpecs/index.html#State">State</a>
-  pub <b id="found">found</b> : slice_index_or <a href="../../budget/PoolSpecs/index.html#machines">machines</a> index None ≡ Some <a href="../../budget/PoolSpecs/index.html#machine">machine</a>
-  pub <b id="machine&#x27;">machine&#x27;</b> : <a href="../../machine/StateSpecs/index.html#State">State</a>
-  pub <b id="ran">ran</b> : <a href="../../machine/StepsSpecs/index.html#IsRunOf">IsRunOf</a> (<a href="../../meter/LimiterSpecs/index.html#optional_rules">optional_rules</a> <a href="../../budget/PoolSpecs/index.html#tenant_rules">tenant_rules</a>) calls (<a href="../../machine/StateSpecs/index.html#world">world</a> <a href="../../budget/PoolSpecs/index.html#machine">machine</a> (Some tenant)) replies
-      (<a href="../../machine/StateSpecs/index.html#world">world</a> <a href="../../budget/PoolSpecs/index.html#machine%27">machine&#x27;</a> (Some <a href="../../budget/PoolSpecs/index.html#tenant%27">tenant&#x27;</a>))
-  pub <b id="after">after</b> : machines&#x27; ≡ slice_set <a href="../../budget/PoolSpecs/index.html#machines">machines</a> index (Some <a href="../../budget/PoolSpecs/index.html#machine%27">machine&#x27;</a>)
-  pub <b id="held">held</b> : <a href="../../machine/StateSpecs/index.html#HoldsTotals">HoldsTotals</a> (<a href="../../budget/PoolSpecs/index.html#holdings">holdings</a> <a href="../../budget/PoolSpecs/index.html#tenant%27">tenant&#x27;</a>) <a href="../../budget/PoolSpecs/index.html#machine%27">machine&#x27;</a>
+-- the tenant that holds so much of what all hold, under the caps
+abbrev pub <b id="tenant_of">tenant_of</b> : Amounts → Amounts → Amounts → Tenant
+<a href="../../budget/PoolSpecs/index.html#tenant_of">tenant_of</a> <a href="../../budget/PoolSpecs/index.html#caps">caps</a> all held = record {
+  <a href="../../budget/PoolSpecs/index.html#caps">caps</a> = <a href="../../budget/PoolSpecs/index.html#caps">caps</a>;
+  others = record { <a href="../../budget/PoolSpecs/index.html#bytes">bytes</a> = all.bytes - held.bytes; <a href="../../budget/PoolSpecs/index.html#elements">elements</a> = all.elements - held.elements };
+  <a href="../../budget/PoolSpecs/index.html#holdings">holdings</a> = record { held = held; last = None };
+}
+
+-- what all hold of a kind where a tenant holds so much
+abbrev pub <b id="held_before">held_before</b> : Tenant → Amounts → Kind → ℕ
+<a href="../../budget/PoolSpecs/index.html#held_before">held_before</a> tenant held kind = <a href="../../meter/CappedSpecs/index.html#amount_of">amount_of</a> tenant.others kind + <a href="../../meter/CappedSpecs/index.html#amount_of">amount_of</a> held kind
+
+-- what a machine has is a part of what all hold, which is within the caps, numbers of 64 bits
+pub record <b id="IsPart">IsPart</b> (<a href="../../budget/PoolSpecs/index.html#caps">caps</a> all : Amounts) (s : <a href="../../machine/StateSpecs/index.html#State">State</a>) : Type 0 where
+  pub <b id="within">within</b> : (kind : Kind) → <a href="../../meter/CappedSpecs/index.html#amount_of">amount_of</a> all kind ≤ <a href="../../meter/CappedSpecs/index.html#amount_of">amount_of</a> <a href="../../budget/PoolSpecs/index.html#caps">caps</a> kind
+  pub <b id="fits">fits</b> : (kind : Kind) → <a href="../../meter/CappedSpecs/index.html#amount_of">amount_of</a> <a href="../../budget/PoolSpecs/index.html#caps">caps</a> kind &lt; 2 ^ 64
+  pub <b id="counted">counted</b> : (kind : Kind) → <a href="../../machine/StateSpecs/index.html#total">total</a> s kind ≤ <a href="../../meter/CappedSpecs/index.html#amount_of">amount_of</a> all kind
+
+-- a machine has run these calls under the tenant that it has where all hold so much, and they hold so much then
+pub record <b id="RunsAsPart">RunsAsPart</b> (<a href="../../budget/PoolSpecs/index.html#caps">caps</a> all : Amounts) (s : <a href="../../machine/StateSpecs/index.html#State">State</a>) (calls : List Call) (replies : List Reply) (s&#x27; : <a href="../../machine/StateSpecs/index.html#State">State</a>)
+    (all&#x27; : Amounts) : Type 0 where
+  pub <b id="tenant&#x27;">tenant&#x27;</b> : Tenant
+  pub <b id="ran">ran</b> : <a href="../../machine/StepsSpecs/index.html#IsRunOf">IsRunOf</a> (<a href="../../meter/LimiterSpecs/index.html#optional_rules">optional_rules</a> <a href="../../budget/PoolSpecs/index.html#tenant_rules">tenant_rules</a>) calls
+      (<a href="../../machine/StateSpecs/index.html#world">world</a> s (Some (<a href="../../budget/PoolSpecs/index.html#tenant_of">tenant_of</a> <a href="../../budget/PoolSpecs/index.html#caps">caps</a> all (<a href="../../meter/CappedSpecs/index.html#amounts_of">amounts_of</a> (<a href="../../machine/StateSpecs/index.html#total">total</a> s))))) replies (<a href="../../machine/StateSpecs/index.html#world">world</a> s&#x27; (Some <a href="../../budget/PoolSpecs/index.html#tenant%27">tenant&#x27;</a>))
+  pub <b id="holds">holds</b> : <a href="../../machine/StateSpecs/index.html#HoldsTotals">HoldsTotals</a> (<a href="../../budget/PoolSpecs/index.html#holdings">holdings</a> <a href="../../budget/PoolSpecs/index.html#tenant%27">tenant&#x27;</a>) s&#x27;
+  pub <b id="together">together</b> : all&#x27; ≡ <a href="../../meter/CappedSpecs/index.html#amounts_of">amounts_of</a> (<a href="../../meter/CappedSpecs/index.html#held_together">held_together</a> <a href="../../budget/PoolSpecs/index.html#capped_tenant">capped_tenant</a> <a href="../../budget/PoolSpecs/index.html#tenant%27">tenant&#x27;</a>)
 
 -- a call is a store of an item, an instruction on two vectors, a write over a range of a memory or a setting of the
 -- fuel, which asks no limiter
