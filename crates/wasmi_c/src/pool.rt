@@ -666,7 +666,9 @@ fn size_reply(machine: &Machine, memory: usize) -> Reply
     }
 }
 
-/// What is left of a machine's fuel once an amount is taken; or why so much isn't.
+/// What is left of a machine's fuel once an amount is taken; or why so much isn't. It is inlined
+/// before LLVM makes one number of both results, for which each call would wait.
+#[inline(always)]
 fn left_after(machine: &Machine, amount: u64) -> Result<u64, FuelError>
     ensures { MatchOption machine.now.meter.left (result ≡ Err FuelMeteringDisabled)
         (λ left. (amount ≤ left → result ≡ Ok (left - amount))

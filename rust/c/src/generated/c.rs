@@ -4865,7 +4865,8 @@ pub mod pool {
         }
     }
 
-    /// What is left of a machine's fuel once an amount is taken; or why so much isn't.
+    /// What is left of a machine's fuel once an amount is taken; or why so much isn't. It is inlined
+    /// before LLVM makes one number of both results, for which each call would wait.
     ///
     /// # Contract
     ///
@@ -4874,7 +4875,7 @@ pub mod pool {
     ///     (λ left. (amount ≤ left → result ≡ Ok (left - amount))
     ///     × (left < amount → result ≡ Err (OutOfFuel amount)))
     /// ```
-    #[inline]
+    #[inline(always)]
     fn left_after(machine: &Machine, amount: u64) -> Result<u64, FuelError> {
         let left = machine.fuel().get_fuel()?;
         match left.checked_sub(amount) {
