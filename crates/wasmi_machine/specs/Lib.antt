@@ -1,3 +1,4 @@
+pub mod ReservedList
 pub mod State
 pub mod Effects
 pub mod MemoryEffects
