@@ -1598,6 +1598,149 @@ mod registers {
         }
     }
 }
+mod replies {
+    //! Memory for replies that is kept from run to run.
+
+    use crate::proved::machine::calls::Reply;
+    use crate::rattle::Vec;
+    use crate::rattle::alloc::AllocError;
+    use core::fmt;
+
+    /// The replies of a run, in memory that is kept for those of the next one: `run_into` puts them
+    /// there, and takes no memory for them.
+    ///
+    /// # Model
+    ///
+    /// ```text
+    /// Value = RepliesValue
+    /// view = λ r. record {
+    ///     items = r.replies.items;
+    ///     capacity = vec_capacity r.replies;
+    ///     }
+    /// ```
+    ///
+    /// Definitions: [`RepliesValue`](crate::specs::machine::RepliesSpecs#RepliesValue).
+    #[derive(Debug)]
+    pub struct Replies {
+        replies: Vec<Reply>,
+    }
+
+    impl Replies {
+        /// No reply yet, with memory for so many.
+        ///
+        /// # Errors
+        ///
+        /// `AllocError` if memory for so many is refused.
+        ///
+        /// # Contract
+        ///
+        /// ```text
+        /// ensures: IfOk result (λ made. made ≡ record { items = []; capacity = capacity })
+        /// ```
+        #[inline]
+        pub fn with_capacity(capacity: usize) -> Result<Self, AllocError> {
+            let replies = Vec::with_capacity(capacity)?;
+            Ok(Replies { replies })
+        }
+
+        /// The replies, in the order of the calls.
+        ///
+        /// # Contract
+        ///
+        /// ```text
+        /// ensures: result.now ≡ self.now.items
+        /// ```
+        #[must_use]
+        #[inline]
+        pub fn as_slice(&self) -> &[Reply] {
+            self.replies.as_slice()
+        }
+
+        /// How many replies there are.
+        ///
+        /// # Contract
+        ///
+        /// ```text
+        /// ensures: result ≡ length self.now.items
+        /// ```
+        #[must_use]
+        #[inline]
+        pub fn len(&self) -> usize {
+            self.replies.len()
+        }
+
+        /// Whether there is no reply.
+        ///
+        /// # Contract
+        ///
+        /// ```text
+        /// ensures: result ≡ (length self.now.items == 0)
+        /// ```
+        #[must_use]
+        #[inline]
+        pub fn is_empty(&self) -> bool {
+            self.replies.is_empty()
+        }
+
+        /// For how many replies there is memory, those that are there included.
+        ///
+        /// # Contract
+        ///
+        /// ```text
+        /// ensures: result ≡ self.now.capacity
+        /// ```
+        #[must_use]
+        #[inline]
+        pub fn capacity(&self) -> usize {
+            self.replies.capacity()
+        }
+
+        /// Drops all replies, and keeps the memory.
+        ///
+        /// # Contract
+        ///
+        /// ```text
+        /// ensures: self.new ≡ record self.old { items = [] }
+        /// ```
+        #[inline]
+        pub(crate) fn clear(&mut self) {
+            self.replies.clear();
+        }
+
+        /// Adds a reply, for which there is memory.
+        ///
+        /// # Contract
+        ///
+        /// ```text
+        /// requires room: length self.old.items < self.old.capacity
+        /// ensures added: self.new ≡ record self.old { items = self.old.items ++ reply ∷ [] }
+        /// ```
+        #[inline]
+        pub(crate) fn push(&mut self, reply: Reply) {
+            self.replies.push_reserved(reply);
+        }
+    }
+
+    /// Why `run_into` doesn't execute a list: it has more calls than there is memory for replies.
+    #[derive(Clone, Copy, Debug, PartialEq, Eq)]
+    pub struct TooManyCalls;
+
+    /// # Contract
+    ///
+    /// ```text
+    /// output = λ error. Some too_many_calls_text
+    /// ```
+    ///
+    /// Definitions: [`too_many_calls_text`](crate::specs::machine::RepliesSpecs#too_many_calls_text).
+    impl fmt::Display for TooManyCalls {
+        #[inline]
+        fn fmt(&self, f: &mut fmt::Formatter<'_>) -> fmt::Result {
+            f.write_str("more calls than there is memory for replies")
+        }
+    }
+
+    impl core::error::Error for TooManyCalls {}
+}
 mod reserved_list {
     //! Lists with memory for items that are still to be added.
 
@@ -1777,6 +1920,7 @@ mod running {
 
     use crate::proved::machine::calls::{Call, Reply};
     use crate::proved::machine::machine::Machine;
+    use crate::proved::machine::replies::{Replies, TooManyCalls};
     use crate::proved::meter::{Reserving, ResourceLimiter, ResourceLimiterRef};
     use crate::rattle::Vec;
     use crate::rattle::alloc::AllocError;
@@ -1964,6 +2108,86 @@ mod running {
             "what the limiter holds isn't the machine's totals"
         );
         run_lending(machine, calls, limiter)
+    }
+
+    /// Executes calls one after another, as `run`, but puts their replies into memory that is there, in
+    /// place of those that it has. It takes no memory for them.
+    ///
+    /// # Errors
+    ///
+    /// `TooManyCalls` if there are more calls than the capacity of `replies`; then nothing has
+    /// happened.
+    ///
+    /// # Contract
+    ///
+    /// ```text
+    /// ensures loan: KeepsLoan limiter.old limiter.new
+    /// ensures run: OnOk result (IsRunOf (optional_rules L.rules) calls.now
+    ///     (world machine.old (lent_limiter limiter.old)) replies.new.items
+    ///     (world machine.new (lent_limiter limiter.new)))
+    /// ensures accepted: IsOk result ↔ (length calls.now ≤ replies.old.capacity)
+    /// ensures err: OnErr result ((machine.new ≡ machine.old) × (limiter.new ≡ limiter.old)
+    ///     × (replies.new ≡ replies.old))
+    /// ensures capacity: replies.new.capacity ≡ replies.old.capacity
+    /// ensures valid: IsValid machine.new
+    /// ```
+    ///
+    /// Definitions: [`KeepsLoan`](crate::specs::meter::LimiterSpecs#KeepsLoan), [`IsRunOf`](crate::specs::machine::StepsSpecs#IsRunOf), [`optional_rules`](crate::specs::meter::LimiterSpecs#optional_rules), [`world`](crate::specs::machine::StateSpecs#world), [`lent_limiter`](crate::specs::meter::LimiterSpecs#lent_limiter), [`IsValid`](crate::specs::machine::StateSpecs#IsValid).
+    ///
+    /// `L` is the type of the limiter, a [`ResourceLimiter`](crate::machine::ResourceLimiter#contract).
+    #[inline]
+    pub fn run_into<L: ResourceLimiter>(
+        machine: &mut Machine,
+        calls: &[Call],
+        limiter: &mut ResourceLimiterRef<L>,
+        replies: &mut Replies,
+    ) -> Result<(), TooManyCalls> {
+        machine.tell_valid();
+        if replies.capacity() < calls.len() {
+            return Err(TooManyCalls);
+        }
+        replies.clear();
+        for call in calls {
+            let reply = machine.step(call, limiter);
+            replies.push(reply);
+        }
+        Ok(())
+    }
+
+    /// Executes calls, as `run_into`, but borrows the limiter for this run alone, so that its state
+    /// afterwards is known.
+    ///
+    /// # Errors
+    ///
+    /// That of `run_into`.
+    ///
+    /// # Contract
+    ///
+    /// ```text
+    /// ensures run: OnOk result (IsRunOf (optional_rules L.rules) calls.now
+    ///     (world machine.old (Some limiter.old)) replies.new.items
+    ///     (world machine.new (Some limiter.new)))
+    /// ensures accepted: IsOk result ↔ (length calls.now ≤ replies.old.capacity)
+    /// ensures err: OnErr result ((machine.new ≡ machine.old) × (limiter.new ≡ limiter.old)
+    ///     × (replies.new ≡ replies.old))
+    /// ensures capacity: replies.new.capacity ≡ replies.old.capacity
+    /// ensures valid: IsValid machine.new
+    /// ```
+    ///
+    /// Definitions: [`IsRunOf`](crate::specs::machine::StepsSpecs#IsRunOf), [`optional_rules`](crate::specs::meter::LimiterSpecs#optional_rules), [`world`](crate::specs::machine::StateSpecs#world), [`IsValid`](crate::specs::machine::StateSpecs#IsValid).
+    ///
+    /// `L` is the type of the limiter, a [`ResourceLimiter`](crate::machine::ResourceLimiter#contract).
+    #[inline]
+    pub fn run_into_lending<L: ResourceLimiter>(
+        machine: &mut Machine,
+        calls: &[Call],
+        limiter: &mut L,
+        replies: &mut Replies,
+    ) -> Result<(), TooManyCalls> {
+        let mut lent = ResourceLimiterRef::from(limiter);
+        let result = run_into(machine, calls, &mut lent, replies);
+        let _limiter = lent.into_limiter();
+        result
     }
 }
 mod slots {
@@ -3142,5 +3366,6 @@ mod values {
 pub use calls::{ByteList, Call, Reply};
 pub use data::DataSegment;
 pub use machine::Machine;
-pub use running::{run, run_lending, run_reserving};
+pub use replies::{Replies, TooManyCalls};
+pub use running::{run, run_into, run_into_lending, run_lending, run_reserving};
 pub use slots::SlotCounts;

@@ -4494,6 +4494,22 @@ abbrev pub <b id="StoresVectorAt">StoresVectorAt</b> : ℕ → ℕ → Option (L
 </code></pre>
 "####]
     pub mod RegisterEffectsSpecs {}
+    #[doc = r####"Replies in memory that is kept from run to run.
+
+<pre><code>use Rattle.std.specs.Prelude.{ℕ, List, codes}
+use Rattle.wasmi_machine.specs.declared.calls.Reply.{Reply}
+
+-- the replies, and for how many there is memory
+pub record <b id="RepliesValue">RepliesValue</b> : Type 0 where
+  pub <b id="items">items</b> : List Reply
+  pub <b id="capacity">capacity</b> : ℕ
+
+-- the text of why a list isn&#x27;t executed
+abbrev pub <b id="too_many_calls_text">too_many_calls_text</b> : List ℕ
+<a href="../../machine/RepliesSpecs/index.html#too_many_calls_text">too_many_calls_text</a> = codes "more calls than there is memory for replies"
+</code></pre>
+"####]
+    pub mod RepliesSpecs {}
     #[doc = r####"Lists with memory for items that are still to be added.
 
 <pre><code>use Rattle.std.specs.Prelude.{ℕ, List, length, slice_set}
