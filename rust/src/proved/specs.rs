@@ -5482,6 +5482,110 @@ module _ {S : Type 0} (rules : <a href="../../meter/LimiterSpecs/index.html#Rule
 </code></pre>
 "####]
     pub mod PlacesSpecs {}
+    #[doc = r####"Calls and runs that need no memory but what was reserved: none of their replies says out of memory.
+
+<pre><code>use Rattle.std.specs.Prelude.{◌≡◌, ◌&lt;◌, ◌≤◌, ◌+◌, ℕ, Bool, true, false, List, [], length, All, count_by}
+use Rattle.wasmi_store.specs.Buffer.{<a href="../../store/BufferSpecs/index.html#Room">Room</a>, <a href="../../store/BufferSpecs/index.html#Owned">Owned</a>, <a href="../../store/BufferSpecs/index.html#Lent">Lent</a>}
+use Rattle.wasmi_store.specs.Memory.{<a href="../../store/MemorySpecs/index.html#MemoryValue">MemoryValue</a>}
+use Rattle.wasmi_meter.specs.Limiter.{<a href="../../meter/LimiterSpecs/index.html#Rules">Rules</a>}
+use Rattle.wasmi_machine.specs.declared.calls.Call.{Call}
+use Rattle.wasmi_machine.specs.declared.calls.Call.TheVariants.{NewMemory, NewLentMemory, GrowMemory, Read, NewTable, GrowTable, NewSegment, NewData, NewGlobal}
+use Rattle.wasmi_machine.specs.declared.calls.Reply.{Reply}
+use Rattle.wasmi_machine.specs.declared.slots.Slot.{Slot}
+use Rattle.wasmi_machine.specs.State.{<a href="../../machine/StateSpecs/index.html#State">State</a>, <a href="../../machine/StateSpecs/index.html#live_at">live_at</a>, <a href="../../machine/StateSpecs/index.html#World">World</a>, <a href="../../machine/StateSpecs/index.html#Turn">Turn</a>}
+use Rattle.wasmi_machine.specs.Effects.{<a href="../../machine/EffectsSpecs/index.html#OnLive">OnLive</a>}
+use Rattle.wasmi_machine.specs.Determinism.{<a href="../../machine/DeterminismSpecs/index.html#IsNotOutOfMemory">IsNotOutOfMemory</a>}
+use Rattle.wasmi_machine.specs.Steps.{<a href="../../machine/StepsSpecs/index.html#Step">Step</a>, <a href="../../machine/StepsSpecs/index.html#IsRunOf">IsRunOf</a>}
+
+-- bytes grow in what is left of a lent region
+abbrev pub <b id="IsLentRoom">IsLentRoom</b> : <a href="../../store/BufferSpecs/index.html#Room">Room</a> → Type 0
+<a href="../../laws/ReservedSpecs/index.html#IsLentRoom">IsLentRoom</a> <a href="../../store/BufferSpecs/index.html#Owned">Owned</a> = ⊥
+<a href="../../laws/ReservedSpecs/index.html#IsLentRoom">IsLentRoom</a> (<a href="../../store/BufferSpecs/index.html#Lent">Lent</a> rest) = Unit {0}
+
+-- a memory lies in a lent region
+abbrev pub <b id="IsLent">IsLent</b> : <a href="../../store/MemorySpecs/index.html#MemoryValue">MemoryValue</a> → Type 0
+<a href="../../laws/ReservedSpecs/index.html#IsLent">IsLent</a> x = <a href="../../laws/ReservedSpecs/index.html#IsLentRoom">IsLentRoom</a> x.room
+
+-- an index names a memory in a lent region, if it names a live one
+abbrev pub <b id="IsInRegion">IsInRegion</b> : List (Slot <a href="../../store/MemorySpecs/index.html#MemoryValue">MemoryValue</a>) → ℕ → Type 0
+<a href="../../laws/ReservedSpecs/index.html#IsInRegion">IsInRegion</a> slots k = <a href="../../machine/EffectsSpecs/index.html#OnLive">OnLive</a> (<a href="../../machine/StateSpecs/index.html#live_at">live_at</a> slots k) (Unit {0}) <a href="../../laws/ReservedSpecs/index.html#IsLent">IsLent</a>
+
+-- memory for one more slot is there, since one that is reserved is free
+abbrev pub <b id="HasSlot">HasSlot</b> : {A : Type 0} → ℕ → List A → Type 0
+<a href="../../laws/ReservedSpecs/index.html#HasSlot">HasSlot</a> reserved list = length list &lt; reserved
+
+-- a call on a machine in this state needs no memory: what it makes has a slot that is reserved, and nothing else that
+-- isn&#x27;t in a lent region; the memory that it grows lies in one; no byte is read; and no table grows or is made
+abbrev pub <b id="NeedsNoMemory">NeedsNoMemory</b> : <a href="../../machine/StateSpecs/index.html#State">State</a> → Call → Type 0
+<a href="../../laws/ReservedSpecs/index.html#NeedsNoMemory">NeedsNoMemory</a> s (NewMemory ty) = ⊥
+<a href="../../laws/ReservedSpecs/index.html#NeedsNoMemory">NeedsNoMemory</a> s (NewLentMemory ty) = <a href="../../laws/ReservedSpecs/index.html#HasSlot">HasSlot</a> s.reserved.<a href="../../laws/ReservedSpecs/index.html#memories">memories</a> s.memories
+<a href="../../laws/ReservedSpecs/index.html#NeedsNoMemory">NeedsNoMemory</a> s (GrowMemory k pages) = <a href="../../laws/ReservedSpecs/index.html#IsInRegion">IsInRegion</a> s.memories k
+<a href="../../laws/ReservedSpecs/index.html#NeedsNoMemory">NeedsNoMemory</a> s (Read k offset len) = len ≡ 0
+<a href="../../laws/ReservedSpecs/index.html#NeedsNoMemory">NeedsNoMemory</a> s (NewTable ty init) = ⊥
+<a href="../../laws/ReservedSpecs/index.html#NeedsNoMemory">NeedsNoMemory</a> s (GrowTable k n init) = n ≡ 0
+<a href="../../laws/ReservedSpecs/index.html#NeedsNoMemory">NeedsNoMemory</a> s (NewSegment ty items) = (items.items ≡ []) × <a href="../../laws/ReservedSpecs/index.html#HasSlot">HasSlot</a> s.reserved.<a href="../../laws/ReservedSpecs/index.html#segments">segments</a> s.segments
+<a href="../../laws/ReservedSpecs/index.html#NeedsNoMemory">NeedsNoMemory</a> s (NewData bytes) = (bytes.items ≡ []) × <a href="../../laws/ReservedSpecs/index.html#HasSlot">HasSlot</a> s.reserved.<a href="../../laws/ReservedSpecs/index.html#data_segments">data_segments</a> s.data_segments
+<a href="../../laws/ReservedSpecs/index.html#NeedsNoMemory">NeedsNoMemory</a> s (NewGlobal value ty) = <a href="../../laws/ReservedSpecs/index.html#HasSlot">HasSlot</a> s.reserved.<a href="../../laws/ReservedSpecs/index.html#globals">globals</a> s.globals
+<a href="../../laws/ReservedSpecs/index.html#NeedsNoMemory">NeedsNoMemory</a> s call = Unit {0}
+
+-- a call needs no memory but for the slot of what it makes, where a memory that it grows and that was there in this
+-- state still lies in its region
+abbrev pub <b id="NeedsOnlySlot">NeedsOnlySlot</b> : <a href="../../machine/StateSpecs/index.html#State">State</a> → Call → Type 0
+<a href="../../laws/ReservedSpecs/index.html#NeedsOnlySlot">NeedsOnlySlot</a> s (NewMemory ty) = ⊥
+<a href="../../laws/ReservedSpecs/index.html#NeedsOnlySlot">NeedsOnlySlot</a> s (GrowMemory k pages) = <a href="../../laws/ReservedSpecs/index.html#IsInRegion">IsInRegion</a> s.memories k
+<a href="../../laws/ReservedSpecs/index.html#NeedsOnlySlot">NeedsOnlySlot</a> s (Read k offset len) = len ≡ 0
+<a href="../../laws/ReservedSpecs/index.html#NeedsOnlySlot">NeedsOnlySlot</a> s (NewTable ty init) = ⊥
+<a href="../../laws/ReservedSpecs/index.html#NeedsOnlySlot">NeedsOnlySlot</a> s (GrowTable k n init) = n ≡ 0
+<a href="../../laws/ReservedSpecs/index.html#NeedsOnlySlot">NeedsOnlySlot</a> s (NewSegment ty items) = items.items ≡ []
+<a href="../../laws/ReservedSpecs/index.html#NeedsOnlySlot">NeedsOnlySlot</a> s (NewData bytes) = bytes.items ≡ []
+<a href="../../laws/ReservedSpecs/index.html#NeedsOnlySlot">NeedsOnlySlot</a> s call = Unit {0}
+
+-- whether a call makes a memory in the spare region
+abbrev pub <b id="makes_lent_memory">makes_lent_memory</b> : Call → Bool
+<a href="../../laws/ReservedSpecs/index.html#makes_lent_memory">makes_lent_memory</a> (NewLentMemory ty) = true
+<a href="../../laws/ReservedSpecs/index.html#makes_lent_memory">makes_lent_memory</a> call = false
+
+-- whether a call makes an element segment
+abbrev pub <b id="makes_segment">makes_segment</b> : Call → Bool
+<a href="../../laws/ReservedSpecs/index.html#makes_segment">makes_segment</a> (NewSegment ty items) = true
+<a href="../../laws/ReservedSpecs/index.html#makes_segment">makes_segment</a> call = false
+
+-- whether a call makes a data segment
+abbrev pub <b id="makes_data">makes_data</b> : Call → Bool
+<a href="../../laws/ReservedSpecs/index.html#makes_data">makes_data</a> (NewData bytes) = true
+<a href="../../laws/ReservedSpecs/index.html#makes_data">makes_data</a> call = false
+
+-- whether a call makes a global
+abbrev pub <b id="makes_global">makes_global</b> : Call → Bool
+<a href="../../laws/ReservedSpecs/index.html#makes_global">makes_global</a> (NewGlobal value ty) = true
+<a href="../../laws/ReservedSpecs/index.html#makes_global">makes_global</a> call = false
+
+-- as many slots as these calls take are reserved and free
+abbrev pub <b id="HasSlots">HasSlots</b> : {A : Type 0} → ℕ → List A → (Call → Bool) → List Call → Type 0
+<a href="../../laws/ReservedSpecs/index.html#HasSlots">HasSlots</a> reserved list makes calls = length list + count_by makes calls ≤ reserved
+
+-- a machine has reserved what these calls need: each needs only a slot, and of each kind as many slots as they take are
+-- reserved and free
+pub record <b id="IsReservedFor">IsReservedFor</b> (s : <a href="../../machine/StateSpecs/index.html#State">State</a>) (calls : List Call) : Type 0 where
+  pub <b id="needs">needs</b> : All (<a href="../../laws/ReservedSpecs/index.html#NeedsOnlySlot">NeedsOnlySlot</a> s) calls
+  pub <b id="memories">memories</b> : <a href="../../laws/ReservedSpecs/index.html#HasSlots">HasSlots</a> s.reserved.<a href="../../laws/ReservedSpecs/index.html#memories">memories</a> s.memories <a href="../../laws/ReservedSpecs/index.html#makes_lent_memory">makes_lent_memory</a> calls
+  pub <b id="segments">segments</b> : <a href="../../laws/ReservedSpecs/index.html#HasSlots">HasSlots</a> s.reserved.<a href="../../laws/ReservedSpecs/index.html#segments">segments</a> s.segments <a href="../../laws/ReservedSpecs/index.html#makes_segment">makes_segment</a> calls
+  pub <b id="data_segments">data_segments</b> : <a href="../../laws/ReservedSpecs/index.html#HasSlots">HasSlots</a> s.reserved.<a href="../../laws/ReservedSpecs/index.html#data_segments">data_segments</a> s.data_segments <a href="../../laws/ReservedSpecs/index.html#makes_data">makes_data</a> calls
+  pub <b id="globals">globals</b> : <a href="../../laws/ReservedSpecs/index.html#HasSlots">HasSlots</a> s.reserved.<a href="../../laws/ReservedSpecs/index.html#globals">globals</a> s.globals <a href="../../laws/ReservedSpecs/index.html#makes_global">makes_global</a> calls
+
+module _ {S : Type 0} (rules : <a href="../../meter/LimiterSpecs/index.html#Rules">Rules</a> S) where
+  -- the reply to a call that needs no memory doesn&#x27;t say out of memory
+  abbrev pub <b id="ReservedCallsSucceed">ReservedCallsSucceed</b> : Type 0
+  <a href="../../laws/ReservedSpecs/index.html#ReservedCallsSucceed">ReservedCallsSucceed</a> = (w : <a href="../../machine/StateSpecs/index.html#World">World</a> S) (turn : <a href="../../machine/StateSpecs/index.html#Turn">Turn</a>) (w&#x27; : <a href="../../machine/StateSpecs/index.html#World">World</a> S) → <a href="../../machine/StepsSpecs/index.html#Step">Step</a> rules w turn w&#x27;
+      → <a href="../../laws/ReservedSpecs/index.html#NeedsNoMemory">NeedsNoMemory</a> w.state turn.call → <a href="../../machine/DeterminismSpecs/index.html#IsNotOutOfMemory">IsNotOutOfMemory</a> turn.reply
+
+  -- no reply to calls for which a machine has reserved what they need says out of memory
+  abbrev pub <b id="ReservedRunsSucceed">ReservedRunsSucceed</b> : Type 0
+  <a href="../../laws/ReservedSpecs/index.html#ReservedRunsSucceed">ReservedRunsSucceed</a> = (calls : List Call) (w : <a href="../../machine/StateSpecs/index.html#World">World</a> S) (replies : List Reply) (w&#x27; : <a href="../../machine/StateSpecs/index.html#World">World</a> S)
+      → <a href="../../laws/ReservedSpecs/index.html#IsReservedFor">IsReservedFor</a> w.state calls → <a href="../../machine/StepsSpecs/index.html#IsRunOf">IsRunOf</a> rules calls w replies w&#x27; → All <a href="../../machine/DeterminismSpecs/index.html#IsNotOutOfMemory">IsNotOutOfMemory</a> replies
+</code></pre>
+"####]
+    pub mod ReservedSpecs {}
     #[doc = r####"Laws of whole runs, and of the meter over them.
 
 <pre><code>use Rattle.std.specs.Prelude.{◌≡◌, ◌≤◌, ◌++◌, ℕ, List, length, take, drop, map, Option, Some, slice_get, All, ◌+◌, is_some}
