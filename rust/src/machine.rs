@@ -56,7 +56,7 @@ pub use crate::proved::lanes::{
 };
 pub use crate::proved::machine::{
     ByteList, Call, DataSegment, Machine, Replies, Reply, SlotCounts, TooManyCalls, run, run_into,
-    run_into_lending, run_lending, run_reserving,
+    run_into_lending, run_into_reserving, run_lending, run_reserving,
 };
 pub use crate::proved::meter::{
     Amounts, AnswerList, AnyLimiter, CappedLimiter, Holdings, Kind, Lender, LimiterAnswer,

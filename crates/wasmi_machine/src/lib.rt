@@ -20,5 +20,7 @@ pub use calls::{ByteList, Call, Reply};
 pub use data::DataSegment;
 pub use machine::Machine;
 pub use replies::{Replies, TooManyCalls};
-pub use running::{run, run_into, run_into_lending, run_lending, run_reserving};
+pub use running::{
+    run, run_into, run_into_lending, run_into_reserving, run_lending, run_reserving,
+};
 pub use slots::SlotCounts;

@@ -197,3 +197,29 @@ pub fn run_into_lending<L: ResourceLimiter>(
     let _limiter = lent.into_limiter();
     result
 }
+
+/// Executes calls, as `run_into`, under a limiter that holds exactly what the machine has, and does
+/// so again afterwards.
+///
+/// # Errors
+///
+/// That of `run_into`.
+pub fn run_into_reserving<L: Reserving>(
+    machine: &mut Machine,
+    calls: &[Call],
+    limiter: &mut L,
+    replies: &mut Replies,
+) -> Result<(), TooManyCalls>
+    requires totals { HoldsTotals (L.Reserving.holdings limiter.old) machine.old }
+    ensures run { OnOk result (IsRunOf (optional_rules L.rules) calls.now
+        (world machine.old (Some limiter.old)) replies.new.items
+        (world machine.new (Some limiter.new))) }
+    ensures accepted { IsOk result ↔ (length calls.now ≤ replies.old.capacity) }
+    ensures err { OnErr result ((machine.new ≡ machine.old) × (limiter.new ≡ limiter.old)
+        × (replies.new ≡ replies.old)) }
+    ensures capacity { replies.new.capacity ≡ replies.old.capacity }
+    ensures held { HoldsTotals (L.Reserving.holdings limiter.new) machine.new }
+    ensures valid { IsValid machine.new }
+{
+    run_into_lending(machine, calls, limiter, replies)
+}

@@ -2189,6 +2189,50 @@ mod running {
         let _limiter = lent.into_limiter();
         result
     }
+
+    /// Executes calls, as `run_into`, under a limiter that holds exactly what the machine has, and does
+    /// so again afterwards.
+    ///
+    /// # Errors
+    ///
+    /// That of `run_into`.
+    ///
+    /// # Panics
+    ///
+    /// Panics if what the limiter holds isn't the machine's totals.
+    ///
+    /// # Contract
+    ///
+    /// ```text
+    /// requires totals: HoldsTotals (L.Reserving.holdings limiter.old) machine.old
+    /// ensures run: OnOk result (IsRunOf (optional_rules L.rules) calls.now
+    ///     (world machine.old (Some limiter.old)) replies.new.items
+    ///     (world machine.new (Some limiter.new)))
+    /// ensures accepted: IsOk result ↔ (length calls.now ≤ replies.old.capacity)
+    /// ensures err: OnErr result ((machine.new ≡ machine.old) × (limiter.new ≡ limiter.old)
+    ///     × (replies.new ≡ replies.old))
+    /// ensures capacity: replies.new.capacity ≡ replies.old.capacity
+    /// ensures held: HoldsTotals (L.Reserving.holdings limiter.new) machine.new
+    /// ensures valid: IsValid machine.new
+    /// ```
+    ///
+    /// Definitions: [`HoldsTotals`](crate::specs::machine::StateSpecs#HoldsTotals), [`IsRunOf`](crate::specs::machine::StepsSpecs#IsRunOf), [`optional_rules`](crate::specs::meter::LimiterSpecs#optional_rules), [`world`](crate::specs::machine::StateSpecs#world), [`IsValid`](crate::specs::machine::StateSpecs#IsValid).
+    ///
+    /// `L` is the type of the limiter, a [`Reserving`](crate::machine::Reserving#contract).
+    #[inline]
+    pub fn run_into_reserving<L: Reserving>(
+        machine: &mut Machine,
+        calls: &[Call],
+        limiter: &mut L,
+        replies: &mut Replies,
+    ) -> Result<(), TooManyCalls> {
+        assert!(
+            u128::from(limiter.held_bytes()) == machine.total_bytes()
+                && u128::from(limiter.held_elements()) == machine.total_elements(),
+            "what the limiter holds isn't the machine's totals"
+        );
+        run_into_lending(machine, calls, limiter, replies)
+    }
 }
 mod slots {
     //! Slots: what was made, each at the index of its making.
@@ -3367,5 +3411,7 @@ pub use calls::{ByteList, Call, Reply};
 pub use data::DataSegment;
 pub use machine::Machine;
 pub use replies::{Replies, TooManyCalls};
-pub use running::{run, run_into, run_into_lending, run_lending, run_reserving};
+pub use running::{
+    run, run_into, run_into_lending, run_into_reserving, run_lending, run_reserving,
+};
 pub use slots::SlotCounts;

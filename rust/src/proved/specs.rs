@@ -5871,6 +5871,8 @@ use Rattle.wasmi_budget.specs.declared.error.AddError.{AddError}
 use Rattle.wasmi_budget.specs.declared.error.AddError.TheVariants.{NotEmpty, NoRoom}
 use Rattle.wasmi_budget.specs.declared.error.PoolError.{PoolError}
 use Rattle.wasmi_budget.specs.declared.error.PoolError.TheVariants.{NoTenant, OutOfMemory}
+use Rattle.wasmi_budget.specs.declared.error.RunIntoError.{RunIntoError}
+use Rattle.wasmi_budget.specs.declared.error.RunIntoError.TheVariants as into
 
 -- what a tenant holds
 abbrev pub <b id="holdings">holdings</b> : Tenant → Holdings
@@ -6010,6 +6012,11 @@ abbrev pub <b id="add_error_text">add_error_text</b> : AddError → List ℕ
 abbrev pub <b id="pool_error_text">pool_error_text</b> : PoolError → List ℕ
 <a href="../../budget/PoolSpecs/index.html#pool_error_text">pool_error_text</a> NoTenant = codes "tried to run a tenant that is not in the pool"
 <a href="../../budget/PoolSpecs/index.html#pool_error_text">pool_error_text</a> OutOfMemory = codes "out of memory for the replies"
+
+-- the text of why a pool makes no run into memory that is kept
+abbrev pub <b id="run_into_error_text">run_into_error_text</b> : RunIntoError → List ℕ
+<a href="../../budget/PoolSpecs/index.html#run_into_error_text">run_into_error_text</a> into.NoTenant = codes "tried to run a tenant that is not in the pool"
+<a href="../../budget/PoolSpecs/index.html#run_into_error_text">run_into_error_text</a> into.TooManyCalls = codes "more calls than there is memory for replies"
 </code></pre>
 "####]
     pub mod PoolSpecs {}
