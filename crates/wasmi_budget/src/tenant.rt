@@ -1,5 +1,5 @@
 //! One machine of a pool, with what it has, and its limiter.
-ghost use Rattle.std.specs.Prelude.{◌≡◌, ◌<◌, ◌^◌, ◌∷◌, [], None, Some, IfOk, OnErr};
+ghost use Rattle.std.specs.Prelude.{◌≡◌, ◌<◌, ◌≤◌, ◌^◌, ◌∷◌, ◌↔◌, [], None, Some, IfOk, IsOk, OnErr, OnOk, length};
 ghost use Rattle.wasmi_meter.specs.declared.limiter.Kind.{Kind};
 ghost use Rattle.wasmi_meter.specs.Capped.{amounts_of, held_together};
 ghost use Rattle.wasmi_meter.specs.Limiter.{optional_rules};
@@ -9,7 +9,9 @@ ghost use Rattle.wasmi_budget.specs.Pool.{holdings, capped_tenant, tenant_rules,
 
 use std::alloc::AllocError;
 use std::marker::Model;
-use wasmi_machine::{Call, Machine, Reply, run_reserving};
+use wasmi_machine::{
+    Call, Machine, Replies, Reply, TooManyCalls, run_into_reserving, run_reserving,
+};
 use wasmi_meter::{Amounts, CappedLimiter, Holdings, Kind, ResourceLimiterRef};
 
 /// The limiter of one machine of a pool: it permits what keeps all tenants together within the
@@ -103,6 +105,28 @@ impl<'r> CountedMachine<'r> {
         let replies = run_reserving(&mut self.machine, calls, tenant)?;
         self.held = tenant.holdings.held();
         Ok(replies)
+    }
+
+    /// Executes calls, as `run`, but puts their replies into memory that is there.
+    pub(crate) fn run_into(
+        &mut self,
+        calls: &[Call],
+        tenant: &mut Tenant,
+        replies: &mut Replies,
+    ) -> Result<(), TooManyCalls>
+        requires totals { HoldsTotals (holdings tenant.old) self.old }
+        ensures run { OnOk result (IsRunOf (optional_rules tenant_rules) calls.now
+            (world self.old (Some tenant.old)) replies.new.items
+            (world self.new (Some tenant.new))) }
+        ensures accepted { IsOk result ↔ (length calls.now ≤ replies.old.capacity) }
+        ensures err { OnErr result ((self.new ≡ self.old) × (tenant.new ≡ tenant.old)
+            × (replies.new ≡ replies.old)) }
+        ensures capacity { replies.new.capacity ≡ replies.old.capacity }
+        ensures held { HoldsTotals (holdings tenant.new) self.new }
+    {
+        run_into_reserving(&mut self.machine, calls, tenant, replies)?;
+        self.held = tenant.holdings.held();
+        Ok(())
     }
 
     /// Executes one call, as `run` executes each of a list. It takes no memory for the reply.

@@ -1,15 +1,15 @@
 //! The machines of a pool at their indices.
-ghost use Rattle.std.specs.Prelude.{◌≡◌, ◌∷◌, ◌++◌, ◌↔◌, [], length, slice_index_or, slice_set, None, Some, MatchOption, IfOk, IfErr, OnErr, OnOk, IsErrOf};
+ghost use Rattle.std.specs.Prelude.{◌≡◌, ◌∷◌, ◌++◌, ◌↔◌, ◌<◌, ◌≤◌, [], length, slice_index_or, slice_set, None, Some, MatchOption, IfOk, IfErr, OnErr, OnOk, IsErrOf};
 ghost use Rattle.std.specs.Option.{option_copied};
 ghost use Rattle.wasmi_machine.specs.State.{State, HoldsTotals};
 ghost use Rattle.wasmi_budget.specs.Pool.{holdings, IsUnasked, RunsMachine, RunsUnasked};
 ghost use Rattle.wasmi_budget.specs.Tenants.{IsPlace, Rises};
 
-use crate::error::PoolError;
+use crate::error::{PoolError, RunIntoError};
 use crate::tenant::{CountedMachine, Tenant};
 use std::alloc::Global as Allocator;
 use std::marker::Model;
-use wasmi_machine::{Call, Reply};
+use wasmi_machine::{Call, Replies, Reply};
 
 /// The place of an index among rising ones, if it is one of them. It is found without a search
 /// where no machine before it was removed.
@@ -128,6 +128,35 @@ impl<'r> Tenants<'r> {
         let machine = &mut self.machines[place];
         let replies = machine.run(calls, tenant)?;
         Ok(replies)
+    }
+
+    /// Executes calls, as `run`, but puts their replies into memory that is there.
+    pub(crate) fn run_into(
+        &mut self,
+        index: usize,
+        calls: &[Call],
+        tenant: &mut Tenant,
+        replies: &mut Replies,
+    ) -> Result<(), RunIntoError>
+        requires totals { (s : State) → slice_index_or self.old index None ≡ Some s
+            → HoldsTotals (holdings tenant.old) s }
+        ensures ran { OnOk result (RunsMachine self.old index tenant.old calls.now
+            replies.new.items self.new tenant.new) }
+        ensures no_tenant { IsErrOf result RunIntoError.NoTenant
+            ↔ (slice_index_or self.old index None ≡ None) }
+        ensures too_many { IsErrOf result RunIntoError.TooManyCalls
+            → (replies.old.capacity < length calls.now) }
+        ensures accepted { OnOk result (length calls.now ≤ replies.old.capacity) }
+        ensures refused { OnErr result ((self.new ≡ self.old) × (tenant.new ≡ tenant.old)
+            × (replies.new ≡ replies.old)) }
+        ensures capacity { replies.new.capacity ≡ replies.old.capacity }
+    {
+        let Some(place) = place_of(&self.indices, index) else {
+            return Err(RunIntoError::NoTenant);
+        };
+        let counted = &mut self.machines[place];
+        counted.run_into(calls, tenant, replies)?;
+        Ok(())
     }
 
     /// Executes one call on the machine at an index, if there is one, under a tenant that holds
