@@ -16,6 +16,8 @@ use Rattle.wasmi_budget.specs.declared.error.AddError.{AddError}
 use Rattle.wasmi_budget.specs.declared.error.AddError.TheVariants.{NotEmpty, NoRoom}
 use Rattle.wasmi_budget.specs.declared.error.PoolError.{PoolError}
 use Rattle.wasmi_budget.specs.declared.error.PoolError.TheVariants.{NoTenant, OutOfMemory}
+use Rattle.wasmi_budget.specs.declared.error.RunIntoError.{RunIntoError}
+use Rattle.wasmi_budget.specs.declared.error.RunIntoError.TheVariants as into
 
 -- what a tenant holds
 abbrev pub holdings : Tenant → Holdings
@@ -175,3 +177,8 @@ add_error_text NoRoom = codes "out of memory for one more tenant"
 abbrev pub pool_error_text : PoolError → List ℕ
 pool_error_text NoTenant = codes "tried to run a tenant that is not in the pool"
 pool_error_text OutOfMemory = codes "out of memory for the replies"
+
+-- the text of why a pool makes no run into memory that is kept
+abbrev pub run_into_error_text : RunIntoError → List ℕ
+run_into_error_text into.NoTenant = codes "tried to run a tenant that is not in the pool"
+run_into_error_text into.TooManyCalls = codes "more calls than there is memory for replies"

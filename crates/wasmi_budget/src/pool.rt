@@ -1,17 +1,17 @@
 //! The pool.
-ghost use Rattle.std.specs.Prelude.{◌≡◌, ◌↔◌, ◌∷◌, length, [], None, IsTrue, IfOk, IfErr, OnErr, IsErrOf, MatchOption};
+ghost use Rattle.std.specs.Prelude.{◌≡◌, ◌↔◌, ◌<◌, ◌≤◌, ◌∷◌, length, [], None, IsTrue, IfOk, IfErr, OnErr, OnOk, IsErrOf, MatchOption};
 ghost use Rattle.std.specs.Option.{option_map, option_copied};
 ghost use Rattle.wasmi_meter.specs.declared.limiter.Kind.TheVariants.{Bytes, Elements};
 ghost use Rattle.wasmi_meter.specs.Capped.{amounts_of};
 ghost use Rattle.wasmi_machine.specs.State.{total};
 ghost use Rattle.wasmi_budget.specs.Pool.{IsUnasked, IsWithinCaps, machine_of, total_of, AddsTenant, IsAddRefusal, RemovesTenant, RunsTenant};
 
-use crate::error::{AddError, PoolError};
+use crate::error::{AddError, PoolError, RunIntoError};
 use crate::tenant::CountedMachine;
 use crate::tenants::Tenants;
 use std::alloc::Global as Allocator;
 use std::marker::Model;
-use wasmi_machine::{Call, Machine, Reply};
+use wasmi_machine::{Call, Machine, Replies, Reply};
 use wasmi_meter::Amounts;
 
 /// Machines that share a cap on the bytes of their memories, and one on the elements of their
@@ -130,6 +130,34 @@ impl<'r> Pool<'r> {
     {
         self.tenants
             .run(index, calls, self.caps, &mut self.held_by_all)
+    }
+
+    /// Executes calls on the machine of a tenant, as `run`, but puts their replies into memory that
+    /// is there, in place of those that it has. It takes no memory for them.
+    ///
+    /// # Errors
+    ///
+    /// In the order of the tests: `NoTenant` if no tenant has the index; `TooManyCalls` if there are
+    /// more calls than the capacity of `replies`. Then no call was executed, and the replies stay.
+    pub fn run_into(
+        &mut self,
+        index: usize,
+        calls: &[Call],
+        replies: &mut Replies,
+    ) -> Result<(), RunIntoError>
+        ensures ran { OnOk result
+            (RunsTenant self.old index calls.now replies.new.items self.new) }
+        ensures no_tenant { IsErrOf result RunIntoError.NoTenant
+            ↔ (machine_of self.old index ≡ None) }
+        ensures too_many { IsErrOf result RunIntoError.TooManyCalls
+            → (replies.old.capacity < length calls.now) }
+        ensures accepted { OnOk result (length calls.now ≤ replies.old.capacity) }
+        ensures refused { OnErr result ((self.new ≡ self.old) × (replies.new ≡ replies.old)) }
+        ensures capacity { replies.new.capacity ≡ replies.old.capacity }
+        ensures within { IsWithinCaps self.new }
+    {
+        self.tenants
+            .run_into(index, calls, self.caps, &mut self.held_by_all, replies)
     }
 
     /// Executes one call on the machine of a tenant, as `run` executes a list of it alone. It takes

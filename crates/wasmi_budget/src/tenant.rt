@@ -1,5 +1,5 @@
 //! One machine of a pool, with what it has, and its limiter.
-ghost use Rattle.std.specs.Prelude.{◌≡◌, ◌≤◌, ◌<◌, ◌^◌, ◌∷◌, [], Some, IsTrue, IfOk, OnErr};
+ghost use Rattle.std.specs.Prelude.{◌≡◌, ◌≤◌, ◌<◌, ◌^◌, ◌∷◌, ◌↔◌, [], Some, IsTrue, IfOk, IsOk, OnErr, OnOk, length};
 ghost use Rattle.wasmi_meter.specs.declared.limiter.Kind.{Kind};
 ghost use Rattle.wasmi_meter.specs.Capped.{amounts_of, held_together};
 ghost use Rattle.wasmi_meter.specs.Limiter.{optional_rules};
@@ -9,7 +9,9 @@ ghost use Rattle.wasmi_budget.specs.Pool.{holdings, capped_tenant, tenant_rules,
 
 use std::alloc::AllocError;
 use std::marker::Model;
-use wasmi_machine::{Call, Machine, Reply, run_reserving};
+use wasmi_machine::{
+    Call, Machine, Replies, Reply, TooManyCalls, run_into_reserving, run_reserving,
+};
 use wasmi_meter::{Amounts, CappedLimiter, Holdings, Kind, ResourceLimiterRef};
 
 /// The limiter of one machine of a pool: it permits what keeps all tenants together within the
@@ -125,6 +127,28 @@ impl<'r> CountedMachine<'r> {
         let replies = run_reserving(&mut self.machine, calls, &mut tenant)?;
         tenant.leave(&mut self.held, all);
         Ok(replies)
+    }
+
+    /// Executes calls, as `run`, but puts their replies into memory that is there.
+    pub(crate) fn run_into(
+        &mut self,
+        calls: &[Call],
+        caps: Amounts,
+        all: &mut Amounts,
+        replies: &mut Replies,
+    ) -> Result<(), TooManyCalls>
+        requires part { IsPart caps all.old self.old }
+        ensures run { OnOk result (RunsAsPart caps all.old self.old calls.now replies.new.items
+            self.new all.new) }
+        ensures accepted { IsOk result ↔ (length calls.now ≤ replies.old.capacity) }
+        ensures err { OnErr result ((self.new ≡ self.old) × (all.new ≡ all.old)
+            × (replies.new ≡ replies.old)) }
+        ensures capacity { replies.new.capacity ≡ replies.old.capacity }
+    {
+        let mut tenant = Tenant::new(caps, *all, self.held);
+        run_into_reserving(&mut self.machine, calls, &mut tenant, replies)?;
+        tenant.leave(&mut self.held, all);
+        Ok(())
     }
 
     /// Executes one call, as `run` executes a list of it alone. It takes no memory for the reply.

@@ -1,14 +1,14 @@
 //! The machines of a pool at their indices.
-ghost use Rattle.std.specs.Prelude.{◌≡◌, ◌∷◌, ◌++◌, ◌↔◌, [], length, slice_index_or, slice_set, None, Some, MatchOption, IfOk, IfErr, OnErr, OnOk, IsErrOf};
+ghost use Rattle.std.specs.Prelude.{◌≡◌, ◌∷◌, ◌++◌, ◌↔◌, ◌<◌, ◌≤◌, [], length, slice_index_or, slice_set, None, Some, MatchOption, IfOk, IfErr, OnErr, OnOk, IsErrOf};
 ghost use Rattle.std.specs.Option.{option_copied};
 ghost use Rattle.wasmi_budget.specs.Pool.{pool_of, IsKept, IsUnasked, RunsTenant, RunsUnasked};
 ghost use Rattle.wasmi_budget.specs.Tenants.{IsPlace, Rises};
 
-use crate::error::PoolError;
+use crate::error::{PoolError, RunIntoError};
 use crate::tenant::CountedMachine;
 use std::alloc::Global as Allocator;
 use std::marker::Model;
-use wasmi_machine::{Call, Reply};
+use wasmi_machine::{Call, Replies, Reply};
 use wasmi_meter::Amounts;
 
 /// The place of an index among rising ones, if it is one of them. It is found without a search
@@ -129,6 +129,35 @@ impl<'r> Tenants<'r> {
         let machine = &mut self.machines[place];
         let replies = machine.run(calls, caps, all)?;
         Ok(replies)
+    }
+
+    /// Executes calls, as `run`, but puts their replies into memory that is there.
+    pub(crate) fn run_into(
+        &mut self,
+        index: usize,
+        calls: &[Call],
+        caps: Amounts,
+        all: &mut Amounts,
+        replies: &mut Replies,
+    ) -> Result<(), RunIntoError>
+        requires kept { IsKept (pool_of caps self.old) all.old }
+        ensures ran { OnOk result (RunsTenant (pool_of caps self.old) index calls.now
+            replies.new.items (pool_of caps self.new)) }
+        ensures no_tenant { IsErrOf result RunIntoError.NoTenant
+            ↔ (slice_index_or self.old index None ≡ None) }
+        ensures too_many { IsErrOf result RunIntoError.TooManyCalls
+            → (replies.old.capacity < length calls.now) }
+        ensures accepted { OnOk result (length calls.now ≤ replies.old.capacity) }
+        ensures refused { OnErr result ((self.new ≡ self.old) × (replies.new ≡ replies.old)) }
+        ensures capacity { replies.new.capacity ≡ replies.old.capacity }
+        ensures kept { IsKept (pool_of caps self.new) all.new }
+    {
+        let Some(place) = place_of(&self.indices, index) else {
+            return Err(RunIntoError::NoTenant);
+        };
+        let counted = &mut self.machines[place];
+        counted.run_into(calls, caps, all, replies)?;
+        Ok(())
     }
 
     /// Executes one call on the machine at an index, if there is one, as `run` executes a list of

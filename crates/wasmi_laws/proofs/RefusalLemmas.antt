@@ -285,6 +285,7 @@ same_world rules w turn w' keeps meter spare limiter = λ i. record {
     registers = keeps.contents.registers i;
     meter = meter i;
     spare = spare i;
+    reserved = keeps.contents.reserved i;
   };
   limiter = limiter i;
 }

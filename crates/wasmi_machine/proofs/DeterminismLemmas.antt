@@ -194,8 +194,8 @@ module _ {S : Type 0} (w : World S) (t t' : Turn) (v v' : World S) where
 
   module _ {A : Type 0} {with_part : A → State} where
     -- turns that make something under the limiter
-    made_unique : {Relation : S → Reply → A → S → Type 0} → Asks w t v with_part Relation
-        → Asks w t' v' with_part Relation
+    made_unique : {Lacks : Type 0} {Relation : S → Reply → A → S → Type 0} → Asks w t v Lacks with_part Relation
+        → Asks w t' v' Lacks with_part Relation
         → IsNotOutOfMemory t.reply → IsNotOutOfMemory t'.reply → HasOneOutcome (Relation w.limiter) → Same
     made_unique step step' has has' once =
         let same = once (record { reply = t.reply; part = step.part; limiter = step.limiter })

@@ -14,7 +14,7 @@ use Rattle.wasmi_machine.specs.declared.calls.Call.TheVariants.{Write, NewData, 
 use Rattle.wasmi_machine.specs.declared.calls.Reply.{Reply}
 use Rattle.wasmi_machine.specs.declared.calls.Reply.TheVariants.{Made}
 use Rattle.wasmi_machine.specs.State.{State, new_state, World, Turn}
-use Rattle.wasmi_machine.specs.Effects.{ActsMetered}
+use Rattle.wasmi_machine.specs.Effects.{ActsMetered, Asks}
 use Rattle.wasmi_machine.specs.Steps.{Effect, Told, BytesRead, FuelSet, Changed, MemoryMade, LentMemoryMade, MemoryGrown, TableMade, TableGrown, RangeWritten, MemoryWritten, TableWritten, effect_of, HasEffect, Step, Run, IsRunOf}
 use Rattle.wasmi_machine.specs.Determinism.{IsDeterministic, AcceptsNotices, IsNotOutOfMemory}
 use Rattle.wasmi_machine.proofs.DeterminismLemmas.{unlimited_unique, quota_unique}
@@ -126,6 +126,19 @@ module _ {S : Type 0} (rules : Rules S) where
     after = a.after;
   }
 
+  -- a turn that makes something under the limiter does so by any other call too
+  asks_again : {Lacks A : Type 0} {with_part : A → State} {Relation : S → Reply → A → S → Type 0} (w : World S)
+      (turn : Turn) (w' : World S) (other : Call) → Asks w turn w' Lacks with_part Relation
+      → Asks w (by_call turn other) w' Lacks with_part Relation
+  asks_again w turn w' other a = record {
+    free = a.free;
+    part = a.part;
+    limiter = a.limiter;
+    effect = a.effect;
+    room = a.room;
+    after = a.after;
+  }
+
   -- a turn that takes an effect takes it by any other call too
   retold_effect : (w : World S) (turn : Turn) (w' : World S) (other : Call) (effect : Effect)
       → HasEffect rules effect w turn w' → HasEffect rules effect w (by_call turn other) w'
@@ -137,12 +150,9 @@ module _ {S : Type 0} (rules : Rules S) where
       record { free = step.free; machine = step.machine; effect = step.effect; after = step.after }
   retold_effect w turn w' other (Changed change) step =
       record { free = step.free; machine = step.machine; effect = step.effect; after = step.after }
-  retold_effect w turn w' other (MemoryMade ty) step =
-      record { free = step.free; part = step.part; limiter = step.limiter; effect = step.effect; after = step.after }
-  retold_effect w turn w' other (LentMemoryMade ty) step =
-      record { free = step.free; part = step.part; limiter = step.limiter; effect = step.effect; after = step.after }
-  retold_effect w turn w' other (TableMade ty init) step =
-      record { free = step.free; part = step.part; limiter = step.limiter; effect = step.effect; after = step.after }
+  retold_effect w turn w' other (MemoryMade ty) step = asks_again w turn w' other step
+  retold_effect w turn w' other (LentMemoryMade ty) step = asks_again w turn w' other step
+  retold_effect w turn w' other (TableMade ty init) step = asks_again w turn w' other step
   retold_effect w turn w' other (MemoryGrown k pages) step = acts_again w turn w' other step
   retold_effect w turn w' other (TableGrown k n init) step = acts_again w turn w' other step
   retold_effect w turn w' other (RangeWritten (TableWritten k source dst len)) step =

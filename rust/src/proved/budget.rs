@@ -3,6 +3,7 @@
 mod error {
     //! Why a pool refuses.
 
+    use crate::proved::machine::TooManyCalls;
     use crate::rattle::alloc::AllocError;
     use core::fmt;
 
@@ -63,6 +64,47 @@ mod error {
     }
 
     impl core::error::Error for PoolError {}
+
+    /// Why a pool doesn't run a tenant's calls into memory that is kept for replies, in the order of the
+    /// tests.
+    #[derive(Debug, PartialEq, Eq)]
+    pub enum RunIntoError {
+        /// No tenant has the index.
+        NoTenant,
+        /// There are more calls than there is memory for replies. No call was executed.
+        TooManyCalls,
+    }
+
+    /// # Contract
+    ///
+    /// ```text
+    /// output = λ error. Some (run_into_error_text error)
+    /// ```
+    ///
+    /// Definitions: [`run_into_error_text`](crate::specs::budget::PoolSpecs#run_into_error_text).
+    impl fmt::Display for RunIntoError {
+        #[inline]
+        fn fmt(&self, f: &mut fmt::Formatter<'_>) -> fmt::Result {
+            f.write_str(match self {
+                Self::NoTenant => "tried to run a tenant that is not in the pool",
+                Self::TooManyCalls => "more calls than there is memory for replies",
+            })
+        }
+    }
+
+    impl core::error::Error for RunIntoError {}
+
+    /// # Contract
+    ///
+    /// ```text
+    /// from_gives = λ _ error. error ≡ into.TooManyCalls
+    /// ```
+    impl From<TooManyCalls> for RunIntoError {
+        #[inline]
+        fn from(_: TooManyCalls) -> Self {
+            RunIntoError::TooManyCalls
+        }
+    }
 
     /// # Contract
     ///
@@ -172,10 +214,10 @@ pub mod laws {
 mod pool {
     //! The pool.
 
-    use crate::proved::budget::error::{AddError, PoolError};
+    use crate::proved::budget::error::{AddError, PoolError, RunIntoError};
     use crate::proved::budget::tenant::CountedMachine;
     use crate::proved::budget::tenants::Tenants;
-    use crate::proved::machine::{Call, Machine, Reply};
+    use crate::proved::machine::{Call, Machine, Replies, Reply};
     use crate::proved::meter::Amounts;
     use crate::rattle::Vec;
 
@@ -341,6 +383,41 @@ mod pool {
                 .run(index, calls, self.caps, &mut self.held_by_all)
         }
 
+        /// Executes calls on the machine of a tenant, as `run`, but puts their replies into memory that
+        /// is there, in place of those that it has. It takes no memory for them.
+        ///
+        /// # Errors
+        ///
+        /// In the order of the tests: `NoTenant` if no tenant has the index; `TooManyCalls` if there are
+        /// more calls than the capacity of `replies`. Then no call was executed, and the replies stay.
+        ///
+        /// # Contract
+        ///
+        /// ```text
+        /// ensures ran: OnOk result
+        ///     (RunsTenant self.old index calls.now replies.new.items self.new)
+        /// ensures no_tenant: IsErrOf result RunIntoError.NoTenant
+        ///     ↔ (machine_of self.old index ≡ None)
+        /// ensures too_many: IsErrOf result RunIntoError.TooManyCalls
+        ///     → (replies.old.capacity < length calls.now)
+        /// ensures accepted: OnOk result (length calls.now ≤ replies.old.capacity)
+        /// ensures refused: OnErr result ((self.new ≡ self.old) × (replies.new ≡ replies.old))
+        /// ensures capacity: replies.new.capacity ≡ replies.old.capacity
+        /// ensures within: IsWithinCaps self.new
+        /// ```
+        ///
+        /// Definitions: [`RunsTenant`](crate::specs::budget::PoolSpecs#RunsTenant), [`machine_of`](crate::specs::budget::PoolSpecs#machine_of), [`IsWithinCaps`](crate::specs::budget::PoolSpecs#IsWithinCaps).
+        #[inline]
+        pub fn run_into(
+            &mut self,
+            index: usize,
+            calls: &[Call],
+            replies: &mut Replies,
+        ) -> Result<(), RunIntoError> {
+            self.tenants
+                .run_into(index, calls, self.caps, &mut self.held_by_all, replies)
+        }
+
         /// Executes one call on the machine of a tenant, as `run` executes a list of it alone. It takes
         /// no memory for the reply. It costs a search among the indices of the tenants, none where no
         /// tenant before this one was removed, and what the call costs.
@@ -483,7 +560,9 @@ mod pool {
 mod tenant {
     //! One machine of a pool, with what it has, and its limiter.
 
-    use crate::proved::machine::{Call, Machine, Reply, run_reserving};
+    use crate::proved::machine::{
+        Call, Machine, Replies, Reply, TooManyCalls, run_into_reserving, run_reserving,
+    };
     use crate::proved::meter::{Amounts, CappedLimiter, Holdings, Kind, ResourceLimiterRef};
     use crate::rattle::Vec;
     use crate::rattle::alloc::AllocError;
@@ -636,6 +715,35 @@ mod tenant {
             Ok(replies)
         }
 
+        /// Executes calls, as `run`, but puts their replies into memory that is there.
+        ///
+        /// # Contract
+        ///
+        /// ```text
+        /// requires part: IsPart caps all.old self.old
+        /// ensures run: OnOk result (RunsAsPart caps all.old self.old calls.now replies.new.items
+        ///     self.new all.new)
+        /// ensures accepted: IsOk result ↔ (length calls.now ≤ replies.old.capacity)
+        /// ensures err: OnErr result ((self.new ≡ self.old) × (all.new ≡ all.old)
+        ///     × (replies.new ≡ replies.old))
+        /// ensures capacity: replies.new.capacity ≡ replies.old.capacity
+        /// ```
+        ///
+        /// Definitions: [`IsPart`](crate::specs::budget::PoolSpecs#IsPart), [`RunsAsPart`](crate::specs::budget::PoolSpecs#RunsAsPart).
+        #[inline]
+        pub(crate) fn run_into(
+            &mut self,
+            calls: &[Call],
+            caps: Amounts,
+            all: &mut Amounts,
+            replies: &mut Replies,
+        ) -> Result<(), TooManyCalls> {
+            let mut tenant = Tenant::new(caps, *all, self.held);
+            run_into_reserving(&mut self.machine, calls, &mut tenant, replies)?;
+            tenant.leave(&mut self.held, all);
+            Ok(())
+        }
+
         /// Executes one call, as `run` executes a list of it alone. It takes no memory for the reply.
         ///
         /// # Contract
@@ -736,9 +844,9 @@ mod tenant {
 mod tenants {
     //! The machines of a pool at their indices.
 
-    use crate::proved::budget::error::PoolError;
+    use crate::proved::budget::error::{PoolError, RunIntoError};
     use crate::proved::budget::tenant::CountedMachine;
-    use crate::proved::machine::{Call, Reply};
+    use crate::proved::machine::{Call, Replies, Reply};
     use crate::proved::meter::Amounts;
     use crate::rattle::Vec;
 
@@ -900,6 +1008,42 @@ mod tenants {
             Ok(replies)
         }
 
+        /// Executes calls, as `run`, but puts their replies into memory that is there.
+        ///
+        /// # Contract
+        ///
+        /// ```text
+        /// requires kept: IsKept (pool_of caps self.old) all.old
+        /// ensures ran: OnOk result (RunsTenant (pool_of caps self.old) index calls.now
+        ///     replies.new.items (pool_of caps self.new))
+        /// ensures no_tenant: IsErrOf result RunIntoError.NoTenant
+        ///     ↔ (slice_index_or self.old index None ≡ None)
+        /// ensures too_many: IsErrOf result RunIntoError.TooManyCalls
+        ///     → (replies.old.capacity < length calls.now)
+        /// ensures accepted: OnOk result (length calls.now ≤ replies.old.capacity)
+        /// ensures refused: OnErr result ((self.new ≡ self.old) × (replies.new ≡ replies.old))
+        /// ensures capacity: replies.new.capacity ≡ replies.old.capacity
+        /// ensures kept: IsKept (pool_of caps self.new) all.new
+        /// ```
+        ///
+        /// Definitions: [`IsKept`](crate::specs::budget::PoolSpecs#IsKept), [`pool_of`](crate::specs::budget::PoolSpecs#pool_of), [`RunsTenant`](crate::specs::budget::PoolSpecs#RunsTenant).
+        #[inline]
+        pub(crate) fn run_into(
+            &mut self,
+            index: usize,
+            calls: &[Call],
+            caps: Amounts,
+            all: &mut Amounts,
+            replies: &mut Replies,
+        ) -> Result<(), RunIntoError> {
+            let Some(place) = place_of(&self.indices, index) else {
+                return Err(RunIntoError::NoTenant);
+            };
+            let counted = &mut self.machines[place];
+            counted.run_into(calls, caps, all, replies)?;
+            Ok(())
+        }
+
         /// Executes one call on the machine at an index, if there is one, as `run` executes a list of
         /// it alone.
         ///
@@ -947,6 +1091,6 @@ mod tenants {
     }
 }
 
-pub use error::{AddError, PoolError};
+pub use error::{AddError, PoolError, RunIntoError};
 pub use pool::Pool;
 pub use tenant::Tenant;

@@ -3749,9 +3749,14 @@ abbrev pub <b id="AddsEntry">AddsEntry</b> : {X A E : Type 0} → (X → A) → 
 <a href="../../machine/EffectsSpecs/index.html#AddsEntry">AddsEntry</a> entry refusal (Ok x) list reply list&#x27; = (reply ≡ Made (length list)) × (list&#x27; ≡ list ++ entry x ∷ [])
 <a href="../../machine/EffectsSpecs/index.html#AddsEntry">AddsEntry</a> entry refusal (Err error) list reply list&#x27; = (reply ≡ refusal error) × (list&#x27; ≡ list)
 
--- an item is added to a list, unless there is no memory for it
-abbrev pub <b id="AddsItem">AddsItem</b> : {X : Type 0} → X → List X → Reply → List X → Type 0
-<a href="../../machine/EffectsSpecs/index.html#AddsItem">AddsItem</a> x items reply items&#x27; = ((reply ≡ NoRoom) × (items&#x27; ≡ items))
+-- where the reply is that there is no room, a fact that is then so
+abbrev pub <b id="IfNoRoom">IfNoRoom</b> : Reply → Type 0 → Type 0
+<a href="../../machine/EffectsSpecs/index.html#IfNoRoom">IfNoRoom</a> NoRoom Lacks = Lacks
+<a href="../../machine/EffectsSpecs/index.html#IfNoRoom">IfNoRoom</a> reply Lacks = Unit {0}
+
+-- an item is added to a list, unless there is no memory for it, which may lack as a fact says
+abbrev pub <b id="AddsItem">AddsItem</b> : {X : Type 0} → Type 0 → X → List X → Reply → List X → Type 0
+<a href="../../machine/EffectsSpecs/index.html#AddsItem">AddsItem</a> Lacks x items reply items&#x27; = ((reply ≡ NoRoom) × (items&#x27; ≡ items) × Lacks)
     ⊎ ((reply ≡ Made (length items)) × (items&#x27; ≡ items ++ x ∷ []))
 
 -- what the item of an index has is dropped
@@ -3838,12 +3843,14 @@ module _ {S : Type 0} (w : <a href="../../machine/StateSpecs/index.html#World">W
     pub <b id="effect">effect</b> : Effect turn.reply <a href="../../machine/EffectsSpecs/index.html#machine">machine</a>
     pub <b id="after">after</b> : w&#x27; ≡ record w { state = <a href="../../machine/EffectsSpecs/index.html#machine">machine</a> }
 
-  -- a turn that makes something under the limiter, without a charge
-  pub record <b id="Asks">Asks</b> {A : Type 0} (with_part : A → <a href="../../machine/StateSpecs/index.html#State">State</a>) (Effect : S → Reply → A → S → Type 0) : Type 0 where
+  -- a turn that makes something under the limiter, without a charge; there may be no room for it as a fact says
+  pub record <b id="Asks">Asks</b> {A : Type 0} (Lacks : Type 0) (with_part : A → <a href="../../machine/StateSpecs/index.html#State">State</a>) (Effect : S → Reply → A → S → Type 0)
+      : Type 0 where
     pub <b id="free">free</b> : <a href="../../machine/StateSpecs/index.html#IsFree">IsFree</a> turn
     pub <b id="part">part</b> : A
     pub <b id="limiter">limiter</b> : S
     pub <b id="effect">effect</b> : Effect w.limiter turn.reply <a href="../../machine/EffectsSpecs/index.html#part">part</a> <a href="../../machine/EffectsSpecs/index.html#limiter">limiter</a>
+    pub <b id="room">room</b> : <a href="../../machine/EffectsSpecs/index.html#IfNoRoom">IfNoRoom</a> turn.reply Lacks
     pub <b id="after">after</b> : w&#x27; ≡ <a href="../../machine/StateSpecs/index.html#world">world</a> (with_part <a href="../../machine/EffectsSpecs/index.html#part">part</a>) <a href="../../machine/EffectsSpecs/index.html#limiter">limiter</a>
 
   -- a turn that acts on one part of the state, with a charge, and with the bytes that it has written by its reply
@@ -4087,6 +4094,7 @@ pub record <b id="SameContents">SameContents</b> (s s&#x27; : <a href="../../mac
   pub <b id="data_segments">data_segments</b> : s&#x27;.<a href="../../machine/LawsSpecs/index.html#data_segments">data_segments</a> ≡ s.data_segments
   pub <b id="globals">globals</b> : s&#x27;.<a href="../../machine/LawsSpecs/index.html#globals">globals</a> ≡ s.globals
   pub <b id="registers">registers</b> : s&#x27;.<a href="../../machine/LawsSpecs/index.html#registers">registers</a> ≡ s.registers
+  pub <b id="reserved">reserved</b> : s&#x27;.<a href="../../machine/LawsSpecs/index.html#reserved">reserved</a> ≡ s.reserved
 
 -- the spare region stays, unless a memory was to be made in it: then it is used up if there was room for a slot
 abbrev pub <b id="KeepsSpare">KeepsSpare</b> : Call → Reply → <a href="../../machine/StateSpecs/index.html#State">State</a> → <a href="../../machine/StateSpecs/index.html#State">State</a> → Type 0
@@ -4309,7 +4317,7 @@ abbrev pub <b id="RunInRegions">RunInRegions</b> : {S : Type 0} → <a href="../
     pub mod LentMemorySpecs {}
     #[doc = r####"The calls on memories: what each does to the list of slots.
 
-<pre><code>use Rattle.std.specs.Prelude.{◌≡◌, ◌⊎◌, ◌*◌, ℕ, Option, Some, None, Result, List, MatchOption}
+<pre><code>use Rattle.std.specs.Prelude.{◌≡◌, ◌⊎◌, ◌*◌, ◌&lt;◌, ℕ, Option, Some, None, Result, List, length, MatchOption}
 use Rattle.std.specs.Option.{option_map, option_map_or}
 use Rattle.wasmi_types.specs.Access.{<a href="../../types/AccessSpecs/index.html#at">at</a>}
 use Rattle.wasmi_types.specs.Numbers.{<a href="../../types/NumbersSpecs/index.html#le_bytes">le_bytes</a>}
@@ -4348,10 +4356,10 @@ abbrev pub <b id="CreatesLent">CreatesLent</b> : {S : Type 0} → <a href="../..
     (λ region. <a href="../../machine/EffectsSpecs/index.html#Creates">Creates</a> Memory (<a href="../../store/MemorySpecs/index.html#MakesMemory">MakesMemory</a> rules (<a href="../../store/BufferSpecs/index.html#Lent">Lent</a> region) ty) part.slots l reply part&#x27;.slots l&#x27;
     × (part&#x27;.spare ≡ <a href="../../machine/MemoryEffectsSpecs/index.html#spare_after">spare_after</a> reply part.spare))
 
--- a read: its bounds are tested before memory for the reply is asked for
+-- a read: its bounds are tested before memory for the reply is asked for, which no byte needs
 abbrev pub <b id="ReadsBytes">ReadsBytes</b> : Option (List ℕ) → Reply → Type 0
 <a href="../../machine/MemoryEffectsSpecs/index.html#ReadsBytes">ReadsBytes</a> None reply = reply ≡ Memory OutOfBoundsAccess
-<a href="../../machine/MemoryEffectsSpecs/index.html#ReadsBytes">ReadsBytes</a> (Some bytes) reply = (reply ≡ NoRoom) ⊎ (reply ≡ Bytes bytes)
+<a href="../../machine/MemoryEffectsSpecs/index.html#ReadsBytes">ReadsBytes</a> (Some bytes) reply = ((reply ≡ NoRoom) × (0 &lt; length bytes)) ⊎ (reply ≡ Bytes bytes)
 
 -- the reply to a read of so many bytes from an offset on, by the memory of an index
 abbrev pub <b id="ReadsMemoryAt">ReadsMemoryAt</b> : ℕ → ℕ → ℕ → List (Slot <a href="../../store/MemorySpecs/index.html#MemoryValue">MemoryValue</a>) → Reply → Type 0
@@ -4486,11 +4494,47 @@ abbrev pub <b id="StoresVectorAt">StoresVectorAt</b> : ℕ → ℕ → Option (L
 </code></pre>
 "####]
     pub mod RegisterEffectsSpecs {}
+    #[doc = r####"Replies in memory that is kept from run to run.
+
+<pre><code>use Rattle.std.specs.Prelude.{ℕ, List, codes}
+use Rattle.wasmi_machine.specs.declared.calls.Reply.{Reply}
+
+-- the replies, and for how many there is memory
+pub record <b id="RepliesValue">RepliesValue</b> : Type 0 where
+  pub <b id="items">items</b> : List Reply
+  pub <b id="capacity">capacity</b> : ℕ
+
+-- the text of why a list isn&#x27;t executed
+abbrev pub <b id="too_many_calls_text">too_many_calls_text</b> : List ℕ
+<a href="../../machine/RepliesSpecs/index.html#too_many_calls_text">too_many_calls_text</a> = codes "more calls than there is memory for replies"
+</code></pre>
+"####]
+    pub mod RepliesSpecs {}
+    #[doc = r####"Lists with memory for items that are still to be added.
+
+<pre><code>use Rattle.std.specs.Prelude.{ℕ, List, length, slice_set}
+use Rattle.std.specs.List.{refill}
+
+-- a list: its items, up to how many of them are reserved, and for how many there is memory
+pub record <b id="ReservedListValue">ReservedListValue</b> (X : Type 0) : Type 0 where
+  pub <b id="items">items</b> : List X
+  pub <b id="reserved">reserved</b> : ℕ
+  pub <b id="capacity">capacity</b> : ℕ
+
+-- the list with another item at an index
+abbrev pub <b id="with_item">with_item</b> : {X : Type 0} → <a href="../../machine/ReservedListSpecs/index.html#ReservedListValue">ReservedListValue</a> X → ℕ → X → <a href="../../machine/ReservedListSpecs/index.html#ReservedListValue">ReservedListValue</a> X
+<a href="../../machine/ReservedListSpecs/index.html#with_item">with_item</a> list k x = record list { <a href="../../machine/ReservedListSpecs/index.html#items">items</a> = slice_set list.items k x }
+
+-- the list whose items were written over, by as many
+abbrev pub <b id="with_items">with_items</b> : {X : Type 0} → <a href="../../machine/ReservedListSpecs/index.html#ReservedListValue">ReservedListValue</a> X → List X → <a href="../../machine/ReservedListSpecs/index.html#ReservedListValue">ReservedListValue</a> X
+<a href="../../machine/ReservedListSpecs/index.html#with_items">with_items</a> list xs = record list { <a href="../../machine/ReservedListSpecs/index.html#items">items</a> = refill (length list.items) list.items xs }
+</code></pre>
+"####]
+    pub mod ReservedListSpecs {}
     #[doc = r####"What a machine is to its callers: its state, a world of it with a limiter, its totals, and when it is valid (core specification, the store).
 
-<pre><code>use Rattle.std.specs.Prelude.{ℕ, List, [], Option, Some, None, slice_get, replicate, ◌≡◌, length, map, sum, ◌≤◌, All}
+<pre><code>use Rattle.std.specs.Prelude.{ℕ, ◌+◌, List, [], Option, Some, None, slice_get, replicate, ◌≡◌, length, map, max, sum, ◌≤◌, All}
 use Rattle.std.specs.Option.{option_and_then}
-use Rattle.std.specs.Vec.{with_item}
 use Rattle.wasmi_raw.specs.declared.raw.RawVal.{RawVal}
 use Rattle.wasmi_raw.specs.RawVal.{<a href="../../raw/RawValSpecs/index.html#raw_of">raw_of</a>}
 use Rattle.wasmi_meter.specs.Meter.{<a href="../../meter/MeterSpecs/index.html#Meter">Meter</a>}
@@ -4498,9 +4542,11 @@ use Rattle.wasmi_typed.specs.Global.{<a href="../../typed/GlobalSpecs/index.html
 use Rattle.wasmi_store.specs.Memory.{<a href="../../store/MemorySpecs/index.html#MemoryValue">MemoryValue</a>, <a href="../../store/MemorySpecs/index.html#IsValidMemory">IsValidMemory</a>}
 use Rattle.wasmi_store.specs.Segment.{<a href="../../store/SegmentSpecs/index.html#SegmentValue">SegmentValue</a>, <a href="../../store/SegmentSpecs/index.html#most_items">most_items</a>}
 use Rattle.wasmi_store.specs.Table.{<a href="../../store/TableSpecs/index.html#TableValue">TableValue</a>, <a href="../../store/TableSpecs/index.html#size_of">size_of</a>, <a href="../../store/TableSpecs/index.html#IsValidTable">IsValidTable</a>}
+use Rattle.wasmi_machine.specs.ReservedList.{<a href="../../machine/ReservedListSpecs/index.html#with_item">with_item</a>}
 use Rattle.wasmi_machine.specs.declared.slots.Slot.{Slot}
 use Rattle.wasmi_machine.specs.declared.slots.Slot.TheVariants.{Live, Gone}
 use Rattle.wasmi_machine.specs.declared.slots.Slots.{Slots}
+use Rattle.wasmi_machine.specs.declared.slots.SlotCounts.{SlotCounts}
 use Rattle.wasmi_machine.specs.declared.calls.Call.{Call}
 use Rattle.wasmi_machine.specs.declared.calls.Reply.{Reply}
 use Rattle.wasmi_meter.specs.declared.limiter.Kind.{Kind}
@@ -4523,10 +4569,11 @@ module _ {X : Type 0} where
 
   -- the slots with this live value at an index
   abbrev pub <b id="with_live">with_live</b> : Slots X → ℕ → X → Slots X
-  <a href="../../machine/StateSpecs/index.html#with_live">with_live</a> s k x = record { <a href="../../machine/StateSpecs/index.html#slots">slots</a> = with_item s.slots k (Live x) }
+  <a href="../../machine/StateSpecs/index.html#with_live">with_live</a> s k x = record { <a href="../../machine/StateSpecs/index.html#slots">slots</a> = <a href="../../machine/ReservedListSpecs/index.html#with_item">with_item</a> s.slots k (Live x) }
 
 -- the memories, tables, element segments, data segments and globals that were made, each kind in its order, the
--- registers, the meter, and the bytes of the spare region, if there is one
+-- registers, the meter, the bytes of the spare region, if there is one, and up to how many slots of each kind are
+-- reserved, those of what was made included
 pub record <b id="State">State</b> : Type 0 where
   pub <b id="memories">memories</b> : List (Slot <a href="../../store/MemorySpecs/index.html#MemoryValue">MemoryValue</a>)
   pub <b id="tables">tables</b> : List (Slot <a href="../../store/TableSpecs/index.html#TableValue">TableValue</a>)
@@ -4536,8 +4583,13 @@ pub record <b id="State">State</b> : Type 0 where
   pub <b id="registers">registers</b> : List RawVal
   pub <b id="meter">meter</b> : <a href="../../meter/MeterSpecs/index.html#Meter">Meter</a>
   pub <b id="spare">spare</b> : Option (List ℕ)
+  pub <b id="reserved">reserved</b> : SlotCounts
 
--- a machine on which nothing was made yet, with 16 registers of zeros
+-- no slot of any kind
+abbrev pub <b id="no_slots">no_slots</b> : SlotCounts
+<a href="../../machine/StateSpecs/index.html#no_slots">no_slots</a> = record { <a href="../../machine/StateSpecs/index.html#memories">memories</a> = 0; <a href="../../machine/StateSpecs/index.html#tables">tables</a> = 0; <a href="../../machine/StateSpecs/index.html#segments">segments</a> = 0; <a href="../../machine/StateSpecs/index.html#data_segments">data_segments</a> = 0; <a href="../../machine/StateSpecs/index.html#globals">globals</a> = 0 }
+
+-- a machine on which nothing was made or reserved yet, with 16 registers of zeros
 abbrev pub <b id="new_state">new_state</b> : <a href="../../meter/MeterSpecs/index.html#Meter">Meter</a> → <a href="../../machine/StateSpecs/index.html#State">State</a>
 <a href="../../machine/StateSpecs/index.html#new_state">new_state</a> <a href="../../machine/StateSpecs/index.html#meter">meter</a> = record {
   <a href="../../machine/StateSpecs/index.html#memories">memories</a> = [];
@@ -4548,11 +4600,28 @@ abbrev pub <b id="new_state">new_state</b> : <a href="../../meter/MeterSpecs/ind
   <a href="../../machine/StateSpecs/index.html#registers">registers</a> = replicate 16 (<a href="../../raw/RawValSpecs/index.html#raw_of">raw_of</a> 0);
   <a href="../../machine/StateSpecs/index.html#meter">meter</a> = <a href="../../machine/StateSpecs/index.html#meter">meter</a>;
   <a href="../../machine/StateSpecs/index.html#spare">spare</a> = None;
+  <a href="../../machine/StateSpecs/index.html#reserved">reserved</a> = <a href="../../machine/StateSpecs/index.html#no_slots">no_slots</a>;
 }
 
 -- the state with this spare region
 abbrev pub <b id="with_spare">with_spare</b> : <a href="../../machine/StateSpecs/index.html#State">State</a> → List ℕ → <a href="../../machine/StateSpecs/index.html#State">State</a>
 <a href="../../machine/StateSpecs/index.html#with_spare">with_spare</a> s region = record s { <a href="../../machine/StateSpecs/index.html#spare">spare</a> = Some region }
+
+-- up to how many of a list are reserved, once so many more than it has are
+abbrev pub <b id="reserved_for">reserved_for</b> : {A : Type 0} → ℕ → List A → ℕ → ℕ
+<a href="../../machine/StateSpecs/index.html#reserved_for">reserved_for</a> <a href="../../machine/StateSpecs/index.html#reserved">reserved</a> list additional = max <a href="../../machine/StateSpecs/index.html#reserved">reserved</a> (length list + additional)
+
+-- the state with so many more slots of each kind reserved
+abbrev pub <b id="with_reserved">with_reserved</b> : <a href="../../machine/StateSpecs/index.html#State">State</a> → SlotCounts → <a href="../../machine/StateSpecs/index.html#State">State</a>
+<a href="../../machine/StateSpecs/index.html#with_reserved">with_reserved</a> s more = record s {
+  <a href="../../machine/StateSpecs/index.html#reserved">reserved</a> = record {
+    <a href="../../machine/StateSpecs/index.html#memories">memories</a> = <a href="../../machine/StateSpecs/index.html#reserved_for">reserved_for</a> s.reserved.<a href="../../machine/StateSpecs/index.html#memories">memories</a> s.memories more.memories;
+    <a href="../../machine/StateSpecs/index.html#tables">tables</a> = <a href="../../machine/StateSpecs/index.html#reserved_for">reserved_for</a> s.reserved.<a href="../../machine/StateSpecs/index.html#tables">tables</a> s.tables more.tables;
+    <a href="../../machine/StateSpecs/index.html#segments">segments</a> = <a href="../../machine/StateSpecs/index.html#reserved_for">reserved_for</a> s.reserved.<a href="../../machine/StateSpecs/index.html#segments">segments</a> s.segments more.segments;
+    <a href="../../machine/StateSpecs/index.html#data_segments">data_segments</a> = <a href="../../machine/StateSpecs/index.html#reserved_for">reserved_for</a> s.reserved.<a href="../../machine/StateSpecs/index.html#data_segments">data_segments</a> s.data_segments more.data_segments;
+    <a href="../../machine/StateSpecs/index.html#globals">globals</a> = <a href="../../machine/StateSpecs/index.html#reserved_for">reserved_for</a> s.reserved.<a href="../../machine/StateSpecs/index.html#globals">globals</a> s.globals more.globals;
+  };
+}
 
 -- the state with other memories
 abbrev pub <b id="with_memories">with_memories</b> : <a href="../../machine/StateSpecs/index.html#State">State</a> → List (Slot <a href="../../store/MemorySpecs/index.html#MemoryValue">MemoryValue</a>) → <a href="../../machine/StateSpecs/index.html#State">State</a>
@@ -4673,7 +4742,7 @@ abbrev pub <b id="IsValidCall">IsValidCall</b> : Call → Type 0
     pub mod StateSpecs {}
     #[doc = r####"One step of the machine: what each call does, and what that changes in a world; and whole runs.
 
-<pre><code>use Rattle.std.specs.Prelude.{◌≡◌, ◌+◌, ℕ, Bool, true, false, List, Option, Some, None, Result, Ok, slice_get, [], ◌∷◌, map}
+<pre><code>use Rattle.std.specs.Prelude.{◌≡◌, ◌⊎◌, ◌+◌, ◌&lt;◌, ◌≤◌, ℕ, Bool, true, false, List, Option, Some, None, Result, Ok, slice_get, [], ◌∷◌, length, map}
 use Rattle.std.specs.Option.{option_map, option_and_then}
 use Rattle.wasmi_types.specs.Numbers.{<a href="../../types/NumbersSpecs/index.html#le_bytes">le_bytes</a>}
 use Rattle.wasmi_types.specs.declared.trap.TrapCode.{TrapCode}
@@ -4874,6 +4943,10 @@ abbrev pub <b id="effect_of">effect_of</b> : <a href="../../machine/StateSpecs/i
 <a href="../../machine/StepsSpecs/index.html#effect_of">effect_of</a> s (call.StoreLane op a k ptr offset) =
     <a href="../../machine/StepsSpecs/index.html#Changed">Changed</a> (<a href="../../machine/StepsSpecs/index.html#BytesStored">BytesStored</a> k (ptr + offset) (option_map (<a href="../../ops/VectorOpsSpecs/index.html#stored_lane">stored_lane</a> op) (<a href="../../machine/RegisterEffectsSpecs/index.html#vector_at">vector_at</a> s.registers a)))
 
+-- memory for one more slot may lack, since each one that is reserved is used
+abbrev pub <b id="LacksSlot">LacksSlot</b> : {A : Type 0} → ℕ → List A → Type 0
+<a href="../../machine/StepsSpecs/index.html#LacksSlot">LacksSlot</a> reserved list = reserved ≤ length list
+
 -- one part of the state changes: a line for each kind
 abbrev pub <b id="HasChange">HasChange</b> : <a href="../../machine/StepsSpecs/index.html#Change">Change</a> → <a href="../../machine/StateSpecs/index.html#State">State</a> → Reply → <a href="../../machine/StateSpecs/index.html#State">State</a> → Type 0
 <a href="../../machine/StepsSpecs/index.html#HasChange">HasChange</a> (<a href="../../machine/StepsSpecs/index.html#BytesWritten">BytesWritten</a> k offset bytes) s = <a href="../../machine/EffectsSpecs/index.html#ChangesPart">ChangesPart</a> (<a href="../../machine/StateSpecs/index.html#with_memories">with_memories</a> s) (<a href="../../machine/MemoryEffectsSpecs/index.html#WritesMemoryAt">WritesMemoryAt</a> k offset bytes s.memories)
@@ -4882,11 +4955,14 @@ abbrev pub <b id="HasChange">HasChange</b> : <a href="../../machine/StepsSpecs/i
 <a href="../../machine/StepsSpecs/index.html#HasChange">HasChange</a> (<a href="../../machine/StepsSpecs/index.html#MemoryDropped">MemoryDropped</a> k) s = <a href="../../machine/EffectsSpecs/index.html#ChangesPart">ChangesPart</a> (<a href="../../machine/StateSpecs/index.html#with_memories">with_memories</a> s) (<a href="../../machine/EffectsSpecs/index.html#DropsAt">DropsAt</a> <a href="../../machine/StateSpecs/index.html#byte_count">byte_count</a> k s.memories)
 <a href="../../machine/StepsSpecs/index.html#HasChange">HasChange</a> (<a href="../../machine/StepsSpecs/index.html#TableDropped">TableDropped</a> k) s = <a href="../../machine/EffectsSpecs/index.html#ChangesPart">ChangesPart</a> (<a href="../../machine/StateSpecs/index.html#with_tables">with_tables</a> s) (<a href="../../machine/EffectsSpecs/index.html#DropsAt">DropsAt</a> <a href="../../store/TableSpecs/index.html#size_of">size_of</a> k s.tables)
 <a href="../../machine/StepsSpecs/index.html#HasChange">HasChange</a> (<a href="../../machine/StepsSpecs/index.html#ElementSet">ElementSet</a> k index value) s = <a href="../../machine/EffectsSpecs/index.html#ChangesPart">ChangesPart</a> (<a href="../../machine/StateSpecs/index.html#with_tables">with_tables</a> s) (<a href="../../machine/TableEffectsSpecs/index.html#SetsElementAt">SetsElementAt</a> k index value s.tables)
-<a href="../../machine/StepsSpecs/index.html#HasChange">HasChange</a> (<a href="../../machine/StepsSpecs/index.html#SegmentMade">SegmentMade</a> ty items) s = <a href="../../machine/EffectsSpecs/index.html#ChangesPart">ChangesPart</a> (<a href="../../machine/StateSpecs/index.html#with_segments">with_segments</a> s) (<a href="../../machine/ValueEffectsSpecs/index.html#CreatesSegment">CreatesSegment</a> ty items s.segments)
+<a href="../../machine/StepsSpecs/index.html#HasChange">HasChange</a> (<a href="../../machine/StepsSpecs/index.html#SegmentMade">SegmentMade</a> ty items) s = <a href="../../machine/EffectsSpecs/index.html#ChangesPart">ChangesPart</a> (<a href="../../machine/StateSpecs/index.html#with_segments">with_segments</a> s)
+    (<a href="../../machine/ValueEffectsSpecs/index.html#CreatesSegment">CreatesSegment</a> (<a href="../../machine/StepsSpecs/index.html#LacksSlot">LacksSlot</a> s.reserved.segments s.segments) ty items s.segments)
 <a href="../../machine/StepsSpecs/index.html#HasChange">HasChange</a> (<a href="../../machine/StepsSpecs/index.html#ItemsDropped">ItemsDropped</a> k) s = <a href="../../machine/EffectsSpecs/index.html#ChangesPart">ChangesPart</a> (<a href="../../machine/StateSpecs/index.html#with_segments">with_segments</a> s) (<a href="../../machine/ValueEffectsSpecs/index.html#DropsItemsAt">DropsItemsAt</a> k s.segments)
-<a href="../../machine/StepsSpecs/index.html#HasChange">HasChange</a> (<a href="../../machine/StepsSpecs/index.html#DataMade">DataMade</a> bytes) s = <a href="../../machine/EffectsSpecs/index.html#ChangesPart">ChangesPart</a> (<a href="../../machine/StateSpecs/index.html#with_data_segments">with_data_segments</a> s) (<a href="../../machine/EffectsSpecs/index.html#AddsItem">AddsItem</a> bytes s.data_segments)
+<a href="../../machine/StepsSpecs/index.html#HasChange">HasChange</a> (<a href="../../machine/StepsSpecs/index.html#DataMade">DataMade</a> bytes) s = <a href="../../machine/EffectsSpecs/index.html#ChangesPart">ChangesPart</a> (<a href="../../machine/StateSpecs/index.html#with_data_segments">with_data_segments</a> s)
+    (<a href="../../machine/EffectsSpecs/index.html#AddsItem">AddsItem</a> ((0 &lt; length bytes) ⊎ <a href="../../machine/StepsSpecs/index.html#LacksSlot">LacksSlot</a> s.reserved.data_segments s.data_segments) bytes s.data_segments)
 <a href="../../machine/StepsSpecs/index.html#HasChange">HasChange</a> (<a href="../../machine/StepsSpecs/index.html#DataDropped">DataDropped</a> k) s = <a href="../../machine/EffectsSpecs/index.html#ChangesPart">ChangesPart</a> (<a href="../../machine/StateSpecs/index.html#with_data_segments">with_data_segments</a> s) (<a href="../../machine/ValueEffectsSpecs/index.html#DropsDataAt">DropsDataAt</a> k s.data_segments)
-<a href="../../machine/StepsSpecs/index.html#HasChange">HasChange</a> (<a href="../../machine/StepsSpecs/index.html#GlobalMade">GlobalMade</a> global) s = <a href="../../machine/EffectsSpecs/index.html#ChangesPart">ChangesPart</a> (<a href="../../machine/StateSpecs/index.html#with_globals">with_globals</a> s) (<a href="../../machine/EffectsSpecs/index.html#AddsItem">AddsItem</a> global s.globals)
+<a href="../../machine/StepsSpecs/index.html#HasChange">HasChange</a> (<a href="../../machine/StepsSpecs/index.html#GlobalMade">GlobalMade</a> global) s = <a href="../../machine/EffectsSpecs/index.html#ChangesPart">ChangesPart</a> (<a href="../../machine/StateSpecs/index.html#with_globals">with_globals</a> s)
+    (<a href="../../machine/EffectsSpecs/index.html#AddsItem">AddsItem</a> (<a href="../../machine/StepsSpecs/index.html#LacksSlot">LacksSlot</a> s.reserved.globals s.globals) global s.globals)
 <a href="../../machine/StepsSpecs/index.html#HasChange">HasChange</a> (<a href="../../machine/StepsSpecs/index.html#GlobalSet">GlobalSet</a> k value) s = <a href="../../machine/EffectsSpecs/index.html#ChangesPart">ChangesPart</a> (<a href="../../machine/StateSpecs/index.html#with_globals">with_globals</a> s) (<a href="../../machine/ValueEffectsSpecs/index.html#SetsGlobalAt">SetsGlobalAt</a> k value s.globals)
 
 -- a range of one part of the state is written over: a line for each kind
@@ -4905,14 +4981,17 @@ abbrev pub <b id="HasEffect">HasEffect</b> : {S : Type 0} → <a href="../../met
 <a href="../../machine/StepsSpecs/index.html#HasEffect">HasEffect</a> rules (<a href="../../machine/StepsSpecs/index.html#FuelSet">FuelSet</a> fuel) w turn w&#x27; = <a href="../../machine/EffectsSpecs/index.html#Changes">Changes</a> w turn w&#x27; (<a href="../../machine/ValueEffectsSpecs/index.html#SetsFuel">SetsFuel</a> fuel w.state)
 <a href="../../machine/StepsSpecs/index.html#HasEffect">HasEffect</a> rules (<a href="../../machine/StepsSpecs/index.html#Changed">Changed</a> change) w turn w&#x27; = <a href="../../machine/EffectsSpecs/index.html#Changes">Changes</a> w turn w&#x27; (<a href="../../machine/StepsSpecs/index.html#HasChange">HasChange</a> change w.state)
 <a href="../../machine/StepsSpecs/index.html#HasEffect">HasEffect</a> rules (<a href="../../machine/StepsSpecs/index.html#MemoryMade">MemoryMade</a> ty) w turn w&#x27; =
-    <a href="../../machine/EffectsSpecs/index.html#Asks">Asks</a> w turn w&#x27; (<a href="../../machine/StateSpecs/index.html#with_memories">with_memories</a> w.state) (<a href="../../machine/EffectsSpecs/index.html#Creates">Creates</a> reply.Memory (<a href="../../store/MemorySpecs/index.html#MakesMemory">MakesMemory</a> rules <a href="../../store/BufferSpecs/index.html#Owned">Owned</a> ty) w.state.memories)
+    <a href="../../machine/EffectsSpecs/index.html#Asks">Asks</a> w turn w&#x27; (<a href="../../machine/StepsSpecs/index.html#LacksSlot">LacksSlot</a> w.state.reserved.memories w.state.memories) (<a href="../../machine/StateSpecs/index.html#with_memories">with_memories</a> w.state)
+    (<a href="../../machine/EffectsSpecs/index.html#Creates">Creates</a> reply.Memory (<a href="../../store/MemorySpecs/index.html#MakesMemory">MakesMemory</a> rules <a href="../../store/BufferSpecs/index.html#Owned">Owned</a> ty) w.state.memories)
 <a href="../../machine/StepsSpecs/index.html#HasEffect">HasEffect</a> rules (<a href="../../machine/StepsSpecs/index.html#LentMemoryMade">LentMemoryMade</a> ty) w turn w&#x27; =
-    <a href="../../machine/EffectsSpecs/index.html#Asks">Asks</a> w turn w&#x27; (<a href="../../machine/StateSpecs/index.html#with_memory_part">with_memory_part</a> w.state) (<a href="../../machine/MemoryEffectsSpecs/index.html#CreatesLent">CreatesLent</a> rules ty (<a href="../../machine/StateSpecs/index.html#memory_part">memory_part</a> w.state))
+    <a href="../../machine/EffectsSpecs/index.html#Asks">Asks</a> w turn w&#x27; (<a href="../../machine/StepsSpecs/index.html#LacksSlot">LacksSlot</a> w.state.reserved.memories w.state.memories) (<a href="../../machine/StateSpecs/index.html#with_memory_part">with_memory_part</a> w.state)
+    (<a href="../../machine/MemoryEffectsSpecs/index.html#CreatesLent">CreatesLent</a> rules ty (<a href="../../machine/StateSpecs/index.html#memory_part">memory_part</a> w.state))
 <a href="../../machine/StepsSpecs/index.html#HasEffect">HasEffect</a> rules (<a href="../../machine/StepsSpecs/index.html#MemoryGrown">MemoryGrown</a> k pages) w turn w&#x27; = <a href="../../machine/EffectsSpecs/index.html#ActsMetered">ActsMetered</a> w turn w&#x27; w.state.memories (<a href="../../machine/StateSpecs/index.html#with_memories">with_memories</a> w.state)
     (<a href="../../machine/EffectsSpecs/index.html#ActsAt">ActsAt</a> k (<a href="../../machine/EffectsSpecs/index.html#reply_of">reply_of</a> reply.Number reply.Memory) (<a href="../../store/MemorySpecs/index.html#GrowsMemoryCharging">GrowsMemoryCharging</a> rules pages))
     (<a href="../../machine/MemoryEffectsSpecs/index.html#bytes_appended">bytes_appended</a> (<a href="../../machine/StateSpecs/index.html#live_at">live_at</a> w.state.memories k) pages)
 <a href="../../machine/StepsSpecs/index.html#HasEffect">HasEffect</a> rules (<a href="../../machine/StepsSpecs/index.html#TableMade">TableMade</a> ty init) w turn w&#x27; =
-    <a href="../../machine/EffectsSpecs/index.html#Asks">Asks</a> w turn w&#x27; (<a href="../../machine/StateSpecs/index.html#with_tables">with_tables</a> w.state) (<a href="../../machine/EffectsSpecs/index.html#Creates">Creates</a> reply.Table (<a href="../../store/TableSpecs/index.html#MakesTable">MakesTable</a> rules ty init) w.state.tables)
+    <a href="../../machine/EffectsSpecs/index.html#Asks">Asks</a> w turn w&#x27; (<a href="../../machine/StepsSpecs/index.html#LacksSlot">LacksSlot</a> w.state.reserved.tables w.state.tables) (<a href="../../machine/StateSpecs/index.html#with_tables">with_tables</a> w.state)
+    (<a href="../../machine/EffectsSpecs/index.html#Creates">Creates</a> reply.Table (<a href="../../store/TableSpecs/index.html#MakesTable">MakesTable</a> rules ty init) w.state.tables)
 <a href="../../machine/StepsSpecs/index.html#HasEffect">HasEffect</a> rules (<a href="../../machine/StepsSpecs/index.html#TableGrown">TableGrown</a> k n init) w turn w&#x27; = <a href="../../machine/EffectsSpecs/index.html#ActsMetered">ActsMetered</a> w turn w&#x27; w.state.tables (<a href="../../machine/StateSpecs/index.html#with_tables">with_tables</a> w.state)
     (<a href="../../machine/EffectsSpecs/index.html#ActsAt">ActsAt</a> k (<a href="../../machine/EffectsSpecs/index.html#reply_of">reply_of</a> reply.Number reply.Table) (<a href="../../store/TableSpecs/index.html#GrowsTableCharging">GrowsTableCharging</a> rules n init)) (<a href="../../machine/TableEffectsSpecs/index.html#element_bytes">element_bytes</a> n)
 <a href="../../machine/StepsSpecs/index.html#HasEffect">HasEffect</a> rules (<a href="../../machine/StepsSpecs/index.html#RangeWritten">RangeWritten</a> write) w turn w&#x27; = <a href="../../machine/StepsSpecs/index.html#HasRangeWrite">HasRangeWrite</a> write w turn w&#x27;
@@ -5029,9 +5108,9 @@ abbrev pub <b id="IsSegmentOf">IsSegmentOf</b> : RefType → List ℕ → Result
 <a href="../../machine/ValueEffectsSpecs/index.html#IsSegmentOf">IsSegmentOf</a> ty items (Err TooManyItems) = <a href="../../store/SegmentSpecs/index.html#most_items">most_items</a> &lt; length items
 <a href="../../machine/ValueEffectsSpecs/index.html#IsSegmentOf">IsSegmentOf</a> ty items (Err OutOfSystemMemory) = 0 &lt; length items
 
--- an element segment is made
-abbrev pub <b id="CreatesSegment">CreatesSegment</b> : RefType → List ℕ → List <a href="../../store/SegmentSpecs/index.html#SegmentValue">SegmentValue</a> → Reply → List <a href="../../store/SegmentSpecs/index.html#SegmentValue">SegmentValue</a> → Type 0
-<a href="../../machine/ValueEffectsSpecs/index.html#CreatesSegment">CreatesSegment</a> ty items segments reply segments&#x27; = ((reply ≡ NoRoom) × (segments&#x27; ≡ segments))
+-- an element segment is made, unless there is no memory for its slot, which may lack as a fact says
+abbrev pub <b id="CreatesSegment">CreatesSegment</b> : Type 0 → RefType → List ℕ → List <a href="../../store/SegmentSpecs/index.html#SegmentValue">SegmentValue</a> → Reply → List <a href="../../store/SegmentSpecs/index.html#SegmentValue">SegmentValue</a> → Type 0
+<a href="../../machine/ValueEffectsSpecs/index.html#CreatesSegment">CreatesSegment</a> Lacks ty items segments reply segments&#x27; = ((reply ≡ NoRoom) × (segments&#x27; ≡ segments) × Lacks)
     ⊎ ((result : Result <a href="../../store/SegmentSpecs/index.html#SegmentValue">SegmentValue</a> SegmentError) × <a href="../../machine/ValueEffectsSpecs/index.html#IsSegmentOf">IsSegmentOf</a> ty items result
     × <a href="../../machine/EffectsSpecs/index.html#AddsEntry">AddsEntry</a> (λ x. x) Segment result segments reply segments&#x27;)
 
@@ -5403,6 +5482,110 @@ module _ {S : Type 0} (rules : <a href="../../meter/LimiterSpecs/index.html#Rule
 </code></pre>
 "####]
     pub mod PlacesSpecs {}
+    #[doc = r####"Calls and runs that need no memory but what was reserved: none of their replies says out of memory.
+
+<pre><code>use Rattle.std.specs.Prelude.{◌≡◌, ◌&lt;◌, ◌≤◌, ◌+◌, ℕ, Bool, true, false, List, [], length, All, count_by}
+use Rattle.wasmi_store.specs.Buffer.{<a href="../../store/BufferSpecs/index.html#Room">Room</a>, <a href="../../store/BufferSpecs/index.html#Owned">Owned</a>, <a href="../../store/BufferSpecs/index.html#Lent">Lent</a>}
+use Rattle.wasmi_store.specs.Memory.{<a href="../../store/MemorySpecs/index.html#MemoryValue">MemoryValue</a>}
+use Rattle.wasmi_meter.specs.Limiter.{<a href="../../meter/LimiterSpecs/index.html#Rules">Rules</a>}
+use Rattle.wasmi_machine.specs.declared.calls.Call.{Call}
+use Rattle.wasmi_machine.specs.declared.calls.Call.TheVariants.{NewMemory, NewLentMemory, GrowMemory, Read, NewTable, GrowTable, NewSegment, NewData, NewGlobal}
+use Rattle.wasmi_machine.specs.declared.calls.Reply.{Reply}
+use Rattle.wasmi_machine.specs.declared.slots.Slot.{Slot}
+use Rattle.wasmi_machine.specs.State.{<a href="../../machine/StateSpecs/index.html#State">State</a>, <a href="../../machine/StateSpecs/index.html#live_at">live_at</a>, <a href="../../machine/StateSpecs/index.html#World">World</a>, <a href="../../machine/StateSpecs/index.html#Turn">Turn</a>}
+use Rattle.wasmi_machine.specs.Effects.{<a href="../../machine/EffectsSpecs/index.html#OnLive">OnLive</a>}
+use Rattle.wasmi_machine.specs.Determinism.{<a href="../../machine/DeterminismSpecs/index.html#IsNotOutOfMemory">IsNotOutOfMemory</a>}
+use Rattle.wasmi_machine.specs.Steps.{<a href="../../machine/StepsSpecs/index.html#Step">Step</a>, <a href="../../machine/StepsSpecs/index.html#IsRunOf">IsRunOf</a>}
+
+-- bytes grow in what is left of a lent region
+abbrev pub <b id="IsLentRoom">IsLentRoom</b> : <a href="../../store/BufferSpecs/index.html#Room">Room</a> → Type 0
+<a href="../../laws/ReservedSpecs/index.html#IsLentRoom">IsLentRoom</a> <a href="../../store/BufferSpecs/index.html#Owned">Owned</a> = ⊥
+<a href="../../laws/ReservedSpecs/index.html#IsLentRoom">IsLentRoom</a> (<a href="../../store/BufferSpecs/index.html#Lent">Lent</a> rest) = Unit {0}
+
+-- a memory lies in a lent region
+abbrev pub <b id="IsLent">IsLent</b> : <a href="../../store/MemorySpecs/index.html#MemoryValue">MemoryValue</a> → Type 0
+<a href="../../laws/ReservedSpecs/index.html#IsLent">IsLent</a> x = <a href="../../laws/ReservedSpecs/index.html#IsLentRoom">IsLentRoom</a> x.room
+
+-- an index names a memory in a lent region, if it names a live one
+abbrev pub <b id="IsInRegion">IsInRegion</b> : List (Slot <a href="../../store/MemorySpecs/index.html#MemoryValue">MemoryValue</a>) → ℕ → Type 0
+<a href="../../laws/ReservedSpecs/index.html#IsInRegion">IsInRegion</a> slots k = <a href="../../machine/EffectsSpecs/index.html#OnLive">OnLive</a> (<a href="../../machine/StateSpecs/index.html#live_at">live_at</a> slots k) (Unit {0}) <a href="../../laws/ReservedSpecs/index.html#IsLent">IsLent</a>
+
+-- memory for one more slot is there, since one that is reserved is free
+abbrev pub <b id="HasSlot">HasSlot</b> : {A : Type 0} → ℕ → List A → Type 0
+<a href="../../laws/ReservedSpecs/index.html#HasSlot">HasSlot</a> reserved list = length list &lt; reserved
+
+-- a call on a machine in this state needs no memory: what it makes has a slot that is reserved, and nothing else that
+-- isn&#x27;t in a lent region; the memory that it grows lies in one; no byte is read; and no table grows or is made
+abbrev pub <b id="NeedsNoMemory">NeedsNoMemory</b> : <a href="../../machine/StateSpecs/index.html#State">State</a> → Call → Type 0
+<a href="../../laws/ReservedSpecs/index.html#NeedsNoMemory">NeedsNoMemory</a> s (NewMemory ty) = ⊥
+<a href="../../laws/ReservedSpecs/index.html#NeedsNoMemory">NeedsNoMemory</a> s (NewLentMemory ty) = <a href="../../laws/ReservedSpecs/index.html#HasSlot">HasSlot</a> s.reserved.<a href="../../laws/ReservedSpecs/index.html#memories">memories</a> s.memories
+<a href="../../laws/ReservedSpecs/index.html#NeedsNoMemory">NeedsNoMemory</a> s (GrowMemory k pages) = <a href="../../laws/ReservedSpecs/index.html#IsInRegion">IsInRegion</a> s.memories k
+<a href="../../laws/ReservedSpecs/index.html#NeedsNoMemory">NeedsNoMemory</a> s (Read k offset len) = len ≡ 0
+<a href="../../laws/ReservedSpecs/index.html#NeedsNoMemory">NeedsNoMemory</a> s (NewTable ty init) = ⊥
+<a href="../../laws/ReservedSpecs/index.html#NeedsNoMemory">NeedsNoMemory</a> s (GrowTable k n init) = n ≡ 0
+<a href="../../laws/ReservedSpecs/index.html#NeedsNoMemory">NeedsNoMemory</a> s (NewSegment ty items) = (items.items ≡ []) × <a href="../../laws/ReservedSpecs/index.html#HasSlot">HasSlot</a> s.reserved.<a href="../../laws/ReservedSpecs/index.html#segments">segments</a> s.segments
+<a href="../../laws/ReservedSpecs/index.html#NeedsNoMemory">NeedsNoMemory</a> s (NewData bytes) = (bytes.items ≡ []) × <a href="../../laws/ReservedSpecs/index.html#HasSlot">HasSlot</a> s.reserved.<a href="../../laws/ReservedSpecs/index.html#data_segments">data_segments</a> s.data_segments
+<a href="../../laws/ReservedSpecs/index.html#NeedsNoMemory">NeedsNoMemory</a> s (NewGlobal value ty) = <a href="../../laws/ReservedSpecs/index.html#HasSlot">HasSlot</a> s.reserved.<a href="../../laws/ReservedSpecs/index.html#globals">globals</a> s.globals
+<a href="../../laws/ReservedSpecs/index.html#NeedsNoMemory">NeedsNoMemory</a> s call = Unit {0}
+
+-- a call needs no memory but for the slot of what it makes, where a memory that it grows and that was there in this
+-- state still lies in its region
+abbrev pub <b id="NeedsOnlySlot">NeedsOnlySlot</b> : <a href="../../machine/StateSpecs/index.html#State">State</a> → Call → Type 0
+<a href="../../laws/ReservedSpecs/index.html#NeedsOnlySlot">NeedsOnlySlot</a> s (NewMemory ty) = ⊥
+<a href="../../laws/ReservedSpecs/index.html#NeedsOnlySlot">NeedsOnlySlot</a> s (GrowMemory k pages) = <a href="../../laws/ReservedSpecs/index.html#IsInRegion">IsInRegion</a> s.memories k
+<a href="../../laws/ReservedSpecs/index.html#NeedsOnlySlot">NeedsOnlySlot</a> s (Read k offset len) = len ≡ 0
+<a href="../../laws/ReservedSpecs/index.html#NeedsOnlySlot">NeedsOnlySlot</a> s (NewTable ty init) = ⊥
+<a href="../../laws/ReservedSpecs/index.html#NeedsOnlySlot">NeedsOnlySlot</a> s (GrowTable k n init) = n ≡ 0
+<a href="../../laws/ReservedSpecs/index.html#NeedsOnlySlot">NeedsOnlySlot</a> s (NewSegment ty items) = items.items ≡ []
+<a href="../../laws/ReservedSpecs/index.html#NeedsOnlySlot">NeedsOnlySlot</a> s (NewData bytes) = bytes.items ≡ []
+<a href="../../laws/ReservedSpecs/index.html#NeedsOnlySlot">NeedsOnlySlot</a> s call = Unit {0}
+
+-- whether a call makes a memory in the spare region
+abbrev pub <b id="makes_lent_memory">makes_lent_memory</b> : Call → Bool
+<a href="../../laws/ReservedSpecs/index.html#makes_lent_memory">makes_lent_memory</a> (NewLentMemory ty) = true
+<a href="../../laws/ReservedSpecs/index.html#makes_lent_memory">makes_lent_memory</a> call = false
+
+-- whether a call makes an element segment
+abbrev pub <b id="makes_segment">makes_segment</b> : Call → Bool
+<a href="../../laws/ReservedSpecs/index.html#makes_segment">makes_segment</a> (NewSegment ty items) = true
+<a href="../../laws/ReservedSpecs/index.html#makes_segment">makes_segment</a> call = false
+
+-- whether a call makes a data segment
+abbrev pub <b id="makes_data">makes_data</b> : Call → Bool
+<a href="../../laws/ReservedSpecs/index.html#makes_data">makes_data</a> (NewData bytes) = true
+<a href="../../laws/ReservedSpecs/index.html#makes_data">makes_data</a> call = false
+
+-- whether a call makes a global
+abbrev pub <b id="makes_global">makes_global</b> : Call → Bool
+<a href="../../laws/ReservedSpecs/index.html#makes_global">makes_global</a> (NewGlobal value ty) = true
+<a href="../../laws/ReservedSpecs/index.html#makes_global">makes_global</a> call = false
+
+-- as many slots as these calls take are reserved and free
+abbrev pub <b id="HasSlots">HasSlots</b> : {A : Type 0} → ℕ → List A → (Call → Bool) → List Call → Type 0
+<a href="../../laws/ReservedSpecs/index.html#HasSlots">HasSlots</a> reserved list makes calls = length list + count_by makes calls ≤ reserved
+
+-- a machine has reserved what these calls need: each needs only a slot, and of each kind as many slots as they take are
+-- reserved and free
+pub record <b id="IsReservedFor">IsReservedFor</b> (s : <a href="../../machine/StateSpecs/index.html#State">State</a>) (calls : List Call) : Type 0 where
+  pub <b id="needs">needs</b> : All (<a href="../../laws/ReservedSpecs/index.html#NeedsOnlySlot">NeedsOnlySlot</a> s) calls
+  pub <b id="memories">memories</b> : <a href="../../laws/ReservedSpecs/index.html#HasSlots">HasSlots</a> s.reserved.<a href="../../laws/ReservedSpecs/index.html#memories">memories</a> s.memories <a href="../../laws/ReservedSpecs/index.html#makes_lent_memory">makes_lent_memory</a> calls
+  pub <b id="segments">segments</b> : <a href="../../laws/ReservedSpecs/index.html#HasSlots">HasSlots</a> s.reserved.<a href="../../laws/ReservedSpecs/index.html#segments">segments</a> s.segments <a href="../../laws/ReservedSpecs/index.html#makes_segment">makes_segment</a> calls
+  pub <b id="data_segments">data_segments</b> : <a href="../../laws/ReservedSpecs/index.html#HasSlots">HasSlots</a> s.reserved.<a href="../../laws/ReservedSpecs/index.html#data_segments">data_segments</a> s.data_segments <a href="../../laws/ReservedSpecs/index.html#makes_data">makes_data</a> calls
+  pub <b id="globals">globals</b> : <a href="../../laws/ReservedSpecs/index.html#HasSlots">HasSlots</a> s.reserved.<a href="../../laws/ReservedSpecs/index.html#globals">globals</a> s.globals <a href="../../laws/ReservedSpecs/index.html#makes_global">makes_global</a> calls
+
+module _ {S : Type 0} (rules : <a href="../../meter/LimiterSpecs/index.html#Rules">Rules</a> S) where
+  -- the reply to a call that needs no memory doesn&#x27;t say out of memory
+  abbrev pub <b id="ReservedCallsSucceed">ReservedCallsSucceed</b> : Type 0
+  <a href="../../laws/ReservedSpecs/index.html#ReservedCallsSucceed">ReservedCallsSucceed</a> = (w : <a href="../../machine/StateSpecs/index.html#World">World</a> S) (turn : <a href="../../machine/StateSpecs/index.html#Turn">Turn</a>) (w&#x27; : <a href="../../machine/StateSpecs/index.html#World">World</a> S) → <a href="../../machine/StepsSpecs/index.html#Step">Step</a> rules w turn w&#x27;
+      → <a href="../../laws/ReservedSpecs/index.html#NeedsNoMemory">NeedsNoMemory</a> w.state turn.call → <a href="../../machine/DeterminismSpecs/index.html#IsNotOutOfMemory">IsNotOutOfMemory</a> turn.reply
+
+  -- no reply to calls for which a machine has reserved what they need says out of memory
+  abbrev pub <b id="ReservedRunsSucceed">ReservedRunsSucceed</b> : Type 0
+  <a href="../../laws/ReservedSpecs/index.html#ReservedRunsSucceed">ReservedRunsSucceed</a> = (calls : List Call) (w : <a href="../../machine/StateSpecs/index.html#World">World</a> S) (replies : List Reply) (w&#x27; : <a href="../../machine/StateSpecs/index.html#World">World</a> S)
+      → <a href="../../laws/ReservedSpecs/index.html#IsReservedFor">IsReservedFor</a> w.state calls → <a href="../../machine/StepsSpecs/index.html#IsRunOf">IsRunOf</a> rules calls w replies w&#x27; → All <a href="../../machine/DeterminismSpecs/index.html#IsNotOutOfMemory">IsNotOutOfMemory</a> replies
+</code></pre>
+"####]
+    pub mod ReservedSpecs {}
     #[doc = r####"Laws of whole runs, and of the meter over them.
 
 <pre><code>use Rattle.std.specs.Prelude.{◌≡◌, ◌≤◌, ◌++◌, ℕ, List, length, take, drop, map, Option, Some, slice_get, All, ◌+◌, is_some}
@@ -5688,6 +5871,8 @@ use Rattle.wasmi_budget.specs.declared.error.AddError.{AddError}
 use Rattle.wasmi_budget.specs.declared.error.AddError.TheVariants.{NotEmpty, NoRoom}
 use Rattle.wasmi_budget.specs.declared.error.PoolError.{PoolError}
 use Rattle.wasmi_budget.specs.declared.error.PoolError.TheVariants.{NoTenant, OutOfMemory}
+use Rattle.wasmi_budget.specs.declared.error.RunIntoError.{RunIntoError}
+use Rattle.wasmi_budget.specs.declared.error.RunIntoError.TheVariants as into
 
 -- what a tenant holds
 abbrev pub <b id="holdings">holdings</b> : Tenant → Holdings
@@ -5847,6 +6032,11 @@ abbrev pub <b id="add_error_text">add_error_text</b> : AddError → List ℕ
 abbrev pub <b id="pool_error_text">pool_error_text</b> : PoolError → List ℕ
 <a href="../../budget/PoolSpecs/index.html#pool_error_text">pool_error_text</a> NoTenant = codes "tried to run a tenant that is not in the pool"
 <a href="../../budget/PoolSpecs/index.html#pool_error_text">pool_error_text</a> OutOfMemory = codes "out of memory for the replies"
+
+-- the text of why a pool makes no run into memory that is kept
+abbrev pub <b id="run_into_error_text">run_into_error_text</b> : RunIntoError → List ℕ
+<a href="../../budget/PoolSpecs/index.html#run_into_error_text">run_into_error_text</a> into.NoTenant = codes "tried to run a tenant that is not in the pool"
+<a href="../../budget/PoolSpecs/index.html#run_into_error_text">run_into_error_text</a> into.TooManyCalls = codes "more calls than there is memory for replies"
 </code></pre>
 "####]
     pub mod PoolSpecs {}
