@@ -2,112 +2,41 @@
 //! vectors, and a machine that runs lists of calls: the crates of this library under one name.
 #![tactic(auto)]
 
+pub use wasmi_access::{access, laws as access_laws};
+pub use wasmi_lanes::{laws as lane_laws, on_vectors, words};
+pub use wasmi_machine::{
+    ByteList, Call, DataSegment, Machine, Replies, Reply, SlotCounts, TooManyCalls, laws, run,
+    run_into, run_into_lending, run_into_reserving, run_lending, run_reserving,
+};
+
 pub mod simd;
 pub mod wasm;
 
-pub use wasmi_access::access;
-pub use wasmi_access::laws as access_laws;
-pub use wasmi_lanes::laws as lane_laws;
-pub use wasmi_lanes::on_vectors;
-pub use wasmi_lanes::words;
-pub use wasmi_machine::ByteList;
-pub use wasmi_machine::Call;
-pub use wasmi_machine::DataSegment;
-pub use wasmi_machine::Machine;
-pub use wasmi_machine::Replies;
-pub use wasmi_machine::Reply;
-pub use wasmi_machine::SlotCounts;
-pub use wasmi_machine::TooManyCalls;
-pub use wasmi_machine::laws;
-pub use wasmi_machine::run;
-pub use wasmi_machine::run_into;
-pub use wasmi_machine::run_into_lending;
-pub use wasmi_machine::run_into_reserving;
-pub use wasmi_machine::run_lending;
-pub use wasmi_machine::run_reserving;
-pub use wasmi_meter::Amounts;
-pub use wasmi_meter::AnswerList;
-pub use wasmi_meter::AnyLimiter;
-pub use wasmi_meter::CustomFuelCosts;
-pub use wasmi_meter::Fuel;
-pub use wasmi_meter::FuelCosts;
-pub use wasmi_meter::FuelCostsProvider;
-pub use wasmi_meter::FuelError;
-pub use wasmi_meter::Holdings;
-pub use wasmi_meter::Kind;
-pub use wasmi_meter::Lender;
-pub use wasmi_meter::LimiterAnswer;
-pub use wasmi_meter::LimiterByKind;
-pub use wasmi_meter::LimiterError;
-pub use wasmi_meter::LimiterRef;
-pub use wasmi_meter::MemoryError;
-pub use wasmi_meter::NoLimits;
-pub use wasmi_meter::Quota;
-pub use wasmi_meter::Reserving;
-pub use wasmi_meter::ResourceLimiter;
-pub use wasmi_meter::ResourceLimiterRef;
-pub use wasmi_meter::TableError;
-pub use wasmi_meter::ValueSize;
-pub use wasmi_ops::BinaryOp;
-pub use wasmi_ops::ExtractOp;
-pub use wasmi_ops::LoadLaneOp;
-pub use wasmi_ops::LoadOp;
-pub use wasmi_ops::MakeOp;
-pub use wasmi_ops::ReplaceOp;
-pub use wasmi_ops::ShiftOp;
-pub use wasmi_ops::StoreLaneOp;
-pub use wasmi_ops::StoreOp;
-pub use wasmi_ops::TernaryOp;
-pub use wasmi_ops::TestOp;
-pub use wasmi_ops::UnaryOp;
-pub use wasmi_ops::VectorLoadOp;
-pub use wasmi_raw::F32;
-pub use wasmi_raw::F64;
-pub use wasmi_raw::Number;
-pub use wasmi_raw::RawRef;
-pub use wasmi_raw::RawVal;
-pub use wasmi_raw::ReadAs;
-pub use wasmi_raw::ReadBack;
-pub use wasmi_raw::V128;
-pub use wasmi_raw::WriteAs;
-pub use wasmi_raw::laws as raw_laws;
-pub use wasmi_scalar::value::Integer;
-pub use wasmi_scalar::value::SignExtendFrom;
-pub use wasmi_scalar::value::Unsigned;
-pub use wasmi_scalar_ops::ScalarBinaryOp;
-pub use wasmi_scalar_ops::ScalarUnaryOp;
+pub use wasmi_meter::{
+    Amounts, AnswerList, AnyLimiter, CustomFuelCosts, Fuel, FuelCosts, FuelCostsProvider,
+    FuelError, Holdings, Kind, Lender, LimiterAnswer, LimiterByKind, LimiterError, LimiterRef,
+    MemoryError, NoLimits, Quota, Reserving, ResourceLimiter, ResourceLimiterRef, TableError,
+    ValueSize,
+};
+pub use wasmi_ops::{
+    BinaryOp, ExtractOp, LoadLaneOp, LoadOp, MakeOp, ReplaceOp, ShiftOp, StoreLaneOp, StoreOp,
+    TernaryOp, TestOp, UnaryOp, VectorLoadOp,
+};
+pub use wasmi_raw::{
+    F32, F64, Number, RawRef, RawVal, ReadAs, ReadBack, V128, WriteAs, laws as raw_laws,
+};
+pub use wasmi_scalar::value::{Integer, SignExtendFrom, Unsigned};
+pub use wasmi_scalar_ops::{ScalarBinaryOp, ScalarUnaryOp};
 pub use wasmi_simd::laws as widening_laws;
-pub use wasmi_store::Buffer;
-pub use wasmi_store::ByteBuffer;
-pub use wasmi_store::ElementSegment;
-pub use wasmi_store::ElementSegmentRef;
-pub use wasmi_store::LinearMemory;
-pub use wasmi_store::Memory;
-pub use wasmi_store::MemoryType;
-pub use wasmi_store::MemoryTypeBuilder;
-pub use wasmi_store::Region;
-pub use wasmi_store::SegmentError;
-pub use wasmi_store::Table;
-pub use wasmi_store::TableType;
-pub use wasmi_store::growth;
-pub use wasmi_store::laws as store_laws;
-pub use wasmi_typed::Global;
-pub use wasmi_typed::GlobalError;
-pub use wasmi_typed::GlobalType;
-pub use wasmi_typed::IntoShiftAmount;
-pub use wasmi_typed::Mutability;
-pub use wasmi_typed::NotAReference;
-pub use wasmi_typed::ShiftAmount;
-pub use wasmi_typed::Typed;
-pub use wasmi_typed::TypedRawRef;
-pub use wasmi_typed::TypedRawVal;
-pub use wasmi_types::FuncType;
-pub use wasmi_types::FuncTypeError;
-pub use wasmi_types::HostError;
-pub use wasmi_types::IndexType;
-pub use wasmi_types::InvalidTrapCode;
-pub use wasmi_types::RefType;
-pub use wasmi_types::Trap;
-pub use wasmi_types::TrapCode;
-pub use wasmi_types::ValType;
-pub use wasmi_types::hint;
+pub use wasmi_store::{
+    Buffer, ByteBuffer, ElementSegment, ElementSegmentRef, LinearMemory, Memory, MemoryType,
+    MemoryTypeBuilder, Region, SegmentError, Table, TableType, growth, laws as store_laws,
+};
+pub use wasmi_typed::{
+    Global, GlobalError, GlobalType, IntoShiftAmount, Mutability, NotAReference, ShiftAmount,
+    Typed, TypedRawRef, TypedRawVal,
+};
+pub use wasmi_types::{
+    FuncType, FuncTypeError, HostError, IndexType, InvalidTrapCode, RefType, Trap, TrapCode,
+    ValType, hint,
+};

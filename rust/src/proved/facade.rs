@@ -1,5 +1,12 @@
 //! Metered WebAssembly memories and tables under a resource limiter, instructions on numbers and
 //! vectors, and a machine that runs lists of calls: the crates of this library under one name.
+pub use crate::proved::accesses::access;
+pub use crate::proved::lanes::{on_vectors, words};
+pub use crate::proved::machine::{
+    ByteList, Call, DataSegment, Machine, Replies, Reply, SlotCounts, TooManyCalls, laws, run,
+    run_into, run_into_lending, run_into_reserving, run_lending, run_reserving,
+};
+
 pub mod simd {
     //! The vector instructions, the loads and stores of vectors, and the lane types and indices.
     //!
@@ -110,104 +117,28 @@ pub mod wasm {
     };
 }
 
-pub use crate::proved::accesses::access;
-pub use crate::proved::lanes::on_vectors;
-pub use crate::proved::lanes::words;
-pub use crate::proved::machine::ByteList;
-pub use crate::proved::machine::Call;
-pub use crate::proved::machine::DataSegment;
-pub use crate::proved::machine::Machine;
-pub use crate::proved::machine::Replies;
-pub use crate::proved::machine::Reply;
-pub use crate::proved::machine::SlotCounts;
-pub use crate::proved::machine::TooManyCalls;
-pub use crate::proved::machine::laws;
-pub use crate::proved::machine::run;
-pub use crate::proved::machine::run_into;
-pub use crate::proved::machine::run_into_lending;
-pub use crate::proved::machine::run_into_reserving;
-pub use crate::proved::machine::run_lending;
-pub use crate::proved::machine::run_reserving;
-pub use crate::proved::meter::Amounts;
-pub use crate::proved::meter::AnswerList;
-pub use crate::proved::meter::AnyLimiter;
-pub use crate::proved::meter::CustomFuelCosts;
-pub use crate::proved::meter::Fuel;
-pub use crate::proved::meter::FuelCosts;
-pub use crate::proved::meter::FuelCostsProvider;
-pub use crate::proved::meter::FuelError;
-pub use crate::proved::meter::Holdings;
-pub use crate::proved::meter::Kind;
-pub use crate::proved::meter::Lender;
-pub use crate::proved::meter::LimiterAnswer;
-pub use crate::proved::meter::LimiterByKind;
-pub use crate::proved::meter::LimiterError;
-pub use crate::proved::meter::LimiterRef;
-pub use crate::proved::meter::MemoryError;
-pub use crate::proved::meter::NoLimits;
-pub use crate::proved::meter::Quota;
-pub use crate::proved::meter::Reserving;
-pub use crate::proved::meter::ResourceLimiter;
-pub use crate::proved::meter::ResourceLimiterRef;
-pub use crate::proved::meter::TableError;
-pub use crate::proved::meter::ValueSize;
-pub use crate::proved::ops::BinaryOp;
-pub use crate::proved::ops::ExtractOp;
-pub use crate::proved::ops::LoadLaneOp;
-pub use crate::proved::ops::LoadOp;
-pub use crate::proved::ops::MakeOp;
-pub use crate::proved::ops::ReplaceOp;
-pub use crate::proved::ops::ShiftOp;
-pub use crate::proved::ops::StoreLaneOp;
-pub use crate::proved::ops::StoreOp;
-pub use crate::proved::ops::TernaryOp;
-pub use crate::proved::ops::TestOp;
-pub use crate::proved::ops::UnaryOp;
-pub use crate::proved::ops::VectorLoadOp;
-pub use crate::proved::raw::F32;
-pub use crate::proved::raw::F64;
-pub use crate::proved::raw::Number;
-pub use crate::proved::raw::RawRef;
-pub use crate::proved::raw::RawVal;
-pub use crate::proved::raw::ReadAs;
-pub use crate::proved::raw::ReadBack;
-pub use crate::proved::raw::V128;
-pub use crate::proved::raw::WriteAs;
-pub use crate::proved::scalar::value::Integer;
-pub use crate::proved::scalar::value::SignExtendFrom;
-pub use crate::proved::scalar::value::Unsigned;
-pub use crate::proved::scalar_ops::ScalarBinaryOp;
-pub use crate::proved::scalar_ops::ScalarUnaryOp;
-pub use crate::proved::store::Buffer;
-pub use crate::proved::store::ByteBuffer;
-pub use crate::proved::store::ElementSegment;
-pub use crate::proved::store::ElementSegmentRef;
-pub use crate::proved::store::LinearMemory;
-pub use crate::proved::store::Memory;
-pub use crate::proved::store::MemoryType;
-pub use crate::proved::store::MemoryTypeBuilder;
-pub use crate::proved::store::Region;
-pub use crate::proved::store::SegmentError;
-pub use crate::proved::store::Table;
-pub use crate::proved::store::TableType;
-pub use crate::proved::store::growth;
-pub use crate::proved::typed::Global;
-pub use crate::proved::typed::GlobalError;
-pub use crate::proved::typed::GlobalType;
-pub use crate::proved::typed::IntoShiftAmount;
-pub use crate::proved::typed::Mutability;
-pub use crate::proved::typed::NotAReference;
-pub use crate::proved::typed::ShiftAmount;
-pub use crate::proved::typed::Typed;
-pub use crate::proved::typed::TypedRawRef;
-pub use crate::proved::typed::TypedRawVal;
-pub use crate::proved::types::FuncType;
-pub use crate::proved::types::FuncTypeError;
-pub use crate::proved::types::HostError;
-pub use crate::proved::types::IndexType;
-pub use crate::proved::types::InvalidTrapCode;
-pub use crate::proved::types::RefType;
-pub use crate::proved::types::Trap;
-pub use crate::proved::types::TrapCode;
-pub use crate::proved::types::ValType;
-pub use crate::proved::types::hint;
+pub use crate::proved::meter::{
+    Amounts, AnswerList, AnyLimiter, CustomFuelCosts, Fuel, FuelCosts, FuelCostsProvider,
+    FuelError, Holdings, Kind, Lender, LimiterAnswer, LimiterByKind, LimiterError, LimiterRef,
+    MemoryError, NoLimits, Quota, Reserving, ResourceLimiter, ResourceLimiterRef, TableError,
+    ValueSize,
+};
+pub use crate::proved::ops::{
+    BinaryOp, ExtractOp, LoadLaneOp, LoadOp, MakeOp, ReplaceOp, ShiftOp, StoreLaneOp, StoreOp,
+    TernaryOp, TestOp, UnaryOp, VectorLoadOp,
+};
+pub use crate::proved::raw::{F32, F64, Number, RawRef, RawVal, ReadAs, ReadBack, V128, WriteAs};
+pub use crate::proved::scalar::value::{Integer, SignExtendFrom, Unsigned};
+pub use crate::proved::scalar_ops::{ScalarBinaryOp, ScalarUnaryOp};
+pub use crate::proved::store::{
+    Buffer, ByteBuffer, ElementSegment, ElementSegmentRef, LinearMemory, Memory, MemoryType,
+    MemoryTypeBuilder, Region, SegmentError, Table, TableType, growth,
+};
+pub use crate::proved::typed::{
+    Global, GlobalError, GlobalType, IntoShiftAmount, Mutability, NotAReference, ShiftAmount,
+    Typed, TypedRawRef, TypedRawVal,
+};
+pub use crate::proved::types::{
+    FuncType, FuncTypeError, HostError, IndexType, InvalidTrapCode, RefType, Trap, TrapCode,
+    ValType, hint,
+};
