@@ -561,7 +561,7 @@ mod tenant {
     //! One machine of a pool, with what it has, and its limiter.
 
     use crate::proved::machine::{
-        Call, Machine, Replies, Reply, TooManyCalls, run_into_reserving, run_reserving,
+        Call, Machine, Replies, Reply, TooManyCalls, run_into_lending, run_lending,
     };
     use crate::proved::meter::{Amounts, CappedLimiter, Holdings, Kind, ResourceLimiterRef};
     use crate::rattle::Vec;
@@ -710,7 +710,7 @@ mod tenant {
             all: &mut Amounts,
         ) -> Result<Vec<Reply>, AllocError> {
             let mut tenant = Tenant::new(caps, *all, self.held);
-            let replies = run_reserving(&mut self.machine, calls, &mut tenant)?;
+            let replies = run_lending(&mut self.machine, calls, &mut tenant)?;
             tenant.leave(&mut self.held, all);
             Ok(replies)
         }
@@ -739,7 +739,7 @@ mod tenant {
             replies: &mut Replies,
         ) -> Result<(), TooManyCalls> {
             let mut tenant = Tenant::new(caps, *all, self.held);
-            run_into_reserving(&mut self.machine, calls, &mut tenant, replies)?;
+            run_into_lending(&mut self.machine, calls, &mut tenant, replies)?;
             tenant.leave(&mut self.held, all);
             Ok(())
         }
