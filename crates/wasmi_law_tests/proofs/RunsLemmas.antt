@@ -31,7 +31,7 @@ use Rattle.wasmi_c.specs.Machine.Caps.{MachineValue}
 use Rattle.wasmi_c.specs.Machine.Calls.{CallsAreRuns, ListsAreRuns, MachineRunsJoin, RepliesInTurn, RepliesToList}
 use Rattle.wasmi_c.specs.Machine.Replies.{only}
 use Rattle.wasmi_c.specs.Pool.{TenantReplies, TenantRepliesToStruct}
-use Rattle.wasmi_c.specs.declared.status.TheConstants.{NO_CALL, NO_MACHINE, NO_POOL}
+use Rattle.wasmi_c.specs.declared.status.TheConstants.{DONE, NO_CALL, NO_MACHINE, NO_POOL}
 use Rattle.wasmi_c.specs.declared.machine.call_struct.CallStruct.{CallStruct}
 use Rattle.wasmi_c.specs.declared.machine.reply_struct.ReplyStruct.{ReplyStruct}
 
