@@ -10,12 +10,15 @@ use Rattle.wasmi_meter.specs.declared.amounts.Amounts.{Amounts}
 use Rattle.wasmi_machine.specs.declared.calls.Call.{Call}
 use Rattle.wasmi_machine.specs.declared.calls.Call.TheVariants.{Binary, CopyMemory, FillMemory, InitMemory, SetFuel, Store}
 use Rattle.wasmi_machine.specs.declared.calls.Reply.{Reply}
-use Rattle.wasmi_machine.specs.State.{State, total, world, HoldsTotals}
+use Rattle.wasmi_machine.specs.State.{State, total, world, with_reserved, HoldsTotals}
 use Rattle.wasmi_machine.specs.Steps.{IsRunOf, RepliesWith}
+use Rattle.wasmi_machine.specs.declared.slots.SlotCounts.{SlotCounts}
 use Rattle.wasmi_budget.specs.declared.error.AddError.{AddError}
 use Rattle.wasmi_budget.specs.declared.error.AddError.TheVariants.{NotEmpty, NoRoom}
 use Rattle.wasmi_budget.specs.declared.error.PoolError.{PoolError}
 use Rattle.wasmi_budget.specs.declared.error.PoolError.TheVariants.{NoTenant, OutOfMemory}
+use Rattle.wasmi_budget.specs.declared.error.ReserveError.{ReserveError}
+use Rattle.wasmi_budget.specs.declared.error.ReserveError.TheVariants as reserve
 use Rattle.wasmi_budget.specs.declared.error.RunIntoError.{RunIntoError}
 use Rattle.wasmi_budget.specs.declared.error.RunIntoError.TheVariants as into
 
@@ -168,6 +171,18 @@ pub record RemovesTenant (pool : PoolValue) (index : ℕ) (s : State) (pool' : P
   pub found : machine_of pool index ≡ Some s
   pub removed : pool' ≡ record pool { machines = slice_set pool.machines index None }
 
+-- the machine at an index has so many more slots reserved, and all others are the same
+pub record ReservesAt (machines : List (Option State)) (index : ℕ) (more : SlotCounts)
+    (machines' : List (Option State)) : Type 0 where
+  pub machine : State
+  pub found : slice_index_or machines index None ≡ Some machine
+  pub after : machines' ≡ slice_set machines index (Some (with_reserved machine more))
+
+-- the machine of a tenant has so many more slots reserved, and all else is the same
+abbrev pub ReservesForTenant : PoolValue → ℕ → SlotCounts → PoolValue → Type 0
+ReservesForTenant pool index more pool' =
+    (pool'.caps ≡ pool.caps) × ReservesAt pool.machines index more pool'.machines
+
 -- the text of why a machine isn't added to a pool
 abbrev pub add_error_text : AddError → List ℕ
 add_error_text NotEmpty = codes "tried to add a machine that has or had bytes or elements"
@@ -182,3 +197,8 @@ pool_error_text OutOfMemory = codes "out of memory for the replies"
 abbrev pub run_into_error_text : RunIntoError → List ℕ
 run_into_error_text into.NoTenant = codes "tried to run a tenant that is not in the pool"
 run_into_error_text into.TooManyCalls = codes "more calls than there is memory for replies"
+
+-- the text of why a pool reserves no slots
+abbrev pub reserve_error_text : ReserveError → List ℕ
+reserve_error_text reserve.NoTenant = codes "tried to reserve slots for a tenant that is not in the pool"
+reserve_error_text reserve.OutOfMemory = codes "out of memory for the slots"

@@ -1,6 +1,6 @@
 //! Why a pool refuses.
 ghost use Rattle.std.specs.Prelude.{◌≡◌, Some};
-ghost use Rattle.wasmi_budget.specs.Pool.{add_error_text, pool_error_text, run_into_error_text};
+ghost use Rattle.wasmi_budget.specs.Pool.{add_error_text, pool_error_text, reserve_error_text, run_into_error_text};
 ghost use Rattle.wasmi_budget.specs.declared.error.PoolError.TheVariants.{OutOfMemory};
 
 use std::alloc::AllocError;
@@ -90,5 +90,38 @@ impl From<AllocError> for PoolError {
 
     fn from(_: AllocError) -> Self {
         PoolError::OutOfMemory
+    }
+}
+
+/// Why a pool reserves no slots for a tenant, in the order of the tests.
+#[derive(Debug, PartialEq, Eq, Drop)]
+pub enum ReserveError {
+    /// No tenant has the index.
+    NoTenant,
+    /// Memory for some of the slots was refused. None more is reserved.
+    OutOfMemory,
+}
+
+impl fmt::Display for ReserveError {
+    ghost output = { λ error. Some (reserve_error_text error) };
+
+    fn fmt<W: fmt::Write>(&self, f: &mut fmt::Formatter<W>) -> fmt::Result {
+        f.write_str(match self {
+            Self::NoTenant => "tried to reserve slots for a tenant that is not in the pool",
+            Self::OutOfMemory => "out of memory for the slots",
+        })
+    }
+}
+
+impl std::error::Error for ReserveError {}
+
+impl From<AllocError> for ReserveError {
+    ghost use Rattle.std.specs.Prelude.{◌≡◌};
+    ghost use Rattle.wasmi_budget.specs.declared.error.ReserveError.TheVariants as reserve;
+
+    ghost from_gives = { λ _ error. error ≡ reserve.OutOfMemory };
+
+    fn from(_: AllocError) -> Self {
+        ReserveError::OutOfMemory
     }
 }

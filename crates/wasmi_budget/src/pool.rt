@@ -4,14 +4,14 @@ ghost use Rattle.std.specs.Option.{option_map, option_copied};
 ghost use Rattle.wasmi_meter.specs.declared.limiter.Kind.TheVariants.{Bytes, Elements};
 ghost use Rattle.wasmi_meter.specs.Capped.{amounts_of};
 ghost use Rattle.wasmi_machine.specs.State.{total};
-ghost use Rattle.wasmi_budget.specs.Pool.{IsUnasked, IsWithinCaps, machine_of, total_of, AddsTenant, IsAddRefusal, RemovesTenant, RunsTenant};
+ghost use Rattle.wasmi_budget.specs.Pool.{IsUnasked, IsWithinCaps, machine_of, total_of, AddsTenant, IsAddRefusal, RemovesTenant, ReservesForTenant, RunsTenant};
 
-use crate::error::{AddError, PoolError, RunIntoError};
+use crate::error::{AddError, PoolError, ReserveError, RunIntoError};
 use crate::tenant::CountedMachine;
 use crate::tenants::Tenants;
 use std::alloc::Global as Allocator;
 use std::marker::Model;
-use wasmi_machine::{Call, Machine, Replies, Reply};
+use wasmi_machine::{Call, Machine, Replies, Reply, SlotCounts};
 use wasmi_meter::Amounts;
 
 /// Machines that share a cap on the bytes of their memories, and one on the elements of their
@@ -111,6 +111,23 @@ impl<'r> Pool<'r> {
             elements: self.held_by_all.elements - held.elements,
         };
         Some(machine)
+    }
+
+    /// Reserves so many more slots of each kind on the machine of a tenant, as `Machine::reserve`
+    /// does. What is reserved counts within no cap.
+    ///
+    /// # Errors
+    ///
+    /// In the order of the tests: `NoTenant` if no tenant has the index; `OutOfMemory` if memory for
+    /// some of the slots is refused. Then none more is reserved.
+    pub fn reserve(&mut self, index: usize, slots: SlotCounts) -> Result<(), ReserveError>
+        ensures reserved { OnOk result (ReservesForTenant self.old index slots self.new) }
+        ensures no_tenant { IsErrOf result ReserveError.NoTenant
+            ↔ (machine_of self.old index ≡ None) }
+        ensures refused { OnErr result (self.new ≡ self.old) }
+        ensures within { IsWithinCaps self.new }
+    {
+        self.tenants.reserve(index, slots)
     }
 
     /// Executes calls on the machine of a tenant, under a limiter that permits what keeps all

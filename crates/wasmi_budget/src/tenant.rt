@@ -4,13 +4,13 @@ ghost use Rattle.wasmi_meter.specs.declared.limiter.Kind.{Kind};
 ghost use Rattle.wasmi_meter.specs.Capped.{amounts_of, held_together};
 ghost use Rattle.wasmi_meter.specs.Limiter.{optional_rules};
 ghost use Rattle.wasmi_machine.specs.Steps.{RepliesWith};
-ghost use Rattle.wasmi_machine.specs.State.{total, world, IsRefusal};
+ghost use Rattle.wasmi_machine.specs.State.{total, with_reserved, world, IsRefusal};
 ghost use Rattle.wasmi_budget.specs.Pool.{holdings, capped_tenant, tenant_rules, tenant_of, held_before, IsPart, RunsAsPart, IsUnasked, RepliesUnasked};
 
 use std::alloc::AllocError;
 use std::marker::Model;
 use wasmi_machine::{
-    Call, Machine, Replies, Reply, TooManyCalls, run_into_reserving, run_reserving,
+    Call, Machine, Replies, Reply, SlotCounts, TooManyCalls, run_into_reserving, run_reserving,
 };
 use wasmi_meter::{Amounts, CappedLimiter, Holdings, Kind, ResourceLimiterRef};
 
@@ -110,6 +110,14 @@ impl<'r> Model for CountedMachine<'r> {
 }
 
 impl<'r> CountedMachine<'r> {
+    /// Reserves so many more slots. What the machine has stays, so no tenant holds it.
+    pub(crate) fn reserve(&mut self, slots: SlotCounts) -> Result<(), AllocError>
+        ensures reserved { OnOk result (self.new ≡ with_reserved self.old slots) }
+        ensures refused { OnErr result (self.new ≡ self.old) }
+    {
+        self.machine.reserve(slots)
+    }
+
     /// Executes calls under its limiter in a pool with these caps, whose tenants hold `all`, which
     /// becomes what they hold afterwards.
     pub(crate) fn run(

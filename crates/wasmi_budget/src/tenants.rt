@@ -1,14 +1,14 @@
 //! The machines of a pool at their indices.
 ghost use Rattle.std.specs.Prelude.{◌≡◌, ◌∷◌, ◌++◌, ◌↔◌, ◌<◌, ◌≤◌, [], length, slice_index_or, slice_set, None, Some, MatchOption, IfOk, IfErr, OnErr, OnOk, IsErrOf};
 ghost use Rattle.std.specs.Option.{option_copied};
-ghost use Rattle.wasmi_budget.specs.Pool.{pool_of, IsKept, IsUnasked, RunsTenant, RunsUnasked};
+ghost use Rattle.wasmi_budget.specs.Pool.{pool_of, IsKept, IsUnasked, ReservesAt, RunsTenant, RunsUnasked};
 ghost use Rattle.wasmi_budget.specs.Tenants.{IsPlace, Rises};
 
-use crate::error::{PoolError, RunIntoError};
+use crate::error::{PoolError, ReserveError, RunIntoError};
 use crate::tenant::CountedMachine;
 use std::alloc::Global as Allocator;
 use std::marker::Model;
-use wasmi_machine::{Call, Replies, Reply};
+use wasmi_machine::{Call, Replies, Reply, SlotCounts};
 use wasmi_meter::Amounts;
 
 /// The place of an index among rising ones, if it is one of them. It is found without a search
@@ -104,6 +104,21 @@ impl<'r> Tenants<'r> {
         let place = place_of(&self.indices, index)?;
         self.indices.remove(place);
         Some(self.machines.remove(place))
+    }
+
+    /// Reserves so many more slots of the machine at an index.
+    pub(crate) fn reserve(&mut self, index: usize, slots: SlotCounts) -> Result<(), ReserveError>
+        ensures reserved { OnOk result (ReservesAt self.old index slots self.new) }
+        ensures no_tenant { IsErrOf result ReserveError.NoTenant
+            ↔ (slice_index_or self.old index None ≡ None) }
+        ensures refused { OnErr result (self.new ≡ self.old) }
+    {
+        let Some(place) = place_of(&self.indices, index) else {
+            return Err(ReserveError::NoTenant);
+        };
+        let counted = &mut self.machines[place];
+        counted.reserve(slots)?;
+        Ok(())
     }
 
     /// Executes calls on the machine at an index, under its limiter in a pool with these caps, whose

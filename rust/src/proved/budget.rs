@@ -117,6 +117,46 @@ mod error {
             PoolError::OutOfMemory
         }
     }
+
+    /// Why a pool reserves no slots for a tenant, in the order of the tests.
+    #[derive(Debug, PartialEq, Eq)]
+    pub enum ReserveError {
+        /// No tenant has the index.
+        NoTenant,
+        /// Memory for some of the slots was refused. None more is reserved.
+        OutOfMemory,
+    }
+
+    /// # Contract
+    ///
+    /// ```text
+    /// output = λ error. Some (reserve_error_text error)
+    /// ```
+    ///
+    /// Definitions: [`reserve_error_text`](crate::specs::budget::PoolSpecs#reserve_error_text).
+    impl fmt::Display for ReserveError {
+        #[inline]
+        fn fmt(&self, f: &mut fmt::Formatter<'_>) -> fmt::Result {
+            f.write_str(match self {
+                Self::NoTenant => "tried to reserve slots for a tenant that is not in the pool",
+                Self::OutOfMemory => "out of memory for the slots",
+            })
+        }
+    }
+
+    impl core::error::Error for ReserveError {}
+
+    /// # Contract
+    ///
+    /// ```text
+    /// from_gives = λ _ error. error ≡ reserve.OutOfMemory
+    /// ```
+    impl From<AllocError> for ReserveError {
+        #[inline]
+        fn from(_: AllocError) -> Self {
+            ReserveError::OutOfMemory
+        }
+    }
 }
 #[cfg(any(doc, test))]
 pub mod laws {
@@ -214,10 +254,10 @@ pub mod laws {
 mod pool {
     //! The pool.
 
-    use crate::proved::budget::error::{AddError, PoolError, RunIntoError};
+    use crate::proved::budget::error::{AddError, PoolError, ReserveError, RunIntoError};
     use crate::proved::budget::tenant::CountedMachine;
     use crate::proved::budget::tenants::Tenants;
-    use crate::proved::machine::{Call, Machine, Replies, Reply};
+    use crate::proved::machine::{Call, Machine, Replies, Reply, SlotCounts};
     use crate::proved::meter::Amounts;
     use crate::rattle::Vec;
 
@@ -355,6 +395,30 @@ mod pool {
                 elements: self.held_by_all.elements - held.elements,
             };
             Some(machine)
+        }
+
+        /// Reserves so many more slots of each kind on the machine of a tenant, as `Machine::reserve`
+        /// does. What is reserved counts within no cap.
+        ///
+        /// # Errors
+        ///
+        /// In the order of the tests: `NoTenant` if no tenant has the index; `OutOfMemory` if memory for
+        /// some of the slots is refused. Then none more is reserved.
+        ///
+        /// # Contract
+        ///
+        /// ```text
+        /// ensures reserved: OnOk result (ReservesForTenant self.old index slots self.new)
+        /// ensures no_tenant: IsErrOf result ReserveError.NoTenant
+        ///     ↔ (machine_of self.old index ≡ None)
+        /// ensures refused: OnErr result (self.new ≡ self.old)
+        /// ensures within: IsWithinCaps self.new
+        /// ```
+        ///
+        /// Definitions: [`ReservesForTenant`](crate::specs::budget::PoolSpecs#ReservesForTenant), [`machine_of`](crate::specs::budget::PoolSpecs#machine_of), [`IsWithinCaps`](crate::specs::budget::PoolSpecs#IsWithinCaps).
+        #[inline]
+        pub fn reserve(&mut self, index: usize, slots: SlotCounts) -> Result<(), ReserveError> {
+            self.tenants.reserve(index, slots)
         }
 
         /// Executes calls on the machine of a tenant, under a limiter that permits what keeps all
@@ -561,7 +625,7 @@ mod tenant {
     //! One machine of a pool, with what it has, and its limiter.
 
     use crate::proved::machine::{
-        Call, Machine, Replies, Reply, TooManyCalls, run_into_lending, run_lending,
+        Call, Machine, Replies, Reply, SlotCounts, TooManyCalls, run_into_lending, run_lending,
     };
     use crate::proved::meter::{Amounts, CappedLimiter, Holdings, Kind, ResourceLimiterRef};
     use crate::rattle::Vec;
@@ -689,6 +753,21 @@ mod tenant {
     }
 
     impl<'r> CountedMachine<'r> {
+        /// Reserves so many more slots. What the machine has stays, so no tenant holds it.
+        ///
+        /// # Contract
+        ///
+        /// ```text
+        /// ensures reserved: OnOk result (self.new ≡ with_reserved self.old slots)
+        /// ensures refused: OnErr result (self.new ≡ self.old)
+        /// ```
+        ///
+        /// Definitions: [`with_reserved`](crate::specs::machine::StateSpecs#with_reserved).
+        #[inline]
+        pub(crate) fn reserve(&mut self, slots: SlotCounts) -> Result<(), AllocError> {
+            self.machine.reserve(slots)
+        }
+
         /// Executes calls under its limiter in a pool with these caps, whose tenants hold `all`, which
         /// becomes what they hold afterwards.
         ///
@@ -844,9 +923,9 @@ mod tenant {
 mod tenants {
     //! The machines of a pool at their indices.
 
-    use crate::proved::budget::error::{PoolError, RunIntoError};
+    use crate::proved::budget::error::{PoolError, ReserveError, RunIntoError};
     use crate::proved::budget::tenant::CountedMachine;
-    use crate::proved::machine::{Call, Replies, Reply};
+    use crate::proved::machine::{Call, Replies, Reply, SlotCounts};
     use crate::proved::meter::Amounts;
     use crate::rattle::Vec;
 
@@ -976,6 +1055,32 @@ mod tenants {
             Some(self.machines.remove(place))
         }
 
+        /// Reserves so many more slots of the machine at an index.
+        ///
+        /// # Contract
+        ///
+        /// ```text
+        /// ensures reserved: OnOk result (ReservesAt self.old index slots self.new)
+        /// ensures no_tenant: IsErrOf result ReserveError.NoTenant
+        ///     ↔ (slice_index_or self.old index None ≡ None)
+        /// ensures refused: OnErr result (self.new ≡ self.old)
+        /// ```
+        ///
+        /// Definitions: [`ReservesAt`](crate::specs::budget::PoolSpecs#ReservesAt).
+        #[inline]
+        pub(crate) fn reserve(
+            &mut self,
+            index: usize,
+            slots: SlotCounts,
+        ) -> Result<(), ReserveError> {
+            let Some(place) = place_of(&self.indices, index) else {
+                return Err(ReserveError::NoTenant);
+            };
+            let counted = &mut self.machines[place];
+            counted.reserve(slots)?;
+            Ok(())
+        }
+
         /// Executes calls on the machine at an index, under its limiter in a pool with these caps, whose
         /// tenants hold `all`, which becomes what they hold afterwards.
         ///
@@ -1091,6 +1196,6 @@ mod tenants {
     }
 }
 
-pub use error::{AddError, PoolError, RunIntoError};
+pub use error::{AddError, PoolError, ReserveError, RunIntoError};
 pub use pool::Pool;
 pub use tenant::Tenant;

@@ -5865,12 +5865,15 @@ use Rattle.wasmi_meter.specs.declared.amounts.Amounts.{Amounts}
 use Rattle.wasmi_machine.specs.declared.calls.Call.{Call}
 use Rattle.wasmi_machine.specs.declared.calls.Call.TheVariants.{Binary, CopyMemory, FillMemory, InitMemory, SetFuel, Store}
 use Rattle.wasmi_machine.specs.declared.calls.Reply.{Reply}
-use Rattle.wasmi_machine.specs.State.{<a href="../../machine/StateSpecs/index.html#State">State</a>, <a href="../../machine/StateSpecs/index.html#total">total</a>, <a href="../../machine/StateSpecs/index.html#world">world</a>, <a href="../../machine/StateSpecs/index.html#HoldsTotals">HoldsTotals</a>}
+use Rattle.wasmi_machine.specs.State.{<a href="../../machine/StateSpecs/index.html#State">State</a>, <a href="../../machine/StateSpecs/index.html#total">total</a>, <a href="../../machine/StateSpecs/index.html#world">world</a>, <a href="../../machine/StateSpecs/index.html#with_reserved">with_reserved</a>, <a href="../../machine/StateSpecs/index.html#HoldsTotals">HoldsTotals</a>}
 use Rattle.wasmi_machine.specs.Steps.{<a href="../../machine/StepsSpecs/index.html#IsRunOf">IsRunOf</a>, <a href="../../machine/StepsSpecs/index.html#RepliesWith">RepliesWith</a>}
+use Rattle.wasmi_machine.specs.declared.slots.SlotCounts.{SlotCounts}
 use Rattle.wasmi_budget.specs.declared.error.AddError.{AddError}
 use Rattle.wasmi_budget.specs.declared.error.AddError.TheVariants.{NotEmpty, NoRoom}
 use Rattle.wasmi_budget.specs.declared.error.PoolError.{PoolError}
 use Rattle.wasmi_budget.specs.declared.error.PoolError.TheVariants.{NoTenant, OutOfMemory}
+use Rattle.wasmi_budget.specs.declared.error.ReserveError.{ReserveError}
+use Rattle.wasmi_budget.specs.declared.error.ReserveError.TheVariants as reserve
 use Rattle.wasmi_budget.specs.declared.error.RunIntoError.{RunIntoError}
 use Rattle.wasmi_budget.specs.declared.error.RunIntoError.TheVariants as into
 
@@ -6023,6 +6026,18 @@ pub record <b id="RemovesTenant">RemovesTenant</b> (pool : <a href="../../budget
   pub <b id="found">found</b> : <a href="../../budget/PoolSpecs/index.html#machine_of">machine_of</a> pool index ≡ Some s
   pub <b id="removed">removed</b> : pool&#x27; ≡ record pool { <a href="../../budget/PoolSpecs/index.html#machines">machines</a> = slice_set pool.machines index None }
 
+-- the machine at an index has so many more slots reserved, and all others are the same
+pub record <b id="ReservesAt">ReservesAt</b> (<a href="../../budget/PoolSpecs/index.html#machines">machines</a> : List (Option <a href="../../machine/StateSpecs/index.html#State">State</a>)) (index : ℕ) (more : SlotCounts)
+    (machines&#x27; : List (Option <a href="../../machine/StateSpecs/index.html#State">State</a>)) : Type 0 where
+  pub <b id="machine">machine</b> : <a href="../../machine/StateSpecs/index.html#State">State</a>
+  pub <b id="found">found</b> : slice_index_or <a href="../../budget/PoolSpecs/index.html#machines">machines</a> index None ≡ Some <a href="../../budget/PoolSpecs/index.html#machine">machine</a>
+  pub <b id="after">after</b> : machines&#x27; ≡ slice_set <a href="../../budget/PoolSpecs/index.html#machines">machines</a> index (Some (<a href="../../machine/StateSpecs/index.html#with_reserved">with_reserved</a> <a href="../../budget/PoolSpecs/index.html#machine">machine</a> more))
+
+-- the machine of a tenant has so many more slots reserved, and all else is the same
+abbrev pub <b id="ReservesForTenant">ReservesForTenant</b> : <a href="../../budget/PoolSpecs/index.html#PoolValue">PoolValue</a> → ℕ → SlotCounts → <a href="../../budget/PoolSpecs/index.html#PoolValue">PoolValue</a> → Type 0
+<a href="../../budget/PoolSpecs/index.html#ReservesForTenant">ReservesForTenant</a> pool index more pool&#x27; =
+    (pool&#x27;.<a href="../../budget/PoolSpecs/index.html#caps">caps</a> ≡ pool.caps) × <a href="../../budget/PoolSpecs/index.html#ReservesAt">ReservesAt</a> pool.machines index more pool&#x27;.<a href="../../budget/PoolSpecs/index.html#machines">machines</a>
+
 -- the text of why a machine isn&#x27;t added to a pool
 abbrev pub <b id="add_error_text">add_error_text</b> : AddError → List ℕ
 <a href="../../budget/PoolSpecs/index.html#add_error_text">add_error_text</a> NotEmpty = codes "tried to add a <a href="../../budget/PoolSpecs/index.html#machine">machine</a> that has or had <a href="../../budget/PoolSpecs/index.html#bytes">bytes</a> or <a href="../../budget/PoolSpecs/index.html#elements">elements</a>"
@@ -6037,6 +6052,11 @@ abbrev pub <b id="pool_error_text">pool_error_text</b> : PoolError → List ℕ
 abbrev pub <b id="run_into_error_text">run_into_error_text</b> : RunIntoError → List ℕ
 <a href="../../budget/PoolSpecs/index.html#run_into_error_text">run_into_error_text</a> into.NoTenant = codes "tried to run a tenant that is not in the pool"
 <a href="../../budget/PoolSpecs/index.html#run_into_error_text">run_into_error_text</a> into.TooManyCalls = codes "more calls than there is memory for replies"
+
+-- the text of why a pool reserves no slots
+abbrev pub <b id="reserve_error_text">reserve_error_text</b> : ReserveError → List ℕ
+<a href="../../budget/PoolSpecs/index.html#reserve_error_text">reserve_error_text</a> reserve.NoTenant = codes "tried to reserve slots for a tenant that is not in the pool"
+<a href="../../budget/PoolSpecs/index.html#reserve_error_text">reserve_error_text</a> reserve.OutOfMemory = codes "out of memory for the slots"
 </code></pre>
 "####]
     pub mod PoolSpecs {}
