@@ -2812,6 +2812,7 @@ pub mod machine {
                     if header.meter.is_none()
                         && header.limiter_line.is_none()
                         && header.region.is_none()
+                        && header.reserve.is_none()
                     {
                         Ok(script)
                     } else {
