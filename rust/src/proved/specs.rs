@@ -6669,7 +6669,8 @@ abbrev pub <b id="IsVectorWord">IsVectorWord</b> : List ℕ → Type 0
 <pre><code>use Rattle.std.specs.Prelude.{◌≡◌, ◌≤◌, ℕ, Option, List, Some, None, length, codes, replicate}
 use Rattle.std.specs.Option.{option_map, option_map_or}
 use Rattle.wasmi_meter.specs.Meter.{<a href="../../meter/MeterSpecs/index.html#default_costs">default_costs</a>, <a href="../../meter/MeterSpecs/index.html#Meter">Meter</a>}
-use Rattle.wasmi_machine.specs.State.{<a href="../../machine/StateSpecs/index.html#State">State</a>, <a href="../../machine/StateSpecs/index.html#new_state">new_state</a>}
+use Rattle.wasmi_machine.specs.State.{<a href="../../machine/StateSpecs/index.html#State">State</a>, <a href="../../machine/StateSpecs/index.html#new_state">new_state</a>, <a href="../../machine/StateSpecs/index.html#no_slots">no_slots</a>}
+use Rattle.wasmi_machine.specs.declared.slots.SlotCounts.{SlotCounts}
 use Rattle.wasmi_grammar.specs.declared.header.Header.{Header}
 use Rattle.wasmi_grammar.specs.declared.header.MeterLine.{MeterLine}
 use Rattle.wasmi_grammar.specs.declared.header.MeterLine.TheVariants.{Off, On}
@@ -6709,6 +6710,13 @@ abbrev pub <b id="WritesRegion">WritesRegion</b> : <a href="../../operands/LineW
 <a href="../../grammar/HeadersSpecs/index.html#WritesRegion">WritesRegion</a> words line =
     (length words ≡ 2) × <a href="../../operands/LineWordsSpecs/index.html#WritesNumber">WritesNumber</a> 64 (<a href="../../operands/LineWordsSpecs/index.html#word_at">word_at</a> words 0) line.len × <a href="../../operands/LineWordsSpecs/index.html#WritesNumber">WritesNumber</a> 8 (<a href="../../operands/LineWordsSpecs/index.html#word_at">word_at</a> words 1) line.byte
 
+-- the words after the first write how many slots of each kind the line reserves
+abbrev pub <b id="WritesReserve">WritesReserve</b> : <a href="../../operands/LineWordsSpecs/index.html#LineWords">LineWords</a> → SlotCounts → Type 0
+<a href="../../grammar/HeadersSpecs/index.html#WritesReserve">WritesReserve</a> words slots =
+    (length words ≡ 5) × <a href="../../operands/LineWordsSpecs/index.html#WritesNumber">WritesNumber</a> 64 (<a href="../../operands/LineWordsSpecs/index.html#word_at">word_at</a> words 0) slots.memories
+    × <a href="../../operands/LineWordsSpecs/index.html#WritesNumber">WritesNumber</a> 64 (<a href="../../operands/LineWordsSpecs/index.html#word_at">word_at</a> words 1) slots.tables × <a href="../../operands/LineWordsSpecs/index.html#WritesNumber">WritesNumber</a> 64 (<a href="../../operands/LineWordsSpecs/index.html#word_at">word_at</a> words 2) slots.segments
+    × <a href="../../operands/LineWordsSpecs/index.html#WritesNumber">WritesNumber</a> 64 (<a href="../../operands/LineWordsSpecs/index.html#word_at">word_at</a> words 3) slots.data_segments × <a href="../../operands/LineWordsSpecs/index.html#WritesNumber">WritesNumber</a> 64 (<a href="../../operands/LineWordsSpecs/index.html#word_at">word_at</a> words 4) slots.globals
+
 -- the words after the first write which tenant the `as` line means
 abbrev pub <b id="WritesTenant">WritesTenant</b> : <a href="../../operands/LineWordsSpecs/index.html#LineWords">LineWords</a> → ℕ → Type 0
 <a href="../../grammar/HeadersSpecs/index.html#WritesTenant">WritesTenant</a> words tenant = (length words ≡ 1) × <a href="../../operands/LineWordsSpecs/index.html#WritesNumber">WritesNumber</a> 64 (<a href="../../operands/LineWordsSpecs/index.html#word_at">word_at</a> words 0) tenant
@@ -6741,9 +6749,17 @@ abbrev pub <b id="meter_of">meter_of</b> : Header → <a href="../../meter/Meter
 abbrev pub <b id="region_bytes">region_bytes</b> : RegionLine → List ℕ
 <a href="../../grammar/HeadersSpecs/index.html#region_bytes">region_bytes</a> line = replicate line.len line.byte
 
--- the machine that a script starts with: new, with its meter and its region
+-- how many slots of each kind the header lines reserve: none without a line that says more
+abbrev pub <b id="slots_of">slots_of</b> : Header → SlotCounts
+<a href="../../grammar/HeadersSpecs/index.html#slots_of">slots_of</a> header = option_map_or (λ slots. slots) header.reserve <a href="../../machine/StateSpecs/index.html#no_slots">no_slots</a>
+
+-- the machine that each tenant of a script starts with: new, with the script&#x27;s meter and with its slots reserved
+abbrev pub <b id="tenant_start">tenant_start</b> : Header → <a href="../../machine/StateSpecs/index.html#State">State</a>
+<a href="../../grammar/HeadersSpecs/index.html#tenant_start">tenant_start</a> header = record (<a href="../../machine/StateSpecs/index.html#new_state">new_state</a> (<a href="../../grammar/HeadersSpecs/index.html#meter_of">meter_of</a> header)) { reserved = <a href="../../grammar/HeadersSpecs/index.html#slots_of">slots_of</a> header }
+
+-- the machine that a script without tenants starts with: such a machine, with its region
 abbrev pub <b id="start_of">start_of</b> : Header → <a href="../../machine/StateSpecs/index.html#State">State</a>
-<a href="../../grammar/HeadersSpecs/index.html#start_of">start_of</a> header = record (<a href="../../machine/StateSpecs/index.html#new_state">new_state</a> (<a href="../../grammar/HeadersSpecs/index.html#meter_of">meter_of</a> header)) { spare = option_map <a href="../../grammar/HeadersSpecs/index.html#region_bytes">region_bytes</a> header.region }
+<a href="../../grammar/HeadersSpecs/index.html#start_of">start_of</a> header = record (<a href="../../grammar/HeadersSpecs/index.html#tenant_start">tenant_start</a> header) { spare = option_map <a href="../../grammar/HeadersSpecs/index.html#region_bytes">region_bytes</a> header.region }
 </code></pre>
 "####]
     pub mod HeadersSpecs {}
@@ -6753,16 +6769,17 @@ abbrev pub <b id="start_of">start_of</b> : Header → <a href="../../machine/Sta
 use Rattle.std.specs.List.{slice_split}
 use Rattle.std.specs.Str.{IsUtf8}
 use Rattle.wasmi_machine.specs.declared.calls.Call.{Call}
+use Rattle.wasmi_machine.specs.declared.slots.SlotCounts.{SlotCounts}
 use Rattle.wasmi_grammar.specs.declared.header.LimiterLine.{LimiterLine}
 use Rattle.wasmi_grammar.specs.declared.header.MeterLine.{MeterLine}
 use Rattle.wasmi_grammar.specs.declared.header.RegionLine.{RegionLine}
 use Rattle.wasmi_grammar.specs.declared.script.Line.{Line}
-use Rattle.wasmi_grammar.specs.declared.script.Line.TheVariants.{<a href="../../meter/MeterSpecs/index.html#Meter">Meter</a>, Limiter, Region, As, Call as Command}
+use Rattle.wasmi_grammar.specs.declared.script.Line.TheVariants.{<a href="../../meter/MeterSpecs/index.html#Meter">Meter</a>, Limiter, Region, Reserve, As, Call as Command}
 use Rattle.wasmi_grammar.specs.declared.script.Script.{Script}
 use Rattle.wasmi_operands.specs.LineWords.{<a href="../../operands/LineWordsSpecs/index.html#LineWords">LineWords</a>, <a href="../../operands/LineWordsSpecs/index.html#word_at">word_at</a>, <a href="../../operands/LineWordsSpecs/index.html#words_in">words_in</a>}
 use Rattle.wasmi_grammar.specs.Parts.{<a href="../../grammar/PartsSpecs/index.html#parts_in">parts_in</a>, <a href="../../grammar/PartsSpecs/index.html#calls_in">calls_in</a>}
 use Rattle.wasmi_grammar.specs.Commands.{<a href="../../grammar/CommandsSpecs/index.html#NamesAfter">NamesAfter</a>}
-use Rattle.wasmi_grammar.specs.Headers.{<a href="../../grammar/HeadersSpecs/index.html#WritesMeter">WritesMeter</a>, <a href="../../grammar/HeadersSpecs/index.html#NamesLimiterAfter">NamesLimiterAfter</a>, <a href="../../grammar/HeadersSpecs/index.html#WritesRegion">WritesRegion</a>, <a href="../../grammar/HeadersSpecs/index.html#WritesTenant">WritesTenant</a>, <a href="../../grammar/HeadersSpecs/index.html#AreApart">AreApart</a>, <a href="../../grammar/HeadersSpecs/index.html#tenants_of">tenants_of</a>}
+use Rattle.wasmi_grammar.specs.Headers.{<a href="../../grammar/HeadersSpecs/index.html#WritesMeter">WritesMeter</a>, <a href="../../grammar/HeadersSpecs/index.html#NamesLimiterAfter">NamesLimiterAfter</a>, <a href="../../grammar/HeadersSpecs/index.html#WritesRegion">WritesRegion</a>, <a href="../../grammar/HeadersSpecs/index.html#WritesReserve">WritesReserve</a>, <a href="../../grammar/HeadersSpecs/index.html#WritesTenant">WritesTenant</a>, <a href="../../grammar/HeadersSpecs/index.html#AreApart">AreApart</a>, <a href="../../grammar/HeadersSpecs/index.html#tenants_of">tenants_of</a>}
 use Rattle.wasmi_grammar.specs.declared.error.ParseError.{ParseError}
 use Rattle.wasmi_grammar.specs.declared.error.ParseError.TheVariants.{BadCommand, OutOfMemory}
 
@@ -6771,6 +6788,7 @@ abbrev pub <b id="NamesLine">NamesLine</b> : List ℕ → <a href="../../operand
 <a href="../../grammar/LinesSpecs/index.html#NamesLine">NamesLine</a> name operands (<a href="../../meter/MeterSpecs/index.html#Meter">Meter</a> line) = (name ≡ codes "meter") × <a href="../../grammar/HeadersSpecs/index.html#WritesMeter">WritesMeter</a> operands line
 <a href="../../grammar/LinesSpecs/index.html#NamesLine">NamesLine</a> name operands (Limiter line) = <a href="../../grammar/HeadersSpecs/index.html#NamesLimiterAfter">NamesLimiterAfter</a> name operands line
 <a href="../../grammar/LinesSpecs/index.html#NamesLine">NamesLine</a> name operands (Region line) = (name ≡ codes "region") × <a href="../../grammar/HeadersSpecs/index.html#WritesRegion">WritesRegion</a> operands line
+<a href="../../grammar/LinesSpecs/index.html#NamesLine">NamesLine</a> name operands (Reserve slots) = (name ≡ codes "reserve") × <a href="../../grammar/HeadersSpecs/index.html#WritesReserve">WritesReserve</a> operands slots
 <a href="../../grammar/LinesSpecs/index.html#NamesLine">NamesLine</a> name operands (As tenant) = (name ≡ codes "as") × <a href="../../grammar/HeadersSpecs/index.html#WritesTenant">WritesTenant</a> operands tenant
 <a href="../../grammar/LinesSpecs/index.html#NamesLine">NamesLine</a> name operands (Command call) = <a href="../../grammar/CommandsSpecs/index.html#NamesAfter">NamesAfter</a> name operands call
 
@@ -6802,6 +6820,13 @@ pub record <b id="AddsRegion">AddsRegion</b> (old : Script) (line : RegionLine) 
   pub <b id="header">header</b> : new.header ≡ record old.header { region = Some line }
   pub <b id="parts">parts</b> : new.parts ≡ old.parts
 
+-- a `reserve` line, the first one and before all commands
+pub record <b id="AddsReserve">AddsReserve</b> (old : Script) (slots : SlotCounts) (new : Script) : Type 0 where
+  pub <b id="before_commands">before_commands</b> : <a href="../../grammar/LinesSpecs/index.html#HasNoCommands">HasNoCommands</a> old
+  pub <b id="first">first</b> : old.header.reserve ≡ None
+  pub <b id="header">header</b> : new.header ≡ record old.header { reserve = Some slots }
+  pub <b id="parts">parts</b> : new.parts ≡ old.parts
+
 -- a command, whose call comes after those of the lines before
 pub record <b id="AddsCall">AddsCall</b> (old : Script) (call : Call) (new : Script) : Type 0 where
   pub <b id="parts">parts</b> : new.parts ≡ record old.parts { calls = old.parts.calls ++ call ∷ [] }
@@ -6818,6 +6843,7 @@ abbrev pub <b id="AddsLine">AddsLine</b> : Script → Line → Script → Type 0
 <a href="../../grammar/LinesSpecs/index.html#AddsLine">AddsLine</a> old (<a href="../../meter/MeterSpecs/index.html#Meter">Meter</a> line) new = <a href="../../grammar/LinesSpecs/index.html#AddsMeter">AddsMeter</a> old line new
 <a href="../../grammar/LinesSpecs/index.html#AddsLine">AddsLine</a> old (Limiter line) new = <a href="../../grammar/LinesSpecs/index.html#AddsLimiter">AddsLimiter</a> old line new
 <a href="../../grammar/LinesSpecs/index.html#AddsLine">AddsLine</a> old (Region line) new = <a href="../../grammar/LinesSpecs/index.html#AddsRegion">AddsRegion</a> old line new
+<a href="../../grammar/LinesSpecs/index.html#AddsLine">AddsLine</a> old (Reserve slots) new = <a href="../../grammar/LinesSpecs/index.html#AddsReserve">AddsReserve</a> old slots new
 <a href="../../grammar/LinesSpecs/index.html#AddsLine">AddsLine</a> old (As tenant) new = <a href="../../grammar/LinesSpecs/index.html#AddsPart">AddsPart</a> old tenant new
 <a href="../../grammar/LinesSpecs/index.html#AddsLine">AddsLine</a> old (Command call) new = <a href="../../grammar/LinesSpecs/index.html#AddsCall">AddsCall</a> old call new
 
@@ -6843,7 +6869,7 @@ unfoldable pub <b id="lines_in">lines_in</b> : List ℕ → List (List ℕ)
 
 -- no line was taken yet
 pub record <b id="IsNewScript">IsNewScript</b> (<a href="../../grammar/LinesSpecs/index.html#script">script</a> : Script) : Type 0 where
-  pub <b id="no_header">no_header</b> : script.header ≡ record { meter = None; limiter_line = None; region = None }
+  pub <b id="no_header">no_header</b> : script.header ≡ record { meter = None; limiter_line = None; region = None; reserve = None }
   pub <b id="no_commands">no_commands</b> : script.parts ≡ record { earlier = []; tenant = 0; calls = [] }
 
 -- the lines, taken one after the other from none on, lead to this script
@@ -6888,6 +6914,7 @@ abbrev pub <b id="IsParseError">IsParseError</b> : List ℕ → ParseError → T
 use Rattle.std.specs.Option.{option_map}
 use Rattle.wasmi_types.specs.declared.value.RefType.{RefType}
 use Rattle.wasmi_machine.specs.declared.calls.Call.{Call}
+use Rattle.wasmi_machine.specs.declared.slots.SlotCounts.{SlotCounts}
 use Rattle.wasmi_machine.specs.declared.calls.Call.TheVariants.{Write, NewData, NewSegment}
 use Rattle.wasmi_grammar.specs.declared.script.Script.{Script}
 use Rattle.wasmi_grammar.specs.declared.header.MeterLine.{MeterLine}
@@ -6936,6 +6963,7 @@ pub record <b id="ScriptMeaning">ScriptMeaning</b> : Type 0 where
   pub <b id="meter">meter</b> : Option MeterLine
   pub <b id="limiter">limiter</b> : Option <a href="../../grammar/MeaningsSpecs/index.html#LimiterMeaning">LimiterMeaning</a>
   pub <b id="region">region</b> : Option RegionLine
+  pub <b id="reserve">reserve</b> : Option SlotCounts
   pub <b id="parts">parts</b> : List <a href="../../grammar/MeaningsSpecs/index.html#PartMeaning">PartMeaning</a>
 
 -- what a script says
@@ -6944,6 +6972,7 @@ abbrev pub <b id="script_meaning">script_meaning</b> : Script → <a href="../..
   <a href="../../grammar/MeaningsSpecs/index.html#meter">meter</a> = script.header.<a href="../../grammar/MeaningsSpecs/index.html#meter">meter</a>;
   <a href="../../grammar/MeaningsSpecs/index.html#limiter">limiter</a> = option_map <a href="../../grammar/MeaningsSpecs/index.html#limiter_meaning">limiter_meaning</a> script.header.limiter_line;
   <a href="../../grammar/MeaningsSpecs/index.html#region">region</a> = script.header.<a href="../../grammar/MeaningsSpecs/index.html#region">region</a>;
+  <a href="../../grammar/MeaningsSpecs/index.html#reserve">reserve</a> = script.header.<a href="../../grammar/MeaningsSpecs/index.html#reserve">reserve</a>;
   <a href="../../grammar/MeaningsSpecs/index.html#parts">parts</a> = map <a href="../../grammar/MeaningsSpecs/index.html#part_meaning">part_meaning</a> (<a href="../../grammar/PartsSpecs/index.html#parts_in">parts_in</a> script.parts);
 }
 
@@ -7293,7 +7322,7 @@ use Rattle.wasmi_meter.specs.declared.holdings.Holdings.{Holdings}
 use Rattle.wasmi_meter.specs.declared.amounts.Amounts.{Amounts}
 use Rattle.wasmi_meter.specs.Capped.{<a href="../../script/ScriptRunsSpecs/index.html#nothing">nothing</a>, <a href="../../meter/CappedSpecs/index.html#quota_rules">quota_rules</a>, <a href="../../meter/CappedSpecs/index.html#cap_of">cap_of</a>, <a href="../../meter/CappedSpecs/index.html#holdings">holdings</a>}
 use Rattle.wasmi_machine.specs.declared.calls.Call.{Call}
-use Rattle.wasmi_machine.specs.State.{<a href="../../machine/StateSpecs/index.html#State">State</a>, <a href="../../machine/StateSpecs/index.html#new_state">new_state</a>, <a href="../../machine/StateSpecs/index.html#World">World</a>, <a href="../../machine/StateSpecs/index.html#HoldsTotals">HoldsTotals</a>}
+use Rattle.wasmi_machine.specs.State.{<a href="../../machine/StateSpecs/index.html#State">State</a>, <a href="../../machine/StateSpecs/index.html#World">World</a>, <a href="../../machine/StateSpecs/index.html#HoldsTotals">HoldsTotals</a>}
 use Rattle.wasmi_machine.specs.Steps.{<a href="../../machine/StepsSpecs/index.html#IsRunOf">IsRunOf</a>}
 use Rattle.wasmi_machine.specs.declared.calls.Reply.{Reply}
 use Rattle.wasmi_budget.specs.Pool.{<a href="../../budget/PoolSpecs/index.html#PoolValue">PoolValue</a>, <a href="../../budget/PoolSpecs/index.html#RunsTenant">RunsTenant</a>}
@@ -7310,7 +7339,7 @@ use Rattle.wasmi_script.specs.declared.running.Held.{Held}
 use Rattle.wasmi_script.specs.declared.running.Ran.{<a href="../../budget/LawsSpecs/index.html#Ran">Ran</a>}
 use Rattle.wasmi_meter.specs.declared.answer_list.LimiterAnswer.{LimiterAnswer}
 use Rattle.wasmi_meter.specs.AnswerList.{<a href="../../meter/AnswerListSpecs/index.html#AnswersAhead">AnswersAhead</a>, <a href="../../meter/AnswerListSpecs/index.html#answer_list_rules">answer_list_rules</a>, <a href="../../meter/AnswerListSpecs/index.html#new_answers">new_answers</a>}
-use Rattle.wasmi_grammar.specs.Headers.{<a href="../../grammar/HeadersSpecs/index.html#meter_of">meter_of</a>, <a href="../../grammar/HeadersSpecs/index.html#start_of">start_of</a>}
+use Rattle.wasmi_grammar.specs.Headers.{<a href="../../grammar/HeadersSpecs/index.html#start_of">start_of</a>, <a href="../../grammar/HeadersSpecs/index.html#tenant_start">tenant_start</a>}
 
 -- what a limiter holds that has permitted nothing yet
 abbrev pub <b id="nothing_held">nothing_held</b> : Holdings
@@ -7343,7 +7372,8 @@ abbrev pub <b id="IsReplayUnder">IsReplayUnder</b> : Option LimiterLine → <a h
     <a href="../../script/ScriptRunsSpecs/index.html#IsListedReplay">IsListedReplay</a> answers.items start calls replies held
 <a href="../../script/ScriptRunsSpecs/index.html#IsReplayUnder">IsReplayUnder</a> (Some (Lines.Tenants line)) start calls replies held = ⊥
 
--- the replies are those of a run of the calls on a new machine with the meter and the region of these header lines
+-- the replies are those of a run of the calls on a new machine with the meter, the reserved slots and the region of these
+-- header lines
 abbrev pub <b id="IsReplayOnOne">IsReplayOnOne</b> : Option LimiterLine → Header → List Call → <a href="../../budget/LawsSpecs/index.html#Ran">Ran</a> → Type 0
 <a href="../../script/ScriptRunsSpecs/index.html#IsReplayOnOne">IsReplayOnOne</a> limiter header calls ran = <a href="../../script/ScriptRunsSpecs/index.html#IsReplayUnder">IsReplayUnder</a> limiter (<a href="../../grammar/HeadersSpecs/index.html#start_of">start_of</a> header) calls ran.replies.items ran.held
 
@@ -7359,14 +7389,15 @@ abbrev pub <b id="AnswersParts">AnswersParts</b> : <a href="../../budget/PoolSpe
     (answered : List Reply) × (later : List Reply) × (middle : <a href="../../budget/PoolSpecs/index.html#PoolValue">PoolValue</a>) × (replies ≡ answered ++ later)
     × <a href="../../budget/PoolSpecs/index.html#RunsTenant">RunsTenant</a> pool part.tenant part.calls answered middle × <a href="../../script/ScriptRunsSpecs/index.html#AnswersParts">AnswersParts</a> middle parts later pool&#x27;
 
--- The replies are those of the parts, one after another, on a pool of new machines with the script&#x27;s meter.
+-- The replies are those of the parts, one after another, on a pool of new machines with the script&#x27;s meter and its
+-- reserved slots.
 -- What is held is what the pool&#x27;s machines have then.
 abbrev pub <b id="IsPoolReplay">IsPoolReplay</b> : TenantsLine → Script → <a href="../../budget/LawsSpecs/index.html#Ran">Ran</a> → Type 0
 <a href="../../script/ScriptRunsSpecs/index.html#IsPoolReplay">IsPoolReplay</a> line script ran = (pool : <a href="../../budget/PoolSpecs/index.html#PoolValue">PoolValue</a>) × (ran.held ≡ Holding.Tenants pool)
-    × <a href="../../script/ScriptRunsSpecs/index.html#AnswersParts">AnswersParts</a> (<a href="../../script/ScriptRunsSpecs/index.html#new_pool">new_pool</a> line (<a href="../../machine/StateSpecs/index.html#new_state">new_state</a> (<a href="../../grammar/HeadersSpecs/index.html#meter_of">meter_of</a> script.header))) (<a href="../../grammar/PartsSpecs/index.html#parts_in">parts_in</a> script.parts) ran.replies.items pool
+    × <a href="../../script/ScriptRunsSpecs/index.html#AnswersParts">AnswersParts</a> (<a href="../../script/ScriptRunsSpecs/index.html#new_pool">new_pool</a> line (<a href="../../grammar/HeadersSpecs/index.html#tenant_start">tenant_start</a> script.header)) (<a href="../../grammar/PartsSpecs/index.html#parts_in">parts_in</a> script.parts) ran.replies.items pool
 
--- the replies are those of the parts on a pool, or those of a run on a new machine with the script&#x27;s meter and its
--- region
+-- the replies are those of the parts on a pool, or those of a run on a new machine with the script&#x27;s meter, its reserved
+-- slots and its region
 abbrev pub <b id="IsReplayBy">IsReplayBy</b> : Option LimiterLine → Script → <a href="../../budget/LawsSpecs/index.html#Ran">Ran</a> → Type 0
 <a href="../../script/ScriptRunsSpecs/index.html#IsReplayBy">IsReplayBy</a> (Some (Lines.Tenants line)) script ran = <a href="../../script/ScriptRunsSpecs/index.html#IsPoolReplay">IsPoolReplay</a> line script ran
 <a href="../../script/ScriptRunsSpecs/index.html#IsReplayBy">IsReplayBy</a> limiter script ran = <a href="../../script/ScriptRunsSpecs/index.html#IsReplayOnOne">IsReplayOnOne</a> limiter script.header (<a href="../../grammar/LinesSpecs/index.html#calls_of">calls_of</a> script) ran

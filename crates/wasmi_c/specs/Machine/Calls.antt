@@ -241,7 +241,7 @@ MachineRuns calls machine replies machine' =
 
 -- no header line
 abbrev pub no_header : Header
-no_header = record { meter = None; limiter_line = None; region = None }
+no_header = record { meter = None; limiter_line = None; region = None; reserve = None }
 
 -- the calls of a script without header lines are run, and bytes are filled with the text of the replies
 pub record RunsScriptBy (Runs : List Call → List Reply → Type 0) (script : Script) (old : List ℕ) (reply : ReplyStruct)

@@ -504,7 +504,11 @@ pub(crate) fn headless(alloc: Global, lines: &[u8]) -> Result<Script, ReplyStruc
     match parse(alloc, lines) {
         Ok(script) => {
             let header = &script.header;
-            if header.meter.is_none() && header.limiter_line.is_none() && header.region.is_none() {
+            if header.meter.is_none()
+                && header.limiter_line.is_none()
+                && header.region.is_none()
+                && header.reserve.is_none()
+            {
                 Ok(script)
             } else {
                 Err(ReplyStruct::only(HEADER_LINE))

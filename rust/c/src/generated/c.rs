@@ -2853,6 +2853,7 @@ pub mod machine {
                     if header.meter.is_none()
                         && header.limiter_line.is_none()
                         && header.region.is_none()
+                        && header.reserve.is_none()
                     {
                         Ok(script)
                     } else {
@@ -2977,6 +2978,8 @@ pub mod machine {
             /// ```text
             /// ensures: result ≡ slots_of self.now
             /// ```
+            ///
+            /// Definitions: [`slots_of`](crate::specs::grammar::HeadersSpecs#slots_of).
             #[must_use]
             #[inline]
             pub fn slots(&self) -> SlotCounts {
