@@ -343,6 +343,35 @@ fn reserved() {
     assert_eq!((ran, few.is_empty()), (Err(TooManyCalls), true));
 }
 
+/// A tenant that is set up once makes globals in reserved slots, and asks for nothing.
+#[test]
+fn reserved_tenants() {
+    let global = || Call::NewGlobal {
+        value: RawVal::from(6),
+        ty: GlobalType::new(ValType::I32, Mutability::Const),
+    };
+    let slots = SlotCounts {
+        globals: 2,
+        ..SlotCounts::default()
+    };
+    let mut pool = Pool::new(0, 0);
+    assert_eq!(pool.add(Machine::new(off())).ok(), Some(0));
+    GRANTED.set(Some(0));
+    let refused = pool.reserve(0, slots).map_err(|error| error.to_string());
+    assert_eq!(GRANTED.take(), None);
+    assert_eq!(refused, Err("out of memory for the slots".to_string()));
+    let no_tenant = "tried to reserve slots for a tenant that is not in the pool";
+    let missing = pool.reserve(1, slots).map_err(|error| error.to_string());
+    assert_eq!(missing, Err(no_tenant.to_string()));
+    assert_eq!(pool.reserve(0, slots), Ok(()));
+
+    let mut replies = Replies::with_capacity(2).unwrap();
+    GRANTED.set(Some(0));
+    let ran = pool.run_into(0, &[global(), global()], &mut replies);
+    assert_eq!((GRANTED.take(), ran), (Some(0), Ok(())));
+    assert_eq!(replies.as_slice(), [Reply::Made(0), Reply::Made(1)]);
+}
+
 #[test]
 fn machines() {
     let calls = calls();
