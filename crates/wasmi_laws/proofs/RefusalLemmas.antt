@@ -192,7 +192,7 @@ table_grown_loud x n reference = record {
   refused = λ p. p;
   late = tested_loud replied.Table _ table_error.GrowOutOfBounds (λ p. p);
   unpaid = λ n p. p;
-  refuses = table_lacks_loud;
+  refuses = λ cause lacks. table_lacks_loud cause lacks.0;
 }
 
 module _ {S : Type 0} (rules : Rules S) where

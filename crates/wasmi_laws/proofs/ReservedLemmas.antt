@@ -1,13 +1,14 @@
 -- What is reserved is enough: no call that needs nothing else lacks memory, and a call takes no more than its slot.
 use Rattle.wasmi_laws.proofs.ListLemmas.{live_slot, set_other, set_same}
 use Rattle.std.proofs.lemmas.Bool.{cases_eq}
-use Rattle.std.proofs.Common.{◌++◌, Bool, Err, List, None, Ok, Option, Result, Some, [], ap, arith, cond, drop, false, inl, inr, length, length-set, map, refl, subst, sym, take, true, ℕ, ◌*◌, ◌+◌, ◌^◌, ◌≤◌, ◌∙◌, ◌∷◌, ◌≡◌, ⊎_elim, zero, suc}
+use Rattle.std.proofs.lemmas.Bool.Decides.{nat_tests}
+use Rattle.std.proofs.Common.{◌++◌, Bool, Err, List, None, Ok, Option, Result, Some, [], ap, arith, cond, drop, false, inl, inr, length, length-set, map, refl, subst, sym, take, true, ℕ, ◌*◌, ◌+◌, ◌^◌, ◌≤◌, ◌∙◌, ◌∷◌, ◌≡◌, ◌⊎◌, ⊎_elim, zero, suc}
 use Rattle.std.proofs.lemmas.List.{length-append}
 use Rattle.std.proofs.lemmas.List.Elements.{All-cons, All-head, All-nil, All-tail, All-weaker}
 use Rattle.std.proofs.lemmas.List.Sums.{sum_by-cons}
 use Rattle.std.proofs.lemmas.Option.{none-some, same_Some}
 use Rattle.std.specs.Option.{option_map, option_map_or, option_and_then}
-use Rattle.std.specs.Prelude.{All, count_by, if◌then◌else◌, is_some, nat_eq, nat_le, nat_lt, slice_get, slice_set}
+use Rattle.std.specs.Prelude.{All, MatchOption, count_by, if◌then◌else◌, is_some, nat_eq, nat_le, nat_lt, slice_get, slice_set}
 use Rattle.wasmi_types.specs.Access.{at, overwrite}
 use Rattle.wasmi_types.specs.declared.trap.TrapCode.{TrapCode}
 use Rattle.wasmi_types.specs.declared.value.RefType.{RefType}
@@ -29,7 +30,7 @@ use Rattle.wasmi_store.specs.Growth.{metered, metered_value}
 use Rattle.wasmi_store.specs.Memory.{GrowsMemoryCharging, MakesMemory, MemoryTypeValue, MemoryValue, MemoryWrite, WritesMemory, bytes_write, in_bounds, minimum_bytes, new_memory, page_bytes, pages_of}
 use Rattle.wasmi_store.specs.Segment.{SegmentValue}
 use Rattle.wasmi_store.specs.declared.table.element.SegmentError.{SegmentError}
-use Rattle.wasmi_store.specs.Table.{GrowsTableCharging, SetsTable, TableValue, elements_write, same_type}
+use Rattle.wasmi_store.specs.Table.{GrowsTableCharging, SetsTable, TableValue, TableWrite, elements_write, is_indexable, is_within_maximum, same_type, size_of, with_elements}
 use Rattle.wasmi_store.specs.Write.{EndsBy, IsRefusedFor, MeteredWrite, WritesCharging, copied, filled, write_due}
 use Rattle.wasmi_machine.proofs.EffectLemmas.{both_live, on_live}
 use Rattle.wasmi_machine.specs.Determinism.{IsNotOutOfMemory}
@@ -46,9 +47,10 @@ use Rattle.wasmi_machine.specs.declared.calls.Reply.{Reply}
 use Rattle.wasmi_machine.specs.declared.slots.Slot.{Slot}
 use Rattle.wasmi_machine.specs.declared.slots.Slot.TheVariants.{Gone, Live}
 use Rattle.wasmi_machine.specs.declared.slots.SlotCounts.{SlotCounts}
-use Rattle.wasmi_laws.specs.Reserved.{HasSlot, HasSlots, IsLent, IsLentRoom, IsReservedFor, NeedsNoMemory, NeedsOnlySlot, ReservedCallsSucceed, ReservedRunsSucceed, makes_data, makes_global, makes_lent_memory, makes_segment, IsInRegion}
+use Rattle.wasmi_laws.specs.Reserved.{HasElements, HasElementsAt, HasSlot, HasSlots, IsReservedToMaximum, IsLent, IsLentRoom, IsReservedFor, NeedsNoMemory, NeedsOnlySlot, ReservedCallsSucceed, ReservedRunsSucceed, makes_data, makes_global, makes_lent_memory, makes_segment, IsInRegion}
 use Rattle.wasmi_machine.specs.declared.calls.Reply.TheVariants as replied
 use Rattle.wasmi_store.specs.Memory as memory
+use Rattle.wasmi_store.specs.Table as table
 
 -- ---- replies
 
@@ -88,13 +90,13 @@ record HasNoWant {V E : Type 0} (refusal : E → Reply) (e : Request V E) : Type
   refused : IsOther refusal e.refusal
   late : (cause : E) → e.late ≡ Some cause → IsOther refusal cause
   unpaid : (amount : ℕ) → IsOther refusal (e.unpaid amount)
-  refuses : (cause : E) → e.refuses cause → IsOther refusal cause
+  refuses : e.late ≡ None → (cause : E) → e.refuses cause → IsOther refusal cause
 
 module _ {V E : Type 0} (refusal : E → Reply) (e : Request V E) (no : HasNoWant refusal e) (m : Option Meter) where
   -- the first cause
   first_told : (cause : E) (late : Option E) → e.late ≡ late → IsFirstCause e m late cause → IsOther refusal cause
   first_told cause (Some l) is first = subst (IsOther refusal) (sym first) (no.late l is)
-  first_told cause None is first = on_test (covers m (optional_due m e.price)) _ _ first (no.refuses cause)
+  first_told cause None is first = on_test (covers m (optional_due m e.price)) _ _ first (no.refuses is cause)
       (λ unpaid. subst (IsOther refusal) (sym unpaid) (no.unpaid (optional_due m e.price)))
 
   -- the reply to an attempt
@@ -192,7 +194,7 @@ lent_told region ty = record {
   late = λ cause is. tested (IsOther replied.Memory) (fits_room (Lent region) (minimum_bytes ty))
       MemoryError.InvalidStaticBufferSize cause is tt;
   unpaid = λ amount. tt;
-  refuses = λ cause lacks. absurd lacks;
+  refuses = λ late cause lacks. absurd lacks;
 }
 
 -- what a lent room lacks
@@ -210,7 +212,7 @@ growth_told x pages lent = record {
   late = λ cause is. tested (IsOther replied.Memory) (fits_room x.room (pages * page_bytes x.ty.page))
       MemoryError.InvalidStaticBufferSize cause is tt;
   unpaid = λ amount. tt;
-  refuses = λ cause lacks. absurd (lent_lacks x.room cause lent lacks);
+  refuses = λ late cause lacks. absurd (lent_lacks x.room cause lent lacks);
 }
 
 -- the reply to a growth of a lent memory
@@ -223,6 +225,46 @@ grown_told rules pages s lent result charge s' (inr some) =
     told_by _ _ (ap (reply_of replied.Number replied.Memory) some.answered)
     (attempt_told replied.Memory (memory.growth_of s.value pages) (growth_told s.value pages lent) s.meter
     replied.Number (λ size. tt) (pages_of s.value) some.outcome some.attempt.may_end)
+
+-- ---- growths of reserved tables
+
+-- a size that is within a maximum up to which memory is reserved has its memory
+within_reserved : (maximum : Option ℕ) (size reserved : ℕ) → MatchOption maximum ⊥ (λ n. n ≤ reserved)
+    → option_map_or (λ n. nat_le size n) maximum true ≡ true → size ≤ reserved
+within_reserved None size reserved enough within = absurd enough
+within_reserved (Some n) size reserved enough within =
+    let above : n ≤ reserved = enough in
+    let below : nat_le size n ≡ true = within in
+    grind (arith, nat_tests, above, below)
+
+-- a growth within the maximum has its memory
+elements_there : (x : TableValue) (n : ℕ) → HasElements n x → is_within_maximum x.ty (size_of x + n) ≡ true
+    → size_of x + n ≤ x.reserved
+elements_there x n (inl there) within = there
+elements_there x n (inr full) within = within_reserved x.ty.maximum (size_of x + n) x.reserved full within
+
+-- a cause that is absent, where it is there only if a test fails
+passed : {E : Type 0} (test : Bool) (cause : E) → (if test then None else Some cause) ≡ None → test ≡ true
+passed true cause absent = refl
+passed false cause absent = absurd (none-some cause (sym absent))
+
+-- no growth of a table for which it is reserved wants memory
+table_told : (x : TableValue) (n reference : ℕ) → HasElements n x
+    → HasNoWant replied.Table (table.growth_of x n reference)
+table_told x n reference has = record {
+  early = λ cause is. tested (IsOther replied.Table) (is_indexable x.ty (size_of x + n)) TableError.GrowOutOfBounds cause
+      is tt;
+  denial = tt;
+  refused = tt;
+  late = λ cause is. tested (IsOther replied.Table) (is_within_maximum x.ty (size_of x + n))
+      TableError.GrowOutOfBounds cause is tt;
+  unpaid = λ amount. tt;
+  refuses = λ late cause lacks.
+      let there : size_of x + n ≤ x.reserved = elements_there x n has (passed _ _ late) in
+      absurd (omega (arith, there, lacks.1));
+}
+
+-- ---- entries
 
 -- the reply to an entry
 entry_told : {X A E : Type 0} (entry : X → A) (refusal : E → Reply) (result : Result X E) (list : List A)
@@ -401,8 +443,14 @@ EffectHas s (MemoryMade ty) = ⊥
 EffectHas s (LentMemoryMade ty) = HasSlot s.reserved.memories s.memories
 EffectHas s (MemoryGrown k pages) = IsInRegion s.memories k
 EffectHas s (TableMade ty init) = ⊥
-EffectHas s (TableGrown k n init) = n ≡ 0
+EffectHas s (TableGrown k n init) = (n ≡ 0) ⊎ HasElementsAt s.tables k n
 EffectHas s (RangeWritten write) = Unit {0}
+
+-- a fact, or one of a live value, is one or the other of it
+none_or_live : {X P : Type 0} (Fact : X → Type 0) (o : Option X) → P ⊎ OnLive o (Unit {0}) Fact
+    → OnLive o (Unit {0}) (λ x. P ⊎ Fact x)
+none_or_live Fact None has = tt
+none_or_live Fact (Some x) has = has
 
 -- so the effect of a call that needs none
 effect_has : (s : State) (call : Call) → NeedsNoMemory s call → EffectHas s (effect_of s call)
@@ -427,15 +475,17 @@ module _ {S : Type 0} (rules : Rules S) (w : World S) (turn : Turn) (w' : World 
   set_fuel_told true is = told_by turn.reply replied.Done is tt
   set_fuel_told false is = told_by turn.reply _ is tt
 
-  -- the reply to a growth of a table by nothing
-  table_growth_told : (k n : ℕ) (init : TypedRawRef) → n ≡ 0
-      → (s s' : MeteredValue TableValue S) (result : Result ℕ TableError) (charge : ℕ)
-      → GrowsTableCharging rules n init s result charge s'
+  -- the reply to a growth of a table by nothing, or by what is reserved
+  table_growth_told : (n : ℕ) (init : TypedRawRef) (s s' : MeteredValue TableValue S) → (n ≡ 0) ⊎ HasElements n s.value
+      → (result : Result ℕ TableError) (charge : ℕ) → GrowsTableCharging rules n init s result charge s'
       → IsNotOutOfMemory (reply_of replied.Number replied.Table result)
-  table_growth_told k n init none s s' result charge grows =
+  table_growth_told n init s s' has result charge grows =
       on_test (same_type s.value.ty.element init.ty) _ _ grows
       (⊎_elim (λ grown. told_by _ _ (ap (reply_of replied.Number replied.Table) grown.answered) tt)
-      (λ grown. absurd (omega (arith, none, grown.some))))
+      (λ grown. told_by _ _ (ap (reply_of replied.Number replied.Table) grown.answered) (⊎_elim
+      (λ none. absurd (omega (arith, none, grown.some)))
+      (λ there. attempt_told replied.Table (table.growth_of s.value n init.raw) (table_told s.value n init.raw there)
+      s.meter replied.Number (λ size. tt) (size_of s.value) grown.outcome grown.attempt.may_end) has)))
       (λ other. told_by _ _ (ap (reply_of replied.Number replied.Table) other.0) tt)
 
   -- the reply in a turn with each effect
@@ -459,11 +509,12 @@ module _ {S : Type 0} (rules : Rules S) (w : World S) (turn : Turn) (w' : World 
       (record { value = x; meter = Some w.state.meter; limiter = w.limiter }) h.0 h.1.0 turn.charge
       (record { value = h.1.1; meter = Some step.meter; limiter = step.limiter }) h.1.2))
   effect_told (TableMade ty init) has step = absurd has
-  effect_told (TableGrown k n init) has step = on_live (live_at w.state.tables k) _ _ step.effect
-      (λ missing. told_by turn.reply replied.NoSuch missing.0 tt)
-      (λ x found h. told_by turn.reply _ h.3 (table_growth_told k n init has
+  effect_told (TableGrown k n init) has step = on_live (live_at w.state.tables k) _ _
+      (both_live (live_at w.state.tables k) _ _ _ _ (none_or_live (HasElements n) (live_at w.state.tables k) has) step.effect)
+      (λ missing. told_by turn.reply replied.NoSuch missing.1.0 tt)
+      (λ x found h. told_by turn.reply _ h.1.3 (table_growth_told n init
       (record { value = x; meter = Some w.state.meter; limiter = w.limiter })
-      (record { value = h.1; meter = Some step.meter; limiter = step.limiter }) h.0 turn.charge h.2))
+      (record { value = h.1.1; meter = Some step.meter; limiter = step.limiter }) h.0 h.1.0 turn.charge h.1.2))
   effect_told (RangeWritten (TableWritten k source dst len)) has step =
       range_told replied.Table k (write_of source dst len) (elements_told source dst len)
       (metered w.state.tables (Some w.state.meter)) turn.reply turn.charge (metered step.part (Some step.meter))
@@ -540,29 +591,67 @@ charged_lent w keeps s s' result charge lent writes = elim (write_ends w s resul
       (keeps s.value p.value p.written lent)
 ]
 
+module _ {X : Type 0} (Holds : X → Type 0) where
+  -- a fact is true of the live value of an index, if there is one
+  abbrev HoldsAt : List (Slot X) → ℕ → Type 0
+  HoldsAt slots k = OnLive (live_at slots k) (Unit {0}) Holds
+
+  -- it is true of the live value that is found in a slot, if there is one
+  abbrev HoldsInSlot : Option (Slot X) → Type 0
+  HoldsInSlot slot = OnLive (option_and_then live_value slot) (Unit {0}) Holds
+
+  -- it stays so of each index
+  abbrev Stays : List (Slot X) → List (Slot X) → Type 0
+  Stays slots slots' = (k : ℕ) → HoldsAt slots k → HoldsAt slots' k
+
+  -- the same slots
+  stays_same : (slots slots' : List (Slot X)) → slots' ≡ slots → Stays slots slots'
+  stays_same slots slots' same k holds = subst (λ l. HoldsAt l k) (sym same) holds
+
+  -- a slot was set
+  stays_set : (slots slots' : List (Slot X)) (j : ℕ) (x : X) (slot : Slot X) → live_at slots j ≡ Some x
+      → (Holds x → HoldsInSlot (Some slot)) → slots' ≡ slice_set slots j slot → Stays slots slots'
+  stays_set slots slots' j x slot found keeps is k holds = subst (λ l. HoldsAt l k) (sym is) (⊎_elim
+      (λ same. subst (λ i. HoldsAt slots i → HoldsAt (slice_set slots j slot) i) same
+      (λ here. subst HoldsInSlot (sym (set_same slots j slot (Live x) there)) (keeps (subst HoldsInSlot there here)))
+      holds) (λ other. subst HoldsInSlot (sym (set_other slots j k slot other)) holds) (cases_eq j k))
+    where
+      there : slice_get slots j ≡ Some (Live x)
+      there = live_slot (slice_get slots j) x found
+
+  -- a live value changes
+  stays_changed : (j : ℕ) (slots : List (Slot X)) (reply : Reply) (slots' : List (Slot X))
+      (Change : X → X → Type 0) → ((x x' : X) → Change x x' → Holds x → Holds x')
+      → ChangesAt j slots reply slots' Change → Stays slots slots'
+  stays_changed j slots reply slots' Change keeps changes = on_live (live_at slots j) _ _ changes
+      (λ missing. stays_same slots slots' missing.1)
+      (λ x found h. stays_set slots slots' j x (Live h.0) found (keeps x h.0 h.1) h.2)
+
+  -- a drop
+  stays_dropped : (count : X → ℕ) (j : ℕ) (slots : List (Slot X)) (reply : Reply) (slots' : List (Slot X))
+      → DropsAt count j slots reply slots' → Stays slots slots'
+  stays_dropped count j slots reply slots' drops = on_live (live_at slots j) _ _ drops
+      (λ missing. stays_same slots slots' missing.1)
+      (λ x found h. stays_set slots slots' j x (Gone (count x)) found (λ holds. tt) h.1)
+
+  -- a call with a charge on a live value
+  stays_acted : {R S : Type 0} (j : ℕ) (reply_to : R → Reply)
+      (Acts : MeteredValue X S → R → ℕ → MeteredValue X S → Type 0) (s s' : MeteredValue (List (Slot X)) S)
+      (reply : Reply) (charge : ℕ)
+      → ((x x' : X) (result : R) → Acts (with_value s x) result charge (with_value s' x') → Holds x → Holds x')
+      → ActsAt j reply_to Acts s reply charge s' → Stays s.value s'.value
+  stays_acted {R} {S} j reply_to Acts s s' reply charge keeps acts = on_live (live_at s.value j) _ _ acts
+      (λ missing. stays_same s.value s'.value
+      (ap (λ (t : MeteredValue (List (Slot X)) S). t.value) missing.2))
+      (λ x found h. stays_set s.value s'.value j x (Live h.1) found (keeps x h.1 h.0 h.2) h.4)
+
 -- each index that names a memory in a region, or none, does so later
 abbrev StaysInRegion : List (Slot MemoryValue) → List (Slot MemoryValue) → Type 0
-StaysInRegion slots slots' = (k : ℕ) → IsInRegion slots k → IsInRegion slots' k
+StaysInRegion = Stays IsLent
 
--- what is found in a slot lies in a region
-abbrev IsLentSlot : Option (Slot MemoryValue) → Type 0
-IsLentSlot slot = OnLive (option_and_then live_value slot) (Unit {0}) IsLent
-
--- the same slots
+-- the same memories
 region_same : (slots slots' : List (Slot MemoryValue)) → slots' ≡ slots → StaysInRegion slots slots'
-region_same slots slots' same k lent = subst (λ l. IsInRegion l k) (sym same) lent
-
--- a slot was set
-region_set : (slots slots' : List (Slot MemoryValue)) (j : ℕ) (x : MemoryValue) (slot : Slot MemoryValue)
-    → live_at slots j ≡ Some x → (IsLent x → IsLentSlot (Some slot)) → slots' ≡ slice_set slots j slot
-    → StaysInRegion slots slots'
-region_set slots slots' j x slot found keeps is k lent = subst (λ l. IsInRegion l k) (sym is) (⊎_elim
-    (λ same. subst (λ i. IsInRegion slots i → IsInRegion (slice_set slots j slot) i) same
-    (λ here. subst IsLentSlot (sym (set_same slots j slot (Live x) there)) (keeps (subst IsLentSlot there here))) lent)
-    (λ other. subst IsLentSlot (sym (set_other slots j k slot other)) lent) (cases_eq j k))
-  where
-    there : slice_get slots j ≡ Some (Live x)
-    there = live_slot (slice_get slots j) x found
+region_same = stays_same IsLent
 
 -- a memory in a region was added
 region_added : (slots : List (Slot MemoryValue)) (x : MemoryValue) → IsLent x → StaysInRegion slots (slots ++ Live x ∷ [])
@@ -571,38 +660,12 @@ region_added [] x made (suc k) lent = tt
 region_added (slot ∷ slots) x made zero lent = lent
 region_added (slot ∷ slots) x made (suc k) lent = region_added slots x made k lent
 
--- a live memory changes
-region_changed : (j : ℕ) (slots : List (Slot MemoryValue)) (reply : Reply) (slots' : List (Slot MemoryValue))
-    (Change : MemoryValue → MemoryValue → Type 0) → ((x x' : MemoryValue) → Change x x' → IsLent x → IsLent x')
-    → ChangesAt j slots reply slots' Change → StaysInRegion slots slots'
-region_changed j slots reply slots' Change keeps changes = on_live (live_at slots j) _ _ changes
-    (λ missing. region_same slots slots' missing.1)
-    (λ x found h. region_set slots slots' j x (Live h.0) found (keeps x h.0 h.1) h.2)
-
 -- a store, whose bytes may be missing
 region_stored : (j a : ℕ) (stored : Option (List ℕ)) (slots : List (Slot MemoryValue)) (reply : Reply)
     (slots' : List (Slot MemoryValue)) → StoresVectorAt j a stored slots reply slots' → StaysInRegion slots slots'
 region_stored j a None slots reply slots' stores = region_same slots slots' stores.1
 region_stored j a (Some stored) slots reply slots' stores =
-    region_changed j slots reply slots' _ (λ x x' h lent. subst IsLentRoom (sym h.1.2) lent) stores
-
--- a drop
-region_dropped : (j : ℕ) (slots : List (Slot MemoryValue)) (reply : Reply) (slots' : List (Slot MemoryValue))
-    → DropsAt byte_count j slots reply slots' → StaysInRegion slots slots'
-region_dropped j slots reply slots' drops = on_live (live_at slots j) _ _ drops
-    (λ missing. region_same slots slots' missing.1)
-    (λ x found h. region_set slots slots' j x (Gone (byte_count x)) found (λ lent. tt) h.1)
-
--- a call with a charge on a live memory
-region_acted : {R S : Type 0} (j : ℕ) (reply_to : R → Reply)
-    (Acts : MeteredValue MemoryValue S → R → ℕ → MeteredValue MemoryValue S → Type 0)
-    (s s' : MeteredValue (List (Slot MemoryValue)) S) (reply : Reply) (charge : ℕ)
-    → ((x x' : MemoryValue) (result : R) → Acts (with_value s x) result charge (with_value s' x') → IsLent x → IsLent x')
-    → ActsAt j reply_to Acts s reply charge s' → StaysInRegion s.value s'.value
-region_acted {R} {S} j reply_to Acts s s' reply charge keeps acts = on_live (live_at s.value j) _ _ acts
-    (λ missing. region_same s.value s'.value
-    (ap (λ (t : MeteredValue (List (Slot MemoryValue)) S). t.value) missing.2))
-    (λ x found h. region_set s.value s'.value j x (Live h.1) found (keeps x h.1 h.0 h.2) h.4)
+    stays_changed IsLent j slots reply slots' _ (λ x x' h lent. subst IsLentRoom (sym h.1.2) lent) stores
 
 -- a creation in a lent region
 region_made : {S : Type 0} (rules : Rules S) (region : List ℕ) (ty : MemoryTypeValue)
@@ -617,10 +680,10 @@ region_made rules region ty slots l reply slots' l' (inr (Err error, makes, adds
 change_region : (s : State) (reply : Reply) (s' : State) (change : Change) → HasChange change s reply s'
     → StaysInRegion s.memories s'.memories
 change_region s reply s' (BytesWritten j offset bytes) c = rw c.after
-    (region_changed j s.memories reply c.part _ (λ x x' h. written_lent x offset bytes h.0 x' h.1) c.effect)
+    (stays_changed IsLent j s.memories reply c.part _ (λ x x' h. written_lent x offset bytes h.0 x' h.1) c.effect)
 change_region s reply s' (BytesStored j a stored) c =
     rw c.after (region_stored j a stored s.memories reply c.part c.effect)
-change_region s reply s' (MemoryDropped j) c = rw c.after (region_dropped j s.memories reply c.part c.effect)
+change_region s reply s' (MemoryDropped j) c = rw c.after (stays_dropped IsLent byte_count j s.memories reply c.part c.effect)
 change_region s reply s' change c =
     region_same s.memories s'.memories (ap (λ (t : State). t.memories) c.after)
 
@@ -645,7 +708,7 @@ module _ {S : Type 0} (rules : Rules S) (w : World S) (turn : Turn) (w' : World 
       (λ region found h. region_made rules region ty w.state.memories w.limiter turn.reply step.part.slots step.limiter
       h.0))
   effect_region (MemoryGrown j pages) has step = region_in _ step.after
-      (region_acted j (reply_of replied.Number replied.Memory) (GrowsMemoryCharging rules pages)
+      (stays_acted IsLent j (reply_of replied.Number replied.Memory) (GrowsMemoryCharging rules pages)
       (metered_value w.state.memories (Some w.state.meter) w.limiter)
       (metered_value step.part (Some step.meter) step.limiter) turn.reply turn.charge
       (λ x x' result grows lent. grown_lent rules pages (metered_value x (Some w.state.meter) w.limiter)
@@ -658,10 +721,128 @@ module _ {S : Type 0} (rules : Rules S) (w : World S) (turn : Turn) (w' : World 
       (both_live (byte_write_of source dst len) _ _ _ _ (range_lent source dst len) step.effect)
       (λ missing. region_same w.state.memories step.part
       (ap (λ (t : MeteredSlots MemoryValue). t.value) missing.1.2))
-      (λ v found h. region_acted j (reply_of (λ _. replied.Done) replied.Memory) (WritesCharging v)
+      (λ v found h. stays_acted IsLent j (reply_of (λ _. replied.Done) replied.Memory) (WritesCharging v)
       (metered w.state.memories (Some w.state.meter)) (metered step.part (Some step.meter)) turn.reply turn.charge
       (λ x x' result writes lent. charged_lent v h.0 (metered x (Some w.state.meter)) (metered x' (Some step.meter))
       result turn.charge lent writes) h.1))
+
+-- ---- reserved tables
+
+-- a table that is reserved up to its maximum stays so with other elements
+with_elements_reserved_still : (x x' : TableValue) (elements : List ℕ) → x' ≡ with_elements x elements
+    → IsReservedToMaximum x → IsReservedToMaximum x'
+with_elements_reserved_still x x' elements is holds = subst IsReservedToMaximum (sym is) holds
+
+-- where an element is set
+set_reserved : (index : ℕ) (value : TypedRawRef) (x : TableValue) (result : Result (Unit {0}) TableError) (x' : TableValue)
+    → SetsTable index value x result x' → IsReservedToMaximum x → IsReservedToMaximum x'
+set_reserved index value x result x' sets holds = on_test (same_type x.ty.element value.ty) _ _ sets
+    (λ raw. on_live (overwrite x.elements index (value.raw ∷ [])) _ _ raw
+    (λ outside. subst IsReservedToMaximum (sym outside.1) holds)
+    (λ elements is set. with_elements_reserved_still x x' elements set.1 holds))
+    (λ other. subst IsReservedToMaximum (sym other.1) holds)
+
+-- where a range is written over
+elements_reserved : (x : TableValue) (written : Option (List ℕ)) (x' : TableValue)
+    → option_map (with_elements x) written ≡ Some x' → IsReservedToMaximum x → IsReservedToMaximum x'
+elements_reserved x None x' is holds = absurd (none-some x' is)
+elements_reserved x (Some elements) x' is holds =
+    with_elements_reserved_still x x' elements (sym (same_Some (with_elements x elements) x' is)) holds
+
+-- each write to a table, by its source
+table_range_reserved : (source : Source) (dst len : ℕ) → OnLive (write_of source dst len) (Unit {0})
+    (λ w. (x x' : TableValue) → (w x).written ≡ Some x' → IsReservedToMaximum x → IsReservedToMaximum x')
+table_range_reserved (OfReference value) dst len =
+    λ x x' is. elements_reserved x (filled x.elements dst value.raw len) x' is
+table_range_reserved (OfTable None src) dst len = tt
+table_range_reserved (OfTable (Some source) src) dst len =
+    λ x x' is. elements_reserved x (copied x.elements dst source.elements src len) x' is
+table_range_reserved (OfSegment None src) dst len = tt
+table_range_reserved (OfSegment (Some segment) src) dst len =
+    λ x x' is. elements_reserved x (copied x.elements dst segment.items src len) x' is
+
+-- a write to a table, also where it is refused
+table_write_reserved : (w : TableValue → TableWrite)
+    → ((x x' : TableValue) → (w x).written ≡ Some x' → IsReservedToMaximum x → IsReservedToMaximum x')
+    → (s s' : MeteredValue TableValue (Unit {0})) (result : Result (Unit {0}) TableError) (charge : ℕ)
+    → IsReservedToMaximum s.value → WritesCharging w s result charge s' → IsReservedToMaximum s'.value
+table_write_reserved w keeps s s' result charge holds writes = elim (write_ends w s result charge s' writes) [
+  | inl r ↦ subst (λ (t : MeteredValue TableValue (Unit {0})). IsReservedToMaximum t.value) (sym r.same) holds
+  | inr p ↦ subst (λ (t : MeteredValue TableValue (Unit {0})). IsReservedToMaximum t.value) (sym p.after)
+      (keeps s.value p.value p.written holds)
+]
+
+-- a table that has grown, or wasn't permitted to
+attempted_reserved : (x : TableValue) (n reference : ℕ) (outcome : AttemptOutcome TableError) → IsReservedToMaximum x
+    → IsReservedToMaximum (value_after (table.growth_of x n reference) x outcome)
+attempted_reserved x n reference Met holds = holds
+attempted_reserved x n reference (Unasked cause) holds = holds
+attempted_reserved x n reference (Denied answer) holds = holds
+attempted_reserved x n reference (Failed cause notice_answer) holds = holds
+
+-- a table that grows
+grown_reserved : {S : Type 0} (rules : Rules S) (n : ℕ) (init : TypedRawRef) (s s' : MeteredValue TableValue S)
+    (result : Result ℕ TableError) (charge : ℕ) → IsReservedToMaximum s.value
+    → GrowsTableCharging rules n init s result charge s' → IsReservedToMaximum s'.value
+grown_reserved {S} rules n init s s' result charge holds grows = on_test (same_type s.value.ty.element init.ty) _ _ grows
+    (⊎_elim (λ none. subst (λ (t : MeteredValue TableValue S). IsReservedToMaximum t.value) (sym none.same) holds)
+    (λ some. subst IsReservedToMaximum (sym some.attempt.value)
+    (attempted_reserved s.value n init.raw some.outcome holds)))
+    (λ other. subst (λ (t : MeteredValue TableValue S). IsReservedToMaximum t.value) (sym other.2) holds)
+
+-- each index that names a table that is reserved up to its maximum, or none, does so later
+abbrev StayReserved : List (Slot TableValue) → List (Slot TableValue) → Type 0
+StayReserved = Stays IsReservedToMaximum
+
+-- the same tables
+tables_same : (slots slots' : List (Slot TableValue)) → slots' ≡ slots → StayReserved slots slots'
+tables_same = stays_same IsReservedToMaximum
+
+-- each change of one part
+change_reserved : (s : State) (reply : Reply) (s' : State) (change : Change) → HasChange change s reply s'
+    → StayReserved s.tables s'.tables
+change_reserved s reply s' (ElementSet j index value) c = rw c.after (stays_changed IsReservedToMaximum j s.tables reply
+    c.part _ (λ x x' h. set_reserved index value x h.0 x' h.1) c.effect)
+change_reserved s reply s' (TableDropped j) c =
+    rw c.after (stays_dropped IsReservedToMaximum size_of j s.tables reply c.part c.effect)
+change_reserved s reply s' change c = tables_same s.tables s'.tables (ap (λ (t : State). t.tables) c.after)
+
+module _ {S : Type 0} (rules : Rules S) (w : World S) (turn : Turn) (w' : World S) where
+  -- the world in which a turn ends
+  reserved_in : (v : World S) → w' ≡ v → StayReserved w.state.tables v.state.tables
+      → StayReserved w.state.tables w'.state.tables
+  reserved_in v is there = subst (λ (u : World S). StayReserved w.state.tables u.state.tables) (sym is) there
+
+  -- so each effect that needs no memory
+  effect_reserved : (effect : Effect) → EffectHas w.state effect → HasEffect rules effect w turn w'
+      → StayReserved w.state.tables w'.state.tables
+  effect_reserved (Told reply) has step = reserved_in w step.after (λ k holds. holds)
+  effect_reserved (BytesRead k offset len) has step = reserved_in w step.after (λ k holds. holds)
+  effect_reserved (FuelSet fuel) has step = reserved_in _ step.after
+      (tables_same w.state.tables _ (ap (λ (t : State). t.tables) step.effect.1))
+  effect_reserved (Changed change) has step =
+      reserved_in _ step.after (change_reserved w.state turn.reply step.machine change step.effect)
+  effect_reserved (MemoryMade ty) has step = absurd has
+  effect_reserved (LentMemoryMade ty) has step = reserved_in _ step.after (λ k holds. holds)
+  effect_reserved (MemoryGrown j pages) has step = reserved_in _ step.after (λ k holds. holds)
+  effect_reserved (TableMade ty init) has step = absurd has
+  effect_reserved (TableGrown j n init) has step = reserved_in _ step.after
+      (stays_acted IsReservedToMaximum j (reply_of replied.Number replied.Table) (GrowsTableCharging rules n init)
+      (metered_value w.state.tables (Some w.state.meter) w.limiter)
+      (metered_value step.part (Some step.meter) step.limiter) turn.reply turn.charge
+      (λ x x' result grows holds. grown_reserved rules n init (metered_value x (Some w.state.meter) w.limiter)
+      (metered_value x' (Some step.meter) step.limiter) result turn.charge holds grows) step.effect)
+  effect_reserved (RangeWritten (TableWritten j source dst len)) has step = reserved_in _ step.after
+      (on_live (write_of source dst len) _ _
+      (both_live (write_of source dst len) _ _ _ _ (table_range_reserved source dst len) step.effect)
+      (λ missing. tables_same w.state.tables step.part
+      (ap (λ (t : MeteredSlots TableValue). t.value) missing.1.2))
+      (λ v found h. stays_acted IsReservedToMaximum j (reply_of (λ _. replied.Done) replied.Table) (WritesCharging v)
+      (metered w.state.tables (Some w.state.meter)) (metered step.part (Some step.meter)) turn.reply turn.charge
+      (λ x x' result writes holds. table_write_reserved v h.0 (metered x (Some w.state.meter))
+      (metered x' (Some step.meter)) result turn.charge holds writes) h.1))
+  effect_reserved (RangeWritten (MemoryWritten k source dst len)) has step =
+      reserved_in _ step.after (λ k holds. holds)
 
 -- ---- slots that are taken
 
@@ -892,11 +1073,20 @@ module _ {S : Type 0} (rules : Rules S) (w : World S) (turn : Turn) (w' : World 
 
 -- ---- runs
 
--- what a call needs in a state, it needs in a later one, where memories stay in their regions
-needs_later : (s s' : State) → StaysInRegion s.memories s'.memories → (call : Call) → NeedsOnlySlot s call
-    → NeedsOnlySlot s' call
-needs_later s s' stays (GrowMemory k pages) needs = stays k needs
-needs_later s s' stays call needs = needs
+-- what a call needs in a state, it needs in a later one, where memories stay in their regions and tables reserved
+needs_later : (s s' : State) → StaysInRegion s.memories s'.memories → StayReserved s.tables s'.tables → (call : Call)
+    → NeedsOnlySlot s call → NeedsOnlySlot s' call
+needs_later s s' lent full (GrowMemory k pages) needs = lent k needs
+needs_later s s' lent full (GrowTable k n init) (inl none) = inl none
+needs_later s s' lent full (GrowTable k n init) (inr needs) = inr (full k needs)
+needs_later s s' lent full call needs = needs
+
+-- a table that is reserved up to its maximum has memory for so many more elements
+elements_at : (n : ℕ) (o : Option TableValue) → (n ≡ 0) ⊎ OnLive o (Unit {0}) IsReservedToMaximum
+    → (n ≡ 0) ⊎ OnLive o (Unit {0}) (HasElements n)
+elements_at n o (inl none) = inl none
+elements_at n None (inr full) = inr tt
+elements_at n (Some x) (inr full) = inr (inr full)
 
 module _ (makes : Call → Bool) (call : Call) (calls : List Call) where
   -- the slots that the first of the calls takes, and those of the others
@@ -922,7 +1112,8 @@ first_needs s (NewLentMemory ty) calls r =
 first_needs s (GrowMemory k pages) calls r = All-head (NeedsOnlySlot s) (GrowMemory k pages) calls r.needs
 first_needs s (Read k offset len) calls r = All-head (NeedsOnlySlot s) (Read k offset len) calls r.needs
 first_needs s (NewTable ty init) calls r = All-head (NeedsOnlySlot s) (NewTable ty init) calls r.needs
-first_needs s (GrowTable k n init) calls r = All-head (NeedsOnlySlot s) (GrowTable k n init) calls r.needs
+first_needs s (GrowTable k n init) calls r =
+    elements_at n (live_at s.tables k) (All-head (NeedsOnlySlot s) (GrowTable k n init) calls r.needs)
 first_needs s (NewSegment ty items) calls r = (
   All-head (NeedsOnlySlot s) (NewSegment ty items) calls r.needs,
   first_slot makes_segment (NewSegment ty items) calls s.reserved.segments s.segments refl r.segments,
@@ -964,7 +1155,8 @@ module _ {S : Type 0} (rules : Rules S) where
       let takes = effect_takes rules w turn v (effect_of w.state turn.call) has step in
       record {
         needs = All-weaker (NeedsOnlySlot w.state) (NeedsOnlySlot v.state) (needs_later w.state v.state
-            (effect_region rules w turn v (effect_of w.state turn.call) has step)) calls
+            (effect_region rules w turn v (effect_of w.state turn.call) has step)
+            (effect_reserved rules w turn v (effect_of w.state turn.call) has step)) calls
             (All-tail (NeedsOnlySlot w.state) turn.call calls r.needs);
         memories = slots_left makes_lent_memory turn.call calls w.state.reserved.memories v.state.reserved.memories _
             w.state.memories v.state.memories (ap (λ (n : SlotCounts). n.memories) takes.reserved)

@@ -1,7 +1,8 @@
 -- Calls and runs that need no memory but what was reserved: none of their replies says out of memory.
-use Rattle.std.specs.Prelude.{◌≡◌, ◌<◌, ◌≤◌, ◌+◌, ℕ, Bool, true, false, List, [], length, All, count_by}
+use Rattle.std.specs.Prelude.{◌≡◌, ◌<◌, ◌≤◌, ◌+◌, ◌⊎◌, ℕ, Bool, true, false, List, [], length, All, MatchOption, count_by}
 use Rattle.wasmi_store.specs.Buffer.{Room, Owned, Lent}
 use Rattle.wasmi_store.specs.Memory.{MemoryValue}
+use Rattle.wasmi_store.specs.Table.{TableValue, size_of}
 use Rattle.wasmi_meter.specs.Limiter.{Rules}
 use Rattle.wasmi_machine.specs.declared.calls.Call.{Call}
 use Rattle.wasmi_machine.specs.declared.calls.Call.TheVariants.{NewMemory, NewLentMemory, GrowMemory, Read, NewTable, GrowTable, NewSegment, NewData, NewGlobal}
@@ -25,32 +26,49 @@ IsLent x = IsLentRoom x.room
 abbrev pub IsInRegion : List (Slot MemoryValue) → ℕ → Type 0
 IsInRegion slots k = OnLive (live_at slots k) (Unit {0}) IsLent
 
+-- memory is reserved for all elements of a table up to its maximum
+abbrev pub IsReservedToMaximum : TableValue → Type 0
+IsReservedToMaximum x = MatchOption x.ty.maximum ⊥ (λ maximum. maximum ≤ x.reserved)
+
+-- an index names a table that is reserved up to its maximum, if it names a live one
+abbrev pub IsReservedTable : List (Slot TableValue) → ℕ → Type 0
+IsReservedTable slots k = OnLive (live_at slots k) (Unit {0}) IsReservedToMaximum
+
+-- memory is reserved for n more elements of a table, or for all up to its maximum
+abbrev pub HasElements : ℕ → TableValue → Type 0
+HasElements n x = (size_of x + n ≤ x.reserved) ⊎ IsReservedToMaximum x
+
+-- a table of an index, if it is there, has memory for n more elements
+abbrev pub HasElementsAt : List (Slot TableValue) → ℕ → ℕ → Type 0
+HasElementsAt slots k n = OnLive (live_at slots k) (Unit {0}) (HasElements n)
+
 -- memory for one more slot is there, since one that is reserved is free
 abbrev pub HasSlot : {A : Type 0} → ℕ → List A → Type 0
 HasSlot reserved list = length list < reserved
 
 -- a call on a machine in this state needs no memory: what it makes has a slot that is reserved, and nothing else that
--- isn't in a lent region; the memory that it grows lies in one; no byte is read; and no table grows or is made
+-- isn't in a lent region; the memory that it grows lies in one; the table that it grows has the memory reserved; no byte
+-- is read; and no table is made
 abbrev pub NeedsNoMemory : State → Call → Type 0
 NeedsNoMemory s (NewMemory ty) = ⊥
 NeedsNoMemory s (NewLentMemory ty) = HasSlot s.reserved.memories s.memories
 NeedsNoMemory s (GrowMemory k pages) = IsInRegion s.memories k
 NeedsNoMemory s (Read k offset len) = len ≡ 0
 NeedsNoMemory s (NewTable ty init) = ⊥
-NeedsNoMemory s (GrowTable k n init) = n ≡ 0
+NeedsNoMemory s (GrowTable k n init) = (n ≡ 0) ⊎ HasElementsAt s.tables k n
 NeedsNoMemory s (NewSegment ty items) = (items.items ≡ []) × HasSlot s.reserved.segments s.segments
 NeedsNoMemory s (NewData bytes) = (bytes.items ≡ []) × HasSlot s.reserved.data_segments s.data_segments
 NeedsNoMemory s (NewGlobal value ty) = HasSlot s.reserved.globals s.globals
 NeedsNoMemory s call = Unit {0}
 
 -- a call needs no memory but for the slot of what it makes, where a memory that it grows and that was there in this
--- state still lies in its region
+-- state still lies in its region, and a table that it grows is still reserved up to its maximum
 abbrev pub NeedsOnlySlot : State → Call → Type 0
 NeedsOnlySlot s (NewMemory ty) = ⊥
 NeedsOnlySlot s (GrowMemory k pages) = IsInRegion s.memories k
 NeedsOnlySlot s (Read k offset len) = len ≡ 0
 NeedsOnlySlot s (NewTable ty init) = ⊥
-NeedsOnlySlot s (GrowTable k n init) = n ≡ 0
+NeedsOnlySlot s (GrowTable k n init) = (n ≡ 0) ⊎ IsReservedTable s.tables k
 NeedsOnlySlot s (NewSegment ty items) = items.items ≡ []
 NeedsOnlySlot s (NewData bytes) = bytes.items ≡ []
 NeedsOnlySlot s call = Unit {0}

@@ -263,7 +263,7 @@ table_growth_same {rules = rules} once n init s result result' charge charge' s'
         → (result ≡ result') × (charge ≡ charge') × (s' ≡ s'')
     by_type true h h' = grows_same once
         (record { amount = n; size = size_of s.value; request = table.growth_of s.value n init.raw })
-        (record { wants = table_wants }) s result result' charge charge' s' s'' h h'
+        (record { wants = λ cause lacks. table_wants cause lacks.0 }) s result result' charge charge' s' s'' h h'
     by_type false h h' = (h.0 ∙ sym h'.0, h.1 ∙ sym h'.1, h.2 ∙ sym h'.2)
 
 module _ {S : Type 0} (rules : Rules S) (once : IsDeterministic rules) (w : World S) (t t' : Turn) (v v' : World S)

@@ -48,7 +48,8 @@ impl<'r> Model for Machine<'r> {
 
 impl<'r> Machine<'r> {
     ghost use Rattle.wasmi_machine.specs.MemoryEffects.{StoresMemoryAt};
-    ghost use Rattle.wasmi_machine.specs.State.{new_state, with_memories, with_reserved, with_spare, live_at, IsValid, total};
+    ghost use Rattle.wasmi_machine.specs.TableEffects.{ReservesElementsAt};
+    ghost use Rattle.wasmi_machine.specs.State.{new_state, with_memories, with_reserved, with_spare, with_tables, live_at, IsValid, total};
     ghost use Rattle.wasmi_meter.specs.declared.limiter.Kind.TheVariants.{Bytes, Elements};
     ghost use Rattle.wasmi_meter.specs.Meter.{ConsumesFuel, amount_left, meter_after};
     ghost use Rattle.wasmi_ops.specs.LoadStoreOps.{stored_bytes};
@@ -98,6 +99,21 @@ impl<'r> Machine<'r> {
         ensures refused { OnErr result (self.new ≡ self.old) }
     {
         self.store.reserve(slots)
+    }
+
+    /// Reserves memory for so many elements in all of a table, those that are there included, as
+    /// [`Table::reserve`] does: until it has more, no growth of it is refused with
+    /// `OutOfSystemMemory`. What is reserved already stays so.
+    ///
+    /// It isn't a call, so a run has no turn for it. The reply is `Done`, `NoSuch` if there is no
+    /// such table, or `NoRoom` if the memory is refused; after the last two nothing has changed.
+    pub fn reserve_elements(&mut self, table: usize, elements: u64) -> Reply
+        ensures tables { ReservesElementsAt table elements self.old.tables result
+            self.new.tables }
+        ensures rest { self.new ≡ with_tables self.old self.new.tables }
+    {
+        let reply = self.store.tables.reserve(table, elements);
+        reply.unwrap_or(Reply::NoSuch)
     }
 
     /// The meter.

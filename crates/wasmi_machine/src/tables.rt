@@ -5,7 +5,7 @@ ghost use Rattle.wasmi_store.specs.Growth.{metered_value, metered, WithCharge};
 ghost use Rattle.wasmi_store.specs.Segment.{segment_of};
 ghost use Rattle.wasmi_store.specs.Table.{MakesTable, GrowsTableCharging, filling_of, copy_of, initialization_of};
 ghost use Rattle.wasmi_machine.specs.Effects.{reply_of, reply_or_no_such, ActsAt, CopiesSlot, Creates, IfNoRoom};
-ghost use Rattle.wasmi_machine.specs.TableEffects.{SetsElementAt, WritesTableAt, WritesTableFrom};
+ghost use Rattle.wasmi_machine.specs.TableEffects.{ReservesElementsAt, SetsElementAt, WritesTableAt, WritesTableFrom};
 ghost use Rattle.wasmi_machine.specs.State.{live_at};
 
 use crate::calls::Reply;
@@ -62,6 +62,19 @@ impl Slots<Table> {
         match table.grow_metered(delta, init, fuel, limiter) {
             Ok(size) => Some(Reply::Number(size)),
             Err(error) => Some(Reply::Table(error)),
+        }
+    }
+
+    /// Reserves memory for so many elements of a table in all.
+    pub(crate) fn reserve(&mut self, index: usize, elements: u64) -> Option<Reply>
+        ensures elements { ReservesElementsAt index elements self.old.slots.items
+            (reply_or_no_such result) self.new.slots.items }
+        ensures reserved { self.new.slots.reserved ≡ self.old.slots.reserved }
+    {
+        let table = self.live_mut(index)?;
+        match table.reserve(elements) {
+            Ok(()) => Some(Reply::Done),
+            Err(_) => Some(Reply::NoRoom),
         }
     }
 
