@@ -950,6 +950,28 @@ mod machine {
             self.store.reserve(slots)
         }
 
+        /// Reserves memory for so many elements in all of a table, those that are there included, as
+        /// [`Table::reserve`] does: until it has more, no growth of it is refused with
+        /// `OutOfSystemMemory`. What is reserved already stays so.
+        ///
+        /// It isn't a call, so a run has no turn for it. The reply is `Done`, `NoSuch` if there is no
+        /// such table, or `NoRoom` if the memory is refused; after the last two nothing has changed.
+        ///
+        /// # Contract
+        ///
+        /// ```text
+        /// ensures tables: ReservesElementsAt table elements self.old.tables result
+        ///     self.new.tables
+        /// ensures rest: self.new ≡ with_tables self.old self.new.tables
+        /// ```
+        ///
+        /// Definitions: [`ReservesElementsAt`](crate::specs::machine::TableEffectsSpecs#ReservesElementsAt), [`with_tables`](crate::specs::machine::StateSpecs#with_tables).
+        #[inline(always)]
+        pub fn reserve_elements(&mut self, table: usize, elements: u64) -> Reply {
+            let reply = self.store.tables.reserve(table, elements);
+            reply.unwrap_or(Reply::NoSuch)
+        }
+
         /// The meter.
         ///
         /// # Contract
@@ -3013,6 +3035,26 @@ mod tables {
             match table.grow_metered(delta, init, fuel, limiter) {
                 Ok(size) => Some(Reply::Number(size)),
                 Err(error) => Some(Reply::Table(error)),
+            }
+        }
+
+        /// Reserves memory for so many elements of a table in all.
+        ///
+        /// # Contract
+        ///
+        /// ```text
+        /// ensures elements: ReservesElementsAt index elements self.old.slots.items
+        ///     (reply_or_no_such result) self.new.slots.items
+        /// ensures reserved: self.new.slots.reserved ≡ self.old.slots.reserved
+        /// ```
+        ///
+        /// Definitions: [`ReservesElementsAt`](crate::specs::machine::TableEffectsSpecs#ReservesElementsAt), [`reply_or_no_such`](crate::specs::machine::EffectsSpecs#reply_or_no_such).
+        #[inline(always)]
+        pub(crate) fn reserve(&mut self, index: usize, elements: u64) -> Option<Reply> {
+            let table = self.live_mut(index)?;
+            match table.reserve(elements) {
+                Ok(()) => Some(Reply::Done),
+                Err(_) => Some(Reply::NoRoom),
             }
         }
 

@@ -3182,7 +3182,7 @@ abbrev pub <b id="segment_error_text">segment_error_text</b> : SegmentError → 
     pub mod SegmentSpecs {}
     #[doc = r####"Tables: their types, making one, growing it, reading and writing its elements (core specification, table types and table instances).
 
-<pre><code>use Rattle.std.specs.Prelude.{◌≡◌, ◌^◌, ◌≤◌, ◌&lt;◌, ℕ, Bool, true, false, nat_le, nat_lt, Option, ◌+◌, List, [], ◌∷◌, ◌++◌, length, replicate, nat_eq, if◌then◌else◌, MatchBool, MatchOption, Some, None, Result, Ok, Err, slice_get}
+<pre><code>use Rattle.std.specs.Prelude.{◌≡◌, ◌^◌, ◌≤◌, ◌&lt;◌, ℕ, Bool, true, false, nat_le, nat_lt, Option, ◌+◌, List, [], ◌∷◌, ◌++◌, length, replicate, max, nat_eq, if◌then◌else◌, MatchBool, MatchOption, Some, None, Result, Ok, Err, slice_get}
 use Rattle.std.specs.Option.{option_map_or, ForSome, option_map}
 use Rattle.wasmi_types.specs.declared.value.RefType.{RefType}
 use Rattle.wasmi_types.specs.declared.value.RefType.TheVariants.{Func, Extern}
@@ -3236,14 +3236,23 @@ pub record <b id="IsSubtype">IsSubtype</b> (a b : <a href="../../store/TableSpec
   pub <b id="minimum">minimum</b> : b.minimum ≤ a.minimum
   pub <b id="maximum">maximum</b> : <a href="../../store/MemorySpecs/index.html#IsNoLooser">IsNoLooser</a> a.maximum b.maximum
 
--- a table: its type, and its elements, each a reference or 0 for null
+-- a table: its type, its elements, each a reference or 0 for null, and how many elements in all memory was reserved for
 pub record <b id="TableValue">TableValue</b> : Type 0 where
   pub <b id="ty">ty</b> : <a href="../../store/TableSpecs/index.html#TableTypeValue">TableTypeValue</a>
   pub <b id="elements">elements</b> : List ℕ
+  pub <b id="reserved">reserved</b> : ℕ
 
--- the table of a type with these elements
+-- the table of a type with these elements, for which nothing was reserved
 abbrev pub <b id="table_of">table_of</b> : <a href="../../store/TableSpecs/index.html#TableTypeValue">TableTypeValue</a> → List ℕ → <a href="../../store/TableSpecs/index.html#TableValue">TableValue</a>
-<a href="../../store/TableSpecs/index.html#table_of">table_of</a> <a href="../../store/TableSpecs/index.html#ty">ty</a> <a href="../../store/TableSpecs/index.html#elements">elements</a> = record { <a href="../../store/TableSpecs/index.html#ty">ty</a> = <a href="../../store/TableSpecs/index.html#ty">ty</a>; <a href="../../store/TableSpecs/index.html#elements">elements</a> = <a href="../../store/TableSpecs/index.html#elements">elements</a> }
+<a href="../../store/TableSpecs/index.html#table_of">table_of</a> <a href="../../store/TableSpecs/index.html#ty">ty</a> <a href="../../store/TableSpecs/index.html#elements">elements</a> = record { <a href="../../store/TableSpecs/index.html#ty">ty</a> = <a href="../../store/TableSpecs/index.html#ty">ty</a>; <a href="../../store/TableSpecs/index.html#elements">elements</a> = <a href="../../store/TableSpecs/index.html#elements">elements</a>; <a href="../../store/TableSpecs/index.html#reserved">reserved</a> = 0 }
+
+-- the table with these elements
+abbrev pub <b id="with_elements">with_elements</b> : <a href="../../store/TableSpecs/index.html#TableValue">TableValue</a> → List ℕ → <a href="../../store/TableSpecs/index.html#TableValue">TableValue</a>
+<a href="../../store/TableSpecs/index.html#with_elements">with_elements</a> x <a href="../../store/TableSpecs/index.html#elements">elements</a> = record x { <a href="../../store/TableSpecs/index.html#elements">elements</a> = <a href="../../store/TableSpecs/index.html#elements">elements</a> }
+
+-- the table for whose first n elements memory is reserved, unless that was so for more
+abbrev pub <b id="with_elements_reserved">with_elements_reserved</b> : <a href="../../store/TableSpecs/index.html#TableValue">TableValue</a> → ℕ → <a href="../../store/TableSpecs/index.html#TableValue">TableValue</a>
+<a href="../../store/TableSpecs/index.html#with_elements_reserved">with_elements_reserved</a> x n = record x { <a href="../../store/TableSpecs/index.html#reserved">reserved</a> = max x.reserved n }
 
 -- how many elements a table has
 abbrev pub <b id="size_of">size_of</b> : <a href="../../store/TableSpecs/index.html#TableValue">TableValue</a> → ℕ
@@ -3266,11 +3275,11 @@ abbrev pub <b id="dynamic_type">dynamic_type</b> : <a href="../../store/TableSpe
 
 -- a new table at the minimum of its type, with one reference in each place
 abbrev pub <b id="new_table">new_table</b> : <a href="../../store/TableSpecs/index.html#TableTypeValue">TableTypeValue</a> → ℕ → <a href="../../store/TableSpecs/index.html#TableValue">TableValue</a>
-<a href="../../store/TableSpecs/index.html#new_table">new_table</a> <a href="../../store/TableSpecs/index.html#ty">ty</a> reference = record { <a href="../../store/TableSpecs/index.html#ty">ty</a> = <a href="../../store/TableSpecs/index.html#ty">ty</a>; <a href="../../store/TableSpecs/index.html#elements">elements</a> = replicate ty.minimum reference }
+<a href="../../store/TableSpecs/index.html#new_table">new_table</a> <a href="../../store/TableSpecs/index.html#ty">ty</a> reference = <a href="../../store/TableSpecs/index.html#table_of">table_of</a> <a href="../../store/TableSpecs/index.html#ty">ty</a> (replicate ty.minimum reference)
 
 -- the table with n more elements
 abbrev pub <b id="with_added">with_added</b> : <a href="../../store/TableSpecs/index.html#TableValue">TableValue</a> → ℕ → ℕ → <a href="../../store/TableSpecs/index.html#TableValue">TableValue</a>
-<a href="../../store/TableSpecs/index.html#with_added">with_added</a> x n reference = record { <a href="../../store/TableSpecs/index.html#ty">ty</a> = x.ty; <a href="../../store/TableSpecs/index.html#elements">elements</a> = x.elements ++ replicate n reference }
+<a href="../../store/TableSpecs/index.html#with_added">with_added</a> x n reference = <a href="../../store/TableSpecs/index.html#with_elements">with_elements</a> x (x.elements ++ replicate n reference)
 
 -- the fuel for so many elements, of 4 bytes each
 abbrev pub <b id="element_price">element_price</b> : ℕ → CustomFuelCosts → ℕ
@@ -3292,7 +3301,7 @@ abbrev pub <b id="creation_of">creation_of</b> : <a href="../../store/TableSpecs
 }
 
 -- what is asked and paid where a table grows by n elements, and the causes of a refusal: the maximum is tested after
--- the permission
+-- the permission, and memory is wanting only for more elements than it was reserved for
 abbrev pub <b id="growth_of">growth_of</b> : <a href="../../store/TableSpecs/index.html#TableValue">TableValue</a> → ℕ → ℕ → <a href="../../meter/AttemptSpecs/index.html#Request">Request</a> <a href="../../store/TableSpecs/index.html#TableValue">TableValue</a> TableError
 <a href="../../store/TableSpecs/index.html#growth_of">growth_of</a> x n reference = record {
   early = if <a href="../../store/TableSpecs/index.html#is_indexable">is_indexable</a> x.ty (<a href="../../store/TableSpecs/index.html#size_of">size_of</a> x + n) then None else Some GrowOutOfBounds;
@@ -3303,7 +3312,7 @@ abbrev pub <b id="growth_of">growth_of</b> : <a href="../../store/TableSpecs/ind
   late = if <a href="../../store/TableSpecs/index.html#is_within_maximum">is_within_maximum</a> x.ty (<a href="../../store/TableSpecs/index.html#size_of">size_of</a> x + n) then None else Some GrowOutOfBounds;
   price = Some (<a href="../../store/TableSpecs/index.html#element_price">element_price</a> n);
   unpaid = OutOfFuel;
-  refuses = λ cause. cause ≡ OutOfSystemMemory;
+  refuses = λ cause. (cause ≡ OutOfSystemMemory) × (x.reserved &lt; <a href="../../store/TableSpecs/index.html#size_of">size_of</a> x + n);
   grown = <a href="../../store/TableSpecs/index.html#with_added">with_added</a> x n reference;
 }
 
@@ -3346,7 +3355,7 @@ abbrev pub <b id="element_at">element_at</b> : <a href="../../store/TableSpecs/i
 abbrev pub <b id="SetsTableRaw">SetsTableRaw</b> : ℕ → ℕ → <a href="../../store/TableSpecs/index.html#TableValue">TableValue</a> → Result (Unit {0}) TableError → <a href="../../store/TableSpecs/index.html#TableValue">TableValue</a> → Type 0
 <a href="../../store/TableSpecs/index.html#SetsTableRaw">SetsTableRaw</a> <a href="../../store/TableSpecs/index.html#index">index</a> reference x result x&#x27; = MatchOption (<a href="../../types/AccessSpecs/index.html#overwrite">overwrite</a> x.elements <a href="../../store/TableSpecs/index.html#index">index</a> (reference ∷ []))
     ((result ≡ Err SetOutOfBounds) × (x&#x27; ≡ x))
-    (λ <a href="../../store/TableSpecs/index.html#elements">elements</a>. (result ≡ Ok tt) × (x&#x27; ≡ record x { <a href="../../store/TableSpecs/index.html#elements">elements</a> = <a href="../../store/TableSpecs/index.html#elements">elements</a> }))
+    (λ <a href="../../store/TableSpecs/index.html#elements">elements</a>. (result ≡ Ok tt) × (x&#x27; ≡ <a href="../../store/TableSpecs/index.html#with_elements">with_elements</a> x <a href="../../store/TableSpecs/index.html#elements">elements</a>))
 
 -- the element at an index is set to a reference that has a type, which is tested first
 abbrev pub <b id="SetsTable">SetsTable</b> : ℕ → TypedRawRef → <a href="../../store/TableSpecs/index.html#TableValue">TableValue</a> → Result (Unit {0}) TableError → <a href="../../store/TableSpecs/index.html#TableValue">TableValue</a> → Type 0
@@ -3362,7 +3371,7 @@ abbrev pub <b id="TableWrite">TableWrite</b> : Type 0
 abbrev pub <b id="elements_write">elements_write</b> : <a href="../../store/TableSpecs/index.html#TableValue">TableValue</a> → Bool → Option (List ℕ) → TableError → Option ℕ → <a href="../../store/TableSpecs/index.html#TableWrite">TableWrite</a>
 <a href="../../store/TableSpecs/index.html#elements_write">elements_write</a> x typed written outside paid = record {
   early = if typed then None else Some ElementTypeMismatch;
-  written = option_map (<a href="../../store/TableSpecs/index.html#table_of">table_of</a> x.ty) written;
+  written = option_map (<a href="../../store/TableSpecs/index.html#with_elements">with_elements</a> x) written;
   outside = outside;
   price = option_map <a href="../../store/TableSpecs/index.html#element_price">element_price</a> paid;
   unpaid = OutOfFuel;
@@ -5033,14 +5042,14 @@ abbrev pub <b id="IsRunOf">IsRunOf</b> : {S : Type 0} → <a href="../../meter/L
     pub mod StepsSpecs {}
     #[doc = r####"The calls on tables: what each does to the list of slots.
 
-<pre><code>use Rattle.std.specs.Prelude.{◌≡◌, ℕ, Option, Some, Result, List}
+<pre><code>use Rattle.std.specs.Prelude.{◌≡◌, ◌&lt;◌, ◌⊎◌, ℕ, Option, Some, Result, List}
 use Rattle.std.specs.Option.{option_map, option_map_or}
 use Rattle.wasmi_typed.specs.declared.typed_ref.TypedRawRef.{TypedRawRef}
 use Rattle.wasmi_meter.specs.declared.error.TableError.{TableError}
 use Rattle.wasmi_store.specs.Segment.{<a href="../../store/SegmentSpecs/index.html#SegmentValue">SegmentValue</a>}
-use Rattle.wasmi_store.specs.Table.{<a href="../../store/TableSpecs/index.html#TableValue">TableValue</a>, <a href="../../store/TableSpecs/index.html#TableWrite">TableWrite</a>, <a href="../../store/TableSpecs/index.html#SetsTable">SetsTable</a>, <a href="../../store/TableSpecs/index.html#element_at">element_at</a>, <a href="../../store/TableSpecs/index.html#filling_of">filling_of</a>, <a href="../../store/TableSpecs/index.html#copy_of">copy_of</a>, <a href="../../store/TableSpecs/index.html#initialization_of">initialization_of</a>}
+use Rattle.wasmi_store.specs.Table.{<a href="../../store/TableSpecs/index.html#TableValue">TableValue</a>, <a href="../../store/TableSpecs/index.html#TableWrite">TableWrite</a>, <a href="../../store/TableSpecs/index.html#with_elements_reserved">with_elements_reserved</a>, <a href="../../store/TableSpecs/index.html#SetsTable">SetsTable</a>, <a href="../../store/TableSpecs/index.html#element_at">element_at</a>, <a href="../../store/TableSpecs/index.html#filling_of">filling_of</a>, <a href="../../store/TableSpecs/index.html#copy_of">copy_of</a>, <a href="../../store/TableSpecs/index.html#initialization_of">initialization_of</a>}
 use Rattle.wasmi_machine.specs.declared.calls.Reply.{Reply}
-use Rattle.wasmi_machine.specs.declared.calls.Reply.TheVariants.{Done, Reference, Table, NoSuch}
+use Rattle.wasmi_machine.specs.declared.calls.Reply.TheVariants.{Done, Reference, Table, NoRoom, NoSuch}
 use Rattle.wasmi_machine.specs.declared.slots.Slot.{Slot}
 use Rattle.wasmi_machine.specs.Effects.{<a href="../../machine/EffectsSpecs/index.html#reply_of">reply_of</a>, <a href="../../machine/EffectsSpecs/index.html#ChangesAt">ChangesAt</a>, <a href="../../machine/EffectsSpecs/index.html#MeteredSlots">MeteredSlots</a>, <a href="../../machine/EffectsSpecs/index.html#WritesAt">WritesAt</a>, <a href="../../machine/EffectsSpecs/index.html#WritesFrom">WritesFrom</a>, <a href="../../machine/EffectsSpecs/index.html#item_bytes">item_bytes</a>}
 
@@ -5053,6 +5062,13 @@ abbrev pub <b id="SetsElementAt">SetsElementAt</b> : ℕ → ℕ → TypedRawRef
 <a href="../../machine/TableEffectsSpecs/index.html#SetsElementAt">SetsElementAt</a> k index value slots reply slots&#x27; = <a href="../../machine/EffectsSpecs/index.html#ChangesAt">ChangesAt</a> k slots reply slots&#x27;
     (λ x x&#x27;. (result : Result (Unit {0}) TableError) × <a href="../../store/TableSpecs/index.html#SetsTable">SetsTable</a> index value x result x&#x27;
     × (reply ≡ <a href="../../machine/EffectsSpecs/index.html#reply_of">reply_of</a> (λ _. Done) Table result))
+
+-- memory is reserved for so many elements in all of the table of an index, unless it is refused for more than it was
+-- reserved for; then nothing has changed
+abbrev pub <b id="ReservesElementsAt">ReservesElementsAt</b> : ℕ → ℕ → List (Slot <a href="../../store/TableSpecs/index.html#TableValue">TableValue</a>) → Reply → List (Slot <a href="../../store/TableSpecs/index.html#TableValue">TableValue</a>) → Type 0
+<a href="../../machine/TableEffectsSpecs/index.html#ReservesElementsAt">ReservesElementsAt</a> k n slots reply slots&#x27; = <a href="../../machine/EffectsSpecs/index.html#ChangesAt">ChangesAt</a> k slots reply slots&#x27;
+    (λ x x&#x27;. ((reply ≡ Done) × (x&#x27; ≡ <a href="../../store/TableSpecs/index.html#with_elements_reserved">with_elements_reserved</a> x n))
+    ⊎ ((reply ≡ NoRoom) × (x.reserved &lt; n) × (x&#x27; ≡ x)))
 
 -- a range of the table of an index is written over, with its charge
 abbrev pub <b id="WritesTableAt">WritesTableAt</b> : ℕ → (<a href="../../store/TableSpecs/index.html#TableValue">TableValue</a> → <a href="../../store/TableSpecs/index.html#TableWrite">TableWrite</a>) → <a href="../../machine/EffectsSpecs/index.html#MeteredSlots">MeteredSlots</a> <a href="../../store/TableSpecs/index.html#TableValue">TableValue</a> → Reply → ℕ
@@ -5484,9 +5500,10 @@ module _ {S : Type 0} (rules : <a href="../../meter/LimiterSpecs/index.html#Rule
     pub mod PlacesSpecs {}
     #[doc = r####"Calls and runs that need no memory but what was reserved: none of their replies says out of memory.
 
-<pre><code>use Rattle.std.specs.Prelude.{◌≡◌, ◌&lt;◌, ◌≤◌, ◌+◌, ℕ, Bool, true, false, List, [], length, All, count_by}
+<pre><code>use Rattle.std.specs.Prelude.{◌≡◌, ◌&lt;◌, ◌≤◌, ◌+◌, ◌⊎◌, ℕ, Bool, true, false, List, [], length, All, MatchOption, count_by}
 use Rattle.wasmi_store.specs.Buffer.{<a href="../../store/BufferSpecs/index.html#Room">Room</a>, <a href="../../store/BufferSpecs/index.html#Owned">Owned</a>, <a href="../../store/BufferSpecs/index.html#Lent">Lent</a>}
 use Rattle.wasmi_store.specs.Memory.{<a href="../../store/MemorySpecs/index.html#MemoryValue">MemoryValue</a>}
+use Rattle.wasmi_store.specs.Table.{<a href="../../store/TableSpecs/index.html#TableValue">TableValue</a>, <a href="../../store/TableSpecs/index.html#size_of">size_of</a>}
 use Rattle.wasmi_meter.specs.Limiter.{<a href="../../meter/LimiterSpecs/index.html#Rules">Rules</a>}
 use Rattle.wasmi_machine.specs.declared.calls.Call.{Call}
 use Rattle.wasmi_machine.specs.declared.calls.Call.TheVariants.{NewMemory, NewLentMemory, GrowMemory, Read, NewTable, GrowTable, NewSegment, NewData, NewGlobal}
@@ -5510,32 +5527,49 @@ abbrev pub <b id="IsLent">IsLent</b> : <a href="../../store/MemorySpecs/index.ht
 abbrev pub <b id="IsInRegion">IsInRegion</b> : List (Slot <a href="../../store/MemorySpecs/index.html#MemoryValue">MemoryValue</a>) → ℕ → Type 0
 <a href="../../laws/ReservedSpecs/index.html#IsInRegion">IsInRegion</a> slots k = <a href="../../machine/EffectsSpecs/index.html#OnLive">OnLive</a> (<a href="../../machine/StateSpecs/index.html#live_at">live_at</a> slots k) (Unit {0}) <a href="../../laws/ReservedSpecs/index.html#IsLent">IsLent</a>
 
+-- memory is reserved for all elements of a table up to its maximum
+abbrev pub <b id="IsReservedToMaximum">IsReservedToMaximum</b> : <a href="../../store/TableSpecs/index.html#TableValue">TableValue</a> → Type 0
+<a href="../../laws/ReservedSpecs/index.html#IsReservedToMaximum">IsReservedToMaximum</a> x = MatchOption x.ty.maximum ⊥ (λ maximum. maximum ≤ x.reserved)
+
+-- an index names a table that is reserved up to its maximum, if it names a live one
+abbrev pub <b id="IsReservedTable">IsReservedTable</b> : List (Slot <a href="../../store/TableSpecs/index.html#TableValue">TableValue</a>) → ℕ → Type 0
+<a href="../../laws/ReservedSpecs/index.html#IsReservedTable">IsReservedTable</a> slots k = <a href="../../machine/EffectsSpecs/index.html#OnLive">OnLive</a> (<a href="../../machine/StateSpecs/index.html#live_at">live_at</a> slots k) (Unit {0}) <a href="../../laws/ReservedSpecs/index.html#IsReservedToMaximum">IsReservedToMaximum</a>
+
+-- memory is reserved for n more elements of a table, or for all up to its maximum
+abbrev pub <b id="HasElements">HasElements</b> : ℕ → <a href="../../store/TableSpecs/index.html#TableValue">TableValue</a> → Type 0
+<a href="../../laws/ReservedSpecs/index.html#HasElements">HasElements</a> n x = (<a href="../../store/TableSpecs/index.html#size_of">size_of</a> x + n ≤ x.reserved) ⊎ <a href="../../laws/ReservedSpecs/index.html#IsReservedToMaximum">IsReservedToMaximum</a> x
+
+-- a table of an index, if it is there, has memory for n more elements
+abbrev pub <b id="HasElementsAt">HasElementsAt</b> : List (Slot <a href="../../store/TableSpecs/index.html#TableValue">TableValue</a>) → ℕ → ℕ → Type 0
+<a href="../../laws/ReservedSpecs/index.html#HasElementsAt">HasElementsAt</a> slots k n = <a href="../../machine/EffectsSpecs/index.html#OnLive">OnLive</a> (<a href="../../machine/StateSpecs/index.html#live_at">live_at</a> slots k) (Unit {0}) (<a href="../../laws/ReservedSpecs/index.html#HasElements">HasElements</a> n)
+
 -- memory for one more slot is there, since one that is reserved is free
 abbrev pub <b id="HasSlot">HasSlot</b> : {A : Type 0} → ℕ → List A → Type 0
 <a href="../../laws/ReservedSpecs/index.html#HasSlot">HasSlot</a> reserved list = length list &lt; reserved
 
 -- a call on a machine in this state needs no memory: what it makes has a slot that is reserved, and nothing else that
--- isn&#x27;t in a lent region; the memory that it grows lies in one; no byte is read; and no table grows or is made
+-- isn&#x27;t in a lent region; the memory that it grows lies in one; the table that it grows has the memory reserved; no byte
+-- is read; and no table is made
 abbrev pub <b id="NeedsNoMemory">NeedsNoMemory</b> : <a href="../../machine/StateSpecs/index.html#State">State</a> → Call → Type 0
 <a href="../../laws/ReservedSpecs/index.html#NeedsNoMemory">NeedsNoMemory</a> s (NewMemory ty) = ⊥
 <a href="../../laws/ReservedSpecs/index.html#NeedsNoMemory">NeedsNoMemory</a> s (NewLentMemory ty) = <a href="../../laws/ReservedSpecs/index.html#HasSlot">HasSlot</a> s.reserved.<a href="../../laws/ReservedSpecs/index.html#memories">memories</a> s.memories
 <a href="../../laws/ReservedSpecs/index.html#NeedsNoMemory">NeedsNoMemory</a> s (GrowMemory k pages) = <a href="../../laws/ReservedSpecs/index.html#IsInRegion">IsInRegion</a> s.memories k
 <a href="../../laws/ReservedSpecs/index.html#NeedsNoMemory">NeedsNoMemory</a> s (Read k offset len) = len ≡ 0
 <a href="../../laws/ReservedSpecs/index.html#NeedsNoMemory">NeedsNoMemory</a> s (NewTable ty init) = ⊥
-<a href="../../laws/ReservedSpecs/index.html#NeedsNoMemory">NeedsNoMemory</a> s (GrowTable k n init) = n ≡ 0
+<a href="../../laws/ReservedSpecs/index.html#NeedsNoMemory">NeedsNoMemory</a> s (GrowTable k n init) = (n ≡ 0) ⊎ <a href="../../laws/ReservedSpecs/index.html#HasElementsAt">HasElementsAt</a> s.tables k n
 <a href="../../laws/ReservedSpecs/index.html#NeedsNoMemory">NeedsNoMemory</a> s (NewSegment ty items) = (items.items ≡ []) × <a href="../../laws/ReservedSpecs/index.html#HasSlot">HasSlot</a> s.reserved.<a href="../../laws/ReservedSpecs/index.html#segments">segments</a> s.segments
 <a href="../../laws/ReservedSpecs/index.html#NeedsNoMemory">NeedsNoMemory</a> s (NewData bytes) = (bytes.items ≡ []) × <a href="../../laws/ReservedSpecs/index.html#HasSlot">HasSlot</a> s.reserved.<a href="../../laws/ReservedSpecs/index.html#data_segments">data_segments</a> s.data_segments
 <a href="../../laws/ReservedSpecs/index.html#NeedsNoMemory">NeedsNoMemory</a> s (NewGlobal value ty) = <a href="../../laws/ReservedSpecs/index.html#HasSlot">HasSlot</a> s.reserved.<a href="../../laws/ReservedSpecs/index.html#globals">globals</a> s.globals
 <a href="../../laws/ReservedSpecs/index.html#NeedsNoMemory">NeedsNoMemory</a> s call = Unit {0}
 
 -- a call needs no memory but for the slot of what it makes, where a memory that it grows and that was there in this
--- state still lies in its region
+-- state still lies in its region, and a table that it grows is still reserved up to its maximum
 abbrev pub <b id="NeedsOnlySlot">NeedsOnlySlot</b> : <a href="../../machine/StateSpecs/index.html#State">State</a> → Call → Type 0
 <a href="../../laws/ReservedSpecs/index.html#NeedsOnlySlot">NeedsOnlySlot</a> s (NewMemory ty) = ⊥
 <a href="../../laws/ReservedSpecs/index.html#NeedsOnlySlot">NeedsOnlySlot</a> s (GrowMemory k pages) = <a href="../../laws/ReservedSpecs/index.html#IsInRegion">IsInRegion</a> s.memories k
 <a href="../../laws/ReservedSpecs/index.html#NeedsOnlySlot">NeedsOnlySlot</a> s (Read k offset len) = len ≡ 0
 <a href="../../laws/ReservedSpecs/index.html#NeedsOnlySlot">NeedsOnlySlot</a> s (NewTable ty init) = ⊥
-<a href="../../laws/ReservedSpecs/index.html#NeedsOnlySlot">NeedsOnlySlot</a> s (GrowTable k n init) = n ≡ 0
+<a href="../../laws/ReservedSpecs/index.html#NeedsOnlySlot">NeedsOnlySlot</a> s (GrowTable k n init) = (n ≡ 0) ⊎ <a href="../../laws/ReservedSpecs/index.html#IsReservedTable">IsReservedTable</a> s.tables k
 <a href="../../laws/ReservedSpecs/index.html#NeedsOnlySlot">NeedsOnlySlot</a> s (NewSegment ty items) = items.items ≡ []
 <a href="../../laws/ReservedSpecs/index.html#NeedsOnlySlot">NeedsOnlySlot</a> s (NewData bytes) = bytes.items ≡ []
 <a href="../../laws/ReservedSpecs/index.html#NeedsOnlySlot">NeedsOnlySlot</a> s call = Unit {0}
@@ -6191,10 +6225,10 @@ abbrev pub <b id="creation_in">creation_in</b> : <a href="../../store/TableSpecs
 }
 
 -- what is asked and paid where a table on a region of so many references grows by n elements, and the causes of a
--- refusal: it is out of memory if the region is shorter than the new size
+-- refusal: those of any table, and only if the region is shorter than the new size
 abbrev pub <b id="growth_in">growth_in</b> : ℕ → <a href="../../store/TableSpecs/index.html#TableValue">TableValue</a> → ℕ → ℕ → <a href="../../meter/AttemptSpecs/index.html#Request">Request</a> <a href="../../store/TableSpecs/index.html#TableValue">TableValue</a> TableError
 <a href="../../region/TableSpecs/index.html#growth_in">growth_in</a> room x n reference = record (<a href="../../store/TableSpecs/index.html#growth_of">growth_of</a> x n reference) {
-  refuses = λ cause. (cause ≡ OutOfSystemMemory) × (room &lt; <a href="../../store/TableSpecs/index.html#size_of">size_of</a> x + n);
+  refuses = λ cause. (<a href="../../store/TableSpecs/index.html#growth_of">growth_of</a> x n reference).refuses cause × (room &lt; <a href="../../store/TableSpecs/index.html#size_of">size_of</a> x + n);
 }
 
 -- the growth of a table on a region of so many references, by n elements
