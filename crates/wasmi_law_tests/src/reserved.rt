@@ -3,9 +3,11 @@
 ghost use Rattle.std.specs.Prelude.{◌≡◌, ◌≤◌, All, length, OnErr, OnOk, Some, Ok};
 ghost use Rattle.wasmi_meter.specs.Limiter.{optional_rules};
 ghost use Rattle.wasmi_machine.specs.Determinism.{IsNotOutOfMemory};
-ghost use Rattle.wasmi_machine.specs.State.{State, with_reserved, world};
+ghost use Rattle.wasmi_machine.specs.declared.calls.Reply.TheVariants.{Done};
+ghost use Rattle.wasmi_machine.specs.Effects.{OnLive};
+ghost use Rattle.wasmi_machine.specs.State.{State, live_at, with_reserved, world};
 ghost use Rattle.wasmi_machine.specs.Steps.{IsRunOf};
-ghost use Rattle.wasmi_laws.specs.Reserved.{IsReservedFor, NeedsNoMemory};
+ghost use Rattle.wasmi_laws.specs.Reserved.{IsReservedFor, IsReservedTable, NeedsNoMemory};
 ghost use Rattle.wasmi_budget.specs.Pool as pools;
 
 use std::alloc::AllocError;
@@ -25,6 +27,16 @@ pub fn reserve_globals(machine: &mut Machine, globals: usize) -> Result<(), Allo
         globals,
         ..SlotCounts::default()
     })
+}
+
+/// Reserves memory for all elements of a table up to its type's maximum: a growth of it in a run
+/// needs nothing more, whatever it is filled or grown with before.
+pub fn reserve_table(machine: &mut Machine, table: usize, maximum: u64) -> Reply
+    requires most { OnLive (live_at machine.old.tables table) (Unit {0})
+        (λ x. x.ty.maximum ≡ Some maximum) }
+    ensures reserved { result ≡ Done → IsReservedTable machine.new.tables table }
+{
+    machine.reserve_elements(table, maximum)
 }
 
 /// Makes one call, which needs no memory but what was reserved: it doesn't run out of memory.
