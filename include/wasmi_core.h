@@ -33,8 +33,8 @@ extern "C" {
    1.2.0 with wasmi_instructions.h, 1.3.0 with the pools of wasmi_machine.h, and 1.4.0 with writes over a range of a
    machine's memory, data segments, wasmi_pool_remove, wasmi_quota_release_memory and _table, wasmi_memory_new_zeroed
    and wasmi_memory_grow_zeroed. Since 2.0.0 the functions of wasmi_instructions.h have the prefix wasmi_, in place of
-   wasm_; it came with wasmi_table_copy_within, and with wasmi_pool_fill, _copy, _init, _new_segment, _new_data and
-   _consume_fuel. */
+   wasm_; it came with wasmi_table_copy_within, with wasmi_pool_fill, _copy, _init, _new_segment, _new_data and
+   _consume_fuel, and with wasmi_machine_reserve, wasmi_machine_run_into, wasmi_pool_reserve and wasmi_pool_run_into. */
 #define WASMI_CORE_VERSION "2.0.0"
 #define WASMI_CORE_VERSION_MAJOR 2
 #define WASMI_CORE_VERSION_MINOR 0

@@ -166,7 +166,7 @@ typedef struct {
     uint8_t is_mutable;          /* 0: a constant */
     uint8_t is_64;               /* 0: addresses or indices of 32 bits; else of 64 */
     uint8_t has_maximum;         /* 0: maximum isn't read */
-    uint8_t page_size_log2;
+    uint8_t page_size_log2;      /* 16: pages of 64 KiB; 0: pages of one byte */
     uint32_t reference;
     size_t index, source;
     uint64_t count, maximum;
@@ -229,6 +229,25 @@ typedef struct { wasmi_words bytes, elements; uint8_t status; } wasmi_totals;
 
 /* Replies to a call. Before all else: NO_MACHINE, NO_CALL. */
 wasmi_reply wasmi_machine_call(wasmi_machine *machine, const wasmi_call *call) WASMI_CHECKED WASMI_NOT_NULL(1, 2);
+
+/* Replies to calls one after the other, each as wasmi_machine_call does, and sets replies[i] to the reply to calls[i]. A
+   call that is refused, also by NO_CALL, has that in its reply, and the next one follows. It takes no memory but what
+   the calls take. DONE; NO_MACHINE; then LENGTHS_DIFFER if there aren't as many replies as calls. After a refusal of
+   the list no call was made, and the replies are unchanged. */
+uint8_t wasmi_machine_run_into(wasmi_machine *machine, const wasmi_call *calls, size_t calls_len, wasmi_reply *replies,
+                               size_t replies_len) WASMI_CHECKED WASMI_NOT_NULL(1);
+
+/* Slots of each kind: how many more are reserved. */
+typedef struct { size_t memories, tables, segments, data_segments, globals; } wasmi_room;
+
+/* Reserves so many more slots at once, beside those of what was made. What is made in them later takes no memory for
+   its slot: a global then takes none, and is never refused by NO_ROOM; a memory takes its bytes, a table its elements,
+   and a segment the copies of what it has. All other calls on what is there take none, except a growth,
+   wasmi_machine_write and wasmi_machine_run_lines. So a host that reserves, and makes what it needs, runs any number of
+   these without asking for memory again. What was reserved already stays so, and doesn't add up: to reserve 4 twice,
+   with nothing made between, reserves 4. It counts within no cap.
+   DONE; NO_MACHINE; then NO_ROOM if the system refuses memory for some of them. Then none more is reserved. */
+uint8_t wasmi_machine_reserve(wasmi_machine *machine, const wasmi_room *room) WASMI_CHECKED WASMI_NOT_NULL(1, 2);
 
 /* The calls that engines make most, with plain arguments; each does what wasmi_machine_call does with the same operands,
    and returns the status. Before all else: NO_MACHINE, then NO_CALL if op is no number of such an
@@ -334,6 +353,13 @@ uint8_t wasmi_pool_remove(wasmi_pool *pool, size_t tenant) WASMI_CHECKED WASMI_N
 /* Replies to a call on the machine of a tenant. Before all else: NO_POOL, NO_CALL, NO_TENANT. It takes no memory but what
    the call takes on the machine. */
 wasmi_reply wasmi_pool_call(wasmi_pool *pool, size_t tenant, const wasmi_call *call) WASMI_CHECKED WASMI_NOT_NULL(1, 3);
+
+/* As wasmi_machine_run_into on a tenant's machine: DONE; NO_POOL, NO_TENANT, LENGTHS_DIFFER. */
+uint8_t wasmi_pool_run_into(wasmi_pool *pool, size_t tenant, const wasmi_call *calls, size_t calls_len,
+                            wasmi_reply *replies, size_t replies_len) WASMI_CHECKED WASMI_NOT_NULL(1);
+
+/* As wasmi_machine_reserve on a tenant's machine: DONE; NO_POOL, NO_TENANT, NO_ROOM. */
+uint8_t wasmi_pool_reserve(wasmi_pool *pool, size_t tenant, const wasmi_room *room) WASMI_CHECKED WASMI_NOT_NULL(1, 3);
 
 /* The calls that engines make most, with plain arguments: each does what wasmi_pool_call does with the same operands, in
    less time, and returns and sets what the call of a machine by the same name does. Before all else: NO_POOL, then

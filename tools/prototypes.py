@@ -4,7 +4,7 @@ import re
 CRATE_TYPES = {
     "bool": "bool", "i32": "int32_t", "i64": "int64_t", "u8": "uint8_t", "u16": "uint16_t", "u32": "uint32_t", "u64": "uint64_t", "usize": "size_t",
     "RawVal": "wasmi_words", "InstructionResult": "wasmi_result",
-    "Handle": "wasmi_machine", "PoolHandle": "wasmi_pool", "Limits": "wasmi_limits", "CallStruct": "wasmi_call", "ReplyStruct": "wasmi_reply", "Totals": "wasmi_totals",
+    "Handle": "wasmi_machine", "PoolHandle": "wasmi_pool", "Limits": "wasmi_limits", "CallStruct": "wasmi_call", "ReplyStruct": "wasmi_reply", "Room": "wasmi_room", "Totals": "wasmi_totals",
     "MemoryNumbers": "wasmi_memory", "TableNumbers": "wasmi_table", "MeterNumbers": "wasmi_meter", "QuotaNumbers": "wasmi_quota",
     "HostAnswers": "wasmi_answers", "Question": "wasmi_question", "Range": "wasmi_range",
 }

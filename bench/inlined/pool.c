@@ -1,5 +1,6 @@
 /* The time of calls on a tenant of a pool beside the same calls on a machine, in nanoseconds a call: the least of all
-   rounds, which alternate. usage: pool [ROUNDS] */
+   rounds, which alternate. The status is 1 if a call on a tenant gives something else than on a machine.
+   usage: pool [ROUNDS] */
 #define _POSIX_C_SOURCE 199309L
 #include "wasmi_core.h"
 #include "wasmi_machine.h"
@@ -104,15 +105,23 @@ static void made(void) {
     }
 }
 
-static double least(double a, double b) { return a < b ? a : b; }
+/* Takes the time of a loop if it is the least, and returns what the loop has seen. */
+static uint64_t taken(double (*loop)(void), double *least) {
+    seen = 0;
+    double time = loop();
+    *least = time < *least ? time : *least;
+    return seen;
+}
 
 int main(int argc, char **argv) {
     int rounds = argc > 1 ? atoi(argv[1]) : 40;
     made();
     for (int round = 0; round < rounds; round++) {
         for (size_t i = 0; i < sizeof rows / sizeof *rows; i++) {
-            rows[i].on_machine = least(rows[i].on_machine, rows[i].machine());
-            rows[i].on_tenant = least(rows[i].on_tenant, rows[i].tenant());
+            if (taken(rows[i].machine, &rows[i].on_machine) != taken(rows[i].tenant, &rows[i].on_tenant)) {
+                fprintf(stderr, "%s: another result than on a machine\n", rows[i].name);
+                return 1;
+            }
         }
     }
     for (size_t i = 0; i < sizeof rows / sizeof *rows; i++) {
@@ -121,5 +130,5 @@ int main(int argc, char **argv) {
     }
     wasmi_machine_drop(&machine);
     wasmi_pool_drop(&pool);
-    return seen == 1;
+    return 0;
 }

@@ -20,11 +20,37 @@ enum { OF_CALL, OF_ARRAY, OF_WORD };
 static int is_direct(const wasmi_call *c);
 static wasmi_reply called_directly(wasmi_machine *machine, const wasmi_call *c);
 
-/* A call by its struct, or, where it has a function of its own, by that one in half of the cases. */
+/* A call as a list of it alone. A list that is refused leaves the reply as it was. */
+static wasmi_reply called_as_list(wasmi_machine *machine, const wasmi_call *call) {
+    wasmi_reply reply;
+    memset(&reply, 0xa5, sizeof reply);
+    const wasmi_call *list = at_edge(OF_CALL, call, sizeof *call);
+    wasmi_reply *replies = at_edge(OF_ARRAY, &reply, sizeof reply);
+    uint8_t refusal = machine->is_made ? WASMI_LENGTHS_DIFFER : WASMI_NO_MACHINE;
+    if (wasmi_machine_run_into(machine, list, 1, replies, 0) != refusal) {
+        differs("a list", "it has another length than its replies");
+    }
+    uint8_t status = wasmi_machine_run_into(machine, list, 1, replies, 1);
+    if (status == WASMI_DONE) {
+        return *replies;
+    }
+    if (status != WASMI_NO_MACHINE || memcmp(replies, &reply, sizeof reply) != 0) {
+        differs("a list", "it is refused, and a reply was written");
+    }
+    memset(&reply, 0, sizeof reply);
+    reply.status = status;
+    return reply;
+}
+
+/* A call by its struct, as a list of it alone in some of the cases, or, where it has a function of its own, by that one
+   in half of them. */
 static wasmi_reply called(wasmi_machine *machine, wasmi_call call) {
     calls++;
     if (is_direct(&call) && below(2)) {
         return called_directly(machine, &call);
+    }
+    if (below(4) == 0) {
+        return called_as_list(machine, &call);
     }
     /* The struct lies at a multiple of its alignment, since its size is one. */
     return wasmi_machine_call(machine, at_edge(OF_CALL, &call, sizeof call));
@@ -884,6 +910,39 @@ static void refuse(size_t answers) {
     printf("refused: %ld requests, each in turn\n", request - 1);
 }
 
+/* What was reserved takes no memory: each global of a list is made with the first request refused. */
+static void reserved(void) {
+    enum { MADE = 100 };
+    wasmi_call list[MADE];
+    wasmi_reply replies[MADE];
+    const wasmi_limits limits = {.is_unlimited = 1};
+    const wasmi_room room = {.globals = MADE}, too_much = {.globals = MADE, .memories = SIZE_MAX};
+    wasmi_machine machine;
+    memset(&machine, 0, sizeof machine);
+    if (wasmi_machine_reserve(&machine, &room) != WASMI_NO_MACHINE || wasmi_machine_new(&machine, &limits) != WASMI_DONE
+        || wasmi_machine_reserve(&machine, &too_much) != WASMI_NO_ROOM
+        || wasmi_machine_reserve(&machine, &room) != WASMI_DONE) {
+        differs("reserved", "another status");
+    }
+    for (int i = 0; i < MADE; i++) {
+        list[i] = of_kind(WASMI_CALL_NEW_GLOBAL);
+    }
+    requests = 0, refused = 1;
+    uint8_t status = wasmi_machine_run_into(&machine, list, MADE, replies, MADE);
+    if (status != WASMI_DONE || wasmi_machine_reserve(&machine, &room) != WASMI_NO_ROOM || requests != 1) {
+        differs("reserved", "memory was asked for where it is there, or not where it isn't");
+    }
+    refused = 0;
+    for (int i = 0; i < MADE; i++) {
+        if (replies[i].status != WASMI_DONE || replies[i].number != (uint64_t)i) {
+            differs("reserved", "a global wasn't made");
+        }
+    }
+    calls += MADE;
+    wasmi_machine_drop(&machine);
+    nothing_left("reserved");
+}
+
 int main(int count, char **words) {
     long wanted = (long)argument(count, words, 1, 10000);
     uint64_t seed = argument(count, words, 2, 1);
@@ -896,6 +955,7 @@ int main(int count, char **words) {
     run_sequences(seed, sequences);
     nothing_left("random");
     printf("random: %ld calls beside %ld scripts\n", calls - before, sequences);
+    reserved();
     run_threads(seed, sequences / 40 + 1);
     nothing_left("threads");
     pass_on();

@@ -38,6 +38,27 @@ static int same_totals(wasmi_totals a, wasmi_totals b) {
            && memcmp(&a.elements, &b.elements, sizeof a.elements) == 0;
 }
 
+/* A call on a tenant by its struct, or as a list of it alone; a list that is refused leaves the reply as it was. */
+static wasmi_reply replied(wasmi_pool *on, size_t tenant, const wasmi_call *call) {
+    const wasmi_call *list = at_edge(0, call, sizeof *call);
+    wasmi_reply reply;
+    memset(&reply, 0xa5, sizeof reply);
+    if (below(2)) {
+        return wasmi_pool_call(on, tenant, list);
+    }
+    wasmi_reply *replies = at_edge(1, &reply, sizeof reply);
+    uint8_t status = wasmi_pool_run_into(on, tenant, list, 1, replies, 1);
+    if (status == WASMI_DONE) {
+        return *replies;
+    }
+    if (memcmp(replies, &reply, sizeof reply) != 0) {
+        differs("a list", "it is refused, and a reply was written");
+    }
+    memset(&reply, 0, sizeof reply);
+    reply.status = status;
+    return reply;
+}
+
 /* Lines on a tenant, in a text of dots, which is left as it was where they are refused. */
 static wasmi_reply run(wasmi_pool *on, size_t tenant, const char *part, size_t len, char *text) {
     uint8_t *copy = at_edge(1, dots, TEXT);
@@ -148,12 +169,14 @@ static char *called(char *at, size_t tenant) {
             return at;
     }
     requests = 0, refused = 1;
-    prints_status(wasmi_pool_call(&pool, tenant, at_edge(0, &call, sizeof call)).status);
+    prints_status(replied(&pool, tenant, &call).status);
     if (requests != 0) {
         differs("a call that makes nothing asks for memory", script);
     }
     refused = 0;
-    if (wasmi_pool_call(&pool, tenants, at_edge(0, &call, sizeof call)).status != WASMI_NO_TENANT) {
+    if (replied(&pool, tenants, &call).status != WASMI_NO_TENANT
+        || wasmi_pool_run_into(&none, tenant, &call, 1, NULL, 0) != WASMI_NO_POOL
+        || wasmi_pool_run_into(&pool, tenant, &call, 1, NULL, 0) != WASMI_LENGTHS_DIFFER) {
         differs("a call on a tenant that there isn't", script);
     }
     return at;

@@ -55,7 +55,8 @@ pub use crate::proved::lanes::{
     OutOfBoundsLaneIdx,
 };
 pub use crate::proved::machine::{
-    ByteList, Call, DataSegment, Machine, Reply, run, run_lending, run_reserving,
+    ByteList, Call, DataSegment, Machine, Replies, Reply, SlotCounts, TooManyCalls, run, run_into,
+    run_into_lending, run_into_reserving, run_lending, run_reserving,
 };
 pub use crate::proved::meter::{
     Amounts, AnswerList, AnyLimiter, CappedLimiter, Holdings, Kind, Lender, LimiterAnswer,

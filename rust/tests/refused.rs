@@ -7,7 +7,9 @@ use std::cell::Cell;
 use std::fmt::Debug;
 use std::ops::Deref;
 use std::panic::{AssertUnwindSafe, catch_unwind};
-use wasmi_core_proved::machine::{self, Call, Machine, NoLimits, Quota, Reply};
+use wasmi_core_proved::machine::{
+    self, Call, Machine, MemoryError, NoLimits, Quota, Replies, Reply, SlotCounts, TooManyCalls,
+};
 use wasmi_core_proved::pool::Pool;
 use wasmi_core_proved::script::{Status, replay};
 use wasmi_core_proved::{
@@ -245,6 +247,129 @@ impl<T: Deref<Target = [Reply]>> Debug for Lines<T> {
     fn fmt(&self, f: &mut std::fmt::Formatter<'_>) -> std::fmt::Result {
         self.0.iter().try_for_each(|reply| writeln!(f, "{reply:?}"))
     }
+}
+
+/// Calls that need no memory but slots: those of a memory, an element segment, a data segment and two globals.
+fn calls_in_slots() -> Vec<Call> {
+    let global = GlobalType::new(ValType::I32, Mutability::Var);
+    let value = RawVal::from(5);
+    vec![
+        Call::NewLentMemory(pages(8)),
+        Call::GrowMemory {
+            memory: 0,
+            pages: 1,
+        },
+        Call::GrowMemory {
+            memory: 0,
+            pages: 9,
+        },
+        Call::Write {
+            memory: 0,
+            offset: 6,
+            bytes: vec![1, 2, 3].into(),
+        },
+        Call::NewSegment {
+            ty: RefType::Func,
+            items: vec![].into(),
+        },
+        Call::NewData(vec![].into()),
+        Call::NewGlobal { value, ty: global },
+        Call::NewGlobal { value, ty: global },
+        Call::GetGlobal(1),
+        Call::Read {
+            memory: 0,
+            offset: 7,
+            len: 0,
+        },
+    ]
+}
+
+/// A machine that is set up once makes calls for which enough is reserved, and asks for nothing.
+#[test]
+fn reserved() {
+    let calls = calls_in_slots();
+    let mut region = vec![0; 16];
+    let mut machine = Machine::with_region(off(), &mut region);
+    let slots = SlotCounts {
+        memories: 1,
+        segments: 1,
+        data_segments: 1,
+        globals: 2,
+        ..SlotCounts::default()
+    };
+    machine.reserve(slots).unwrap();
+    let mut replies = Replies::with_capacity(calls.len()).unwrap();
+    let mut none = machine::ResourceLimiterRef::<NoLimits>::default();
+
+    GRANTED.set(Some(0));
+    let ran = machine::run_into(&mut machine, &calls, &mut none, &mut replies);
+    assert_eq!(GRANTED.take(), Some(0));
+    assert_eq!(ran, Ok(()));
+    assert_eq!(
+        format!("{:?}", &replies.as_slice()[..9]),
+        format!(
+            "{:?}",
+            [
+                Reply::Made(0),
+                Reply::Number(8),
+                Reply::Memory(MemoryError::InvalidStaticBufferSize),
+                Reply::Done,
+                Reply::Made(0),
+                Reply::Made(0),
+                Reply::Made(0),
+                Reply::Made(1),
+                Reply::Value(RawVal::from(5)),
+            ]
+        )
+    );
+
+    // Past what is reserved memory may be asked for, and a refusal is a reply.
+    let more = [Call::NewGlobal {
+        value: RawVal::from(6),
+        ty: GlobalType::new(ValType::I32, Mutability::Const),
+    }];
+    let refused = (0..64).any(|_| {
+        GRANTED.set(Some(0));
+        let ran = machine::run_into(&mut machine, &more, &mut none, &mut replies);
+        assert_eq!(ran, Ok(()));
+        GRANTED.take().is_none() && replies.as_slice() == [Reply::NoRoom]
+    });
+    assert!(refused);
+
+    let ran = machine::run_into(&mut machine, &calls, &mut none, &mut replies);
+    assert_eq!((ran, replies.len()), (Ok(()), calls.len()));
+    let mut few = Replies::with_capacity(1).unwrap();
+    let ran = machine::run_into(&mut machine, &calls, &mut none, &mut few);
+    assert_eq!((ran, few.is_empty()), (Err(TooManyCalls), true));
+}
+
+/// A tenant that is set up once makes globals in reserved slots, and asks for nothing.
+#[test]
+fn reserved_tenants() {
+    let global = || Call::NewGlobal {
+        value: RawVal::from(6),
+        ty: GlobalType::new(ValType::I32, Mutability::Const),
+    };
+    let slots = SlotCounts {
+        globals: 2,
+        ..SlotCounts::default()
+    };
+    let mut pool = Pool::new(0, 0);
+    assert_eq!(pool.add(Machine::new(off())).ok(), Some(0));
+    GRANTED.set(Some(0));
+    let refused = pool.reserve(0, slots).map_err(|error| error.to_string());
+    assert_eq!(GRANTED.take(), None);
+    assert_eq!(refused, Err("out of memory for the slots".to_string()));
+    let no_tenant = "tried to reserve slots for a tenant that is not in the pool";
+    let missing = pool.reserve(1, slots).map_err(|error| error.to_string());
+    assert_eq!(missing, Err(no_tenant.to_string()));
+    assert_eq!(pool.reserve(0, slots), Ok(()));
+
+    let mut replies = Replies::with_capacity(2).unwrap();
+    GRANTED.set(Some(0));
+    let ran = pool.run_into(0, &[global(), global()], &mut replies);
+    assert_eq!((GRANTED.take(), ran), (Some(0), Ok(())));
+    assert_eq!(replies.as_slice(), [Reply::Made(0), Reply::Made(1)]);
 }
 
 #[test]

@@ -1,7 +1,7 @@
 //! What callers have to meet is tested: each assertion that a program can reach fires.
 use wasmi_core_proved::machine::{
-    ByteBuffer, Call, Kind, LimiterByKind, Machine, NoLimits, Quota, ResourceLimiter,
-    ResourceLimiterRef, growth, run_reserving,
+    ByteBuffer, Call, Kind, LimiterByKind, Machine, NoLimits, Quota, Replies, ResourceLimiter,
+    ResourceLimiterRef, growth, run_into_reserving, run_reserving,
 };
 use wasmi_core_proved::{
     Fuel, FuelCostsProvider, Global, GlobalType, MemoryType, Mutability, RawVal, RefType,
@@ -63,6 +63,12 @@ panics! {
         let mut quota = Quota::new(1 << 20, 10);
         quota.memory_growing(0, 1, None).unwrap();
         run_reserving(&mut Machine::new(unmetered()), &[Call::GetFuel], &mut quota)
+    },
+    a_limiter_with_other_holdings_and_kept_replies => {
+        let (mut quota, mut replies) = (Quota::new(1 << 20, 10), Replies::with_capacity(1).unwrap());
+        quota.memory_growing(0, 1, None).unwrap();
+        let mut machine = Machine::new(unmetered());
+        run_into_reserving(&mut machine, &[Call::GetFuel], &mut quota, &mut replies)
     },
 
     "the type allows no such size":

@@ -49,6 +49,10 @@ EDITS = [
     ("typed", "#[derive(Clone, Copy, Debug, PartialEq, Eq)]\npub struct ShiftAmount", "#[derive(Clone, Copy, PartialEq, Eq)]\npub struct ShiftAmount", 1),
     ("meter", "#[derive(Clone, Debug, Default)]\npub struct FuelCostsProvider", "#[derive(Clone, Default)]\npub struct FuelCostsProvider", 1),
     ("meter", "fn costs(&self)", "pub(crate) fn costs(&self)", 1),
+    # A pool's invariant has what a reserving run would test by a sum over all slots of the tenant.
+    ("budget", "run_into_reserving, run_reserving,", "run_into_lending, run_lending,", 1),
+    ("budget", "run_reserving(&mut self.machine", "run_lending(&mut self.machine", 1),
+    ("budget", "run_into_reserving(&mut self.machine", "run_into_lending(&mut self.machine", 1),
     # Fields without docs.
     ("grammar", "BadCommand { line: usize }", "BadCommand {\n/// The number of the line, from 1 on.\nline: usize }", 1),
     ("meter", "OutOfFuel { required_fuel: u64 }", "OutOfFuel {\n/// How much fuel the call takes.\nrequired_fuel: u64 }", 3),

@@ -175,6 +175,9 @@ impl Generator {
         if script.headers.region.is_some_and(|(len, _)| is_much(len as u128)) {
             return true;
         }
+        if u128::from(script.headers.slots_asked()) * 128 > SAFE && !script.headers.has_hopeless_slots() {
+            return true;
+        }
         if is_capped(&script.headers) {
             return false;
         }

@@ -11,6 +11,8 @@ pub struct Headers {
     pub quota: Option<(u64, u64)>,
     pub answers: Option<Vec<Answer>>,
     pub region: Option<(usize, u8)>,
+    /// What a `reserve` line says. It changes no reply.
+    pub reserve: Option<[u64; 5]>,
     pub tenants: Option<(usize, u64, u64)>,
 }
 
@@ -18,6 +20,17 @@ impl Headers {
     /// The greatest numbers of bytes and of elements that may be held, where a header names them.
     pub fn caps(&self) -> Option<(u64, u64)> {
         self.quota.or(self.tenants.map(|(_, bytes, elements)| (bytes, elements)))
+    }
+
+    /// How many slots a `reserve` line asks for, of all kinds and for all tenants.
+    pub fn slots_asked(&self) -> u64 {
+        let parties = self.tenants.map_or(1, |(count, ..)| count as u64);
+        self.reserve.unwrap_or_default().into_iter().fold(0, u64::saturating_add).saturating_mul(parties)
+    }
+
+    /// True where so many slots of a kind are asked for that no machine has room for them.
+    pub fn has_hopeless_slots(&self) -> bool {
+        self.reserve.unwrap_or_default().into_iter().any(|count| count > isize::MAX as u64)
     }
 }
 
@@ -61,6 +74,11 @@ fn header(first: &[u8], mut w: Words<'_>, h: &mut Headers) -> Option<()> {
             let region = (w.num()?, w.num()?);
             w.end()?;
             h.region = Some(region);
+        }
+        b"reserve" if h.reserve.is_none() => {
+            let slots = [w.num()?, w.num()?, w.num()?, w.num()?, w.num()?];
+            w.end()?;
+            h.reserve = Some(slots);
         }
         b"tenants" if !limited && h.region.is_none() => {
             let tenants: (usize, u64, u64) = (w.num()?, w.num()?, w.num()?);
@@ -196,7 +214,7 @@ pub fn parse(text: &[u8]) -> Result<Script, usize> {
         let bad = i + 1;
         let mut w = Words(words.into_iter());
         let first = w.word().ok_or(bad)?;
-        if matches!(first, b"meter" | b"quota" | b"answers" | b"region" | b"tenants") {
+        if matches!(first, b"meter" | b"quota" | b"answers" | b"region" | b"reserve" | b"tenants") {
             if in_commands {
                 return Err(bad);
             }

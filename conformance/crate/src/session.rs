@@ -68,8 +68,11 @@ pub struct Session {
 }
 
 impl Session {
-    /// None for want of memory for the region.
+    /// None for want of memory for the region, or for reserved slots of some kind that no machine has.
     pub fn new(headers: &Headers) -> Option<Self> {
+        if headers.has_hopeless_slots() {
+            return None;
+        }
         let rate = headers.meter.flatten();
         let region = match headers.region {
             Some((len, byte)) => Some(region(len, byte)?),

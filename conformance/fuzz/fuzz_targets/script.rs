@@ -76,7 +76,7 @@ mod archive {
             let (status, text) = in_parts(input, expected.1.len());
             let is_plain = matches!(
                 script.headers,
-                Headers { meter: None, quota: None, answers: None, region: None, tenants: None }
+                Headers { meter: None, quota: None, answers: None, region: None, reserve: None, tenants: None }
             );
             let expected = if is_plain { expected.clone() } else { (HEADER_LINE, String::new()) };
             compare("parts", &expected, status, text);

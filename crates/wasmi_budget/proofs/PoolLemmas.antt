@@ -1,5 +1,5 @@
 -- What stays of a tenant while its machine runs, and what the machines of a pool have together.
-use Rattle.std.proofs.Common.{◌≡◌, Option, Some, List, refl, sym, ◌∙◌, subst, ℕ, ◌+◌, ◌-◌, ◌≤◌, ◌<◌, ◌^◌, None, length, get_or, [], ◌∷◌, ◌++◌, ap, arith, inl, inr}
+use Rattle.std.proofs.Common.{◌≡◌, Option, Some, List, refl, sym, ◌∙◌, subst, ℕ, ◌+◌, ◌-◌, ◌≤◌, ◌<◌, ◌^◌, None, length, get_or, [], ◌∷◌, ◌++◌, sum, ap, arith, inl, inr}
 use Rattle.std.proofs.lemmas.Bool.{cases_lt}
 use Rattle.std.proofs.lemmas.List.{get_or_append_left, get_or_past, get_or-set_other, get_or-set_same, length-append, length-set}
 use Rattle.std.proofs.lemmas.Option.{same_Some, none-some}
@@ -8,16 +8,17 @@ use Rattle.wasmi_meter.specs.Capped.{amount_of, amounts_of, nothing, IsWithin, A
 use Rattle.wasmi_meter.specs.Attempt.{MeteredValue}
 use Rattle.wasmi_meter.specs.Limiter.{Question, Answer, Failure, NoticeAnswer, optional_rules}
 use Rattle.wasmi_meter.proofs.CappedLemmas.{KeepsCaps, caps_kept, others_kept, asked_is_within, noticed_is_within}
-use Rattle.wasmi_machine.specs.State.{World, Turn, world, State, total, HoldsTotals}
+use Rattle.wasmi_machine.specs.State.{World, Turn, world, State, total, sizes, HoldsTotals, IsRefusal}
+use Rattle.wasmi_machine.specs.Exchange.{Exchange, Nothing, Denial, Permission, Notice, GrowsBy, RepliesTo, place_of}
 use Rattle.wasmi_machine.specs.Effects.{ActsMeteredUnasked, Changes}
 use Rattle.wasmi_machine.specs.Steps.{Run, IsRunOf, RepliesWith}
 use Rattle.wasmi_machine.specs.Determinism.{IsDeterministic, AcceptsNotices}
 use Rattle.wasmi_machine.proofs.DeterminismLemmas.{capped_unique}
+use Rattle.wasmi_machine.proofs.ExchangeLemmas.{growths_are_permitted}
 use Rattle.wasmi_machine.proofs.HoldingLemmas.{run_keeps, totals_are_held}
 use Rattle.wasmi_budget.specs.declared.tenant.Tenant.{Tenant}
-use Rattle.wasmi_budget.specs.Pool.{capped_tenant, tenant_rules, holdings, PoolValue, total_of, IsWithinCaps, IsKept, HasNothing, tenant_at, machine_of, total_at, AddsTenant, RemovesTenant, IsUnasked, RepliesUnasked, RunsMachine, RunsTenant, RunsUnasked}
+use Rattle.wasmi_budget.specs.Pool.{capped_tenant, tenant_rules, holdings, PoolValue, total_of, IsWithinCaps, IsKept, HasNothing, tenant_at, machine_of, total_at, AddsTenant, RemovesTenant, IsUnasked, RepliesUnasked, RunsTenant, RunsUnasked, tenant_of, held_before, IsPart, RunsAsPart}
 use Rattle.std.proofs.lemmas.List.Sums.{sum_by-remove, sum_by-set, sum_by_push}
-use Rattle.std.specs.Option.{option_map}
 use Rattle.std.specs.Prelude.{slice_set, remove}
 use Rattle.wasmi_meter.specs.declared.limiter.Kind.TheVariants.{Bytes, Elements}
 use Rattle.wasmi_meter.specs.declared.amounts.Amounts.{Amounts}
@@ -113,11 +114,21 @@ amounts_same : (amount amount' : Kind → ℕ) → ((kind : Kind) → amount kin
     → amounts_of amount ≡ amounts_of amount'
 amounts_same amount amount' same = λ i. amounts_of (λ kind. same kind i)
 
+-- amounts that are these of each kind
+amounts_are : (amounts : Amounts) (amount : Kind → ℕ) → ((kind : Kind) → amount_of amounts kind ≡ amount kind)
+    → amounts ≡ amounts_of amount
+amounts_are amounts amount same = λ i. record { bytes = same Bytes i; elements = same Elements i }
+
 -- a tenant that holds what a machine has
 amount_held_total : (tenant : Tenant) (s : State) → HoldsTotals (holdings tenant) s → (kind : Kind)
     → amount_of tenant.holdings.held kind ≡ total s kind
 amount_held_total tenant s held Bytes = held.bytes
 amount_held_total tenant s held Elements = held.elements
+
+-- so its amounts are those
+pub held_total : (tenant : Tenant) (s : State) → HoldsTotals (holdings tenant) s
+    → (holdings tenant).held ≡ amounts_of (total s)
+held_total tenant s held = amounts_are tenant.holdings.held (total s) (amount_held_total tenant s held)
 
 -- a tenant before its run holds together with the others what all machines have
 tenant_held_together : (pool : PoolValue) (index : ℕ) (s : State) → machine_of pool index ≡ Some s
@@ -125,60 +136,36 @@ tenant_held_together : (pool : PoolValue) (index : ℕ) (s : State) → machine_
 tenant_held_together pool index s found Bytes = total_split pool.machines index s found Bytes
 tenant_held_together pool index s found Elements = total_split pool.machines index s found Elements
 
--- what a limiter is made of: what all machines have, and what one of them has
-mapped : {A B : Type 0} (f : A → B) (o : Option A) (y : B) → option_map f o ≡ Some y
-    → (x : A) × (o ≡ Some x) × (y ≡ f x)
-mapped f None y is = absurd (none-some y is)
-mapped f (Some x) y is = (x, refl, sym (same_Some (f x) y is))
+module _ (pool : PoolValue) (all : Amounts) (kept : IsKept pool all) (index : ℕ) (s : State)
+    (found : machine_of pool index ≡ Some s) where
+  -- what all hold of a kind is what all machines have
+  all_held : (kind : Kind) → amount_of all kind ≡ total_of pool.machines kind
+  all_held kind = ap (λ amounts. amount_of amounts kind) kept.counted ∙ amount_of-amounts_of (total_of pool.machines) kind
 
-module _ (pool : PoolValue) (index : ℕ) where
-  module _ (held : Amounts)
-      (is : option_map (λ s. amounts_of (total s)) (machine_of pool index) ≡ Some held) where
-    -- there is a machine at the index that has these amounts
-    found : (s : State) × (machine_of pool index ≡ Some s) × (held ≡ amounts_of (total s))
-    found = mapped (λ s. amounts_of (total s)) (machine_of pool index) held is
+  -- what one machine has is a part of it
+  pub is_part : IsPart pool.caps all s
+  is_part = record {
+    within = λ kind. let sum = all_held kind in let bound = kept.within kind in omega (arith, sum, bound);
+    fits = kept.fits;
+    counted = λ kind.
+        let sum = all_held kind in
+        let split = total_split pool.machines index s found kind in
+        omega (arith, sum, split);
+  }
 
-    -- these amounts are, with what the others have, what all have
-    others_left : (kind : Kind)
-        → amount_of held kind + total_of (remove pool.machines index) kind ≡ total_of pool.machines kind
-    others_left kind =
-        let split = total_split pool.machines index found.0 found.1 kind in
-        let own = ap (λ amounts. amount_of amounts kind) found.2 ∙ amount_of-amounts_of (total found.0) kind in
-        omega (arith, split, own)
-
-    -- one machine has no more than all
-    pub held_within : (all : Amounts) → all ≡ amounts_of (total_of pool.machines) → (kind : Kind)
-        → amount_of held kind ≤ amount_of all kind
-    held_within all is_all kind =
-        let sum = ap (λ amounts. amount_of amounts kind) is_all ∙ amount_of-amounts_of (total_of pool.machines) kind in
-        let others = others_left kind in
-        omega (arith, sum, others)
-
-    -- a limiter that holds them, beside what of all is left
-    abbrev beside : Tenant
-    beside = record {
-      caps = pool.caps;
-      others = record {
-        bytes = total_of pool.machines Bytes - held.bytes;
-        elements = total_of pool.machines Elements - held.elements;
-      };
-      holdings = record { held = held; last = None };
-    }
-
-    -- the limiter of a machine holds what that has, beside what of all is left
-    pub tenant_beside : Some beside ≡ option_map (tenant_at pool index) (machine_of pool index)
-    tenant_beside =
-        let bytes : total_of pool.machines Bytes - held.bytes ≡ total_of (remove pool.machines index) Bytes =
-        let others = others_left Bytes in omega (arith, others) in
-        let elements : total_of pool.machines Elements - held.elements
-        ≡ total_of (remove pool.machines index) Elements = let others = others_left Elements in omega (arith, others) in
-        let same : Some beside ≡ Some (tenant_at pool index found.0) =
-        λ i. Some (record {
-          caps = pool.caps;
-          others = record { bytes = bytes i; elements = elements i };
-          holdings = record { held = found.2 i; last = None };
-        }) in
-        same ∙ ap (option_map (tenant_at pool index)) (sym found.1)
+  -- the tenant that holds that part is the one that the pool has for the machine
+  tenant_is_own : tenant_of pool.caps all (amounts_of (total s)) ≡ tenant_at pool index s
+  tenant_is_own =
+      let bytes : all.bytes - total s Bytes ≡ total_of (remove pool.machines index) Bytes =
+      let sum = all_held Bytes in let split = total_split pool.machines index s found Bytes in omega (arith, sum, split) in
+      let elements : all.elements - total s Elements ≡ total_of (remove pool.machines index) Elements =
+      let sum = all_held Elements in let split = total_split pool.machines index s found Elements in
+      omega (arith, sum, split) in
+      λ i. record {
+        caps = pool.caps;
+        others = record { bytes = bytes i; elements = elements i };
+        holdings = record { held = amounts_of (total s); last = None };
+      }
 
 -- a machine becomes another under its limiter
 module _ (pool : PoolValue) (within : IsWithinCaps pool) (index : ℕ) (s : State)
@@ -217,125 +204,54 @@ module _ (pool : PoolValue) (within : IsWithinCaps pool) (index : ℕ) (s : Stat
       run_stays_within (tenant_at pool index s) first_stays.within _
       (record { state = s'; limiter = Some tenant' }) turns tenant' refl refl ran
 
--- the machine of an index, with the tenant that the pool gives out for it
-pub record IsGiven (pool : PoolValue) (index : ℕ) (w : World Tenant) : Type 0 where
-  pub found : machine_of pool index ≡ Some w.state
-  pub tenant : w.limiter ≡ tenant_at pool index w.state
+-- what the machine of an index has run under its own tenant, and what both have become
+module _ (pool : PoolValue) (all : Amounts) (kept : IsKept pool all) (index : ℕ) (s : State)
+    (found : machine_of pool index ≡ Some s) (calls : List Call) (replies : List Reply) (s' : State) (tenant' : Tenant)
+    (ran : IsRunOf (optional_rules tenant_rules) calls (world s (Some (tenant_at pool index s))) replies
+    (world s' (Some tenant'))) where
+  -- it is an accepted run
+  own_runs : RunsTenant pool index calls replies (record pool { machines = slice_set pool.machines index (Some s') })
+  own_runs = record { machine = s; found = found; machine' = s'; tenant' = tenant'; ran = ran; after = refl }
 
--- a tenant that the pool gave out
-module _ (pool now : PoolValue) (same : pool ≡ now) (index : ℕ) (tenant : Tenant)
-    (given : option_map (tenant_at now index) (machine_of now index) ≡ Some tenant) where
-  -- there is a machine at the index, and the tenant is that of it
-  pub machine_given : (x : State) × (machine_of pool index ≡ Some x) × (tenant ≡ tenant_at pool index x)
-  machine_given =
-      mapped (tenant_at pool index) (machine_of pool index) tenant
-      (ap (λ p. option_map (tenant_at p index) (machine_of p index)) same ∙ given)
+  -- the pool is kept with what all hold then, where the tenant holds what its machine has
+  own_kept : HoldsTotals (holdings tenant') s'
+      → (all' : Amounts) → all' ≡ amounts_of (held_together capped_tenant tenant')
+      → IsKept (record pool { machines = slice_set pool.machines index (Some s') }) all'
+  own_kept holds all' is =
+      let stays = ran_within pool kept.within index s found s' tenant' ran.0 ran.3 in record {
+        within = replaced_within pool kept.within index s found s' tenant' stays holds;
+        fits = kept.fits;
+        counted = is
+            ∙ amounts_same (held_together capped_tenant tenant') (total_of (slice_set pool.machines index (Some s')))
+            (replaced_total pool kept.within index s found s' tenant' stays holds);
+      }
 
-  -- the machine that is at the index is given with it
-  pub found_given : (s : State) → machine_of pool index ≡ Some s → IsGiven pool index (world s tenant)
-  found_given s found =
-      let own : machine_given.0 ≡ s = same_Some machine_given.0 s (sym machine_given.1 ∙ found) in
-      record { found = found; tenant = machine_given.2 ∙ ap (tenant_at pool index) own }
+-- what the machine of an index has run as a part, and the machines then
+module _ (pool : PoolValue) (all : Amounts) (kept : IsKept pool all) (index : ℕ) (s : State)
+    (found : machine_of pool index ≡ Some s) (calls : List Call) (replies : List Reply) (s' : State) (all' : Amounts)
+    (part : RunsAsPart pool.caps all s calls replies s' all') (machines' : List (Option State))
+    (after : machines' ≡ slice_set pool.machines index (Some s')) where
+  -- it has run under its own tenant
+  part_ran : IsRunOf (optional_rules tenant_rules) calls (world s (Some (tenant_at pool index s))) replies
+      (world s' (Some part.tenant'))
+  part_ran = subst
+      (λ tenant. IsRunOf (optional_rules tenant_rules) calls (world s (Some tenant)) replies
+      (world s' (Some part.tenant')))
+      (tenant_is_own pool all kept index s found) part.ran
+
+  -- it is an accepted run
+  pub part_runs : RunsTenant pool index calls replies (record pool { machines = machines' })
+  part_runs = subst (λ machines. RunsTenant pool index calls replies (record pool { machines = machines })) (sym after)
+      (own_runs pool all kept index s found calls replies s' part.tenant' part_ran)
+
+  -- the pool is kept with what all hold then
+  pub part_kept : IsKept (record pool { machines = machines' }) all'
+  part_kept = subst (λ machines. IsKept (record pool { machines = machines }) all') (sym after)
+      (own_kept pool all kept index s found calls replies s' part.tenant' part_ran part.holds all' part.together)
 
 -- a machine with its limiter, lent
 abbrev lent : World Tenant → World (Option Tenant)
 lent w = world w.state (Some w.limiter)
-
--- what `Pool::run` has done with a machine and its tenant, and what both have become
-module _ (pool : PoolValue) (index : ℕ) (w : World Tenant) (given : IsGiven pool index w) where
-  -- the tenant holds what its machine has
-  pub given_holds : HoldsTotals (holdings w.limiter) w.state
-  given_holds =
-      subst (λ t. HoldsTotals (holdings t) w.state) (sym given.tenant) (record { bytes = refl; elements = refl })
-
-  module _ (w' : World Tenant) (calls : List Call) where
-    -- a run under the tenant is one under the limiter of its machine
-    given_ran : (replies : List Reply) → IsRunOf (optional_rules tenant_rules) calls (lent w) replies (lent w')
-        → IsRunOf (optional_rules tenant_rules) calls (world w.state (Some (tenant_at pool index w.state))) replies
-        (lent w')
-    given_ran replies ran =
-        subst (λ t. IsRunOf (optional_rules tenant_rules) calls (world w.state (Some t)) replies (lent w'))
-        given.tenant ran
-
-    -- an accepted run
-    pub given_runs : (replies : List Reply) → IsRunOf (optional_rules tenant_rules) calls (lent w) replies (lent w')
-        → RunsTenant pool index calls replies
-        (record pool { machines = slice_set pool.machines index (Some w'.state) })
-    given_runs replies ran = record {
-      machine = w.state;
-      found = given.found;
-      machine' = w'.state;
-      tenant' = w'.limiter;
-      ran = given_ran replies ran;
-      after = refl;
-    }
-
-    -- after it the tenant is within the caps
-    pub given_stays : IsWithinCaps pool
-        → (replies : List Reply) → IsRunOf (optional_rules tenant_rules) calls (lent w) replies (lent w')
-        → StaysWithin (tenant_at pool index w.state) w'.limiter
-    given_stays within replies ran =
-        let own = given_ran replies ran in
-        ran_within pool within index w.state given.found w'.state w'.limiter own.0 own.3
-
-  module _ (w' : World Tenant) (held : Amounts) (kept : IsKept pool held)
-      (stays : StaysWithin (tenant_at pool index w.state) w'.limiter) where
-    -- what all hold then are numbers of 64 bits
-    pub given_fits : (kind : Kind) → held_together capped_tenant w'.limiter kind < 2 ^ 64
-    given_fits kind =
-        let bound = stays.within kind in
-        let caps = stays.caps kind in
-        let fits = kept.fits kind in
-        omega (arith, bound, caps, fits)
-
-    -- the pool is kept with these amounts, where the tenant holds what its machine has
-    pub given_kept : HoldsTotals (holdings w'.limiter) w'.state
-        → (held' : Amounts) → held' ≡ amounts_of (held_together capped_tenant w'.limiter)
-        → IsKept (record pool { machines = slice_set pool.machines index (Some w'.state) }) held'
-    given_kept holds held' is = record {
-      within = replaced_within pool kept.within index w.state given.found w'.state w'.limiter stays holds;
-      fits = kept.fits;
-      counted = is
-          ∙ amounts_same (held_together capped_tenant w'.limiter)
-          (total_of (slice_set pool.machines index (Some w'.state)))
-          (replaced_total pool kept.within index w.state given.found w'.state w'.limiter stays holds);
-    }
-
--- what `Pool::run` has done with the machine of an index, by the tenant that the pool gave out
-module _ (pool now : PoolValue) (same : pool ≡ now) (index : ℕ) (tenant tenant' : Tenant)
-    (given : option_map (tenant_at now index) (machine_of now index) ≡ Some tenant) (calls : List Call)
-    (replies : List Reply) (machines' : List (Option State))
-    (ran : RunsMachine pool.machines index tenant calls replies machines' tenant') where
-  -- the tenant is that of the machine
-  its_own : IsGiven pool index (world ran.machine tenant)
-  its_own = found_given pool now same index tenant given ran.machine ran.found
-
-  -- the tenant stays within the caps
-  its_own_stays : IsWithinCaps pool → StaysWithin (tenant_at pool index ran.machine) tenant'
-  its_own_stays within =
-      given_stays pool index (world ran.machine tenant) its_own (world ran.machine' tenant') calls within replies ran.ran
-
-  -- what all hold then are numbers of 64 bits
-  pub machine_fits : (held : Amounts) → IsKept pool held
-      → (kind : Kind) → held_together capped_tenant tenant' kind < 2 ^ 64
-  machine_fits held kept =
-      given_fits pool index (world ran.machine tenant) its_own (world ran.machine' tenant') held kept
-      (its_own_stays kept.within)
-
-  -- the pool is kept with what all hold then
-  pub machine_kept : (held held' : Amounts) → IsKept pool held
-      → held' ≡ amounts_of (held_together capped_tenant tenant') → IsKept (record pool { machines = machines' }) held'
-  machine_kept held held' kept is =
-      subst (λ machines. IsKept (record pool { machines = machines }) held') (sym ran.after)
-      (given_kept pool index (world ran.machine tenant) its_own (world ran.machine' tenant') held kept
-      (its_own_stays kept.within) ran.held held' is)
-
-  -- it is an accepted run
-  pub machine_runs : RunsTenant now index calls replies (record pool { machines = machines' })
-  machine_runs =
-      subst (λ p. RunsTenant p index calls replies (record pool { machines = machines' })) same
-      (subst (λ machines. RunsTenant pool index calls replies (record pool { machines = machines })) (sym ran.after)
-      (given_runs pool index (world ran.machine tenant) its_own (world ran.machine' tenant') calls replies ran.ran))
 
 -- after one call a tenant that held what its machine had holds what that has then
 pub step_holds : (w w' : World Tenant) (call : Call) (reply : Reply) → HoldsTotals (holdings w.limiter) w.state
@@ -345,6 +261,122 @@ step_holds w w' call reply held (charge, written, step) =
     (record { reserves = asked_reserves capped_tenant; gives_back = noticed_gives_back capped_tenant }) w.state w.limiter
     held (record { call = call; reply = reply; charge = charge; written = written } ∷ []) (lent w') (lent w', step, refl) in
     subst (λ tenant. HoldsTotals (holdings tenant) w'.state) (sym (same_Some w'.limiter after.0 after.1)) after.2
+
+-- a reply to one call is that of a run of it alone
+pub run_of_one : (w w' : World Tenant) (call : Call) (reply : Reply)
+    → RepliesWith (optional_rules tenant_rules) call (lent w) reply (lent w')
+    → IsRunOf (optional_rules tenant_rules) (call ∷ []) (lent w) (reply ∷ []) (lent w')
+run_of_one w w' call reply (charge, written, step) = (
+  record { call = call; reply = reply; charge = charge; written = written } ∷ [],
+  refl,
+  refl,
+  (lent w', step, refl),
+)
+
+-- a machine has what it had where the reply is a refusal
+pub refused_total : (w w' : World Tenant) (call : Call) (reply : Reply) → IsRefusal reply
+    → RepliesWith (optional_rules tenant_rules) call (lent w) reply (lent w')
+    → (kind : Kind) → total w'.state kind ≡ total w.state kind
+refused_total w w' call reply refusal (charge, written, step) kind =
+    let passed = growths_are_permitted (optional_rules tenant_rules) (lent w)
+    (record { call = call; reply = reply; charge = charge; written = written }) (lent w') step in
+    by passed.exchange passed.replies passed.grows
+  where
+    by : (exchange : Exchange) → RepliesTo exchange reply
+        → GrowsBy (place_of call) exchange (sizes w.state) (sizes w'.state) → total w'.state kind ≡ total w.state kind
+    by Nothing replies grows = ap sum (grows kind)
+    by (Denial question answer) replies grows = ap sum (grows kind)
+    by (Permission question) replies grows = absurd (replies refusal)
+    by (Notice question failure notice_answer) replies grows = ap sum (grows kind)
+
+-- a machine that has a part of what all hold
+module _ (caps all held : Amounts) (s now : State) (view : s ≡ now) (is : held ≡ amounts_of (total s))
+    (part : IsPart caps all now) where
+  -- what it has of a kind
+  held_is : (kind : Kind) → amount_of held kind ≡ total s kind
+  held_is kind = ap (λ amounts. amount_of amounts kind) is ∙ amount_of-amounts_of (total s) kind
+
+  -- all hold as much
+  pub part_held : (kind : Kind) → amount_of held kind ≤ amount_of all kind
+  part_held kind =
+      let own = held_is kind in
+      let same = ap (λ t. total t kind) view in
+      let counted = part.counted kind in
+      omega (arith, own, same, counted)
+
+  module _ (tenant : Tenant) (tenant_is : tenant ≡ tenant_of caps all held) where
+    -- its tenant holds what it has
+    pub part_holds : HoldsTotals (holdings tenant) s
+    part_holds = subst (λ t. HoldsTotals (holdings t) s) (sym (tenant_is ∙ ap (tenant_of caps all) is))
+        (record { bytes = refl; elements = refl })
+
+    -- all hold what the tenant and the others do
+    part_together : (kind : Kind) → held_together capped_tenant tenant kind ≡ amount_of all kind
+    part_together Bytes = let less = part_held Bytes in rw tenant_is (omega (arith, less))
+    part_together Elements = let less = part_held Elements in rw tenant_is (omega (arith, less))
+
+    -- so the tenant is within the caps
+    part_within : IsWithin capped_tenant tenant
+    part_within kind =
+        let together = part_together kind in
+        let cap = ap (λ (t : Tenant). amount_of t.caps kind) tenant_is in
+        let bound = part.within kind in
+        omega (arith, together, cap, bound)
+
+    module _ (calls : List Call) (replies : List Reply) (s' : State) (tenant' : Tenant)
+        (ran : IsRunOf (optional_rules tenant_rules) calls (world s (Some tenant)) replies (world s' (Some tenant')))
+      where
+        -- and stays there
+        part_stays : StaysWithin tenant tenant'
+        part_stays = run_stays_within tenant part_within _ (world s' (Some tenant')) ran.0 tenant' refl refl ran.3
+
+        -- what all hold then are numbers of 64 bits
+        pub part_fits : (kind : Kind) → held_together capped_tenant tenant' kind < 2 ^ 64
+        part_fits kind =
+            let bound = part_stays.within kind in
+            let cap = part_stays.caps kind in
+            let own = ap (λ (t : Tenant). amount_of t.caps kind) tenant_is in
+            let fits = part.fits kind in
+            omega (arith, bound, cap, own, fits)
+
+        -- all held what it held and what the others hold
+        part_before : (kind : Kind) → amount_of all kind ≡ held_before tenant' held kind
+        part_before kind =
+            let together = part_together kind in
+            let others = part_stays.others kind in
+            let own = ap (λ (t : Tenant). amount_of t.holdings.held kind) tenant_is in
+            omega (arith, together, others, own)
+
+        -- the amounts of all are those
+        pub all_before : all ≡ amounts_of (held_before tenant' held)
+        all_before = amounts_are all (held_before tenant' held) part_before
+
+        module _ (holds : HoldsTotals (holdings tenant') s') where
+          -- it has run as a part, where all hold then what the tenant and the others do
+          pub runs_as_part : (all' : Amounts) → all' ≡ amounts_of (held_together capped_tenant tenant')
+              → RunsAsPart caps all now calls replies s' all'
+          runs_as_part all' together =
+              let own : tenant ≡ tenant_of caps all (amounts_of (total s)) = tenant_is ∙ ap (tenant_of caps all) is in
+              subst (λ t. RunsAsPart caps all t calls replies s' all') view (record {
+                tenant' = tenant';
+                ran = subst
+                    (λ t. IsRunOf (optional_rules tenant_rules) calls (world s (Some t)) replies (world s' (Some tenant')))
+                    own ran;
+                holds = holds;
+                together = together;
+              })
+
+          module _ (same : (kind : Kind) → total s' kind ≡ total s kind) where
+            -- all hold what they held, where it has what it had
+            pub all_same : all ≡ amounts_of (held_together capped_tenant tenant')
+            all_same = amounts_are all (held_together capped_tenant tenant') (λ kind.
+                let before = part_before kind in
+                let own = amount_held_total tenant' s' holds kind ∙ same kind ∙ sym (held_is kind) in
+                omega (arith, before, own))
+
+            -- and what was held is what it has
+            pub held_same : held ≡ amounts_of (total s')
+            held_same = amounts_are held (total s') (λ kind. held_is kind ∙ sym (same kind))
 
 -- what a machine has after a reply without its tenant is what it had
 total_unasked : (s s' : State) (call : Call) (reply : Reply) → RepliesUnasked call s reply s' → (kind : Kind)
@@ -407,47 +439,34 @@ replies_unasked (SetFuel fuel) unasked s reply s' limiter limiter' (charge, writ
 replies_unasked call unasked s reply s' limiter limiter' step tenant = absurd unasked
 
 -- what `Pool::step_unasked` has done with the machine of an index
-module _ (pool now : PoolValue) (same : pool ≡ now) (index : ℕ) (call : Call) (reply : Reply)
+module _ (pool : PoolValue) (all : Amounts) (kept : IsKept pool all) (index : ℕ) (call : Call) (reply : Reply)
     (machines' : List (Option State)) (ran : RunsUnasked pool.machines index call reply machines') where
   -- the tenant of the machine
   abbrev own_tenant : Tenant
   own_tenant = tenant_at pool index ran.machine
 
-  -- it is the one that the pool gives out
-  own_given : option_map (tenant_at now index) (machine_of now index) ≡ Some own_tenant
-  own_given = subst (λ p. option_map (tenant_at p index) (machine_of p index) ≡ Some own_tenant) same
-      (ap (option_map (tenant_at pool index)) ran.found)
-
-  -- the reply is that of a run under it
-  own_ran : RunsMachine pool.machines index own_tenant (call ∷ []) (reply ∷ []) machines' own_tenant
-  own_ran =
-      let (charge, written, step) = ran.replied own_tenant in record {
-        machine = ran.machine;
-        found = ran.found;
-        machine' = ran.machine';
-        ran = (
-          record { call = call; reply = reply; charge = charge; written = written } ∷ [],
-          refl,
-          refl,
-          (world ran.machine' (Some own_tenant), step, refl),
-        );
-        after = ran.after;
-        held = step_holds (world ran.machine own_tenant) (world ran.machine' own_tenant) call reply
-            (record { bytes = refl; elements = refl }) (ran.replied own_tenant);
-      }
-
-  -- the pool is kept with the same amounts
-  pub unasked_kept : (held : Amounts) → IsKept pool held → IsKept (record pool { machines = machines' }) held
-  unasked_kept held kept =
-      machine_kept pool now same index own_tenant own_tenant own_given (call ∷ []) (reply ∷ []) machines' own_ran held
-      held kept
-      (kept.counted ∙ amounts_same (total_of pool.machines) (held_together capped_tenant own_tenant)
-      (λ kind. sym (tenant_held_together pool index ran.machine ran.found kind)))
+  -- the machine has run under it
+  own_ran : IsRunOf (optional_rules tenant_rules) (call ∷ []) (world ran.machine (Some own_tenant)) (reply ∷ [])
+      (world ran.machine' (Some own_tenant))
+  own_ran = run_of_one (world ran.machine own_tenant) (world ran.machine' own_tenant) call reply
+      (ran.replied own_tenant)
 
   -- it is an accepted run
-  pub unasked_runs : RunsTenant now index (call ∷ []) (reply ∷ []) (record pool { machines = machines' })
+  pub unasked_runs : RunsTenant pool index (call ∷ []) (reply ∷ []) (record pool { machines = machines' })
   unasked_runs =
-      machine_runs pool now same index own_tenant own_tenant own_given (call ∷ []) (reply ∷ []) machines' own_ran
+      subst (λ machines. RunsTenant pool index (call ∷ []) (reply ∷ []) (record pool { machines = machines }))
+      (sym ran.after)
+      (own_runs pool all kept index ran.machine ran.found (call ∷ []) (reply ∷ []) ran.machine' own_tenant own_ran)
+
+  -- the pool is kept with the same amounts
+  pub unasked_kept : IsKept (record pool { machines = machines' }) all
+  unasked_kept =
+      subst (λ machines. IsKept (record pool { machines = machines }) all) (sym ran.after)
+      (own_kept pool all kept index ran.machine ran.found (call ∷ []) (reply ∷ []) ran.machine' own_tenant own_ran
+      (step_holds (world ran.machine own_tenant) (world ran.machine' own_tenant) call reply
+      (record { bytes = refl; elements = refl }) (ran.replied own_tenant)) all
+      (kept.counted ∙ amounts_same (total_of pool.machines) (held_together capped_tenant own_tenant)
+      (λ kind. sym (tenant_held_together pool index ran.machine ran.found kind))))
 
 -- a run keeps the pool within its caps
 pub runs_within : (pool : PoolValue) (index : ℕ) (calls : List Call) (replies : List Reply) (pool' : PoolValue)

@@ -1,21 +1,26 @@
 -- A pool of tenants: a tenant's rules, what the machines hold together, what a run of one of them does, and what its errors print.
 use Rattle.wasmi_meter.specs.declared.holdings.Holdings.{Holdings}
-use Rattle.wasmi_meter.specs.Capped.{amount_of, nothing, amounts_of, Capped, capped_rules}
+use Rattle.wasmi_meter.specs.Capped.{amount_of, nothing, amounts_of, Capped, capped_rules, held_together}
 use Rattle.wasmi_meter.specs.Limiter.{Rules, optional_rules}
 use Rattle.wasmi_budget.specs.declared.tenant.Tenant.{Tenant}
-use Rattle.std.specs.Prelude.{◌≡◌, ◌≤◌, ◌<◌, ◌^◌, ◌++◌, ⊤, ℕ, List, [], ◌∷◌, Option, Some, None, slice_index_or, slice_set, sum_by, remove, codes}
+use Rattle.std.specs.Prelude.{◌≡◌, ◌≤◌, ◌<◌, ◌+◌, ◌-◌, ◌^◌, ◌++◌, ⊤, ℕ, List, [], ◌∷◌, Option, Some, None, slice_index_or, slice_set, sum_by, remove, codes}
 use Rattle.wasmi_meter.specs.declared.limiter.Kind.{Kind}
 use Rattle.wasmi_meter.specs.declared.limiter.Kind.TheVariants.{Bytes, Elements}
 use Rattle.wasmi_meter.specs.declared.amounts.Amounts.{Amounts}
 use Rattle.wasmi_machine.specs.declared.calls.Call.{Call}
 use Rattle.wasmi_machine.specs.declared.calls.Call.TheVariants.{Binary, CopyMemory, FillMemory, InitMemory, SetFuel, Store}
 use Rattle.wasmi_machine.specs.declared.calls.Reply.{Reply}
-use Rattle.wasmi_machine.specs.State.{State, total, world, HoldsTotals}
+use Rattle.wasmi_machine.specs.State.{State, total, world, with_reserved, HoldsTotals}
 use Rattle.wasmi_machine.specs.Steps.{IsRunOf, RepliesWith}
+use Rattle.wasmi_machine.specs.declared.slots.SlotCounts.{SlotCounts}
 use Rattle.wasmi_budget.specs.declared.error.AddError.{AddError}
 use Rattle.wasmi_budget.specs.declared.error.AddError.TheVariants.{NotEmpty, NoRoom}
 use Rattle.wasmi_budget.specs.declared.error.PoolError.{PoolError}
 use Rattle.wasmi_budget.specs.declared.error.PoolError.TheVariants.{NoTenant, OutOfMemory}
+use Rattle.wasmi_budget.specs.declared.error.ReserveError.{ReserveError}
+use Rattle.wasmi_budget.specs.declared.error.ReserveError.TheVariants as reserve
+use Rattle.wasmi_budget.specs.declared.error.RunIntoError.{RunIntoError}
+use Rattle.wasmi_budget.specs.declared.error.RunIntoError.TheVariants as into
 
 -- what a tenant holds
 abbrev pub holdings : Tenant → Holdings
@@ -55,6 +60,10 @@ total_at None kind = 0
 -- what these machines have of a kind
 abbrev pub total_of : List (Option State) → Kind → ℕ
 total_of machines kind = sum_by (λ s. total_at s kind) machines
+
+-- a pool with these caps and machines
+abbrev pub pool_of : Amounts → List (Option State) → PoolValue
+pool_of caps machines = record { caps = caps; machines = machines }
 
 -- all machines together are within the caps
 abbrev pub IsWithinCaps : PoolValue → Type 0
@@ -105,16 +114,32 @@ pub record RunsTenantBy (rules : Rules (Option Tenant)) (pool : PoolValue) (inde
 abbrev pub RunsTenant : PoolValue → ℕ → List Call → List Reply → PoolValue → Type 0
 RunsTenant = RunsTenantBy (optional_rules tenant_rules)
 
--- the machine at an index has run these calls under a tenant, which holds what it has then, and all others are the same
-pub record RunsMachine (machines : List (Option State)) (index : ℕ) (tenant : Tenant) (calls : List Call)
-    (replies : List Reply) (machines' : List (Option State)) (tenant' : Tenant) : Type 0 where
-  pub machine : State
-  pub found : slice_index_or machines index None ≡ Some machine
-  pub machine' : State
-  pub ran : IsRunOf (optional_rules tenant_rules) calls (world machine (Some tenant)) replies
-      (world machine' (Some tenant'))
-  pub after : machines' ≡ slice_set machines index (Some machine')
-  pub held : HoldsTotals (holdings tenant') machine'
+-- the tenant that holds so much of what all hold, under the caps
+abbrev pub tenant_of : Amounts → Amounts → Amounts → Tenant
+tenant_of caps all held = record {
+  caps = caps;
+  others = record { bytes = all.bytes - held.bytes; elements = all.elements - held.elements };
+  holdings = record { held = held; last = None };
+}
+
+-- what all hold of a kind where a tenant holds so much
+abbrev pub held_before : Tenant → Amounts → Kind → ℕ
+held_before tenant held kind = amount_of tenant.others kind + amount_of held kind
+
+-- what a machine has is a part of what all hold, which is within the caps, numbers of 64 bits
+pub record IsPart (caps all : Amounts) (s : State) : Type 0 where
+  pub within : (kind : Kind) → amount_of all kind ≤ amount_of caps kind
+  pub fits : (kind : Kind) → amount_of caps kind < 2 ^ 64
+  pub counted : (kind : Kind) → total s kind ≤ amount_of all kind
+
+-- a machine has run these calls under the tenant that it has where all hold so much, and they hold so much then
+pub record RunsAsPart (caps all : Amounts) (s : State) (calls : List Call) (replies : List Reply) (s' : State)
+    (all' : Amounts) : Type 0 where
+  pub tenant' : Tenant
+  pub ran : IsRunOf (optional_rules tenant_rules) calls
+      (world s (Some (tenant_of caps all (amounts_of (total s))))) replies (world s' (Some tenant'))
+  pub holds : HoldsTotals (holdings tenant') s'
+  pub together : all' ≡ amounts_of (held_together capped_tenant tenant')
 
 -- a call is a store of an item, an instruction on two vectors, a write over a range of a memory or a setting of the
 -- fuel, which asks no limiter
@@ -146,6 +171,18 @@ pub record RemovesTenant (pool : PoolValue) (index : ℕ) (s : State) (pool' : P
   pub found : machine_of pool index ≡ Some s
   pub removed : pool' ≡ record pool { machines = slice_set pool.machines index None }
 
+-- the machine at an index has so many more slots reserved, and all others are the same
+pub record ReservesAt (machines : List (Option State)) (index : ℕ) (more : SlotCounts)
+    (machines' : List (Option State)) : Type 0 where
+  pub machine : State
+  pub found : slice_index_or machines index None ≡ Some machine
+  pub after : machines' ≡ slice_set machines index (Some (with_reserved machine more))
+
+-- the machine of a tenant has so many more slots reserved, and all else is the same
+abbrev pub ReservesForTenant : PoolValue → ℕ → SlotCounts → PoolValue → Type 0
+ReservesForTenant pool index more pool' =
+    (pool'.caps ≡ pool.caps) × ReservesAt pool.machines index more pool'.machines
+
 -- the text of why a machine isn't added to a pool
 abbrev pub add_error_text : AddError → List ℕ
 add_error_text NotEmpty = codes "tried to add a machine that has or had bytes or elements"
@@ -155,3 +192,13 @@ add_error_text NoRoom = codes "out of memory for one more tenant"
 abbrev pub pool_error_text : PoolError → List ℕ
 pool_error_text NoTenant = codes "tried to run a tenant that is not in the pool"
 pool_error_text OutOfMemory = codes "out of memory for the replies"
+
+-- the text of why a pool makes no run into memory that is kept
+abbrev pub run_into_error_text : RunIntoError → List ℕ
+run_into_error_text into.NoTenant = codes "tried to run a tenant that is not in the pool"
+run_into_error_text into.TooManyCalls = codes "more calls than there is memory for replies"
+
+-- the text of why a pool reserves no slots
+abbrev pub reserve_error_text : ReserveError → List ℕ
+reserve_error_text reserve.NoTenant = codes "tried to reserve slots for a tenant that is not in the pool"
+reserve_error_text reserve.OutOfMemory = codes "out of memory for the slots"

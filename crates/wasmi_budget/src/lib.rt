@@ -8,6 +8,6 @@ mod pool;
 mod tenant;
 mod tenants;
 
-pub use error::{AddError, PoolError};
+pub use error::{AddError, PoolError, ReserveError, RunIntoError};
 pub use pool::Pool;
 pub use tenant::Tenant;

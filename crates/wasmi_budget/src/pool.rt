@@ -1,17 +1,17 @@
 //! The pool.
-ghost use Rattle.std.specs.Prelude.{◌≡◌, ◌↔◌, ◌∷◌, length, [], None, IsTrue, IfOk, IfErr, OnErr, IsErrOf, MatchOption};
+ghost use Rattle.std.specs.Prelude.{◌≡◌, ◌↔◌, ◌<◌, ◌≤◌, ◌∷◌, length, [], None, IsTrue, IfOk, IfErr, OnErr, OnOk, IsErrOf, MatchOption};
 ghost use Rattle.std.specs.Option.{option_map, option_copied};
 ghost use Rattle.wasmi_meter.specs.declared.limiter.Kind.TheVariants.{Bytes, Elements};
 ghost use Rattle.wasmi_meter.specs.Capped.{amounts_of};
 ghost use Rattle.wasmi_machine.specs.State.{total};
-ghost use Rattle.wasmi_budget.specs.Pool.{IsUnasked, IsWithinCaps, machine_of, tenant_at, total_of, AddsTenant, IsAddRefusal, RemovesTenant, RunsTenant};
+ghost use Rattle.wasmi_budget.specs.Pool.{IsUnasked, IsWithinCaps, machine_of, total_of, AddsTenant, IsAddRefusal, RemovesTenant, ReservesForTenant, RunsTenant};
 
-use crate::error::{AddError, PoolError};
-use crate::tenant::{CountedMachine, Tenant, replace_amounts};
+use crate::error::{AddError, PoolError, ReserveError, RunIntoError};
+use crate::tenant::CountedMachine;
 use crate::tenants::Tenants;
 use std::alloc::Global as Allocator;
 use std::marker::Model;
-use wasmi_machine::{Call, Machine, Reply};
+use wasmi_machine::{Call, Machine, Replies, Reply, SlotCounts};
 use wasmi_meter::Amounts;
 
 /// Machines that share a cap on the bytes of their memories, and one on the elements of their
@@ -113,6 +113,23 @@ impl<'r> Pool<'r> {
         Some(machine)
     }
 
+    /// Reserves so many more slots of each kind on the machine of a tenant, as `Machine::reserve`
+    /// does. What is reserved counts within no cap.
+    ///
+    /// # Errors
+    ///
+    /// In the order of the tests: `NoTenant` if no tenant has the index; `OutOfMemory` if memory for
+    /// some of the slots is refused. Then none more is reserved.
+    pub fn reserve(&mut self, index: usize, slots: SlotCounts) -> Result<(), ReserveError>
+        ensures reserved { OnOk result (ReservesForTenant self.old index slots self.new) }
+        ensures no_tenant { IsErrOf result ReserveError.NoTenant
+            ↔ (machine_of self.old index ≡ None) }
+        ensures refused { OnErr result (self.new ≡ self.old) }
+        ensures within { IsWithinCaps self.new }
+    {
+        self.tenants.reserve(index, slots)
+    }
+
     /// Executes calls on the machine of a tenant, under a limiter that permits what keeps all
     /// tenants together within the caps. It costs memory for the replies, a search among the indices
     /// of the tenants, and what the calls cost, however much was made or dropped before.
@@ -128,12 +145,36 @@ impl<'r> Pool<'r> {
         ensures refused { OnErr result (self.new ≡ self.old) }
         ensures within { IsWithinCaps self.new }
     {
-        let Some(mut tenant) = self.tenant(index) else {
-            return Err(PoolError::NoTenant);
-        };
-        let replies = self.tenants.run(index, calls, &mut tenant)?;
-        self.held_by_all = tenant.held_by_all();
-        Ok(replies)
+        self.tenants
+            .run(index, calls, self.caps, &mut self.held_by_all)
+    }
+
+    /// Executes calls on the machine of a tenant, as `run`, but puts their replies into memory that
+    /// is there, in place of those that it has. It takes no memory for them.
+    ///
+    /// # Errors
+    ///
+    /// In the order of the tests: `NoTenant` if no tenant has the index; `TooManyCalls` if there are
+    /// more calls than the capacity of `replies`. Then no call was executed, and the replies stay.
+    pub fn run_into(
+        &mut self,
+        index: usize,
+        calls: &[Call],
+        replies: &mut Replies,
+    ) -> Result<(), RunIntoError>
+        ensures ran { OnOk result
+            (RunsTenant self.old index calls.now replies.new.items self.new) }
+        ensures no_tenant { IsErrOf result RunIntoError.NoTenant
+            ↔ (machine_of self.old index ≡ None) }
+        ensures too_many { IsErrOf result RunIntoError.TooManyCalls
+            → (replies.old.capacity < length calls.now) }
+        ensures accepted { OnOk result (length calls.now ≤ replies.old.capacity) }
+        ensures refused { OnErr result ((self.new ≡ self.old) × (replies.new ≡ replies.old)) }
+        ensures capacity { replies.new.capacity ≡ replies.old.capacity }
+        ensures within { IsWithinCaps self.new }
+    {
+        self.tenants
+            .run_into(index, calls, self.caps, &mut self.held_by_all, replies)
     }
 
     /// Executes one call on the machine of a tenant, as `run` executes a list of it alone. It takes
@@ -160,13 +201,12 @@ impl<'r> Pool<'r> {
         {
             return self.step_unasked(index, call);
         }
-        let Some(mut tenant) = self.tenant(index) else {
+        let stepped = self
+            .tenants
+            .step(index, call, self.caps, &mut self.held_by_all);
+        let Some(reply) = stepped else {
             return Err(PoolError::NoTenant);
         };
-        let Some(reply) = self.tenants.step(index, call, &mut tenant) else {
-            return Err(PoolError::NoTenant);
-        };
-        replace_amounts(&mut self.held_by_all, tenant.held_by_all());
         Ok(reply)
     }
 
@@ -224,19 +264,5 @@ impl<'r> Pool<'r> {
             ≡ option_map (λ s. amounts_of (total s)) (machine_of self.now index) }
     {
         Some(self.tenants.get(index)?.held)
-    }
-
-    /// The limiter under which a tenant's machine runs.
-    #[inline(always)]
-    fn tenant(&self, index: usize) -> Option<Tenant>
-        ensures { result
-            ≡ option_map (tenant_at self.now index) (machine_of self.now index) }
-    {
-        let held = self.held(index)?;
-        let others = Amounts {
-            bytes: self.held_by_all.bytes - held.bytes,
-            elements: self.held_by_all.elements - held.elements,
-        };
-        Some(Tenant::new(self.caps, others, held))
     }
 }

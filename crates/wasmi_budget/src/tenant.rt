@@ -1,15 +1,17 @@
 //! One machine of a pool, with what it has, and its limiter.
-ghost use Rattle.std.specs.Prelude.{◌≡◌, ◌<◌, ◌^◌, ◌∷◌, [], None, Some, IfOk, OnErr};
+ghost use Rattle.std.specs.Prelude.{◌≡◌, ◌≤◌, ◌<◌, ◌^◌, ◌∷◌, ◌↔◌, [], Some, IsTrue, IfOk, IsOk, OnErr, OnOk, length};
 ghost use Rattle.wasmi_meter.specs.declared.limiter.Kind.{Kind};
 ghost use Rattle.wasmi_meter.specs.Capped.{amounts_of, held_together};
 ghost use Rattle.wasmi_meter.specs.Limiter.{optional_rules};
-ghost use Rattle.wasmi_machine.specs.Steps.{IsRunOf};
-ghost use Rattle.wasmi_machine.specs.State.{total, HoldsTotals, world};
-ghost use Rattle.wasmi_budget.specs.Pool.{holdings, capped_tenant, tenant_rules, IsUnasked, RepliesUnasked};
+ghost use Rattle.wasmi_machine.specs.Steps.{RepliesWith};
+ghost use Rattle.wasmi_machine.specs.State.{total, with_reserved, world, IsRefusal};
+ghost use Rattle.wasmi_budget.specs.Pool.{holdings, capped_tenant, tenant_rules, tenant_of, held_before, IsPart, RunsAsPart, IsUnasked, RepliesUnasked};
 
 use std::alloc::AllocError;
 use std::marker::Model;
-use wasmi_machine::{Call, Machine, Reply, run_reserving};
+use wasmi_machine::{
+    Call, Machine, Replies, Reply, SlotCounts, TooManyCalls, run_into_reserving, run_reserving,
+};
 use wasmi_meter::{Amounts, CappedLimiter, Holdings, Kind, ResourceLimiterRef};
 
 /// The limiter of one machine of a pool: it permits what keeps all tenants together within the
@@ -24,20 +26,24 @@ pub struct Tenant {
 }
 
 impl Tenant {
-    /// A tenant that has these holdings, beside the others', under the caps.
-    pub(crate) fn new(caps: Amounts, others: Amounts, held: Amounts) -> Self
-        ensures { result ≡ record
-            { caps = caps; others = others; holdings = record { held = held; last = None } } }
+    /// A tenant that holds so much of what all tenants hold, under the caps.
+    fn new(caps: Amounts, all: Amounts, held: Amounts) -> Self
+        requires bytes { held.bytes ≤ all.bytes }
+        requires elements { held.elements ≤ all.elements }
+        ensures value { result ≡ tenant_of caps all held }
     {
         Tenant {
             caps,
-            others,
+            others: Amounts {
+                bytes: all.bytes - held.bytes,
+                elements: all.elements - held.elements,
+            },
             holdings: Holdings::new(held),
         }
     }
 
     /// What all tenants hold.
-    pub(crate) fn held_by_all(&self) -> Amounts
+    fn held_by_all(&self) -> Amounts
         requires fits { (kind : Kind) → held_together capped_tenant self.now kind < 2 ^ 64 }
         ensures value { result ≡ amounts_of (held_together capped_tenant self.now) }
     {
@@ -45,6 +51,23 @@ impl Tenant {
         Amounts {
             bytes: self.others.bytes + held.bytes,
             elements: self.others.elements + held.elements,
+        }
+    }
+
+    /// Leaves what it holds, and what all tenants hold, in the place of what it held and what all
+    /// held before. Nothing is written where it holds as much, as it does after most calls: it
+    /// takes longer to read both amounts at once after each was written by itself.
+    #[inline(always)]
+    fn leave(&self, held: &mut Amounts, all: &mut Amounts)
+        requires fits { (kind : Kind) → held_together capped_tenant self.now kind < 2 ^ 64 }
+        requires before { all.old ≡ amounts_of (held_before self.now held.old) }
+        ensures held { held.new ≡ (holdings self.now).held }
+        ensures all { all.new ≡ amounts_of (held_together capped_tenant self.now) }
+    {
+        let now = self.holdings.held();
+        if held.bytes != now.bytes || held.elements != now.elements {
+            *held = now;
+            *all = self.held_by_all();
         }
     }
 }
@@ -87,34 +110,67 @@ impl<'r> Model for CountedMachine<'r> {
 }
 
 impl<'r> CountedMachine<'r> {
-    /// Executes calls under a tenant that holds what the machine has: it does so again
-    /// afterwards, and what it holds is taken over from it.
+    /// Reserves so many more slots. What the machine has stays, so no tenant holds it.
+    pub(crate) fn reserve(&mut self, slots: SlotCounts) -> Result<(), AllocError>
+        ensures reserved { OnOk result (self.new ≡ with_reserved self.old slots) }
+        ensures refused { OnErr result (self.new ≡ self.old) }
+    {
+        self.machine.reserve(slots)
+    }
+
+    /// Executes calls under its limiter in a pool with these caps, whose tenants hold `all`, which
+    /// becomes what they hold afterwards.
     pub(crate) fn run(
         &mut self,
         calls: &[Call],
-        tenant: &mut Tenant,
+        caps: Amounts,
+        all: &mut Amounts,
     ) -> Result<Vec<Reply>, AllocError>
-        requires totals { HoldsTotals (holdings tenant.old) self.old }
-        ensures run { IfOk result (λ replies. IsRunOf (optional_rules tenant_rules) calls.now
-            (world self.old (Some tenant.old)) replies.items (world self.new (Some tenant.new))) }
-        ensures err { OnErr result ((self.new ≡ self.old) × (tenant.new ≡ tenant.old)) }
-        ensures held { HoldsTotals (holdings tenant.new) self.new }
+        requires part { IsPart caps all.old self.old }
+        ensures run { IfOk result (λ replies. RunsAsPart caps all.old self.old calls.now
+            replies.items self.new all.new) }
+        ensures err { OnErr result ((self.new ≡ self.old) × (all.new ≡ all.old)) }
     {
-        let replies = run_reserving(&mut self.machine, calls, tenant)?;
-        self.held = tenant.holdings.held();
+        let mut tenant = Tenant::new(caps, *all, self.held);
+        let replies = run_reserving(&mut self.machine, calls, &mut tenant)?;
+        tenant.leave(&mut self.held, all);
         Ok(replies)
     }
 
-    /// Executes one call, as `run` executes each of a list. It takes no memory for the reply.
-    #[inline(always)]
-    pub(crate) fn step(&mut self, call: &Call, tenant: &mut Tenant) -> Reply
-        requires totals { HoldsTotals (holdings tenant.old) self.old }
-        ensures run { IsRunOf (optional_rules tenant_rules) (call.now ∷ [])
-            (world self.old (Some tenant.old)) (result ∷ []) (world self.new (Some tenant.new)) }
-        ensures held { HoldsTotals (holdings tenant.new) self.new }
+    /// Executes calls, as `run`, but puts their replies into memory that is there.
+    pub(crate) fn run_into(
+        &mut self,
+        calls: &[Call],
+        caps: Amounts,
+        all: &mut Amounts,
+        replies: &mut Replies,
+    ) -> Result<(), TooManyCalls>
+        requires part { IsPart caps all.old self.old }
+        ensures run { OnOk result (RunsAsPart caps all.old self.old calls.now replies.new.items
+            self.new all.new) }
+        ensures accepted { IsOk result ↔ (length calls.now ≤ replies.old.capacity) }
+        ensures err { OnErr result ((self.new ≡ self.old) × (all.new ≡ all.old)
+            × (replies.new ≡ replies.old)) }
+        ensures capacity { replies.new.capacity ≡ replies.old.capacity }
     {
-        let reply = step_holding(&mut self.machine, call, tenant);
-        replace_amounts(&mut self.held, tenant.holdings.held());
+        let mut tenant = Tenant::new(caps, *all, self.held);
+        run_into_reserving(&mut self.machine, calls, &mut tenant, replies)?;
+        tenant.leave(&mut self.held, all);
+        Ok(())
+    }
+
+    /// Executes one call, as `run` executes a list of it alone. It takes no memory for the reply.
+    #[inline(always)]
+    pub(crate) fn step(&mut self, call: &Call, caps: Amounts, all: &mut Amounts) -> Reply
+        requires part { IsPart caps all.old self.old }
+        ensures run { RunsAsPart caps all.old self.old (call.now ∷ []) (result ∷ []) self.new
+            all.new }
+    {
+        let mut tenant = Tenant::new(caps, *all, self.held);
+        let reply = step_lending(&mut self.machine, call, &mut tenant);
+        if !is_refused_growth(&reply) {
+            tenant.leave(&mut self.held, all);
+        }
         reply
     }
 
@@ -128,24 +184,19 @@ impl<'r> CountedMachine<'r> {
     }
 }
 
-/// Puts other amounts in the place of some. Nothing is written where they are the same, as they are
-/// after most calls: it takes longer to read both at once after each was written by itself.
+/// Whether a reply is an error of a memory or a table, after which a machine has what it had.
 #[inline(always)]
-pub(crate) fn replace_amounts(place: &mut Amounts, amounts: Amounts)
-    ensures { place.new ≡ amounts }
+fn is_refused_growth(reply: &Reply) -> bool
+    ensures { IsTrue result → IsRefusal reply.now }
 {
-    if place.bytes != amounts.bytes || place.elements != amounts.elements {
-        *place = amounts;
-    }
+    matches!(reply, Reply::Memory(_) | Reply::Table(_))
 }
 
-/// Executes one call under a tenant that holds what the machine has, and does so again afterwards.
+/// Executes one call under a limiter that is known again afterwards.
 #[inline(always)]
-fn step_holding(machine: &mut Machine, call: &Call, tenant: &mut Tenant) -> Reply
-    requires totals { HoldsTotals (holdings tenant.old) machine.old }
-    ensures run { IsRunOf (optional_rules tenant_rules) (call.now ∷ [])
-        (world machine.old (Some tenant.old)) (result ∷ []) (world machine.new (Some tenant.new)) }
-    ensures held { HoldsTotals (holdings tenant.new) machine.new }
+fn step_lending(machine: &mut Machine, call: &Call, tenant: &mut Tenant) -> Reply
+    ensures { RepliesWith (optional_rules tenant_rules) call.now
+        (world machine.old (Some tenant.old)) result (world machine.new (Some tenant.new)) }
 {
     // By itself, so that a growth by plain arguments is no `Call` in memory.
     if let Call::GrowMemory { memory, pages } = call {

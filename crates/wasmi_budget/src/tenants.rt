@@ -1,15 +1,15 @@
 //! The machines of a pool at their indices.
-ghost use Rattle.std.specs.Prelude.{◌≡◌, ◌∷◌, ◌++◌, ◌↔◌, [], length, slice_index_or, slice_set, None, Some, MatchOption, IfOk, IfErr, OnErr, OnOk, IsErrOf};
+ghost use Rattle.std.specs.Prelude.{◌≡◌, ◌∷◌, ◌++◌, ◌↔◌, ◌<◌, ◌≤◌, [], length, slice_index_or, slice_set, None, Some, MatchOption, IfOk, IfErr, OnErr, OnOk, IsErrOf};
 ghost use Rattle.std.specs.Option.{option_copied};
-ghost use Rattle.wasmi_machine.specs.State.{State, HoldsTotals};
-ghost use Rattle.wasmi_budget.specs.Pool.{holdings, IsUnasked, RunsMachine, RunsUnasked};
+ghost use Rattle.wasmi_budget.specs.Pool.{pool_of, IsKept, IsUnasked, ReservesAt, RunsTenant, RunsUnasked};
 ghost use Rattle.wasmi_budget.specs.Tenants.{IsPlace, Rises};
 
-use crate::error::PoolError;
-use crate::tenant::{CountedMachine, Tenant};
+use crate::error::{PoolError, ReserveError, RunIntoError};
+use crate::tenant::CountedMachine;
 use std::alloc::Global as Allocator;
 use std::marker::Model;
-use wasmi_machine::{Call, Reply};
+use wasmi_machine::{Call, Replies, Reply, SlotCounts};
+use wasmi_meter::Amounts;
 
 /// The place of an index among rising ones, if it is one of them. It is found without a search
 /// where no machine before it was removed.
@@ -106,44 +106,94 @@ impl<'r> Tenants<'r> {
         Some(self.machines.remove(place))
     }
 
-    /// Executes calls on the machine at an index, under a tenant that holds what the machine has.
+    /// Reserves so many more slots of the machine at an index.
+    pub(crate) fn reserve(&mut self, index: usize, slots: SlotCounts) -> Result<(), ReserveError>
+        ensures reserved { OnOk result (ReservesAt self.old index slots self.new) }
+        ensures no_tenant { IsErrOf result ReserveError.NoTenant
+            ↔ (slice_index_or self.old index None ≡ None) }
+        ensures refused { OnErr result (self.new ≡ self.old) }
+    {
+        let Some(place) = place_of(&self.indices, index) else {
+            return Err(ReserveError::NoTenant);
+        };
+        let counted = &mut self.machines[place];
+        counted.reserve(slots)?;
+        Ok(())
+    }
+
+    /// Executes calls on the machine at an index, under its limiter in a pool with these caps, whose
+    /// tenants hold `all`, which becomes what they hold afterwards.
     pub(crate) fn run(
         &mut self,
         index: usize,
         calls: &[Call],
-        tenant: &mut Tenant,
+        caps: Amounts,
+        all: &mut Amounts,
     ) -> Result<Vec<Reply>, PoolError>
-        requires totals { (s : State) → slice_index_or self.old index None ≡ Some s
-            → HoldsTotals (holdings tenant.old) s }
-        ensures ran { IfOk result
-            (λ replies. RunsMachine self.old index tenant.old calls.now replies.items self.new
-            tenant.new) }
+        requires kept { IsKept (pool_of caps self.old) all.old }
+        ensures ran { IfOk result (λ replies. RunsTenant (pool_of caps self.old) index calls.now
+            replies.items (pool_of caps self.new)) }
         ensures no_tenant { IsErrOf result PoolError.NoTenant
             ↔ (slice_index_or self.old index None ≡ None) }
-        ensures refused { OnErr result ((self.new ≡ self.old) × (tenant.new ≡ tenant.old)) }
+        ensures refused { OnErr result (self.new ≡ self.old) }
+        ensures kept { IsKept (pool_of caps self.new) all.new }
     {
         let Some(place) = place_of(&self.indices, index) else {
             return Err(PoolError::NoTenant);
         };
         let machine = &mut self.machines[place];
-        let replies = machine.run(calls, tenant)?;
+        let replies = machine.run(calls, caps, all)?;
         Ok(replies)
     }
 
-    /// Executes one call on the machine at an index, if there is one, under a tenant that holds
-    /// what the machine has.
+    /// Executes calls, as `run`, but puts their replies into memory that is there.
+    pub(crate) fn run_into(
+        &mut self,
+        index: usize,
+        calls: &[Call],
+        caps: Amounts,
+        all: &mut Amounts,
+        replies: &mut Replies,
+    ) -> Result<(), RunIntoError>
+        requires kept { IsKept (pool_of caps self.old) all.old }
+        ensures ran { OnOk result (RunsTenant (pool_of caps self.old) index calls.now
+            replies.new.items (pool_of caps self.new)) }
+        ensures no_tenant { IsErrOf result RunIntoError.NoTenant
+            ↔ (slice_index_or self.old index None ≡ None) }
+        ensures too_many { IsErrOf result RunIntoError.TooManyCalls
+            → (replies.old.capacity < length calls.now) }
+        ensures accepted { OnOk result (length calls.now ≤ replies.old.capacity) }
+        ensures refused { OnErr result ((self.new ≡ self.old) × (replies.new ≡ replies.old)) }
+        ensures capacity { replies.new.capacity ≡ replies.old.capacity }
+        ensures kept { IsKept (pool_of caps self.new) all.new }
+    {
+        let Some(place) = place_of(&self.indices, index) else {
+            return Err(RunIntoError::NoTenant);
+        };
+        let counted = &mut self.machines[place];
+        counted.run_into(calls, caps, all, replies)?;
+        Ok(())
+    }
+
+    /// Executes one call on the machine at an index, if there is one, as `run` executes a list of
+    /// it alone.
     #[inline(always)]
-    pub(crate) fn step(&mut self, index: usize, call: &Call, tenant: &mut Tenant) -> Option<Reply>
-        requires totals { (s : State) → slice_index_or self.old index None ≡ Some s
-            → HoldsTotals (holdings tenant.old) s }
+    pub(crate) fn step(
+        &mut self,
+        index: usize,
+        call: &Call,
+        caps: Amounts,
+        all: &mut Amounts,
+    ) -> Option<Reply>
+        requires kept { IsKept (pool_of caps self.old) all.old }
         ensures stepped { MatchOption result
-            ((slice_index_or self.old index None ≡ None) × (self.new ≡ self.old)
-            × (tenant.new ≡ tenant.old))
-            (λ reply. RunsMachine self.old index tenant.old (call.now ∷ []) (reply ∷ []) self.new
-            tenant.new) }
+            ((slice_index_or self.old index None ≡ None) × (self.new ≡ self.old))
+            (λ reply. RunsTenant (pool_of caps self.old) index (call.now ∷ []) (reply ∷ [])
+            (pool_of caps self.new)) }
+        ensures kept { IsKept (pool_of caps self.new) all.new }
     {
         let place = place_of(&self.indices, index)?;
-        Some(self.machines[place].step(call, tenant))
+        Some(self.machines[place].step(call, caps, all))
     }
 
     /// Executes one call that asks no limiter on the machine at an index, if there is one.

@@ -1,8 +1,9 @@
 -- What calls and lines do to a machine with its limiter.
-use Rattle.std.proofs.Common.{◌≡◌, All, Option, Some, None, false, is_some, map, Ok, Err, List, Result, IfOk, OnErr, [], ◌∷◌, refl, sym, subst, ap, ℕ, ◌∙◌, sum, inl, inr}
+use Rattle.std.proofs.Common.{◌≡◌, ◌+◌, ◌<◌, ◌≤◌, ◌++◌, drop, set, take, length, get_or, All, Option, Some, None, false, is_some, map, Ok, Err, List, Result, arith, IfOk, OnErr, [], ◌∷◌, refl, sym, subst, ap, ℕ, ◌∙◌, sum, inl, inr}
+use Rattle.std.proofs.lemmas.List.{take_all, take_more, take_more_set}
 use Rattle.std.proofs.lemmas.Option.{same_Some}
 use Rattle.std.specs.Global.{Global}
-use Rattle.std.specs.Prelude.{Vec}
+use Rattle.std.specs.Prelude.{MatchOption, Vec, slice_get}
 use Rattle.std.specs.declared.alloc.AllocError.{AllocError}
 use Rattle.wasmi_meter.specs.AnyLimiter.{any_limiter_rules, caps_of}
 use Rattle.wasmi_meter.specs.Limiter.{optional_rules}
@@ -13,14 +14,20 @@ use Rattle.wasmi_meter.specs.declared.quota.Quota.{Quota}
 use Rattle.wasmi_machine.specs.Determinism.{RelatesByKind, RunsKeepKind}
 use Rattle.wasmi_machine.specs.Laws.{HoldsTotalsAlways, QuotasStayWithin}
 use Rattle.wasmi_machine.specs.Steps.{IsRunOf, Run, RepliesWith}
-use Rattle.wasmi_machine.specs.State.{State, with_memories, HoldsTotals, total, Turn, world}
+use Rattle.wasmi_machine.specs.State.{State, with_memories, with_reserved, HoldsTotals, total, Turn, world}
 use Rattle.wasmi_machine.specs.declared.calls.Call.{Call}
 use Rattle.wasmi_machine.specs.declared.calls.Reply.{Reply}
+use Rattle.wasmi_machine.specs.declared.slots.SlotCounts.{SlotCounts}
 use Rattle.wasmi_c.specs.Machine.Caps.{IsKept, Keeps, MachineValue}
 use Rattle.wasmi_c.specs.Machine.Calls.{QuotasAreKept, CallsAreRuns}
-use Rattle.wasmi_c.specs.Machine.Calls.{MachineReplies}
+use Rattle.wasmi_c.specs.Machine.Calls.{InTurn, ListsAreRuns, MachineReplies, RepliesInStruct, world_of}
+use Rattle.wasmi_c.specs.Machine.CallStructs.{call_of}
+use Rattle.wasmi_c.specs.Machine.Replies.{only}
+use Rattle.wasmi_c.specs.declared.status.TheConstants.{NO_CALL}
 use Rattle.wasmi_c.specs.Machine.NewMachines.{IsAnswer, IsNewWithAnswers, MakesMachine, MakesWithAnswers, answer_of}
+use Rattle.wasmi_c.specs.declared.machine.call_struct.CallStruct.{CallStruct}
 use Rattle.wasmi_c.specs.declared.machine.limits.Limits.{Limits}
+use Rattle.wasmi_c.specs.declared.machine.reply_struct.ReplyStruct.{ReplyStruct}
 use Rattle.wasmi_machine.proofs.MemoryEffectsLemmas.{vector_store_kept}
 use Rattle.wasmi_machine.specs.MemoryEffects.{StoresMemoryAt}
 use Rattle.wasmi_meter.specs.declared.any_limiter.AnyLimiter.TheVariants as limiter
@@ -121,6 +128,19 @@ kept_by_store s (limiter.Quota quota) index a stored full s' stores rest kept = 
 }
 kept_by_store s (limiter.Answers list) index a stored full s' stores rest kept = tt
 
+-- what is reserved counts nowhere, so a quota holds what the machine has
+pub kept_by_reserve : (s : State) (l : AnyLimiter) (more : SlotCounts) (s' : State) → s' ≡ with_reserved s more
+    → Keeps s l → Keeps s' l
+kept_by_reserve s limiter.Unlimited more s' reserved kept = tt
+kept_by_reserve s (limiter.Quota quota) more s' reserved kept = record {
+  totals = record {
+    bytes = kept.totals.bytes ∙ sym (ap (λ state. total state Bytes) reserved);
+    elements = kept.totals.elements ∙ sym (ap (λ state. total state Elements) reserved);
+  };
+  within = kept.within;
+}
+kept_by_reserve s (limiter.Answers list) more s' reserved kept = tt
+
 -- what is made as one machine is made as one of which a fact holds
 pub made_so : (IsNew : MachineValue → Type 0) (machine : MachineValue) (held : Option MachineValue) (status : ℕ)
     (held' : Option MachineValue) → MakesMachine (λ made. made ≡ machine) held status held' → IsNew machine
@@ -138,3 +158,51 @@ pub made_with_answers : (limits : Limits) (numbers : List ℕ) (machine : Machin
 made_with_answers limits numbers machine None status held' made none all is =
     inr (all, made_so (IsNewWithAnswers limits (map answer_of numbers)) machine None status held' made is)
 made_with_answers limits numbers machine (Some old) status held' made none all is = absurd cc
+
+module _ {V : Type 0} (Replies : CallStruct → V → ReplyStruct → V → Type 0) where
+  -- one more call is replied to after others
+  in_turn_push : (calls : List CallStruct) (v : V) (replies : List ReplyStruct) (w : V)
+      → InTurn Replies calls v replies w → (call : CallStruct) (reply : ReplyStruct) (x : V) → Replies call w reply x
+      → InTurn Replies (calls ++ call ∷ []) v (replies ++ reply ∷ []) x
+  in_turn_push [] v [] w ran call reply x step = (x, rw (← ran) step, refl)
+  in_turn_push [] v (r ∷ replies) w ran call reply x step = absurd ran
+  in_turn_push (c ∷ calls) v [] w ran call reply x step = absurd ran
+  in_turn_push (c ∷ calls) v (r ∷ replies) w ran call reply x step =
+      (ran.0, ran.1, in_turn_push calls ran.0 replies w ran.2 call reply x step)
+
+  -- so the next of a list is, with its reply at the place of its number
+  pub next_in_turn : (calls : List CallStruct) (i : ℕ) (none : CallStruct) (v : V) (replies : List ReplyStruct)
+      (reply : ReplyStruct) (w x : V) → InTurn Replies (take i calls) v (take i replies) w → i < length calls
+      → length replies ≡ length calls → Replies (get_or calls i none) w reply x
+      → InTurn Replies (take (i + 1) calls) v (take (i + 1) (set replies i reply)) x
+  next_in_turn calls i none v replies reply w x ran inside places step =
+      rw (take_more calls i none inside, take_more_set replies i reply (omega (arith, inside, places)))
+      (in_turn_push (take i calls) v (take i replies) w ran (get_or calls i none) reply x step)
+
+  -- once it is past the last call, all are
+  pub all_in_turn : (calls : List CallStruct) (i : ℕ) (v : V) (replies : List ReplyStruct) (w : V)
+      → InTurn Replies (take i calls) v (take i replies) w → length calls ≤ i → length replies ≡ length calls
+      → InTurn Replies calls v replies w
+  all_in_turn calls i v replies w ran past places =
+      subst (λ cs. InTurn Replies cs v replies w) (take_all i calls past)
+      (subst (λ rs. InTurn Replies (take i calls) v rs w) (take_all i replies (omega (arith, past, places))) ran)
+
+-- calls that are replied to in turn are one run of them
+pub lists_run : ListsAreRuns
+lists_run [] [] machine [] machine' are same = ([], ([], refl, refl, ap world_of same), refl)
+lists_run [] [] machine (t ∷ told) machine' are ran = absurd ran
+lists_run [] (c ∷ calls) machine told machine' are ran = absurd (omega (arith, ap length are))
+lists_run (n ∷ numbers) [] machine told machine' are ran = absurd (omega (arith, ap length are))
+lists_run (n ∷ numbers) (c ∷ calls) machine [] machine' are ran = absurd ran
+lists_run (n ∷ numbers) (c ∷ calls) machine (t ∷ told) machine' are (next, step, ran) =
+    let is : call_of n ≡ Some c =
+    same_Some (call_of n) (Some c) (ap (λ (found : List (Option Call)). slice_get found 0) are) in
+    let one : RepliesInStruct c machine t next =
+    subst (λ (called : Option Call). MatchOption called ((t ≡ only NO_CALL) × (next ≡ machine))
+    (λ call. RepliesInStruct call machine t next)) is step in
+    let rest = lists_run numbers calls next told machine' (ap (λ (found : List (Option Call)). drop 1 found) are) ran in
+    let turn : Turn = record { call = c; reply = one.0; charge = one.1.0; written = one.1.1 } in (
+      one.0 ∷ rest.0,
+      (turn ∷ rest.1.0, λ i. c ∷ rest.1.1 i, λ i. one.0 ∷ rest.1.2 i, (world_of next, one.1.2, rest.1.3)),
+      λ i. one.2 i ∷ rest.2 i,
+    )

@@ -9,7 +9,7 @@ use Rattle.wasmi_machine.specs.declared.calls.Reply.{Reply}
 use Rattle.wasmi_budget.specs.Pool.{PoolValue, AddsTenant, IsWithinCaps, RemovesTenant, RunsTenant, machine_of, total_of}
 use Rattle.wasmi_grammar.specs.Lines.{WritesScript}
 use Rattle.wasmi_grammar.specs.declared.script.Script.{Script}
-use Rattle.wasmi_c.specs.Machine.Calls.{PaysFuelIn, ReadsOut, totals_in, RefusesLines, RunsScriptBy, no_header, word_after}
+use Rattle.wasmi_c.specs.Machine.Calls.{PaysFuelIn, ReadsOut, RepliesInTurn, ReservesIn, totals_in, RefusesLines, RunsScriptBy, no_header, word_after}
 use Rattle.wasmi_c.specs.Machine.CallStructs.{call_of}
 use Rattle.wasmi_c.specs.Machine.NewMachines.{meter_with}
 use Rattle.wasmi_c.specs.Machine.Replies.{only, with_number, reply_struct, status_of}
@@ -17,6 +17,7 @@ use Rattle.wasmi_c.specs.Types.{reference_type_of}
 use Rattle.wasmi_c.specs.declared.status.TheConstants.{DONE, HAS_POOL, NO_CALL, NO_POOL, NO_ROOM, NO_TENANT}
 use Rattle.wasmi_c.specs.declared.machine.call_struct.CallStruct.{CallStruct}
 use Rattle.wasmi_c.specs.declared.machine.limits.Limits.{Limits}
+use Rattle.wasmi_c.specs.declared.machine.limits.Room.{Room}
 use Rattle.wasmi_c.specs.declared.machine.limits.Totals.{Totals}
 use Rattle.wasmi_c.specs.declared.machine.reply_struct.ReplyStruct.{ReplyStruct}
 
@@ -105,6 +106,20 @@ abbrev pub TenantPaysFuel : ℕ → ℕ → ReplyStruct → PoolValue → PoolVa
 TenantPaysFuel tenant amount reply pool pool' = MatchOption (machine_of pool tenant)
     ((reply ≡ only NO_TENANT) × (pool' ≡ pool))
     (λ machine. PaysFuelIn pool (with_machine_at pool tenant) amount machine reply pool')
+
+-- a tenant's machine has so many more slots reserved, and all else is the same; where there is no such tenant, the pool is
+abbrev pub TenantReserves : ℕ → Room → ℕ → PoolValue → PoolValue → Type 0
+TenantReserves tenant room status pool pool' = MatchOption (machine_of pool tenant)
+    ((status ≡ NO_TENANT) × (pool' ≡ pool))
+    (λ machine. ReservesIn pool (with_machine_at pool tenant) room machine status pool')
+
+-- a tenant's machine replies to the calls of a list in turn; where there is no such tenant, nothing has changed
+abbrev pub TenantRepliesToList
+    : ℕ → List CallStruct → List ReplyStruct → ℕ × List ReplyStruct → PoolValue → PoolValue → Type 0
+TenantRepliesToList tenant calls old left pool pool' = MatchOption (machine_of pool tenant)
+    ((left ≡ (NO_TENANT, old)) × (pool' ≡ pool))
+    (λ machine. RepliesInTurn (λ numbers before reply after. TenantRepliesToStruct tenant numbers reply before after)
+    calls pool old left pool')
 
 -- the bytes of a memory of a tenant are copied to the caller's; where there is no such tenant, the caller's stay; the
 -- pool is the same

@@ -9,7 +9,7 @@ ghost use Rattle.wasmi_ops.specs.declared.vector.TheConstants.{EXTRACTIONS, LANE
 ghost use Rattle.wasmi_c.specs.declared.instruction.numbers.TheConstants.{BINARY_INSTRUCTIONS, LOAD_INSTRUCTIONS, STORE_INSTRUCTIONS, UNARY_INSTRUCTIONS};
 ghost use Rattle.wasmi_c.specs.Instruction.{name_of_binary, name_of_load, name_of_store, name_of_unary, names_in};
 ghost use Rattle.wasmi_c.specs.ReleasedNumbers.{binary_names, extract_lane_names, load_lane_names, load_names, replace_lane_names, statuses, store_lane_names, store_names, ternary_names, unary_names};
-ghost use Rattle.wasmi_c.specs.Machine.Calls.{CallsAreRuns, MachineRunsJoin, QuotasAreKept};
+ghost use Rattle.wasmi_c.specs.Machine.Calls.{CallsAreRuns, ListsAreRuns, MachineRunsJoin, QuotasAreKept};
 ghost use Rattle.wasmi_c.specs.SharedQuota.{OneQuotaHoldsAll, OneQuotaHoldsEach};
 ghost use Rattle.wasmi_c.specs.Placement.{SettlementsAreGrowths, TableSettlementsAreGrowths, SettlementsAreCreations, TableSettlementsAreCreations};
 
@@ -29,10 +29,12 @@ pub fn quotas_are_kept()
 
 /// A call on a machine that is held by a handle is a run of this call alone, and two runs in a row
 /// are one. So calls and lines by a handle, one after the other, are one run of its machine, of
-/// which the laws of `wasmi_machine` hold. Fuel that is taken between two calls ends a run.
+/// which the laws of `wasmi_machine` hold. Fuel that is taken between two calls ends a run. So is a
+/// list of calls by numbers, if all of them stand for calls.
 #[tactic(auto, using(crate::proofs::MachineLemmas::calls_run))]
 pub fn calls_are_runs()
     ensures call { CallsAreRuns }
+    ensures lists { ListsAreRuns }
     ensures join { MachineRunsJoin }
 {
     laws::runs_join::<AnyLimiter>();

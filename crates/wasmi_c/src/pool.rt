@@ -21,15 +21,15 @@ use crate::machine::call_struct::{
     vector_binary_numbered,
 };
 use crate::machine::limited_machine::{headless, leave, read_out, references, write_out};
-use crate::machine::limits::{Limits, Totals};
+use crate::machine::limits::{Limits, Room, Totals};
 use crate::machine::reply_struct::ReplyStruct;
 use crate::pool::pool_box::PoolBox;
-use crate::status::{DONE, HAS_POOL, NO_CALL, NO_POOL, NO_ROOM, NO_TENANT};
+use crate::status::{DONE, HAS_POOL, LENGTHS_DIFFER, NO_CALL, NO_POOL, NO_ROOM, NO_TENANT};
 use crate::types::reference_type;
 use std::alloc::Global;
 use std::marker::Model;
 use std::mem;
-use wasmi_budget::{Pool, PoolError};
+use wasmi_budget::{Pool, PoolError, ReserveError};
 use wasmi_machine::{Call, Machine, Reply};
 use wasmi_meter::FuelError;
 use wasmi_ops::{LoadOp, StoreOp};
@@ -156,7 +156,7 @@ impl Model for TenantPool {
 
 impl TenantPool {
     ghost use Rattle.wasmi_budget.specs.Pool.{IsWithinCaps, RunsTenant};
-    ghost use Rattle.wasmi_c.specs.Pool.{AddsNewTenant, RefusesTenant, RemovesByStatus, RunsTenantLines, TenantPaysFuel, TenantReadsOut, TenantReplies, TenantRepliesInStatus, TenantRepliesInWord, TenantRepliesToCopy, TenantRepliesToSegment, pool_totals, tenant_totals};
+    ghost use Rattle.wasmi_c.specs.Pool.{AddsNewTenant, RefusesTenant, RemovesByStatus, RunsTenantLines, TenantPaysFuel, TenantReadsOut, TenantReplies, TenantRepliesInStatus, TenantRepliesInWord, TenantRepliesToCopy, TenantRepliesToList, TenantRepliesToSegment, TenantReserves, pool_totals, tenant_totals};
 
     /// Does nothing: its contract says that the pool is within its caps.
     pub fn show_within(&self)
@@ -216,6 +216,44 @@ impl TenantPool {
         match &numbers.call() {
             Some(call) => self.reply(tenant, call).by_fields(),
             None => ReplyStruct::only(NO_CALL),
+        }
+    }
+
+    /// Replies to the calls that numbers stand for, one after the other, on the machine of a tenant,
+    /// and writes the replies into the caller's, if there are as many. It takes no memory for them.
+    #[tactic(auto, unfolding(crate::specs::Machine::Calls::RepliesInTurn))]
+    pub fn run_into(
+        &mut self,
+        tenant: usize,
+        calls: &[CallStruct],
+        replies: &mut [ReplyStruct],
+    ) -> u8
+        ensures step { TenantRepliesToList tenant calls.now replies.old (result, replies.new)
+            self.old self.new }
+        ensures caps { self.new.caps ≡ self.old.caps }
+    {
+        let Some(_) = self.pool.machine(tenant) else {
+            return NO_TENANT;
+        };
+        if replies.len() != calls.len() {
+            return LENGTHS_DIFFER;
+        }
+        for i in 0..calls.len() {
+            replies[i] = self.reply_to_struct(tenant, &calls[i]);
+        }
+        DONE
+    }
+
+    /// Reserves so many more slots of each kind on the machine of a tenant. If memory for some is
+    /// refused, none more is.
+    pub fn reserve(&mut self, tenant: usize, room: &Room) -> u8
+        ensures step { TenantReserves tenant room.now result self.old self.new }
+        ensures caps { self.new.caps ≡ self.old.caps }
+    {
+        match self.pool.reserve(tenant, room.slots()) {
+            Ok(()) => DONE,
+            Err(ReserveError::NoTenant) => NO_TENANT,
+            Err(ReserveError::OutOfMemory) => NO_ROOM,
         }
     }
 
@@ -666,7 +704,9 @@ fn size_reply(machine: &Machine, memory: usize) -> Reply
     }
 }
 
-/// What is left of a machine's fuel once an amount is taken; or why so much isn't.
+/// What is left of a machine's fuel once an amount is taken; or why so much isn't. It is inlined
+/// before LLVM makes one number of both results, for which each call would wait.
+#[inline(always)]
 fn left_after(machine: &Machine, amount: u64) -> Result<u64, FuelError>
     ensures { MatchOption machine.now.meter.left (result ≡ Err FuelMeteringDisabled)
         (λ left. (amount ≤ left → result ≡ Ok (left - amount))

@@ -1,17 +1,17 @@
 //! A machine by a handle, and a pool of machines. `include/wasmi_machine.h` describes each call.
 ghost use Rattle.std.specs.Prelude.{◌≡◌, ℕ, List, None, Some};
 ghost use Rattle.wasmi_machine.specs.declared.calls.Call.TheVariants.{CopyMemory, FillMemory, GetFuel, GrowMemory, InitMemory, NewData, Write};
-ghost use Rattle.wasmi_c.specs.Machine.Calls.{RepliesInStatus, RepliesInWord, item_load, item_store, vector_binary, ActsOnHeld, OnHeld, ReadsOut, RepliesToCopy, RepliesToSegment, RepliesToStruct, PaysFuel, no_totals, totals_of, RunsLines};
+ghost use Rattle.wasmi_c.specs.Machine.Calls.{RepliesInStatus, RepliesInWord, item_load, item_store, vector_binary, ActsOnHeld, OnHeld, ReadsOut, RepliesToCopy, RepliesToList, RepliesToSegment, RepliesToStruct, Reserves, PaysFuel, no_totals, totals_of, RunsLines};
 ghost use Rattle.wasmi_c.specs.Machine.NewMachines.{IsNewMachine, MakesMachine, MakesWithAnswers};
 ghost use Rattle.wasmi_c.specs.Machine.Replies.{only};
-ghost use Rattle.wasmi_c.specs.Pool.{AddsNewTenant, KeepsCaps, MakesPool, RemovesByStatus, RunsTenantLines, TenantPaysFuel, TenantReadsOut, TenantRepliesInStatus, TenantRepliesInWord, TenantRepliesToCopy, TenantRepliesToSegment, TenantRepliesToStruct, no_pool_totals, pool_totals, tenant_totals};
+ghost use Rattle.wasmi_c.specs.Pool.{AddsNewTenant, KeepsCaps, MakesPool, RemovesByStatus, RunsTenantLines, TenantPaysFuel, TenantReadsOut, TenantRepliesInStatus, TenantRepliesInWord, TenantRepliesToCopy, TenantRepliesToList, TenantRepliesToSegment, TenantRepliesToStruct, TenantReserves, no_pool_totals, pool_totals, tenant_totals};
 ghost use Rattle.wasmi_c.specs.declared.status.TheConstants.{NO_MACHINE, NO_POOL};
 ghost use Rattle.wasmi_c.specs.declared.machine.reply_struct.ReplyStruct.{ReplyStruct};
 
 use std::alloc::Global;
 use wasmi_c::machine::call_struct::CallStruct;
 use wasmi_c::machine::handle::Handle;
-use wasmi_c::machine::limits::{Limits, Totals};
+use wasmi_c::machine::limits::{Limits, Room, Totals};
 use wasmi_c::machine::reply_struct::ReplyStruct;
 use wasmi_c::pool::PoolHandle;
 use wasmi_c::status::{NO_MACHINE, NO_POOL};
@@ -51,6 +51,26 @@ pub extern "C" fn wasmi_machine_call(handle: &mut Handle, call: &CallStruct) -> 
         handle.old.machine.held result handle.new.machine.held }
 {
     handle.call(call)
+}
+
+#[unsafe(no_mangle)]
+pub extern "C" fn wasmi_machine_reserve(handle: &mut Handle, room: &Room) -> u8
+    ensures { OnHeld (Reserves room.now) NO_MACHINE
+        handle.old.machine.held result handle.new.machine.held }
+{
+    on_machine!(handle, NO_MACHINE, machine => machine.reserve(room))
+}
+
+#[unsafe(no_mangle)]
+pub extern "C" fn wasmi_machine_run_into(
+    handle: &mut Handle,
+    calls: &[CallStruct],
+    replies: &mut [ReplyStruct],
+) -> u8
+    ensures { OnHeld (RepliesToList calls.now replies.old) (NO_MACHINE, replies.old)
+        handle.old.machine.held (result, replies.new) handle.new.machine.held }
+{
+    on_machine!(handle, NO_MACHINE, machine => machine.run_into(calls, replies))
 }
 
 #[unsafe(no_mangle)]
@@ -303,6 +323,30 @@ pub extern "C" fn wasmi_pool_call(
     ensures caps { KeepsCaps handle.old.pool.held handle.new.pool.held }
 {
     handle.call(tenant, call)
+}
+
+#[unsafe(no_mangle)]
+pub extern "C" fn wasmi_pool_reserve(handle: &mut PoolHandle, tenant: usize, room: &Room) -> u8
+    ensures step { ActsOnHeld NO_POOL handle.old.pool.held result handle.new.pool.held
+        (TenantReserves tenant room.now result) }
+    ensures caps { KeepsCaps handle.old.pool.held handle.new.pool.held }
+{
+    on_pool!(handle, NO_POOL, pool => pool.reserve(tenant, room))
+}
+
+#[unsafe(no_mangle)]
+pub extern "C" fn wasmi_pool_run_into(
+    handle: &mut PoolHandle,
+    tenant: usize,
+    calls: &[CallStruct],
+    replies: &mut [ReplyStruct],
+) -> u8
+    ensures step { ActsOnHeld {R = ℕ × List ReplyStruct} (NO_POOL, replies.old)
+        handle.old.pool.held (result, replies.new) handle.new.pool.held
+        (TenantRepliesToList tenant calls.now replies.old (result, replies.new)) }
+    ensures caps { KeepsCaps handle.old.pool.held handle.new.pool.held }
+{
+    on_pool!(handle, NO_POOL, pool => pool.run_into(tenant, calls, replies))
 }
 
 #[unsafe(no_mangle)]

@@ -2,14 +2,16 @@
 //! vectors, and a machine that runs lists of calls: the crates of this library under one name.
 #![tactic(auto)]
 
-pub mod simd;
-pub mod wasm;
-
 pub use wasmi_access::{access, laws as access_laws};
 pub use wasmi_lanes::{laws as lane_laws, on_vectors, words};
 pub use wasmi_machine::{
-    ByteList, Call, DataSegment, Machine, Reply, laws, run, run_lending, run_reserving,
+    ByteList, Call, DataSegment, Machine, Replies, Reply, SlotCounts, TooManyCalls, laws, run,
+    run_into, run_into_lending, run_into_reserving, run_lending, run_reserving,
 };
+
+pub mod simd;
+pub mod wasm;
+
 pub use wasmi_meter::{
     Amounts, AnswerList, AnyLimiter, CustomFuelCosts, Fuel, FuelCosts, FuelCostsProvider,
     FuelError, Holdings, Kind, Lender, LimiterAnswer, LimiterByKind, LimiterError, LimiterRef,

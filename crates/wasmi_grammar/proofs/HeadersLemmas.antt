@@ -5,7 +5,8 @@ use Rattle.wasmi_operands.specs.declared.error.LineError.{LineError}
 use Rattle.wasmi_grammar.specs.declared.header.LimiterLine.{LimiterLine}
 use Rattle.wasmi_grammar.specs.declared.header.LimiterLine.TheVariants.{Quota, Answers, Tenants}
 use Rattle.wasmi_grammar.specs.declared.header.RegionLine.{RegionLine}
-use Rattle.wasmi_grammar.specs.Headers.{WritesRegion, NamesLimiterAfter}
+use Rattle.wasmi_machine.specs.declared.slots.SlotCounts.{SlotCounts}
+use Rattle.wasmi_grammar.specs.Headers.{WritesRegion, WritesReserve, NamesLimiterAfter}
 use Rattle.wasmi_meter.specs.declared.answer_list.LimiterAnswer.{LimiterAnswer}
 use Rattle.wasmi_meter.specs.declared.answer_list.LimiterAnswer.TheVariants.{Permit}
 use Rattle.wasmi_meter.specs.contracts.answer_list.LimiterAnswer.{enum}
@@ -43,6 +44,16 @@ pub no_region : (words : LineWords) (error : LineError) (result : Result RegionL
     (λ a. (length words ≡ 2) × WritesNumber 64 (word_at words 0) a.0 × WritesNumber 8 (word_at words 1) a.1)
     → Accepts result (WritesRegion words)
 no_region words error result is = refused_through error result is (λ line w. ((line.len, line.byte), w))
+
+-- what five numbers don't write reserves no slots
+pub no_reserve : (words : LineWords) (error : LineError) (result : Result SlotCounts LineError) → result ≡ Err error
+    → Accepts {A = ℕ × ℕ × ℕ × ℕ × ℕ} (Err error)
+    (λ a. (length words ≡ 5) × WritesNumber 64 (word_at words 0) a.0 × WritesNumber 64 (word_at words 1) a.1
+    × WritesNumber 64 (word_at words 2) a.2 × WritesNumber 64 (word_at words 3) a.3
+    × WritesNumber 64 (word_at words 4) a.4)
+    → Accepts result (WritesReserve words)
+no_reserve words error result is = refused_through error result is
+    (λ slots w. ((slots.memories, slots.tables, slots.segments, slots.data_segments, slots.globals), w))
 
 -- two numbers
 abbrev TwoNumbers : LineWords → ℕ × ℕ → Type 0

@@ -2,7 +2,7 @@
 use Rattle.std.proofs.Common.{ℕ, ◌≡◌, ◌∙◌, Result, Err, bytes_eq, cond, IfErr, OnErr, List, [], ◌∷◌, Bor, get_or, length, take, drop, ◌-◌, codes, refl, sym, subst, ◌≤◌, ◌<◌, ◌+◌, ◌++◌, zero, suc, Some, None, map, arith, ap, append_assoc, append-nil, take-append-drop, length-append, length-drop, add-one, drop-cons, inl, inr}
 use Rattle.std.proofs.lemmas.List.{take_rest, drop-drop, drop-append-le, take-append-le, length-map, take-map}
 use Rattle.wasmi_grammar.specs.declared.script.Line.{Line}
-use Rattle.wasmi_grammar.specs.declared.script.Line.TheVariants.{Meter, Limiter, Region, As, Call as Command}
+use Rattle.wasmi_grammar.specs.declared.script.Line.TheVariants.{Meter, Limiter, Region, Reserve, As, Call as Command}
 use Rattle.wasmi_grammar.specs.declared.header.RegionLine.{RegionLine}
 use Rattle.wasmi_grammar.specs.declared.script.Script.{Script}
 use Rattle.wasmi_operands.specs.declared.error.LineError.{LineError}
@@ -12,7 +12,7 @@ use Rattle.wasmi_grammar.specs.declared.header.MeterLine.{MeterLine}
 use Rattle.wasmi_grammar.specs.declared.header.LimiterLine.{LimiterLine}
 use Rattle.wasmi_grammar.specs.declared.header.LimiterLine.TheVariants.{Quota, Answers, Tenants}
 use Rattle.wasmi_grammar.specs.Commands.{command_word, WritesOperands, NamesAfter}
-use Rattle.wasmi_grammar.specs.Headers.{WritesMeter, WritesRegion, WritesTenant, NamesLimiterAfter}
+use Rattle.wasmi_grammar.specs.Headers.{WritesMeter, WritesRegion, WritesReserve, WritesTenant, NamesLimiterAfter}
 use Rattle.wasmi_grammar.proofs.CommandsLemmas.{Form}
 use Rattle.wasmi_grammar.specs.Lines.{NamesLine, AddsLine, AddsWords, AcceptsLine, AcceptsLines, AreTaken, calls_of, lines_in, IsBadLine, IsFirstBadLine}
 use Rattle.wasmi_grammar.specs.Parts.{TenantRun, PartsValue, parts_in, calls_in, part_at, Follow, AreCut}
@@ -22,6 +22,7 @@ use Rattle.std.specs.Option.{option_map}
 use Rattle.std.proofs.lemmas.Option.{slice_get-map, slice_get_past}
 use Rattle.std.proofs.lemmas.List.Concat.{flat_map-append}
 use Rattle.wasmi_machine.specs.declared.calls.Call.{Call}
+use Rattle.wasmi_machine.specs.declared.slots.SlotCounts.{SlotCounts}
 use Rattle.wasmi_machine.specs.declared.calls.Call.TheVariants.{GetFuel}
 use Rattle.wasmi_grammar.specs.declared.script.Span.{Span}
 use Rattle.std.proofs.lemmas.List.FromFn.{length-enumerate_from, get_or-enumerate_from}
@@ -47,8 +48,9 @@ after_word word =
     (cond (bytes_eq word (codes "answers")) (LimiterLine, λ words line. NamesLimiterAfter (codes "answers") words line)
     (cond (bytes_eq word (codes "tenants")) (LimiterLine, λ words line. NamesLimiterAfter (codes "tenants") words line)
     (cond (bytes_eq word (codes "region")) (RegionLine, λ words line. WritesRegion words line)
+    (cond (bytes_eq word (codes "reserve")) (SlotCounts, λ words slots. WritesReserve words slots)
     (cond (bytes_eq word (codes "as")) (ℕ, λ words tenant. WritesTenant words tenant)
-    (Call, λ words call. WritesOperands words call))))))
+    (Call, λ words call. WritesOperands words call)))))))
 
 abbrev IsWritten : LineWords → List ℕ → Type 0
 IsWritten words word = (a : (after_word word).0) × (after_word word).1 words a
@@ -65,6 +67,7 @@ line_written name words (Limiter (Quota caps)) w = subst (IsWritten words) w.0 (
 line_written name words (Limiter (Answers list)) w = subst (IsWritten words) w.0 (Answers list, (refl, w.1))
 line_written name words (Limiter (Tenants line)) w = subst (IsWritten words) w.0 (Tenants line, (refl, w.1))
 line_written name words (Region line) w = subst (IsWritten words) (sym w.0) (line, w.1)
+line_written name words (Reserve slots) w = subst (IsWritten words) (sym w.0) (slots, w.1)
 line_written name words (As tenant) w = subst (IsWritten words) (sym w.0) (tenant, w.1)
 line_written name words (Command call) w = subst (IsWritten words) w.0 (command_written words call w.1)
 
@@ -88,15 +91,19 @@ refused_header {name} {word} words {error} is same refused =
 
 -- words after a word of no header line say a call, if they say anything
 pub command_only : (name : List ℕ) (words : LineWords) → ¬ (name ≡ codes "meter") → ¬ (name ≡ codes "quota")
-    → ¬ (name ≡ codes "answers") → ¬ (name ≡ codes "tenants") → ¬ (name ≡ codes "region") → ¬ (name ≡ codes "as")
-    → (line : Line) → NamesLine name words line → (call : Call) × NamesAfter name words call
-command_only name words meter quota answers tenants region as_line (Meter line) w = absurd (meter w.0)
-command_only name words meter quota answers tenants region as_line (Limiter (Quota caps)) w = absurd (quota (sym w.0))
-command_only name words meter quota answers tenants region as_line (Limiter (Answers list)) w = absurd (answers (sym w.0))
-command_only name words meter quota answers tenants region as_line (Limiter (Tenants line)) w = absurd (tenants (sym w.0))
-command_only name words meter quota answers tenants region as_line (Region line) w = absurd (region w.0)
-command_only name words meter quota answers tenants region as_line (As tenant) w = absurd (as_line w.0)
-command_only name words meter quota answers tenants region as_line (Command call) w = (call, w)
+    → ¬ (name ≡ codes "answers") → ¬ (name ≡ codes "tenants") → ¬ (name ≡ codes "region") → ¬ (name ≡ codes "reserve")
+    → ¬ (name ≡ codes "as") → (line : Line) → NamesLine name words line → (call : Call) × NamesAfter name words call
+command_only name words meter quota answers tenants region reserve as_line (Meter line) w = absurd (meter w.0)
+command_only name words meter quota answers tenants region reserve as_line (Limiter (Quota caps)) w =
+    absurd (quota (sym w.0))
+command_only name words meter quota answers tenants region reserve as_line (Limiter (Answers list)) w =
+    absurd (answers (sym w.0))
+command_only name words meter quota answers tenants region reserve as_line (Limiter (Tenants line)) w =
+    absurd (tenants (sym w.0))
+command_only name words meter quota answers tenants region reserve as_line (Region line) w = absurd (region w.0)
+command_only name words meter quota answers tenants region reserve as_line (Reserve slots) w = absurd (reserve w.0)
+command_only name words meter quota answers tenants region reserve as_line (As tenant) w = absurd (as_line w.0)
+command_only name words meter quota answers tenants region reserve as_line (Command call) w = (call, w)
 
 -- a refused line of one kind adds nothing
 pub refused_as : {A : Type 0} (old : Script) (line kind : Line) (result : Result A LineError) → line ≡ kind
@@ -276,6 +283,7 @@ line_count : (old : Script) (line : Line) (new : Script) → AddsLine old line n
 line_count old (Meter line) new a = same_count old new a.parts
 line_count old (Limiter line) new a = same_count old new a.parts
 line_count old (Region line) new a = same_count old new a.parts
+line_count old (Reserve slots) new a = same_count old new a.parts
 line_count old (As tenant) new a =
     let parts = parts_in old.parts in
     omega (

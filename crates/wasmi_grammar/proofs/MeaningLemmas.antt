@@ -24,9 +24,10 @@ use Rattle.wasmi_ops.specs.LoadStoreOps.{load_name, store_name}
 use Rattle.wasmi_ops.specs.VectorOps.{make_name, unary_name, binary_name, ternary_name, shift_name, test_name, vector_load_name}
 use Rattle.wasmi_ops.specs.LaneOps.{extract_name, extract_op, replace_name, replace_op, load_lane_name, load_lane_op, store_lane_name, store_lane_op}
 use Rattle.wasmi_machine.specs.declared.calls.Call.{Call}
+use Rattle.wasmi_machine.specs.declared.slots.SlotCounts.{SlotCounts}
 use Rattle.wasmi_machine.specs.declared.calls.Call.TheVariants.{SetFuel, GetFuel, NewMemory, NewLentMemory, GrowMemory, DropMemory, Read, Write, Load, Store, FillMemory, CopyMemory, InitMemory, NewTable, GrowTable, DropTable, GetElement, SetElement, InitTable, CopyTable, FillTable, NewSegment, DropItems, NewData, DropData, NewGlobal, SetGlobal, GetGlobal, SetRegister, GetRegister, Make, Unary, Binary, Ternary, Shift, Test, Extract, Replace, Shuffle, VectorLoad, LoadLane, VectorStore, StoreLane}
 use Rattle.wasmi_grammar.specs.declared.script.Line.{Line}
-use Rattle.wasmi_grammar.specs.declared.script.Line.TheVariants.{Meter, Limiter, Region, As, Call as Command}
+use Rattle.wasmi_grammar.specs.declared.script.Line.TheVariants.{Meter, Limiter, Region, Reserve, As, Call as Command}
 use Rattle.wasmi_grammar.specs.Lines.{NamesLine, AddsLine, AddsWords}
 use Rattle.wasmi_grammar.specs.Parts.{TenantRun, PartsValue}
 use Rattle.wasmi_grammar.specs.declared.script.Script.{Script}
@@ -39,7 +40,7 @@ use Rattle.wasmi_grammar.specs.declared.header.RegionLine.{RegionLine}
 use Rattle.wasmi_operands.specs.LineWords.{LineWords, WritesEach, word_at, WritesNumber, decimal_value}
 use Rattle.wasmi_operands.specs.Names.{IsName, reference_word, value_word, mutability_word}
 use Rattle.wasmi_grammar.specs.Commands.{command_word, WritesOperands}
-use Rattle.wasmi_grammar.specs.Headers.{WritesMeter, WritesLimiter, WritesRegion, limiter_word}
+use Rattle.wasmi_grammar.specs.Headers.{WritesMeter, WritesLimiter, WritesRegion, WritesReserve, limiter_word}
 use Rattle.wasmi_grammar.specs.Meanings.{CallMeaning, WriteMeaning, SegmentMeaning, DataMeaning, OtherCall as Other, call_meaning, LimiterMeaning, AnswersMeaning, OtherLimiter, limiter_meaning, PartMeaning, part_meaning}
 use Rattle.wasmi_operands.proofs.NamesLemmas.{named, named_is, reference_named, reference_is, lane_named, lane_is}
 use Rattle.wasmi_operands.proofs.LineWordsLemmas.{each_named}
@@ -63,6 +64,7 @@ pub data LineMeaning : Type 0 where
   MeterMeaning : MeterLine → LineMeaning
   LimiterTold : LimiterMeaning → LineMeaning
   RegionMeaning : RegionLine → LineMeaning
+  ReserveMeaning : SlotCounts → LineMeaning
   TenantMeaning : ℕ → LineMeaning
   CallTold : CallMeaning → LineMeaning
 
@@ -71,6 +73,7 @@ abbrev pub line_meaning : Line → LineMeaning
 line_meaning (Meter line) = MeterMeaning line
 line_meaning (Limiter line) = LimiterTold (limiter_meaning line)
 line_meaning (Region line) = RegionMeaning line
+line_meaning (Reserve slots) = ReserveMeaning slots
 line_meaning (As tenant) = TenantMeaning tenant
 line_meaning (Command call) = CallTold (call_meaning call)
 
@@ -298,6 +301,15 @@ module _ (words : LineWords) where
   abbrev region_named : RegionLine
   region_named = record { len = number 0; byte = number 1 }
 
+  abbrev reserve_named : SlotCounts
+  reserve_named = record {
+    memories = number 0;
+    tables = number 1;
+    segments = number 2;
+    data_segments = number 3;
+    globals = number 4;
+  }
+
   -- the line that operands write, by the word before them
   abbrev lines_named : List (List ℕ × Option LineMeaning)
   lines_named =
@@ -306,6 +318,7 @@ module _ (words : LineWords) where
       (codes "answers", Some (LimiterTold (AnswersMeaning (answers_named words)))) ∷
       (codes "tenants", Some (LimiterTold tenants_named)) ∷
       (codes "region", Some (RegionMeaning region_named)) ∷
+      (codes "reserve", Some (ReserveMeaning reserve_named)) ∷
       (codes "as", Some (TenantMeaning (number 0))) ∷
       []
 
@@ -320,6 +333,16 @@ module _ (words : LineWords) where
   -- operands that write a region line give it
   region_is : (line : RegionLine) → WritesRegion words line → region_named ≡ line
   region_is line w = λ i. record { len = sym w.1.1 i; byte = sym w.2.1 i }
+
+  -- operands that write a reserve line give its slots
+  reserve_is : (slots : SlotCounts) → WritesReserve words slots → reserve_named ≡ slots
+  reserve_is slots w = λ i. record {
+    memories = sym w.1.1 i;
+    tables = sym w.2.1 i;
+    segments = sym w.3.1 i;
+    data_segments = sym w.4.1 i;
+    globals = sym w.5.1 i;
+  }
 
   -- operands that write a limiter line give what the line says, beside its word
   limiter_is : (line : LimiterLine) → WritesLimiter words line
@@ -344,6 +367,7 @@ module _ (words : LineWords) where
   line_is name (Meter line) w = ap line_named w.0 ∙ ap (λ m. Some (MeterMeaning m)) (meter_is line w.1)
   line_is name (Limiter line) w = ap line_named (sym w.0) ∙ limiter_is line w.1
   line_is name (Region line) w = ap line_named w.0 ∙ ap (λ r. Some (RegionMeaning r)) (region_is line w.1)
+  line_is name (Reserve slots) w = ap line_named w.0 ∙ ap (λ s. Some (ReserveMeaning s)) (reserve_is slots w.1)
   line_is name (As tenant) w = ap line_named w.0 ∙ ap (λ t. Some (TenantMeaning t)) (sym w.1.1.1)
   line_is name (Command call) w =
       ap line_named (sym w.0) ∙ told_by_call call (option_map CallTold (beside calls_named (command_word call)))
@@ -354,6 +378,7 @@ pub record LinesMeaning : Type 0 where
   pub meter : Option MeterLine
   pub limiter : Option LimiterMeaning
   pub region : Option RegionLine
+  pub reserve : Option SlotCounts
   pub earlier : List PartMeaning
   pub tenant : ℕ
   pub calls : List CallMeaning
@@ -364,6 +389,7 @@ meaning_of header parts = record {
   meter = header.meter;
   limiter = option_map limiter_meaning header.limiter_line;
   region = header.region;
+  reserve = header.reserve;
   earlier = map part_meaning parts.earlier;
   tenant = parts.tenant;
   calls = map call_meaning parts.calls;
@@ -382,6 +408,7 @@ abbrev meaning_with : LinesMeaning → LineMeaning → LinesMeaning
 meaning_with said (MeterMeaning line) = record said { meter = Some line }
 meaning_with said (LimiterTold line) = record said { limiter = Some line }
 meaning_with said (RegionMeaning line) = record said { region = Some line }
+meaning_with said (ReserveMeaning slots) = record said { reserve = Some slots }
 meaning_with said (TenantMeaning tenant) = record said {
   earlier = said.earlier ++ (record { tenant = said.tenant; calls = said.calls }) ∷ [];
   tenant = tenant;
@@ -399,6 +426,7 @@ line_added : (old : Script) (line : Line) (new : Script) → AddsLine old line n
 line_added old (Meter line) new a = λ i. meaning_of (a.header i) (a.parts i)
 line_added old (Limiter line) new a = λ i. meaning_of (a.header i) (a.parts i)
 line_added old (Region line) new a = λ i. meaning_of (a.header i) (a.parts i)
+line_added old (Reserve slots) new a = λ i. meaning_of (a.header i) (a.parts i)
 line_added old (As tenant) new a =
     let part : TenantRun = record { tenant = old.parts.tenant; calls = old.parts.calls } in
     let said = meaning_of old.header (record { earlier = []; tenant = tenant; calls = [] }) in

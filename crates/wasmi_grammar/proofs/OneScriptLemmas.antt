@@ -3,7 +3,7 @@ use Rattle.std.proofs.Common.{ℕ, ◌+◌, ◌≡◌, ◌∙◌, ◌++◌, List
 use Rattle.std.specs.Option.{option_map}
 use Rattle.std.proofs.lemmas.List.{map-append}
 use Rattle.wasmi_grammar.specs.declared.script.Line.{Line}
-use Rattle.wasmi_grammar.specs.declared.script.Line.TheVariants.{Meter, Limiter, Region, As, Call as Command}
+use Rattle.wasmi_grammar.specs.declared.script.Line.TheVariants.{Meter, Limiter, Region, Reserve, As, Call as Command}
 use Rattle.wasmi_grammar.specs.declared.script.Script.{Script}
 use Rattle.wasmi_grammar.specs.declared.header.LimiterLine.{LimiterLine}
 use Rattle.wasmi_grammar.specs.declared.header.LimiterLine.TheVariants.{Quota, Answers, Tenants}
@@ -33,7 +33,15 @@ lines_unique (line ∷ lines) old old' new new' same (middle, taken, later) (mid
 
 -- what is said without a line
 nothing_meaning : LinesMeaning
-nothing_meaning = record { meter = None; limiter = None; region = None; earlier = []; tenant = 0; calls = [] }
+nothing_meaning = record {
+  meter = None;
+  limiter = None;
+  region = None;
+  reserve = None;
+  earlier = [];
+  tenant = 0;
+  calls = [];
+}
 
 -- a script without lines says nothing
 empty_meaning : (script : Script) → IsNewScript script → lines_meaning script ≡ nothing_meaning
@@ -50,6 +58,7 @@ whole_meaning said = record {
   meter = said.meter;
   limiter = said.limiter;
   region = said.region;
+  reserve = said.reserve;
   parts = said.earlier ++ (record { tenant = said.tenant; calls = said.calls }) ∷ [];
 }
 
@@ -157,6 +166,15 @@ module _ (old old' : Script) (same : LinesHaveSameMeaning old old') where
           parts = refl;
         },
       )
+  takes_too (Reserve slots) (Reserve slots') says new a = (
+    record old' { header = record old'.header { reserve = Some slots' } },
+    record {
+      before_commands = none_too a.before_commands;
+      first = ap (λ s. s.reserve) (sym same) ∙ a.first;
+      header = refl;
+      parts = refl;
+    },
+  )
   takes_too (As tenant) (As tenant') says new a =
       let told : tenant ≡ tenant' = cc in (
         record old' { parts = record { earlier = parts_in old'.parts; tenant = tenant'; calls = [] } },

@@ -3,9 +3,10 @@ use Rattle.std.proofs.Common.{ℕ, ◌≡◌, ◌∙◌, List, [], ◌∷◌, le
 use Rattle.std.proofs.lemmas.List.{length-map, drop-map}
 use Rattle.std.specs.List.{AllZip}
 use Rattle.wasmi_machine.specs.declared.calls.Call.{Call}
+use Rattle.wasmi_machine.specs.declared.slots.SlotCounts.{SlotCounts}
 use Rattle.wasmi_machine.specs.declared.calls.Call.TheVariants.{Write, NewData, NewSegment, Shuffle}
 use Rattle.wasmi_grammar.specs.declared.script.Line.{Line}
-use Rattle.wasmi_grammar.specs.declared.script.Line.TheVariants.{Meter, Limiter, Region, As, Call as Command}
+use Rattle.wasmi_grammar.specs.declared.script.Line.TheVariants.{Meter, Limiter, Region, Reserve, As, Call as Command}
 use Rattle.wasmi_grammar.specs.declared.script.Script.{Script}
 use Rattle.wasmi_grammar.specs.declared.header.MeterLine.{MeterLine}
 use Rattle.wasmi_grammar.specs.declared.header.MeterLine.TheVariants.{Off, On}
@@ -15,7 +16,7 @@ use Rattle.wasmi_grammar.specs.declared.header.RegionLine.{RegionLine}
 use Rattle.wasmi_operands.specs.LineWords.{LineWords, WritesEach, word_at, IsDecimal, WritesNumber, decimal_value}
 use Rattle.wasmi_operands.specs.Names.{WritesLanes, WritesAnswer}
 use Rattle.wasmi_grammar.specs.Commands.{OperandsWrite, WritesOperands}
-use Rattle.wasmi_grammar.specs.Headers.{WritesMeter, WritesLimiter, WritesRegion, WritesTenant}
+use Rattle.wasmi_grammar.specs.Headers.{WritesMeter, WritesLimiter, WritesRegion, WritesReserve, WritesTenant}
 use Rattle.wasmi_grammar.specs.Lines.{NamesLine, AddsWords}
 
 -- words with the same texts
@@ -94,6 +95,10 @@ module _ (words words' : LineWords) (same : texts words ≡ texts words') where
   retell_region : (line : RegionLine) → WritesRegion words line → WritesRegion words' line
   retell_region line w = (as_many ∙ w.0, number 0 w.1, number 1 w.2)
 
+  -- operands with the same texts write the same slots of a reserve line
+  retell_reserve : (slots : SlotCounts) → WritesReserve words slots → WritesReserve words' slots
+  retell_reserve slots w = (as_many ∙ w.0, number 0 w.1, number 1 w.2, number 2 w.3, number 3 w.4, number 4 w.5)
+
   -- operands with the same texts write the same tenant
   retell_tenant : (tenant : ℕ) → WritesTenant words tenant → WritesTenant words' tenant
   retell_tenant tenant w = (as_many ∙ w.0, number 0 w.1)
@@ -103,6 +108,7 @@ module _ (words words' : LineWords) (same : texts words ≡ texts words') where
   retell_line name (Meter line) w = (w.0, retell_meter line w.1)
   retell_line name (Limiter line) w = (w.0, retell_limiter line w.1)
   retell_line name (Region line) w = (w.0, retell_region line w.1)
+  retell_line name (Reserve slots) w = (w.0, retell_reserve slots w.1)
   retell_line name (As tenant) w = (w.0, retell_tenant tenant w.1)
   retell_line name (Command call) w = (w.0, retell_operands call w.1)
 

@@ -2,7 +2,8 @@
 use Rattle.std.specs.Prelude.{◌≡◌, ◌≤◌, ℕ, Option, List, Some, None, length, codes, replicate}
 use Rattle.std.specs.Option.{option_map, option_map_or}
 use Rattle.wasmi_meter.specs.Meter.{default_costs, Meter}
-use Rattle.wasmi_machine.specs.State.{State, new_state}
+use Rattle.wasmi_machine.specs.State.{State, new_state, no_slots}
+use Rattle.wasmi_machine.specs.declared.slots.SlotCounts.{SlotCounts}
 use Rattle.wasmi_grammar.specs.declared.header.Header.{Header}
 use Rattle.wasmi_grammar.specs.declared.header.MeterLine.{MeterLine}
 use Rattle.wasmi_grammar.specs.declared.header.MeterLine.TheVariants.{Off, On}
@@ -42,6 +43,13 @@ abbrev pub WritesRegion : LineWords → RegionLine → Type 0
 WritesRegion words line =
     (length words ≡ 2) × WritesNumber 64 (word_at words 0) line.len × WritesNumber 8 (word_at words 1) line.byte
 
+-- the words after the first write how many slots of each kind the line reserves
+abbrev pub WritesReserve : LineWords → SlotCounts → Type 0
+WritesReserve words slots =
+    (length words ≡ 5) × WritesNumber 64 (word_at words 0) slots.memories
+    × WritesNumber 64 (word_at words 1) slots.tables × WritesNumber 64 (word_at words 2) slots.segments
+    × WritesNumber 64 (word_at words 3) slots.data_segments × WritesNumber 64 (word_at words 4) slots.globals
+
 -- the words after the first write which tenant the `as` line means
 abbrev pub WritesTenant : LineWords → ℕ → Type 0
 WritesTenant words tenant = (length words ≡ 1) × WritesNumber 64 (word_at words 0) tenant
@@ -74,6 +82,14 @@ meter_of header = option_map_or meter_meaning header.meter meter_off
 abbrev pub region_bytes : RegionLine → List ℕ
 region_bytes line = replicate line.len line.byte
 
--- the machine that a script starts with: new, with its meter and its region
+-- how many slots of each kind the header lines reserve: none without a line that says more
+abbrev pub slots_of : Header → SlotCounts
+slots_of header = option_map_or (λ slots. slots) header.reserve no_slots
+
+-- the machine that each tenant of a script starts with: new, with the script's meter and with its slots reserved
+abbrev pub tenant_start : Header → State
+tenant_start header = record (new_state (meter_of header)) { reserved = slots_of header }
+
+-- the machine that a script without tenants starts with: such a machine, with its region
 abbrev pub start_of : Header → State
-start_of header = record (new_state (meter_of header)) { spare = option_map region_bytes header.region }
+start_of header = record (tenant_start header) { spare = option_map region_bytes header.region }

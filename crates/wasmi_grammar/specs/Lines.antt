@@ -3,16 +3,17 @@ use Rattle.std.specs.Prelude.{◌≡◌, ◌<◌, ℕ, ◌⊎◌, List, [], ◌�
 use Rattle.std.specs.List.{slice_split}
 use Rattle.std.specs.Str.{IsUtf8}
 use Rattle.wasmi_machine.specs.declared.calls.Call.{Call}
+use Rattle.wasmi_machine.specs.declared.slots.SlotCounts.{SlotCounts}
 use Rattle.wasmi_grammar.specs.declared.header.LimiterLine.{LimiterLine}
 use Rattle.wasmi_grammar.specs.declared.header.MeterLine.{MeterLine}
 use Rattle.wasmi_grammar.specs.declared.header.RegionLine.{RegionLine}
 use Rattle.wasmi_grammar.specs.declared.script.Line.{Line}
-use Rattle.wasmi_grammar.specs.declared.script.Line.TheVariants.{Meter, Limiter, Region, As, Call as Command}
+use Rattle.wasmi_grammar.specs.declared.script.Line.TheVariants.{Meter, Limiter, Region, Reserve, As, Call as Command}
 use Rattle.wasmi_grammar.specs.declared.script.Script.{Script}
 use Rattle.wasmi_operands.specs.LineWords.{LineWords, word_at, words_in}
 use Rattle.wasmi_grammar.specs.Parts.{parts_in, calls_in}
 use Rattle.wasmi_grammar.specs.Commands.{NamesAfter}
-use Rattle.wasmi_grammar.specs.Headers.{WritesMeter, NamesLimiterAfter, WritesRegion, WritesTenant, AreApart, tenants_of}
+use Rattle.wasmi_grammar.specs.Headers.{WritesMeter, NamesLimiterAfter, WritesRegion, WritesReserve, WritesTenant, AreApart, tenants_of}
 use Rattle.wasmi_grammar.specs.declared.error.ParseError.{ParseError}
 use Rattle.wasmi_grammar.specs.declared.error.ParseError.TheVariants.{BadCommand, OutOfMemory}
 
@@ -21,6 +22,7 @@ abbrev pub NamesLine : List ℕ → LineWords → Line → Type 0
 NamesLine name operands (Meter line) = (name ≡ codes "meter") × WritesMeter operands line
 NamesLine name operands (Limiter line) = NamesLimiterAfter name operands line
 NamesLine name operands (Region line) = (name ≡ codes "region") × WritesRegion operands line
+NamesLine name operands (Reserve slots) = (name ≡ codes "reserve") × WritesReserve operands slots
 NamesLine name operands (As tenant) = (name ≡ codes "as") × WritesTenant operands tenant
 NamesLine name operands (Command call) = NamesAfter name operands call
 
@@ -52,6 +54,13 @@ pub record AddsRegion (old : Script) (line : RegionLine) (new : Script) : Type 0
   pub header : new.header ≡ record old.header { region = Some line }
   pub parts : new.parts ≡ old.parts
 
+-- a `reserve` line, the first one and before all commands
+pub record AddsReserve (old : Script) (slots : SlotCounts) (new : Script) : Type 0 where
+  pub before_commands : HasNoCommands old
+  pub first : old.header.reserve ≡ None
+  pub header : new.header ≡ record old.header { reserve = Some slots }
+  pub parts : new.parts ≡ old.parts
+
 -- a command, whose call comes after those of the lines before
 pub record AddsCall (old : Script) (call : Call) (new : Script) : Type 0 where
   pub parts : new.parts ≡ record old.parts { calls = old.parts.calls ++ call ∷ [] }
@@ -68,6 +77,7 @@ abbrev pub AddsLine : Script → Line → Script → Type 0
 AddsLine old (Meter line) new = AddsMeter old line new
 AddsLine old (Limiter line) new = AddsLimiter old line new
 AddsLine old (Region line) new = AddsRegion old line new
+AddsLine old (Reserve slots) new = AddsReserve old slots new
 AddsLine old (As tenant) new = AddsPart old tenant new
 AddsLine old (Command call) new = AddsCall old call new
 
@@ -93,7 +103,7 @@ lines_in text = slice_split (λ byte. byte == 10) text
 
 -- no line was taken yet
 pub record IsNewScript (script : Script) : Type 0 where
-  pub no_header : script.header ≡ record { meter = None; limiter_line = None; region = None }
+  pub no_header : script.header ≡ record { meter = None; limiter_line = None; region = None; reserve = None }
   pub no_commands : script.parts ≡ record { earlier = []; tenant = 0; calls = [] }
 
 -- the lines, taken one after the other from none on, lead to this script

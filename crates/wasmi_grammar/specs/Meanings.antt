@@ -3,6 +3,7 @@ use Rattle.std.specs.Prelude.{◌≡◌, ℕ, List, Option, map}
 use Rattle.std.specs.Option.{option_map}
 use Rattle.wasmi_types.specs.declared.value.RefType.{RefType}
 use Rattle.wasmi_machine.specs.declared.calls.Call.{Call}
+use Rattle.wasmi_machine.specs.declared.slots.SlotCounts.{SlotCounts}
 use Rattle.wasmi_machine.specs.declared.calls.Call.TheVariants.{Write, NewData, NewSegment}
 use Rattle.wasmi_grammar.specs.declared.script.Script.{Script}
 use Rattle.wasmi_grammar.specs.declared.header.MeterLine.{MeterLine}
@@ -51,6 +52,7 @@ pub record ScriptMeaning : Type 0 where
   pub meter : Option MeterLine
   pub limiter : Option LimiterMeaning
   pub region : Option RegionLine
+  pub reserve : Option SlotCounts
   pub parts : List PartMeaning
 
 -- what a script says
@@ -59,6 +61,7 @@ script_meaning script = record {
   meter = script.header.meter;
   limiter = option_map limiter_meaning script.header.limiter_line;
   region = script.header.region;
+  reserve = script.header.reserve;
   parts = map part_meaning (parts_in script.parts);
 }
 

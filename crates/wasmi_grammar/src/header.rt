@@ -1,9 +1,10 @@
 //! The header lines of a script.
 ghost use Rattle.std.specs.Prelude.{◌≡◌, codes};
 ghost use Rattle.wasmi_operands.specs.LineWords.{Accepts, AcceptsWithMemory};
-ghost use Rattle.wasmi_grammar.specs.Headers.{WritesMeter, NamesLimiterAfter, WritesRegion, tenants_of};
+ghost use Rattle.wasmi_grammar.specs.Headers.{WritesMeter, NamesLimiterAfter, WritesRegion, WritesReserve, slots_of, tenants_of};
 
 use std::alloc::Global;
+use wasmi_machine::SlotCounts;
 use wasmi_meter::{Amounts, LimiterAnswer};
 use wasmi_operands::operand::{self, list_of};
 use wasmi_operands::{LineError, number};
@@ -58,6 +59,8 @@ pub struct Header {
     pub limiter_line: Option<LimiterLine>,
     /// The `region` line, if there is one. Without it no region is lent.
     pub region: Option<RegionLine>,
+    /// The `reserve` line, if there is one. Without it no slot is reserved.
+    pub reserve: Option<SlotCounts>,
 }
 
 impl Header {
@@ -69,6 +72,14 @@ impl Header {
             Some(LimiterLine::Tenants(line)) => line.count,
             _ => 0,
         }
+    }
+
+    /// How many slots of each kind the script's machine, or each of its tenants, has reserved: none
+    /// without a `reserve` line.
+    pub fn slots(&self) -> SlotCounts
+        ensures { result ≡ slots_of self.now }
+    {
+        self.reserve.unwrap_or_default()
     }
 }
 
@@ -89,6 +100,20 @@ pub(crate) fn region_line(operands: &[&str]) -> Result<RegionLine, LineError>
 {
     let (len, byte) = operand::two(operands)?;
     Ok(RegionLine { len, byte })
+}
+
+/// What the words after `reserve` say.
+pub(crate) fn reserve_line(operands: &[&str]) -> Result<SlotCounts, LineError>
+    ensures { Accepts result (WritesReserve operands.now) }
+{
+    let (memories, tables, segments, data_segments, globals) = operand::five(operands)?;
+    Ok(SlotCounts {
+        memories,
+        tables,
+        segments,
+        data_segments,
+        globals,
+    })
 }
 
 /// `quota B E`.

@@ -6,12 +6,13 @@ ghost use Rattle.wasmi_grammar.specs.Lines.{WritesScript, NamesLine, calls_of, I
 use crate::command::command;
 use crate::error::ParseError;
 use crate::header::{
-    Header, LimiterLine, MeterLine, RegionLine, listed, meter_line, quota, region_line, tenants,
+    Header, LimiterLine, MeterLine, RegionLine, listed, meter_line, quota, region_line,
+    reserve_line, tenants,
 };
 use std::alloc::{AllocError, Global};
 use std::marker::Model;
 use std::str;
-use wasmi_machine::Call;
+use wasmi_machine::{Call, SlotCounts};
 use wasmi_operands::{LineError, operand, read_words};
 
 /// What a script asks for: what its lines say that were taken in.
@@ -152,7 +153,7 @@ fn calls_at(calls: &[Call], start: usize, end: usize) -> &[Call]
 }
 
 impl Script {
-    ghost use Rattle.wasmi_grammar.specs.Lines.{AddsWords, AddsLine, AddsMeter, AddsLimiter, AddsRegion, AddsCall, AddsPart, IsNewScript};
+    ghost use Rattle.wasmi_grammar.specs.Lines.{AddsWords, AddsLine, AddsMeter, AddsLimiter, AddsRegion, AddsReserve, AddsCall, AddsPart, IsNewScript};
 
     /// A script without lines.
     fn new(alloc: Global) -> Self
@@ -187,6 +188,7 @@ impl Script {
             Line::Meter(line) => self.take_meter(line),
             Line::Limiter(line) => self.take_limiter(line),
             Line::Region(line) => self.take_region(line),
+            Line::Reserve(slots) => self.take_reserve(slots),
             Line::As(tenant) => self.take_part(tenant),
             Line::Call(call) => self.take_call(call),
         }
@@ -234,6 +236,18 @@ impl Script {
         Ok(())
     }
 
+    /// Takes in a `reserve` line, of which a script has at most one.
+    fn take_reserve(&mut self, slots: SlotCounts) -> Result<(), LineError>
+        ensures ok { OnOk result (AddsReserve self.old slots self.new) }
+        ensures refused { OnErr result ((new : Script) → ¬ (AddsReserve self.old slots new)) }
+    {
+        if !self.parts.is_empty() || self.header.reserve.is_some() {
+            return Err(LineError::BadCommand);
+        }
+        self.header.reserve = Some(slots);
+        Ok(())
+    }
+
     /// Takes in a command's call.
     fn take_call(&mut self, call: Call) -> Result<(), LineError>
         ensures ok { OnOk result (AddsCall self.old call self.new) }
@@ -263,6 +277,7 @@ enum Line {
     Meter(MeterLine),
     Limiter(LimiterLine),
     Region(RegionLine),
+    Reserve(SlotCounts),
     As(usize),
     Call(Call),
 }
@@ -277,6 +292,7 @@ fn line_of(alloc: Global, name: &str, operands: &[&str]) -> Result<Line, LineErr
         "answers" => Ok(Line::Limiter(listed(alloc, operands)?)),
         "tenants" => Ok(Line::Limiter(tenants(operands)?)),
         "region" => Ok(Line::Region(region_line(operands)?)),
+        "reserve" => Ok(Line::Reserve(reserve_line(operands)?)),
         "as" => Ok(Line::As(operand::one(operands)?)),
         _ => Ok(Line::Call(command(alloc, name, operands)?)),
     }

@@ -1,3 +1,4 @@
 pub mod LimitersLemmas
 pub mod LanesLemmas
 pub mod RunsLemmas
+pub mod ReservedLemmas

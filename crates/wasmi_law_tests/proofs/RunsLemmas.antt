@@ -14,7 +14,7 @@ use Rattle.wasmi_machine.specs.LentMemory.{RunInRegions, owned_world, unlent_wor
 use Rattle.wasmi_machine.specs.Determinism.{IsNotOutOfMemory, AreNotOutOfMemory, IsDeterministic, AcceptsNotices, permitting}
 use Rattle.wasmi_laws.specs.Runs.{IsWithinCapsOf, RunsOfCallsAreCut}
 use Rattle.wasmi_laws.proofs.RunsLemmas.{held_within}
-use Rattle.wasmi_law_tests.specs.Runs.{FitsAnyRegions, HasRegionFor, IsRunInParts, RunsAlone, RunsBeside, KeepsCaps, KeepsTenant, RunsBoth}
+use Rattle.wasmi_law_tests.specs.Runs.{FitsAnyRegions, HasRegionFor, IsRunInParts, RunsAlone, RunsBeside, KeepsCaps, KeepsTenant, RunsBoth, RunsList}
 use Rattle.wasmi_machine.specs.Laws.{LentRunsAreOwned, LentCreationsAreOwned, HoldsTotalsAlways, QuotasStayWithin, RunsKeepValidity, RepliesAreOne}
 use Rattle.wasmi_meter.specs.declared.quota.Quota.{Quota}
 use Rattle.wasmi_meter.specs.Capped.{holdings, cap_of, IsWithinCaps, SameCaps, quota_rules}
@@ -28,10 +28,10 @@ use Rattle.std.proofs.lemmas.List.{get_or-set_other}
 use Rattle.wasmi_c.specs.Machine.CallStructs.{call_of}
 use Rattle.wasmi_c.specs.Machine.Calls.{ActsOnHeld, RepliesInStruct, RepliesToStruct}
 use Rattle.wasmi_c.specs.Machine.Caps.{MachineValue}
-use Rattle.wasmi_c.specs.Machine.Calls.{CallsAreRuns, MachineRunsJoin}
+use Rattle.wasmi_c.specs.Machine.Calls.{CallsAreRuns, ListsAreRuns, MachineRunsJoin, RepliesInTurn, RepliesToList}
 use Rattle.wasmi_c.specs.Machine.Replies.{only}
 use Rattle.wasmi_c.specs.Pool.{TenantReplies, TenantRepliesToStruct}
-use Rattle.wasmi_c.specs.declared.status.TheConstants.{NO_CALL, NO_MACHINE, NO_POOL}
+use Rattle.wasmi_c.specs.declared.status.TheConstants.{DONE, NO_CALL, NO_MACHINE, NO_POOL}
 use Rattle.wasmi_c.specs.declared.machine.call_struct.CallStruct.{CallStruct}
 use Rattle.wasmi_c.specs.declared.machine.reply_struct.ReplyStruct.{ReplyStruct}
 
@@ -288,6 +288,16 @@ both_run alone join call call' machine held' held'' reply reply' one two =
       (λ i. (one.1.2 i, two.1.2 i)),
       two.2,
     )
+
+-- the calls of a list that is made are one run
+pub list_runs : ListsAreRuns → (numbers : List CallStruct) (known : List Call) (old new : List ReplyStruct) (status : ℕ)
+    (machine machine' : MachineValue) → RepliesToList numbers old machine (status, new) machine' → status ≡ DONE
+    → map call_of numbers ≡ map Some known → RunsList known machine new machine'
+unfolding RepliesInTurn
+list_runs lists numbers known old new status machine machine' (inl (differ, left, same)) done are =
+    absurd (omega (arith, ap (λ (x : ℕ × List ReplyStruct). x.0) left, done))
+list_runs lists numbers known old new status machine machine' (inr (same, is, turns)) done are =
+    lists numbers known machine new machine' are turns
 
 -- a call on a tenant leaves the machine of another index
 other_stays : (tenant other : ℕ) (call : Call) (reply : ReplyStruct) (pool pool' : PoolValue) → tenant ≢ other

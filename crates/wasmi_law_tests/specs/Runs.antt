@@ -1,5 +1,5 @@
 -- What a caller says of runs, also on pools and by handles, and of lists of types.
-use Rattle.std.specs.Prelude.{◌≡◌, ◌⊎◌, ◌<◌, ◌≤◌, ◌+◌, ◌*◌, ℕ, true, Option, Some, List, [], ◌∷◌, ◌++◌, length, slice_set, All, slice_get, None}
+use Rattle.std.specs.Prelude.{◌≡◌, ◌⊎◌, ◌<◌, ◌≤◌, ◌+◌, ◌*◌, ℕ, true, Option, Some, List, [], ◌∷◌, ◌++◌, length, map, slice_set, All, slice_get, None}
 use Rattle.wasmi_meter.specs.Attempt.{Request, optional_due, covers}
 use Rattle.wasmi_meter.specs.Limiter.{Rules, optional_rules}
 use Rattle.wasmi_meter.specs.Meter.{Meter}
@@ -195,6 +195,11 @@ abbrev pub RunsBoth : Call → Call → MachineValue → ReplyStruct × ReplyStr
 RunsBoth call call' machine replies held' = (reply : Reply) × (reply' : Reply) × (machine' : MachineValue)
     × MachineRuns (call ∷ call' ∷ []) machine (reply ∷ reply' ∷ []) machine'
     × (replies ≡ (reply_struct reply, reply_struct reply')) × (held' ≡ Some machine')
+
+-- a machine replies to calls with structs, which are those of the replies of one run of all
+abbrev pub RunsList : List Call → MachineValue → List ReplyStruct → MachineValue → Type 0
+RunsList calls machine told machine' =
+    (replies : List Reply) × MachineRuns calls machine replies machine' × (told ≡ map reply_struct replies)
 
 -- a handle holds a pool in which the machine of an index is the same
 abbrev pub KeepsTenant : ℕ → PoolValue → Option PoolValue → Type 0

@@ -1,6 +1,6 @@
 //! Callers of the laws of `wasmi_c`: of calls by a handle, of one quota over many, of a limiter that
 //! only a host sees, and of the numbers of instructions.
-ghost use Rattle.std.specs.Prelude.{◌≡◌, ◌≢◌, ℕ, IfSome, Some, true, Option, length, slice_get};
+ghost use Rattle.std.specs.Prelude.{◌≡◌, ◌≢◌, ℕ, IfSome, List, Some, true, Option, length, map, slice_get};
 ghost use Rattle.std.specs.Option.{option_map};
 ghost use Rattle.wasmi_machine.specs.declared.calls.Call.{Call};
 ghost use Rattle.wasmi_c.specs.Instruction.{name_of_binary};
@@ -8,7 +8,7 @@ ghost use Rattle.wasmi_c.specs.ReleasedNumbers.{binary_names};
 ghost use Rattle.wasmi_c.specs.Machine.CallStructs.{call_of};
 ghost use Rattle.wasmi_c.specs.Machine.Caps.{MachineValue};
 ghost use Rattle.wasmi_budget.specs.Pool.{PoolValue};
-ghost use Rattle.wasmi_law_tests.specs.Runs.{KeepsTenant, RunsBoth};
+ghost use Rattle.wasmi_law_tests.specs.Runs.{KeepsTenant, RunsBoth, RunsList};
 ghost use Rattle.wasmi_meter.specs.Capped.{IsWithinCaps};
 ghost use Rattle.wasmi_c.specs.Numbers.{quota_of, IsState, IsTable, embedded};
 ghost use Rattle.wasmi_meter.specs.Limiter.{optional_rules};
@@ -21,7 +21,7 @@ ghost use Rattle.wasmi_region.specs.Table.{table_in, creation_in, growth_in, Mak
 ghost use Rattle.wasmi_c.specs.Placement.{Limited, Allows, limiter_after, GrowsAs};
 ghost use Rattle.wasmi_c.specs.MemoryCalls.{by_pages, of_memory};
 ghost use Rattle.wasmi_c.specs.TableCalls.{by_elements, of_table};
-ghost use Rattle.wasmi_c.specs.declared.status.TheConstants.{NOT_HELD};
+ghost use Rattle.wasmi_c.specs.declared.status.TheConstants.{DONE, NOT_HELD};
 
 use wasmi_c::instruction::binary::{Binary, binary_numbered};
 use wasmi_c::laws::{
@@ -30,6 +30,7 @@ use wasmi_c::laws::{
 };
 use wasmi_c::machine::call_struct::CallStruct;
 use wasmi_c::machine::handle::Handle;
+use wasmi_c::machine::limited_machine::LimitedMachine;
 use wasmi_c::machine::reply_struct::ReplyStruct;
 use wasmi_c::pool::PoolHandle;
 use wasmi_c::status::DONE;
@@ -55,6 +56,20 @@ pub fn call_twice(
     calls_are_runs();
     let reply = handle.call(first);
     (reply, handle.call(second))
+}
+
+/// Makes the calls of a list. If they are made and the numbers stand for calls, they are one run of
+/// the machine.
+pub fn call_list(
+    machine: &mut LimitedMachine,
+    calls: &[CallStruct],
+    replies: &mut [ReplyStruct],
+) -> u8
+    ensures run { (known : List Call) → result ≡ DONE → map call_of calls.now ≡ map Some known
+        → RunsList known machine.old replies.new machine.new }
+{
+    calls_are_runs();
+    machine.run_into(calls, replies)
 }
 
 /// Makes a call on a tenant of a pool. Whatever it is, the machine of each other tenant stays.

@@ -7,5 +7,6 @@ pub mod lanes;
 pub mod places;
 pub mod recorder;
 pub mod regions;
+pub mod reserved;
 pub mod runs;
 pub mod values;

@@ -5,3 +5,4 @@ pub mod ListLemmas
 pub mod LocationLemmas
 pub mod IndependenceLemmas
 pub mod PlacesLemmas
+pub mod ReservedLemmas

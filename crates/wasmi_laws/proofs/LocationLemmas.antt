@@ -251,16 +251,16 @@ register_parts (Some (Err trap)) (Some old) dst registers reply registers' is ta
     unchanged _ registers registers' takes.1
 
 -- an element segment that is made
-segment_made : (ty : RefType) (items : List ℕ) (segments : List SegmentValue) (reply : Reply)
-    (segments' : List SegmentValue) → CreatesSegment ty items segments reply segments'
+segment_made : {Lacks : Type 0} (ty : RefType) (items : List ℕ) (segments : List SegmentValue) (reply : Reply)
+    (segments' : List SegmentValue) → CreatesSegment Lacks ty items segments reply segments'
     → EachAfter (λ j. May None None (SegmentAt j)) segments segments'
 segment_made ty items segments reply segments' (inl none) = unchanged _ segments segments' none.1
 segment_made ty items segments reply segments' (inr (result, is, adds)) =
     entry_added _ (λ x. x) replied.Segment result segments reply segments' adds
 
 -- an item that is added
-item_added : {X : Type 0} (Becomes : ℕ → X → X → Type 0) (x : X) (items : List X) (reply : Reply) (items' : List X)
-    → AddsItem x items reply items' → EachAfter Becomes items items'
+item_added : {Lacks X : Type 0} (Becomes : ℕ → X → X → Type 0) (x : X) (items : List X) (reply : Reply)
+    (items' : List X) → AddsItem Lacks x items reply items' → EachAfter Becomes items items'
 item_added Becomes x items reply items' (inl none) = unchanged Becomes items items' none.1
 item_added Becomes x items reply items' (inr made) = appended Becomes items items' x made.1
 

@@ -334,9 +334,12 @@ module _ (more : ℕ) {S : Type 0} (rules : Rules S) (accepts : AcceptsNotices r
     effect_richer (FuelSet fuel) keeps step = absurd keeps
     effect_richer (Changed change) keeps step = changes_too step (richer_state more step.machine)
         (change_richer more change w.state turn.reply step.machine step.effect) (ap richer_world step.after)
-    effect_richer (MemoryMade ty) keeps step = asks_too step step.part step.effect (ap richer_world step.after)
-    effect_richer (LentMemoryMade ty) keeps step = asks_too step step.part step.effect (ap richer_world step.after)
-    effect_richer (TableMade ty init) keeps step = asks_too step step.part step.effect (ap richer_world step.after)
+    effect_richer (MemoryMade ty) keeps step =
+        asks_too step step.part step.effect step.room (ap richer_world step.after)
+    effect_richer (LentMemoryMade ty) keeps step =
+        asks_too step step.part step.effect step.room (ap richer_world step.after)
+    effect_richer (TableMade ty init) keeps step =
+        asks_too step step.part step.effect step.room (ap richer_world step.after)
     effect_richer (MemoryGrown k pages) keeps step = acts_too step step.part (richer more step.meter)
         (acts_richer more k (reply_of replied.Number replied.Memory) (GrowsMemoryCharging rules pages)
         (metered_value w.state.memories (Some w.state.meter) w.limiter)

@@ -192,7 +192,7 @@ table_grown_loud x n reference = record {
   refused = λ p. p;
   late = tested_loud replied.Table _ table_error.GrowOutOfBounds (λ p. p);
   unpaid = λ n p. p;
-  refuses = table_lacks_loud;
+  refuses = λ cause lacks. table_lacks_loud cause lacks.0;
 }
 
 module _ {S : Type 0} (rules : Rules S) where
@@ -285,6 +285,7 @@ same_world rules w turn w' keeps meter spare limiter = λ i. record {
     registers = keeps.contents.registers i;
     meter = meter i;
     spare = spare i;
+    reserved = keeps.contents.reserved i;
   };
   limiter = limiter i;
 }

@@ -4,6 +4,7 @@
 
 ghost use Rattle.wasmi_meter.specs.Limiter.{optional_rules};
 ghost use Rattle.wasmi_laws.specs.Places.{IndependentTurnsSwap, OthersStay, OthersStayInRuns, IndicesLast, LiveUntilDropped, MemoriesGrowAlike, MemoriesReadAlike, MemoriesWriteAlike, StoresAreReadBack, StoresKeepOtherBytes, TablesGrowAlike};
+ghost use Rattle.wasmi_laws.specs.Reserved.{ReservedCallsSucceed, ReservedRunsSucceed};
 ghost use Rattle.wasmi_laws.specs.Runs.{CostsAreKept, SwitchIsKept, FuelNeverRises, MoreFuelChangesNothing, RunsAreCut, RunsOfCallsAreCut, SizesNeverShrink, TotalsNeverShrink, PlainRefusalsChangeNothing, OtherRefusalsChangeNothing, PlainlyRefusedRunsChangeNothing, CapsHoldInRuns};
 
 use wasmi_machine::laws;
@@ -107,4 +108,17 @@ pub fn machines_do_alike<L: ResourceLimiter>()
     ensures tables_grow { TablesGrowAlike (optional_rules L.rules) }
     ensures memories_read { MemoriesReadAlike (optional_rules L.rules) }
     ensures memories_write { MemoriesWriteAlike (optional_rules L.rules) }
+{}
+
+/// The reply to a call that needs no memory but what was reserved doesn't say out of memory
+/// (`NeedsNoMemory`): it makes nothing, or a memory in the spare region, a global or a segment of
+/// nothing in a slot that is reserved; it grows no memory but one in a lent region, and no table;
+/// and it reads no byte.
+///
+/// Nor does any reply to a list of such calls, if every memory lies in a lent region at first, and
+/// as many slots of each kind are reserved and free as the list takes (`IsReservedFor`): what is
+/// asked is known before the first call.
+pub fn reserved_suffices<L: ResourceLimiter>()
+    ensures turn { ReservedCallsSucceed (optional_rules L.rules) }
+    ensures run { ReservedRunsSucceed (optional_rules L.rules) }
 {}

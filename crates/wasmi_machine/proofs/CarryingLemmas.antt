@@ -109,15 +109,16 @@ module _ {S T : Type 0} (image : S → T) where
 
     module _ (w : World S) (turn : Turn) (w' : World S) where
       -- a turn that makes something under the limiter
-      asks_too : {A : Type 0} {with_part : A → State} {Relation : S → Reply → A → S → Type 0}
-          {Relation' : T → Reply → A → T → Type 0} (step : Asks w turn w' with_part Relation)
+      asks_too : {Lacks A : Type 0} {with_part : A → State} {Relation : S → Reply → A → S → Type 0}
+          {Relation' : T → Reply → A → T → Type 0} (step : Asks w turn w' Lacks with_part Relation)
           → Relation' (image w.limiter) turn.reply step.part (image step.limiter)
-          → Asks (carried image w) turn (carried image w') with_part Relation'
+          → Asks (carried image w) turn (carried image w') Lacks with_part Relation'
       asks_too step effect = record {
         free = step.free;
         part = step.part;
         limiter = image step.limiter;
         effect = effect;
+        room = step.room;
         after = ap (carried image) step.after;
       }
 

@@ -194,8 +194,8 @@ module _ {S : Type 0} (w : World S) (t t' : Turn) (v v' : World S) where
 
   module _ {A : Type 0} {with_part : A → State} where
     -- turns that make something under the limiter
-    made_unique : {Relation : S → Reply → A → S → Type 0} → Asks w t v with_part Relation
-        → Asks w t' v' with_part Relation
+    made_unique : {Lacks : Type 0} {Relation : S → Reply → A → S → Type 0} → Asks w t v Lacks with_part Relation
+        → Asks w t' v' Lacks with_part Relation
         → IsNotOutOfMemory t.reply → IsNotOutOfMemory t'.reply → HasOneOutcome (Relation w.limiter) → Same
     made_unique step step' has has' once =
         let same = once (record { reply = t.reply; part = step.part; limiter = step.limiter })
@@ -263,7 +263,7 @@ table_growth_same {rules = rules} once n init s result result' charge charge' s'
         → (result ≡ result') × (charge ≡ charge') × (s' ≡ s'')
     by_type true h h' = grows_same once
         (record { amount = n; size = size_of s.value; request = table.growth_of s.value n init.raw })
-        (record { wants = table_wants }) s result result' charge charge' s' s'' h h'
+        (record { wants = λ cause lacks. table_wants cause lacks.0 }) s result result' charge charge' s' s'' h h'
     by_type false h h' = (h.0 ∙ sym h'.0, h.1 ∙ sym h'.1, h.2 ∙ sym h'.2)
 
 module _ {S : Type 0} (rules : Rules S) (once : IsDeterministic rules) (w : World S) (t t' : Turn) (v v' : World S)

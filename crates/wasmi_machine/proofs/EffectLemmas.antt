@@ -7,7 +7,7 @@ use Rattle.std.specs.Prelude.{All, MatchBool, slice_get, slice_set}
 use Rattle.wasmi_machine.proofs.TotalLemmas.{set_read, counts_kept}
 use Rattle.wasmi_machine.specs.Determinism.{IsNotOutOfMemory}
 use Rattle.wasmi_machine.specs.Laws.{IsRefusal}
-use Rattle.wasmi_machine.specs.Effects.{ActsAt, AddsEntry, AddsItem, ChangesAt, ChangesFound, ChangesItem, Creates, DropsAt, DropsContents, OnLive, reply_of}
+use Rattle.wasmi_machine.specs.Effects.{ActsAt, AddsEntry, AddsItem, ChangesAt, ChangesFound, ChangesItem, Creates, DropsAt, DropsContents, IfNoRoom, OnLive, reply_of}
 use Rattle.wasmi_machine.specs.State.{live_at, live_value, slot_count, IsValidSlot}
 use Rattle.wasmi_machine.specs.Steps.{Change}
 use Rattle.wasmi_machine.specs.declared.calls.Reply.{Reply}
@@ -66,10 +66,10 @@ module _ {X : Type 0} where
       found_back (slice_get items k) (slice_set items k) items reply items' Change (set_read items k) same changes
 
   -- a refused addition of an item leaves the list
-  pub adds_back : (x : X) (items : List X) (reply : Reply) (items' : List X) → IsRefusal reply
-      → AddsItem x items reply items' → items' ≡ items
-  adds_back x items reply items' refused (inl none) = none.1
-  adds_back x items reply items' refused (inr made) = absurd (rw made.0 at refused)
+  pub adds_back : (Lacks : Type 0) (x : X) (items : List X) (reply : Reply) (items' : List X) → IsRefusal reply
+      → AddsItem Lacks x items reply items' → items' ≡ items
+  adds_back Lacks x items reply items' refused (inl none) = none.1
+  adds_back Lacks x items reply items' refused (inr made) = absurd (rw made.0 at refused)
 
   -- a refused drop of what an item has leaves the list
   pub contents_back : (without : X → X) (k : ℕ) (items : List X) (reply : Reply) (items' : List X) → IsRefusal reply
@@ -153,13 +153,19 @@ creates_same refusal Makes same slots l o o' room room' (inr (result, makes, app
     (subst (λ r. AddsEntry Live refusal r slots o'.reply o'.part) (sym made.0) appends') in
     (put.0, put.1, made.1)
 
+-- what may be so where there is no room, from what is then so
+pub no_room_too : (reply : Reply) (Lacks Lacks' : Type 0) → (Lacks → Lacks') → IfNoRoom reply Lacks
+    → IfNoRoom reply Lacks'
+no_room_too replied.NoRoom Lacks Lacks' too lacks = too lacks
+no_room_too reply Lacks Lacks' too lacks = tt
+
 -- two additions of an item, where memory isn't wanting
-pub adds_same : {X : Type 0} (x : X) (items : List X) (reply reply' : Reply) (items' items'' : List X)
-    → IsNotOutOfMemory reply → IsNotOutOfMemory reply' → AddsItem x items reply items' → AddsItem x items reply' items''
-    → (reply ≡ reply') × (items' ≡ items'')
-adds_same x items reply reply' items' items'' room room' (inl none) b = absurd (rw none.0 at room)
-adds_same x items reply reply' items' items'' room room' (inr a) (inl none) = absurd (rw none.0 at room')
-adds_same x items reply reply' items' items'' room room' (inr a) (inr b) = (a.0 ∙ sym b.0, a.1 ∙ sym b.1)
+pub adds_same : {X : Type 0} (Lacks : Type 0) (x : X) (items : List X) (reply reply' : Reply) (items' items'' : List X)
+    → IsNotOutOfMemory reply → IsNotOutOfMemory reply' → AddsItem Lacks x items reply items'
+    → AddsItem Lacks x items reply' items'' → (reply ≡ reply') × (items' ≡ items'')
+adds_same Lacks x items reply reply' items' items'' room room' (inl none) b = absurd (rw none.0 at room)
+adds_same Lacks x items reply reply' items' items'' room room' (inr a) (inl none) = absurd (rw none.0 at room')
+adds_same Lacks x items reply reply' items' items'' room room' (inr a) (inr b) = (a.0 ∙ sym b.0, a.1 ∙ sym b.1)
 
 -- an effect on a part is decided: two of it are one
 abbrev pub IsDecided : {A : Type 0} → (Reply → A → Type 0) → Type 0

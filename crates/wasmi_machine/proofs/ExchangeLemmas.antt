@@ -490,7 +490,7 @@ table_priced n reference x m = record {
   late = λ cause is price. subst (λ c. failed_charge (TableFailure c) price ≡ 0)
       (late_is (is_within_maximum x.ty (size_of x + n)) table_error.GrowOutOfBounds cause is) refl;
   unpaid = λ due price. refl;
-  refuses = λ cause wants price. subst (λ c. failed_charge (TableFailure c) price ≡ price) (sym wants) refl;
+  refuses = λ cause wants price. subst (λ c. failed_charge (TableFailure c) price ≡ price) (sym wants.0) refl;
 }
 
 -- the growth of a table by so many elements

@@ -1,5 +1,5 @@
 -- What a limiter keeps in a run: the caps of a quota, and the totals that it holds.
-use Rattle.std.proofs.Common.{◌≡◌, ◌≢◌, ℕ, ◌+◌, ◌-◌, Option, Some, None, Result, Ok, Err, true, false, List, [], ◌∷◌, sum, refl, sym, ap, ◌∙◌, arith, subst, IfOk, OnErr}
+use Rattle.std.proofs.Common.{◌≡◌, ◌≢◌, ℕ, ◌+◌, ◌-◌, Option, Some, None, Result, Ok, Err, true, false, List, [], ◌∷◌, sum, refl, sym, ap, ◌∙◌, arith, subst, IfOk, OnErr, OnOk}
 use Rattle.std.proofs.lemmas.Option.{same_Some}
 use Rattle.wasmi_meter.specs.declared.limiter.Kind.{Kind}
 use Rattle.wasmi_meter.specs.declared.limiter.Kind.TheVariants.{Bytes, Elements}
@@ -135,6 +135,18 @@ module _ {L : Type 0} (rules : Rules L) (holdings : L → Holdings) (keeps : Kee
       let after = totals_are_held w.state w.limiter held ran.0 (world w'.state (Some w'.limiter)) ran.3 in
       subst (λ k. HoldsTotals (holdings k) w'.state) (sym (same_Some w'.limiter after.0 after.1)) after.2
   run_holds items w w' calls held (Err error) ran same = rw (same.0, same.1) held
+
+  -- so a run whose replies are put into memory that is there
+  pub run_into_holds : {E : Type 0} (Same : Type 0) (replies : List Reply) (w w' : World L) (calls : List Call)
+      → HoldsTotals (holdings w.limiter) w.state → (result : Result (Unit {0}) E)
+      → OnOk result (IsRunOf (optional_rules rules) calls (world w.state (Some w.limiter)) replies
+      (world w'.state (Some w'.limiter)))
+      → OnErr result ((w'.state ≡ w.state) × (w'.limiter ≡ w.limiter) × Same)
+      → HoldsTotals (holdings w'.limiter) w'.state
+  run_into_holds Same replies w w' calls held (Ok done) ran same =
+      let after = totals_are_held w.state w.limiter held ran.0 (world w'.state (Some w'.limiter)) ran.3 in
+      subst (λ k. HoldsTotals (holdings k) w'.state) (sym (same_Some w'.limiter after.0 after.1)) after.2
+  run_into_holds Same replies w w' calls held (Err error) ran same = rw (same.0, same.1) held
 
 module _ {L : Type 0} (rules : Rules L) (Kept : L → Type 0)
     (asked : (l : L) (q : Question) (answer : Answer) (l' : L) → Kept l → rules.asked l q answer l' → Kept l')

@@ -6,13 +6,13 @@ use Rattle.std.proofs.lemmas.Option.{none-some, same_Some, slice_get-map}
 use Rattle.std.specs.Option.{option_and_then, option_map}
 use Rattle.std.specs.Prelude.{MatchBool, MatchOption, if◌then◌else◌, is_none, slice_get, slice_set, ◌&&◌}
 use Rattle.std.specs.Result.{result_map_both}
-use Rattle.wasmi_machine.proofs.EffectLemmas.{both_live, on_test_too}
+use Rattle.wasmi_machine.proofs.EffectLemmas.{both_live, no_room_too, on_test_too}
 use Rattle.wasmi_machine.proofs.StoreLemmas.{acts_too, asks_too, changes_too}
 use Rattle.wasmi_machine.specs.LentMemory.{FitsRegions, FitsRoom, RunInRegions, owned, owned_memory, owned_slot, owned_world, unlent_world}
 use Rattle.wasmi_machine.specs.MemoryEffects.{ByteSource, OfByte, OfBytes, StoresMemoryAt, WritesMemoryAt, byte_write_of, bytes_appended, bytes_in, load_reply}
 use Rattle.wasmi_machine.specs.RegisterEffects.{StoresVectorAt, lane_loaded, vector_at, vector_loaded}
-use Rattle.wasmi_machine.specs.Effects.{ActsAt, AddsEntry, ChangesAt, Creates, DropsAt, IsNoSuch, MeteredSlots, OnLive, WritesAt, WritesRangeAt, reply_of}
-use Rattle.wasmi_machine.specs.Steps.{Run, BytesRead, BytesStored, BytesWritten, Change, Changed, Effect, FuelSet, LentMemoryMade, MemoryDropped, MemoryGrown, MemoryMade, RangeWritten, RegisterSet, Step, TableGrown, MemoryWritten, TableWritten, TableMade, HasChange, HasEffect, Told, effect_of}
+use Rattle.wasmi_machine.specs.Effects.{ActsAt, AddsEntry, ChangesAt, Creates, DropsAt, IfNoRoom, IsNoSuch, MeteredSlots, OnLive, WritesAt, WritesRangeAt, reply_of}
+use Rattle.wasmi_machine.specs.Steps.{Run, BytesRead, BytesStored, BytesWritten, Change, Changed, Effect, FuelSet, LacksSlot, LentMemoryMade, MemoryDropped, MemoryGrown, MemoryMade, RangeWritten, RegisterSet, Step, TableGrown, MemoryWritten, TableWritten, TableMade, HasChange, HasEffect, Told, effect_of}
 use Rattle.wasmi_machine.specs.State.{State, live_at, live_value, byte_count, Turn, World}
 use Rattle.wasmi_machine.specs.declared.calls.Call.{Call}
 use Rattle.wasmi_machine.specs.declared.calls.Call.TheVariants.{CopyMemory, Load, LoadLane, NewLentMemory, NewMemory, VectorLoad}
@@ -398,6 +398,11 @@ change_owned s reply s' (MemoryDropped k) c = record {
 }
 change_owned s reply s' change c = record { part = c.part; effect = c.effect; after = ap owned c.after }
 
+-- where a slot for a memory may lack, it may on both machines
+slots_used : (s : State) (reply : Reply) → IfNoRoom reply (LacksSlot s.reserved.memories s.memories)
+    → IfNoRoom reply (LacksSlot s.reserved.memories (map owned_slot s.memories))
+slots_used s reply = no_room_too reply _ _ (λ used. omega (arith, length-map s.memories owned_slot))
+
 module _ {S : Type 0} (rules : Rules S) (w : World S) (turn : Turn) (w' : World S) where
   -- each effect that fits
   effect_owned : (effect : Effect) → EffectFits w.state effect → HasEffect rules effect w turn w'
@@ -416,14 +421,15 @@ module _ {S : Type 0} (rules : Rules S) (w : World S) (turn : Turn) (w' : World 
       (ap owned_world step.after)
   effect_owned (MemoryMade ty) fits step = asks_too step (map owned_slot step.part)
       (creates_owned rules Owned ty w.state.memories w.limiter turn.reply step.part step.limiter refl step.effect)
-      (ap owned_world step.after)
+      (slots_used w.state turn.reply step.room) (ap owned_world step.after)
   effect_owned (LentMemoryMade ty) fits step = absurd fits
   effect_owned (MemoryGrown k pages) fits step = acts_too step (map owned_slot step.part) step.meter
       (growth_owned rules k pages (record { value = w.state.memories; meter = Some w.state.meter; limiter = w.limiter })
       (record { value = step.part; meter = Some step.meter; limiter = step.limiter }) turn.reply turn.charge fits
       step.effect) (made_owned w.state.memories k (λ o. bytes_appended o pages turn.reply) (λ x. refl))
       (ap owned_world step.after)
-  effect_owned (TableMade ty init) fits step = asks_too step step.part step.effect (ap owned_world step.after)
+  effect_owned (TableMade ty init) fits step =
+      asks_too step step.part step.effect step.room (ap owned_world step.after)
   effect_owned (TableGrown k n init) fits step =
       acts_too step step.part step.meter step.effect refl (ap owned_world step.after)
   effect_owned (RangeWritten (TableWritten k source dst len)) fits step = record {
@@ -471,6 +477,7 @@ creation_is_owned rules w turn w' ty region called spare fits step =
       limiter = lent.limiter;
       effect = creates_owned rules (Lent region) ty w.state.memories w.limiter turn.reply lent.part.slots lent.limiter
           (grind (arith, nat_tests, fits)) creates.0;
+      room = slots_used w.state turn.reply lent.room;
       after = ap unlent_world lent.after;
     }
 

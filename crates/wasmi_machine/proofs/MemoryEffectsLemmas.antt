@@ -97,8 +97,8 @@ write_refused k offset source slots reply slots' refused writes =
 read_same : (found : Option (List ℕ)) (reply reply' : Reply) → IsNotOutOfMemory reply → IsNotOutOfMemory reply'
     → ReadsBytes found reply → ReadsBytes found reply' → reply ≡ reply'
 read_same None reply reply' room room' a b = a ∙ sym b
-read_same (Some bytes) reply reply' room room' (inl none) b = absurd (rw none at room)
-read_same (Some bytes) reply reply' room room' (inr a) (inl none) = absurd (rw none at room')
+read_same (Some bytes) reply reply' room room' (inl none) b = absurd (rw none.0 at room)
+read_same (Some bytes) reply reply' room room' (inr a) (inl none) = absurd (rw none.0 at room')
 read_same (Some bytes) reply reply' room room' (inr a) (inr b) = a ∙ sym b
 
 -- two reads of the memory of an index

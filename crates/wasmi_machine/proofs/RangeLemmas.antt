@@ -17,7 +17,7 @@ use Rattle.wasmi_meter.specs.Meter.{Meter, amount_left, cut_product, meter_after
 use Rattle.wasmi_store.specs.Growth.{metered}
 use Rattle.wasmi_store.specs.Write.{MeteredWrite, WritesCharging, item_price}
 use Rattle.wasmi_store.specs.Memory.{IsValidMemory, MemoryValue}
-use Rattle.wasmi_store.specs.Table.{IsValidTable, TableValue, element_price, size_of, table_of}
+use Rattle.wasmi_store.specs.Table.{IsValidTable, TableValue, element_price, size_of, with_elements}
 use Rattle.wasmi_store.proofs.WriteLemmas.{PaidWrite, RefusedWrite, write_ends, writes_once}
 use Rattle.wasmi_machine.specs.declared.calls.Reply.{Reply}
 use Rattle.wasmi_machine.specs.declared.slots.Slot.{Slot}
@@ -376,11 +376,11 @@ source_pays (OfSegment segment src) len = elim (init_pays len _ refl) [
 -- what is written over the elements of a table keeps the type and the size
 elements_kept : (x : TableValue) (dst : ℕ) (part written : Option (List ℕ)) (x' : TableValue)
     → written ≡ option_and_then (λ ys. overwrite x.elements dst ys) part
-    → option_map (table_of x.ty) written ≡ Some x' → KeepsTable x x'
+    → option_map (with_elements x) written ≡ Some x' → KeepsTable x x'
 elements_kept x dst None written x' is some = absurd (none-some x' (rw is at some))
 elements_kept x dst (Some part) None x' is some = absurd (none-some x' some)
 elements_kept x dst (Some part) (Some elements) x' is some =
-    let same = same_Some (table_of x.ty elements) x' some in (
+    let same = same_Some (with_elements x elements) x' some in (
       ap (λ (t : TableValue). t.ty) (sym same),
       ap size_of (sym same) ∙ overwrite_length x.elements part elements dst (sym is),
     )

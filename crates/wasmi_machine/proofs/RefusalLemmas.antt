@@ -54,6 +54,7 @@ module _ {S : Type 0} (w w' : World S) where
           data_segments = refl;
           globals = refl;
           registers = refl;
+          reserved = refl;
         },
         refl,
       )
@@ -83,6 +84,7 @@ module _ {S : Type 0} (rules : Rules S) (w : World S) (turn : Turn) (w' : World 
           data_segments = refl;
           globals = refl;
           registers = refl;
+          reserved = refl;
         }),
     ap (λ (x : World S). x.state.spare) step.after
         ∙ lent_spare rules ty (memory_part w.state) w.limiter turn.reply step.part step.limiter step.effect,
@@ -200,6 +202,7 @@ same_twice s t u first second = record {
   data_segments = second.data_segments ∙ first.data_segments;
   globals = second.globals ∙ first.globals;
   registers = second.registers ∙ first.registers;
+  reserved = second.reserved ∙ first.reserved;
 }
 
 -- a run in which each turn is refused
@@ -213,6 +216,7 @@ refused_run_keeps_contents rules w [] w' ran refused =
       data_segments = refl;
       globals = refl;
       registers = refl;
+      reserved = refl;
     })
 refused_run_keeps_contents rules w (turn ∷ turns) w' (v, step, ran) refused =
     let first = (refusals_keep_contents rules w turn v step

@@ -139,10 +139,10 @@ module _ {S : Type 0} (n : Narrowing S) where
     -- an effect of any call
     module _ (w : World S) (turn : Turn) (w' : World S) (within : n.within w.limiter) (shows : n.shown turn.reply) where
       -- a turn that makes something under the limiter
-      asks_revealed : {A : Type 0} {with_part : A → State} {Relation Relation' : S → Reply → A → S → Type 0}
-          (step : Asks w turn w' with_part Relation) → Relation' w.limiter turn.reply step.part step.limiter
-          → Asks w turn w' with_part Relation'
-      asks_revealed step effect = asks_too step step.part effect step.after
+      asks_revealed : {Lacks A : Type 0} {with_part : A → State} {Relation Relation' : S → Reply → A → S → Type 0}
+          (step : Asks w turn w' Lacks with_part Relation) → Relation' w.limiter turn.reply step.part step.limiter
+          → Asks w turn w' Lacks with_part Relation'
+      asks_revealed step effect = asks_too step step.part effect step.room step.after
 
       -- a turn with a charge
       pays_revealed : {A : Type 0} {old : A} {with_part : A → State}

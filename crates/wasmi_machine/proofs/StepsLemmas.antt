@@ -157,10 +157,11 @@ drop_facts count Valid k slots = record {
 }
 
 -- an addition of an item that is valid whatever it is
-addition_facts : {X : Type 0} (x : X) (items : List X) → EffectFacts (AddsItem x items) items (λ after. Unit {0})
-addition_facts x items = record {
-  back = adds_back x items;
-  same = adds_same x items;
+addition_facts : {X : Type 0} (Lacks : Type 0) (x : X) (items : List X)
+    → EffectFacts (AddsItem Lacks x items) items (λ after. Unit {0})
+addition_facts Lacks x items = record {
+  back = adds_back Lacks x items;
+  same = adds_same Lacks x items;
   keeps = λ reply part adds. tt;
 }
 
@@ -213,17 +214,17 @@ change_facts s (ElementSet k index value) = change_of (the_tables s) (record {
   );
 })
 change_facts s (SegmentMade ty items) = change_of (the_segments s) (record {
-  back = segment_back ty items s.segments;
-  same = segments_same ty items s.segments;
-  keeps = creates_segment_valid ty items s.segments;
+  back = segment_back _ ty items s.segments;
+  same = segments_same _ ty items s.segments;
+  keeps = creates_segment_valid _ ty items s.segments;
 })
 change_facts s (ItemsDropped k) = change_of (the_segments s) (contents_facts dropped k s.segments (KeepsSegments s)
     (λ reply part effect. item_valid IsValidSegment k s.segments reply part
     _ (λ x x' valid change. subst IsValidSegment (sym change.1) (omega arith)) effect))
-change_facts s (DataMade bytes) = change_of (the_data_segments s) (addition_facts bytes s.data_segments)
+change_facts s (DataMade bytes) = change_of (the_data_segments s) (addition_facts _ bytes s.data_segments)
 change_facts s (DataDropped k) = change_of (the_data_segments s)
     (contents_facts (λ bytes. []) k s.data_segments (λ segments. Unit {0}) (λ reply part drops. tt))
-change_facts s (GlobalMade global) = change_of (the_globals s) (addition_facts global s.globals)
+change_facts s (GlobalMade global) = change_of (the_globals s) (addition_facts _ global s.globals)
 change_facts s (GlobalSet k value) = change_of (the_globals s) (record {
   back = global_refused k value s.globals;
   same = λ reply reply' part part' has has'. global_sets_same k value s.globals reply reply' part part';

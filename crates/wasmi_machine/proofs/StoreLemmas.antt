@@ -1,6 +1,6 @@
 -- A turn by what its call leaves, and turns one after another.
 use Rattle.std.proofs.Common.{Some, refl, ℕ, ◌∙◌, ◌≡◌, ◌+◌, ◌<◌, List, [], ◌∷◌, ◌++◌, length, take, get_or, map, sym, ap, subst}
-use Rattle.wasmi_machine.specs.Effects.{ActsMetered, ActsMeteredUnasked, Asks, Changes, ChangesPart, OnlyReplies}
+use Rattle.wasmi_machine.specs.Effects.{ActsMetered, ActsMeteredUnasked, Asks, Changes, ChangesPart, IfNoRoom, OnlyReplies}
 use Rattle.wasmi_machine.specs.State.{State, Turn, World, world}
 use Rattle.wasmi_store.specs.Growth.{metered, metered_value, WithCharge}
 use Rattle.wasmi_machine.specs.declared.calls.Call.{Call}
@@ -52,9 +52,11 @@ module _ {S : Type 0} {w : World S} {call : Call} {reply : Reply} where
     alters effect = (0, 0, changes_part effect)
 
     -- a call that makes something under the limiter is answered
-    pub asks : {Relation : S → Reply → A → S → Type 0} {l : S} → Relation w.limiter reply part l → IsAnswered call reply
-        (λ turn. Asks w turn (world (with_part part) l) with_part Relation)
-    asks effect = (0, 0, record { free = (refl, refl); part = part; limiter = _; effect = effect; after = refl })
+    pub asks : {Lacks : Type 0} {Relation : S → Reply → A → S → Type 0} {l : S} → Relation w.limiter reply part l
+        → IfNoRoom reply Lacks
+        → IsAnswered call reply (λ turn. Asks w turn (world (with_part part) l) Lacks with_part Relation)
+    asks effect room =
+        (0, 0, record { free = (refl, refl); part = part; limiter = _; effect = effect; room = room; after = refl })
 
   -- it acts on one part of the state, with some charge
   module _ {A : Type 0} {old : A} {with_part : A → State} {bytes : Reply → ℕ} (part : A) {meter : Meter} where
@@ -86,11 +88,18 @@ module _ {S : Type 0} {v v' w w' : World S} {turn : Turn} where
 
   module _ {A : Type 0} {with_part with_part' : A → State} where
     -- a turn that makes something under the limiter
-    pub asks_too : {Relation Relation' : S → Reply → A → S → Type 0} (step : Asks v turn v' with_part Relation)
-        (part : A) → Relation' w.limiter turn.reply part step.limiter
-        → w' ≡ world (with_part' part) step.limiter → Asks w turn w' with_part' Relation'
-    asks_too step part effect after =
-        record { free = step.free; part = part; limiter = step.limiter; effect = effect; after = after }
+    pub asks_too : {Lacks Lacks' : Type 0} {Relation Relation' : S → Reply → A → S → Type 0}
+        (step : Asks v turn v' Lacks with_part Relation) (part : A) → Relation' w.limiter turn.reply part step.limiter
+        → IfNoRoom turn.reply Lacks' → w' ≡ world (with_part' part) step.limiter
+        → Asks w turn w' Lacks' with_part' Relation'
+    asks_too step part effect room after = record {
+      free = step.free;
+      part = part;
+      limiter = step.limiter;
+      effect = effect;
+      room = room;
+      after = after;
+    }
 
     -- a turn that acts on one part of the state, with a charge
     pub acts_too : {old old' : A} {Relation Relation' : MeteredValue A S → Reply → ℕ → MeteredValue A S → Type 0}

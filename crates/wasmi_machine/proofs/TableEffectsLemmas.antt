@@ -1,11 +1,11 @@
 -- What holds of each effect on tables.
-use Rattle.std.proofs.Common.{Bool, List, Result, Some, [], ap, false, map, refl, subst, sym, true, ℕ, ◌∙◌, ◌∷◌, ◌≡◌}
+use Rattle.std.proofs.Common.{Bool, List, Result, Some, [], ap, false, map, refl, subst, sym, true, ℕ, ◌∙◌, ◌∷◌, ◌≡◌, ⊎_elim}
 use Rattle.wasmi_machine.proofs.MemoryEffectsLemmas.{overwrite_length}
 use Rattle.wasmi_machine.proofs.EffectLemmas.{AllValid, IsDecided, changes_back, changes_kept, changes_valid, grows_back, on_both, on_live, put_back, slot_same}
 use Rattle.wasmi_machine.specs.Laws.{IsRefusal}
 use Rattle.wasmi_machine.specs.Effects.{ActsAt, reply_of}
 use Rattle.wasmi_machine.specs.State.{live_at, slot_count}
-use Rattle.wasmi_machine.specs.TableEffects.{SetsElementAt}
+use Rattle.wasmi_machine.specs.TableEffects.{ReservesElementsAt, SetsElementAt}
 use Rattle.wasmi_machine.specs.declared.calls.Reply.{Reply}
 use Rattle.wasmi_machine.specs.declared.slots.Slot.{Slot}
 use Rattle.wasmi_meter.specs.Attempt.{MeteredValue, with_value}
@@ -105,3 +105,11 @@ set_valid k index value slots reply slots' sets valid = changes_valid IsValidTab
     (λ x x' h change. set_holds IsValidTable index value x change.0 x' change.1 h
     (λ elements is. table_as_long x (record x { elements = elements }) refl
     (overwrite_length x.elements (value.raw ∷ []) elements index is) h)) sets valid
+
+-- memory that is reserved for elements
+pub reserves_valid : (k n : ℕ) (slots : List (Slot TableValue)) (reply : Reply) (slots' : List (Slot TableValue))
+    → ReservesElementsAt k n slots reply slots' → AllValid IsValidTable slots → AllValid IsValidTable slots'
+reserves_valid k n slots reply slots' reserves valid = changes_valid IsValidTable k slots reply slots' _
+    (λ x x' h change. ⊎_elim
+    (λ done. table_as_long x x' (ap (λ (t : TableValue). t.ty) done.1) (ap size_of done.1) h)
+    (λ refused. subst IsValidTable (sym refused.2) h) change) reserves valid

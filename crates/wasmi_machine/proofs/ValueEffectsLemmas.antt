@@ -38,11 +38,11 @@ global_back x x' value (Err ImmutableWrite) refused sets = sets.1
 global_back x x' value (Err TypeMismatch) refused sets = sets.2
 
 -- a refused creation of an element segment leaves the list
-pub segment_back : (ty : RefType) (items : List ℕ) (segments : List SegmentValue) (reply : Reply)
-    (segments' : List SegmentValue) → IsRefusal reply → CreatesSegment ty items segments reply segments'
+pub segment_back : (Lacks : Type 0) (ty : RefType) (items : List ℕ) (segments : List SegmentValue) (reply : Reply)
+    (segments' : List SegmentValue) → IsRefusal reply → CreatesSegment Lacks ty items segments reply segments'
     → segments' ≡ segments
-segment_back ty items segments reply segments' refused (inl none) = none.1
-segment_back ty items segments reply segments' refused (inr (result, is, appends)) =
+segment_back Lacks ty items segments reply segments' refused (inl none) = none.1
+segment_back Lacks ty items segments reply segments' refused (inr (result, is, appends)) =
     appends_back replied.Segment (λ x. x) result segments reply segments' refused appends
 
 -- a global that is not set leaves the list
@@ -78,14 +78,14 @@ segment_made ty items (Err TooManyItems) (Err OutOfSystemMemory) h h' is is' = a
 segment_made ty items (Err OutOfSystemMemory) result' h h' is is' = absurd h
 
 -- two creations of an element segment
-pub segments_same : (ty : RefType) (items : List ℕ) (segments : List SegmentValue) (reply reply' : Reply)
+pub segments_same : (Lacks : Type 0) (ty : RefType) (items : List ℕ) (segments : List SegmentValue) (reply reply' : Reply)
     (segments' segments'' : List SegmentValue) → IsNotOutOfMemory reply → IsNotOutOfMemory reply'
-    → CreatesSegment ty items segments reply segments' → CreatesSegment ty items segments reply' segments''
+    → CreatesSegment Lacks ty items segments reply segments' → CreatesSegment Lacks ty items segments reply' segments''
     → (reply ≡ reply') × (segments' ≡ segments'')
-segments_same ty items segments reply reply' segments' segments'' room room' (inl none) b = absurd (rw none.0 at room)
-segments_same ty items segments reply reply' segments' segments'' room room' (inr a) (inl none) =
+segments_same Lacks ty items segments reply reply' segments' segments'' room room' (inl none) b = absurd (rw none.0 at room)
+segments_same Lacks ty items segments reply reply' segments' segments'' room room' (inr a) (inl none) =
     absurd (rw none.0 at room')
-segments_same ty items segments reply reply' segments' segments'' room room' (inr (result, is, appends))
+segments_same Lacks ty items segments reply reply' segments' segments'' room room' (inr (result, is, appends))
     (inr (result', is', appends')) =
     let h = had result segments reply segments' room appends in
     let h' = had result' segments reply' segments'' room' appends' in
@@ -127,11 +127,11 @@ segment_valid ty items (Ok made) segment is fits =
 segment_valid ty items (Err error) segment is fits = cc
 
 -- a list with a segment that is made is valid
-pub creates_segment_valid : (ty : _) (items : List ℕ) (segments : List SegmentValue) (reply : Reply)
-    (segments' : List SegmentValue) → CreatesSegment ty items segments reply segments' → All IsValidSegment segments
+pub creates_segment_valid : (Lacks : Type 0) (ty : _) (items : List ℕ) (segments : List SegmentValue) (reply : Reply)
+    (segments' : List SegmentValue) → CreatesSegment Lacks ty items segments reply segments' → All IsValidSegment segments
     → All IsValidSegment segments'
-creates_segment_valid ty items segments reply segments' (inl none) valid = subst (All IsValidSegment) (sym none.1) valid
-creates_segment_valid ty items segments reply segments' (inr (result, fits, appends)) valid =
+creates_segment_valid Lacks ty items segments reply segments' (inl none) valid = subst (All IsValidSegment) (sym none.1) valid
+creates_segment_valid Lacks ty items segments reply segments' (inr (result, fits, appends)) valid =
     appended_valid IsValidSegment replied.Segment result segments reply segments'
     (λ segment is. segment_valid ty items result segment is fits) appends valid
 

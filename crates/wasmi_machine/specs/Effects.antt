@@ -43,9 +43,14 @@ abbrev pub AddsEntry : {X A E : Type 0} → (X → A) → (E → Reply) → Resu
 AddsEntry entry refusal (Ok x) list reply list' = (reply ≡ Made (length list)) × (list' ≡ list ++ entry x ∷ [])
 AddsEntry entry refusal (Err error) list reply list' = (reply ≡ refusal error) × (list' ≡ list)
 
--- an item is added to a list, unless there is no memory for it
-abbrev pub AddsItem : {X : Type 0} → X → List X → Reply → List X → Type 0
-AddsItem x items reply items' = ((reply ≡ NoRoom) × (items' ≡ items))
+-- where the reply is that there is no room, a fact that is then so
+abbrev pub IfNoRoom : Reply → Type 0 → Type 0
+IfNoRoom NoRoom Lacks = Lacks
+IfNoRoom reply Lacks = Unit {0}
+
+-- an item is added to a list, unless there is no memory for it, which may lack as a fact says
+abbrev pub AddsItem : {X : Type 0} → Type 0 → X → List X → Reply → List X → Type 0
+AddsItem Lacks x items reply items' = ((reply ≡ NoRoom) × (items' ≡ items) × Lacks)
     ⊎ ((reply ≡ Made (length items)) × (items' ≡ items ++ x ∷ []))
 
 -- what the item of an index has is dropped
@@ -132,12 +137,14 @@ module _ {S : Type 0} (w : World S) (turn : Turn) (w' : World S) where
     pub effect : Effect turn.reply machine
     pub after : w' ≡ record w { state = machine }
 
-  -- a turn that makes something under the limiter, without a charge
-  pub record Asks {A : Type 0} (with_part : A → State) (Effect : S → Reply → A → S → Type 0) : Type 0 where
+  -- a turn that makes something under the limiter, without a charge; there may be no room for it as a fact says
+  pub record Asks {A : Type 0} (Lacks : Type 0) (with_part : A → State) (Effect : S → Reply → A → S → Type 0)
+      : Type 0 where
     pub free : IsFree turn
     pub part : A
     pub limiter : S
     pub effect : Effect w.limiter turn.reply part limiter
+    pub room : IfNoRoom turn.reply Lacks
     pub after : w' ≡ world (with_part part) limiter
 
   -- a turn that acts on one part of the state, with a charge, and with the bytes that it has written by its reply

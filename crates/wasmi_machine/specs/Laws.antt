@@ -29,6 +29,7 @@ pub record SameContents (s s' : State) : Type 0 where
   pub data_segments : s'.data_segments ≡ s.data_segments
   pub globals : s'.globals ≡ s.globals
   pub registers : s'.registers ≡ s.registers
+  pub reserved : s'.reserved ≡ s.reserved
 
 -- the spare region stays, unless a memory was to be made in it: then it is used up if there was room for a slot
 abbrev pub KeepsSpare : Call → Reply → State → State → Type 0

@@ -1,3 +1,5 @@
+pub mod ReservedList
+pub mod Replies
 pub mod State
 pub mod Effects
 pub mod MemoryEffects

@@ -1,5 +1,5 @@
 -- The calls on memories: what each does to the list of slots.
-use Rattle.std.specs.Prelude.{◌≡◌, ◌⊎◌, ◌*◌, ℕ, Option, Some, None, Result, List, MatchOption}
+use Rattle.std.specs.Prelude.{◌≡◌, ◌⊎◌, ◌*◌, ◌<◌, ℕ, Option, Some, None, Result, List, length, MatchOption}
 use Rattle.std.specs.Option.{option_map, option_map_or}
 use Rattle.wasmi_types.specs.Access.{at}
 use Rattle.wasmi_types.specs.Numbers.{le_bytes}
@@ -38,10 +38,10 @@ CreatesLent rules ty part l reply part' l' = MatchOption part.spare ((reply ≡ 
     (λ region. Creates Memory (MakesMemory rules (Lent region) ty) part.slots l reply part'.slots l'
     × (part'.spare ≡ spare_after reply part.spare))
 
--- a read: its bounds are tested before memory for the reply is asked for
+-- a read: its bounds are tested before memory for the reply is asked for, which no byte needs
 abbrev pub ReadsBytes : Option (List ℕ) → Reply → Type 0
 ReadsBytes None reply = reply ≡ Memory OutOfBoundsAccess
-ReadsBytes (Some bytes) reply = (reply ≡ NoRoom) ⊎ (reply ≡ Bytes bytes)
+ReadsBytes (Some bytes) reply = ((reply ≡ NoRoom) × (0 < length bytes)) ⊎ (reply ≡ Bytes bytes)
 
 -- the reply to a read of so many bytes from an offset on, by the memory of an index
 abbrev pub ReadsMemoryAt : ℕ → ℕ → ℕ → List (Slot MemoryValue) → Reply → Type 0

@@ -1,7 +1,6 @@
 -- What a machine is to its callers: its state, a world of it with a limiter, its totals, and when it is valid (core specification, the store).
-use Rattle.std.specs.Prelude.{ℕ, List, [], Option, Some, None, slice_get, replicate, ◌≡◌, length, map, sum, ◌≤◌, All}
+use Rattle.std.specs.Prelude.{ℕ, ◌+◌, List, [], Option, Some, None, slice_get, replicate, ◌≡◌, length, map, max, sum, ◌≤◌, All}
 use Rattle.std.specs.Option.{option_and_then}
-use Rattle.std.specs.Vec.{with_item}
 use Rattle.wasmi_raw.specs.declared.raw.RawVal.{RawVal}
 use Rattle.wasmi_raw.specs.RawVal.{raw_of}
 use Rattle.wasmi_meter.specs.Meter.{Meter}
@@ -9,9 +8,11 @@ use Rattle.wasmi_typed.specs.Global.{GlobalInstance}
 use Rattle.wasmi_store.specs.Memory.{MemoryValue, IsValidMemory}
 use Rattle.wasmi_store.specs.Segment.{SegmentValue, most_items}
 use Rattle.wasmi_store.specs.Table.{TableValue, size_of, IsValidTable}
+use Rattle.wasmi_machine.specs.ReservedList.{with_item}
 use Rattle.wasmi_machine.specs.declared.slots.Slot.{Slot}
 use Rattle.wasmi_machine.specs.declared.slots.Slot.TheVariants.{Live, Gone}
 use Rattle.wasmi_machine.specs.declared.slots.Slots.{Slots}
+use Rattle.wasmi_machine.specs.declared.slots.SlotCounts.{SlotCounts}
 use Rattle.wasmi_machine.specs.declared.calls.Call.{Call}
 use Rattle.wasmi_machine.specs.declared.calls.Reply.{Reply}
 use Rattle.wasmi_meter.specs.declared.limiter.Kind.{Kind}
@@ -37,7 +38,8 @@ module _ {X : Type 0} where
   with_live s k x = record { slots = with_item s.slots k (Live x) }
 
 -- the memories, tables, element segments, data segments and globals that were made, each kind in its order, the
--- registers, the meter, and the bytes of the spare region, if there is one
+-- registers, the meter, the bytes of the spare region, if there is one, and up to how many slots of each kind are
+-- reserved, those of what was made included
 pub record State : Type 0 where
   pub memories : List (Slot MemoryValue)
   pub tables : List (Slot TableValue)
@@ -47,8 +49,13 @@ pub record State : Type 0 where
   pub registers : List RawVal
   pub meter : Meter
   pub spare : Option (List ℕ)
+  pub reserved : SlotCounts
 
--- a machine on which nothing was made yet, with 16 registers of zeros
+-- no slot of any kind
+abbrev pub no_slots : SlotCounts
+no_slots = record { memories = 0; tables = 0; segments = 0; data_segments = 0; globals = 0 }
+
+-- a machine on which nothing was made or reserved yet, with 16 registers of zeros
 abbrev pub new_state : Meter → State
 new_state meter = record {
   memories = [];
@@ -59,11 +66,28 @@ new_state meter = record {
   registers = replicate 16 (raw_of 0);
   meter = meter;
   spare = None;
+  reserved = no_slots;
 }
 
 -- the state with this spare region
 abbrev pub with_spare : State → List ℕ → State
 with_spare s region = record s { spare = Some region }
+
+-- up to how many of a list are reserved, once so many more than it has are
+abbrev pub reserved_for : {A : Type 0} → ℕ → List A → ℕ → ℕ
+reserved_for reserved list additional = max reserved (length list + additional)
+
+-- the state with so many more slots of each kind reserved
+abbrev pub with_reserved : State → SlotCounts → State
+with_reserved s more = record s {
+  reserved = record {
+    memories = reserved_for s.reserved.memories s.memories more.memories;
+    tables = reserved_for s.reserved.tables s.tables more.tables;
+    segments = reserved_for s.reserved.segments s.segments more.segments;
+    data_segments = reserved_for s.reserved.data_segments s.data_segments more.data_segments;
+    globals = reserved_for s.reserved.globals s.globals more.globals;
+  };
+}
 
 -- the state with other memories
 abbrev pub with_memories : State → List (Slot MemoryValue) → State

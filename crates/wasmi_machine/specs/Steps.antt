@@ -1,5 +1,5 @@
 -- One step of the machine: what each call does, and what that changes in a world; and whole runs.
-use Rattle.std.specs.Prelude.{◌≡◌, ◌+◌, ℕ, Bool, true, false, List, Option, Some, None, Result, Ok, slice_get, [], ◌∷◌, map}
+use Rattle.std.specs.Prelude.{◌≡◌, ◌⊎◌, ◌+◌, ◌<◌, ◌≤◌, ℕ, Bool, true, false, List, Option, Some, None, Result, Ok, slice_get, [], ◌∷◌, length, map}
 use Rattle.std.specs.Option.{option_map, option_and_then}
 use Rattle.wasmi_types.specs.Numbers.{le_bytes}
 use Rattle.wasmi_types.specs.declared.trap.TrapCode.{TrapCode}
@@ -200,6 +200,10 @@ effect_of s (call.VectorStore a k ptr offset) =
 effect_of s (call.StoreLane op a k ptr offset) =
     Changed (BytesStored k (ptr + offset) (option_map (stored_lane op) (vector_at s.registers a)))
 
+-- memory for one more slot may lack, since each one that is reserved is used
+abbrev pub LacksSlot : {A : Type 0} → ℕ → List A → Type 0
+LacksSlot reserved list = reserved ≤ length list
+
 -- one part of the state changes: a line for each kind
 abbrev pub HasChange : Change → State → Reply → State → Type 0
 HasChange (BytesWritten k offset bytes) s = ChangesPart (with_memories s) (WritesMemoryAt k offset bytes s.memories)
@@ -208,11 +212,14 @@ HasChange (RegisterSet dst given) s = ChangesPart (with_registers s) (SetsRegist
 HasChange (MemoryDropped k) s = ChangesPart (with_memories s) (DropsAt byte_count k s.memories)
 HasChange (TableDropped k) s = ChangesPart (with_tables s) (DropsAt size_of k s.tables)
 HasChange (ElementSet k index value) s = ChangesPart (with_tables s) (SetsElementAt k index value s.tables)
-HasChange (SegmentMade ty items) s = ChangesPart (with_segments s) (CreatesSegment ty items s.segments)
+HasChange (SegmentMade ty items) s = ChangesPart (with_segments s)
+    (CreatesSegment (LacksSlot s.reserved.segments s.segments) ty items s.segments)
 HasChange (ItemsDropped k) s = ChangesPart (with_segments s) (DropsItemsAt k s.segments)
-HasChange (DataMade bytes) s = ChangesPart (with_data_segments s) (AddsItem bytes s.data_segments)
+HasChange (DataMade bytes) s = ChangesPart (with_data_segments s)
+    (AddsItem ((0 < length bytes) ⊎ LacksSlot s.reserved.data_segments s.data_segments) bytes s.data_segments)
 HasChange (DataDropped k) s = ChangesPart (with_data_segments s) (DropsDataAt k s.data_segments)
-HasChange (GlobalMade global) s = ChangesPart (with_globals s) (AddsItem global s.globals)
+HasChange (GlobalMade global) s = ChangesPart (with_globals s)
+    (AddsItem (LacksSlot s.reserved.globals s.globals) global s.globals)
 HasChange (GlobalSet k value) s = ChangesPart (with_globals s) (SetsGlobalAt k value s.globals)
 
 -- a range of one part of the state is written over: a line for each kind
@@ -231,14 +238,17 @@ HasEffect rules (BytesRead k offset len) w turn w' = OnlyReplies w turn w' (Read
 HasEffect rules (FuelSet fuel) w turn w' = Changes w turn w' (SetsFuel fuel w.state)
 HasEffect rules (Changed change) w turn w' = Changes w turn w' (HasChange change w.state)
 HasEffect rules (MemoryMade ty) w turn w' =
-    Asks w turn w' (with_memories w.state) (Creates reply.Memory (MakesMemory rules Owned ty) w.state.memories)
+    Asks w turn w' (LacksSlot w.state.reserved.memories w.state.memories) (with_memories w.state)
+    (Creates reply.Memory (MakesMemory rules Owned ty) w.state.memories)
 HasEffect rules (LentMemoryMade ty) w turn w' =
-    Asks w turn w' (with_memory_part w.state) (CreatesLent rules ty (memory_part w.state))
+    Asks w turn w' (LacksSlot w.state.reserved.memories w.state.memories) (with_memory_part w.state)
+    (CreatesLent rules ty (memory_part w.state))
 HasEffect rules (MemoryGrown k pages) w turn w' = ActsMetered w turn w' w.state.memories (with_memories w.state)
     (ActsAt k (reply_of reply.Number reply.Memory) (GrowsMemoryCharging rules pages))
     (bytes_appended (live_at w.state.memories k) pages)
 HasEffect rules (TableMade ty init) w turn w' =
-    Asks w turn w' (with_tables w.state) (Creates reply.Table (MakesTable rules ty init) w.state.tables)
+    Asks w turn w' (LacksSlot w.state.reserved.tables w.state.tables) (with_tables w.state)
+    (Creates reply.Table (MakesTable rules ty init) w.state.tables)
 HasEffect rules (TableGrown k n init) w turn w' = ActsMetered w turn w' w.state.tables (with_tables w.state)
     (ActsAt k (reply_of reply.Number reply.Table) (GrowsTableCharging rules n init)) (element_bytes n)
 HasEffect rules (RangeWritten write) w turn w' = HasRangeWrite write w turn w'

@@ -1,12 +1,12 @@
 -- The calls on tables: what each does to the list of slots.
-use Rattle.std.specs.Prelude.{◌≡◌, ℕ, Option, Some, Result, List}
+use Rattle.std.specs.Prelude.{◌≡◌, ◌<◌, ◌⊎◌, ℕ, Option, Some, Result, List}
 use Rattle.std.specs.Option.{option_map, option_map_or}
 use Rattle.wasmi_typed.specs.declared.typed_ref.TypedRawRef.{TypedRawRef}
 use Rattle.wasmi_meter.specs.declared.error.TableError.{TableError}
 use Rattle.wasmi_store.specs.Segment.{SegmentValue}
-use Rattle.wasmi_store.specs.Table.{TableValue, TableWrite, SetsTable, element_at, filling_of, copy_of, initialization_of}
+use Rattle.wasmi_store.specs.Table.{TableValue, TableWrite, with_elements_reserved, SetsTable, element_at, filling_of, copy_of, initialization_of}
 use Rattle.wasmi_machine.specs.declared.calls.Reply.{Reply}
-use Rattle.wasmi_machine.specs.declared.calls.Reply.TheVariants.{Done, Reference, Table, NoSuch}
+use Rattle.wasmi_machine.specs.declared.calls.Reply.TheVariants.{Done, Reference, Table, NoRoom, NoSuch}
 use Rattle.wasmi_machine.specs.declared.slots.Slot.{Slot}
 use Rattle.wasmi_machine.specs.Effects.{reply_of, ChangesAt, MeteredSlots, WritesAt, WritesFrom, item_bytes}
 
@@ -19,6 +19,13 @@ abbrev pub SetsElementAt : ℕ → ℕ → TypedRawRef → List (Slot TableValue
 SetsElementAt k index value slots reply slots' = ChangesAt k slots reply slots'
     (λ x x'. (result : Result (Unit {0}) TableError) × SetsTable index value x result x'
     × (reply ≡ reply_of (λ _. Done) Table result))
+
+-- memory is reserved for so many elements in all of the table of an index, unless it is refused for more than it was
+-- reserved for; then nothing has changed
+abbrev pub ReservesElementsAt : ℕ → ℕ → List (Slot TableValue) → Reply → List (Slot TableValue) → Type 0
+ReservesElementsAt k n slots reply slots' = ChangesAt k slots reply slots'
+    (λ x x'. ((reply ≡ Done) × (x' ≡ with_elements_reserved x n))
+    ⊎ ((reply ≡ NoRoom) × (x.reserved < n) × (x' ≡ x)))
 
 -- a range of the table of an index is written over, with its charge
 abbrev pub WritesTableAt : ℕ → (TableValue → TableWrite) → MeteredSlots TableValue → Reply → ℕ

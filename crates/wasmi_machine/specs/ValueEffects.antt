@@ -21,9 +21,9 @@ IsSegmentOf ty items (Ok segment) = (length items ≤ most_items) × (segment �
 IsSegmentOf ty items (Err TooManyItems) = most_items < length items
 IsSegmentOf ty items (Err OutOfSystemMemory) = 0 < length items
 
--- an element segment is made
-abbrev pub CreatesSegment : RefType → List ℕ → List SegmentValue → Reply → List SegmentValue → Type 0
-CreatesSegment ty items segments reply segments' = ((reply ≡ NoRoom) × (segments' ≡ segments))
+-- an element segment is made, unless there is no memory for its slot, which may lack as a fact says
+abbrev pub CreatesSegment : Type 0 → RefType → List ℕ → List SegmentValue → Reply → List SegmentValue → Type 0
+CreatesSegment Lacks ty items segments reply segments' = ((reply ≡ NoRoom) × (segments' ≡ segments) × Lacks)
     ⊎ ((result : Result SegmentValue SegmentError) × IsSegmentOf ty items result
     × AddsEntry (λ x. x) Segment result segments reply segments')
 

@@ -1,5 +1,6 @@
 //! Data segments.
-ghost use Rattle.std.specs.Prelude.{◌≡◌, [], IfOk, length};
+ghost use Rattle.std.specs.Prelude.{◌≡◌, ◌<◌, [], IfOk, OnErr, length};
+ghost use Rattle.std.specs.Vec.{vec_capacity};
 
 use std::alloc::{AllocError, Global};
 use std::marker::Model;
@@ -28,13 +29,10 @@ impl Model for DataSegment {
 impl DataSegment {
     /// The segment of a copy of the bytes.
     pub(crate) fn new(alloc: Global, bytes: &[u8]) -> Result<Self, AllocError>
-        ensures { IfOk result (λ segment. segment ≡ bytes.now) }
+        ensures made { IfOk result (λ segment. segment ≡ bytes.now) }
+        ensures refused { OnErr result (0 < length bytes.now) }
     {
-        let copy = if bytes.is_empty() {
-            Vec::new(alloc)
-        } else {
-            bytes.to_vec(alloc)?
-        };
+        let copy = copy_of_bytes(alloc, bytes)?;
         Ok(DataSegment { bytes: copy })
     }
 
@@ -60,4 +58,16 @@ impl DataSegment {
     {
         self.bytes = Vec::new(*self.bytes.allocator());
     }
+}
+
+/// A copy of bytes. That of no byte takes no memory.
+pub(crate) fn copy_of_bytes(alloc: Global, bytes: &[u8]) -> Result<Vec<u8>, AllocError>
+    ensures copied { IfOk result (λ copy. copy.items ≡ bytes.now) }
+    ensures empty { IfOk result (λ copy. length copy.items ≡ 0 → vec_capacity copy ≡ 0) }
+    ensures refused { OnErr result (0 < length bytes.now) }
+{
+    if bytes.is_empty() {
+        return Ok(Vec::new(alloc));
+    }
+    bytes.to_vec(alloc)
 }

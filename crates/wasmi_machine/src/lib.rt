@@ -8,6 +8,8 @@ pub mod laws;
 mod machine;
 mod memories;
 mod registers;
+mod replies;
+mod reserved_list;
 mod running;
 mod slots;
 mod store;
@@ -17,4 +19,8 @@ mod values;
 pub use calls::{ByteList, Call, Reply};
 pub use data::DataSegment;
 pub use machine::Machine;
-pub use running::{run, run_lending, run_reserving};
+pub use replies::{Replies, TooManyCalls};
+pub use running::{
+    run, run_into, run_into_lending, run_into_reserving, run_lending, run_reserving,
+};
+pub use slots::SlotCounts;

@@ -1,14 +1,15 @@
 //! The machine.
-ghost use Rattle.std.specs.Prelude.{◌≡◌, ◌+◌, ◌-◌, ◌<◌, ◌↔◌, Option, IsSome, Some, None, Result, Err, length, slice_get, MatchResult};
+ghost use Rattle.std.specs.Prelude.{◌≡◌, ◌+◌, ◌-◌, ◌<◌, ◌↔◌, Option, IsSome, Some, None, Result, Err, length, slice_get, MatchResult, OnOk, OnErr};
 ghost use Rattle.std.specs.Option.{option_copied, option_copied_mut};
 
 use crate::calls::Reply;
 use crate::data::DataSegment;
 use crate::memories::Stored;
 use crate::registers::Registers;
-use crate::slots::Slots;
+use crate::reserved_list::ReservedList;
+use crate::slots::{SlotCounts, Slots};
 use crate::store::MachineStore;
-use std::alloc::Global as Allocator;
+use std::alloc::{AllocError, Global as Allocator};
 use std::fmt;
 use std::fmt::{Debug, Formatter, Write};
 use std::marker::Model;
@@ -47,7 +48,8 @@ impl<'r> Model for Machine<'r> {
 
 impl<'r> Machine<'r> {
     ghost use Rattle.wasmi_machine.specs.MemoryEffects.{StoresMemoryAt};
-    ghost use Rattle.wasmi_machine.specs.State.{new_state, with_memories, with_spare, live_at, IsValid, total};
+    ghost use Rattle.wasmi_machine.specs.TableEffects.{ReservesElementsAt};
+    ghost use Rattle.wasmi_machine.specs.State.{new_state, with_memories, with_reserved, with_spare, with_tables, live_at, IsValid, total};
     ghost use Rattle.wasmi_meter.specs.declared.limiter.Kind.TheVariants.{Bytes, Elements};
     ghost use Rattle.wasmi_meter.specs.Meter.{ConsumesFuel, amount_left, meter_after};
     ghost use Rattle.wasmi_ops.specs.LoadStoreOps.{stored_bytes};
@@ -74,14 +76,44 @@ impl<'r> Machine<'r> {
             alloc,
             memories: Slots::new(alloc),
             tables: Slots::new(alloc),
-            segments: Vec::new(alloc),
-            data_segments: Vec::new(alloc),
-            globals: Vec::new(alloc),
+            segments: ReservedList::new(alloc),
+            data_segments: ReservedList::new(alloc),
+            globals: ReservedList::new(alloc),
             registers: Registers::default(),
             fuel,
             spare,
         };
         Machine { store }
+    }
+
+    /// Reserves so many more slots of each kind, beside those of what was made. What is made in them
+    /// later takes no memory for its slot, so it isn't refused with `NoRoom`, unless that is for the
+    /// bytes of a data segment. What is reserved already stays so, and doesn't add up: to reserve 4
+    /// slots twice, with nothing made between, reserves 4.
+    ///
+    /// # Errors
+    ///
+    /// `AllocError` if memory for some of them is refused. Then none more is reserved.
+    pub fn reserve(&mut self, slots: SlotCounts) -> Result<(), AllocError>
+        ensures reserved { OnOk result (self.new ≡ with_reserved self.old slots) }
+        ensures refused { OnErr result (self.new ≡ self.old) }
+    {
+        self.store.reserve(slots)
+    }
+
+    /// Reserves memory for so many elements in all of a table, those that are there included, as
+    /// [`Table::reserve`] does: until it has more, no growth of it is refused with
+    /// `OutOfSystemMemory`. What is reserved already stays so.
+    ///
+    /// It isn't a call, so a run has no turn for it. The reply is `Done`, `NoSuch` if there is no
+    /// such table, or `NoRoom` if the memory is refused; after the last two nothing has changed.
+    pub fn reserve_elements(&mut self, table: usize, elements: u64) -> Reply
+        ensures tables { ReservesElementsAt table elements self.old.tables result
+            self.new.tables }
+        ensures rest { self.new ≡ with_tables self.old self.new.tables }
+    {
+        let reply = self.store.tables.reserve(table, elements);
+        reply.unwrap_or(Reply::NoSuch)
     }
 
     /// The meter.

@@ -1,16 +1,17 @@
 //! The memories of a machine, by their indices.
-ghost use Rattle.std.specs.Prelude.{◌≡◌, ◌+◌, Some};
+ghost use Rattle.std.specs.Prelude.{◌≡◌, ◌+◌, ◌≤◌, Some, length};
 ghost use Rattle.wasmi_meter.specs.Limiter.{optional_rules, lent_limiter, KeepsLoan};
 ghost use Rattle.wasmi_store.specs.Buffer.{Owned};
 ghost use Rattle.wasmi_store.specs.Growth.{metered, WithCharge};
 ghost use Rattle.wasmi_store.specs.Memory.{MakesMemory, byte_copy_of, byte_filling_of};
-ghost use Rattle.wasmi_machine.specs.Effects.{reply_of, reply_or_no_such, Creates};
+ghost use Rattle.wasmi_machine.specs.Effects.{reply_of, reply_or_no_such, Creates, IfNoRoom};
 ghost use Rattle.wasmi_machine.specs.State.{live_at};
 ghost use Rattle.std.specs.Option.{option_copied_mut};
 ghost use Rattle.wasmi_machine.specs.MemoryEffects.{bytes_of_stored, memory_copy_of, CreatesLent, WritesMemoryFrom, WritesRangeOfMemoryAt, ReadsBytes, WritesMemoryAt, StoresMemoryAt, StoresMemory};
 ghost use Rattle.wasmi_types.specs.Access.{at};
 
 use crate::calls::{ByteList, Reply};
+use crate::data::copy_of_bytes;
 use crate::slots::{Slot, Slots};
 use std::alloc::Global;
 use wasmi_meter::{Fuel, MemoryError, ResourceLimiter, ResourceLimiterRef};
@@ -33,6 +34,8 @@ impl<'r> Slots<Memory<'r>> {
         ensures made { Creates Reply.Memory
             (MakesMemory (optional_rules L.rules) Owned ty) self.old.slots.items
             (lent_limiter limiter.old) result self.new.slots.items (lent_limiter limiter.new) }
+        ensures room { IfNoRoom result (self.old.slots.reserved ≤ length self.old.slots.items) }
+        ensures reserved { self.new.slots.reserved ≡ self.old.slots.reserved }
     {
         if self.slots.try_reserve(1).is_err() {
             return Reply::NoRoom;
@@ -57,6 +60,8 @@ impl<'r> Slots<Memory<'r>> {
             (lent_limiter limiter.old) result
             (record { slots = self.new.slots.items; spare = option_copied_mut spare.new })
             (lent_limiter limiter.new) }
+        ensures room { IfNoRoom result (self.old.slots.reserved ≤ length self.old.slots.items) }
+        ensures reserved { self.new.slots.reserved ≡ self.old.slots.reserved }
     {
         let Some(region) = spare.take() else {
             return Reply::NoRegion;
@@ -74,8 +79,9 @@ impl<'r> Slots<Memory<'r>> {
 
     /// Writes into a memory.
     pub(crate) fn write(&mut self, index: usize, offset: usize, bytes: &[u8]) -> Option<Reply>
-        ensures { WritesMemoryAt index offset bytes.now self.old.slots.items
+        ensures written { WritesMemoryAt index offset bytes.now self.old.slots.items
             (reply_or_no_such result) self.new.slots.items }
+        ensures reserved { self.new.slots.reserved ≡ self.old.slots.reserved }
     {
         let memory = self.live_mut(index)?;
         match memory.write(offset, bytes) {
@@ -93,9 +99,10 @@ impl<'r> Slots<Memory<'r>> {
         len: u64,
         fuel: &mut Fuel,
     ) -> Option<Reply>
-        ensures { WithCharge (WritesRangeOfMemoryAt index (byte_filling_of dst value len))
+        ensures filled { WithCharge (WritesRangeOfMemoryAt index (byte_filling_of dst value len))
             (metered self.old.slots.items (Some fuel.old)) (reply_or_no_such result)
             (metered self.new.slots.items (Some fuel.new)) }
+        ensures reserved { self.new.slots.reserved ≡ self.old.slots.reserved }
     {
         let memory = self.live_mut(index)?;
         Some(memory_reply(memory.fill_metered(dst, value, len, fuel)))
@@ -111,11 +118,12 @@ impl<'r> Slots<Memory<'r>> {
         len: u64,
         fuel: &mut Fuel,
     ) -> Option<Reply>
-        ensures { WithCharge
+        ensures copied { WithCharge
             (WritesMemoryFrom (live_at self.old.slots.items src_index) dst_index
             (memory_copy_of dst src len))
             (metered self.old.slots.items (Some fuel.old)) (reply_or_no_such result)
             (metered self.new.slots.items (Some fuel.new)) }
+        ensures reserved { self.new.slots.reserved ≡ self.old.slots.reserved }
     {
         if dst_index == src_index {
             return self.copy_in_one(dst_index, dst, src, len, fuel);
@@ -125,7 +133,7 @@ impl<'r> Slots<Memory<'r>> {
             Some(source) => Some(memory_reply(memory.copy_metered(dst, source, src, len, fuel))),
             None => None,
         };
-        self.slots[dst_index] = Slot::Live(memory);
+        *self.slots.item_mut(dst_index) = Slot::Live(memory);
         copied
     }
 
@@ -138,10 +146,11 @@ impl<'r> Slots<Memory<'r>> {
         len: u64,
         fuel: &mut Fuel,
     ) -> Option<Reply>
-        ensures { WithCharge
+        ensures copied { WithCharge
             (WritesMemoryFrom (live_at self.old.slots.items index) index (memory_copy_of dst src len))
             (metered self.old.slots.items (Some fuel.old)) (reply_or_no_such result)
             (metered self.new.slots.items (Some fuel.new)) }
+        ensures reserved { self.new.slots.reserved ≡ self.old.slots.reserved }
     {
         let memory = self.live_mut(index)?;
         Some(memory_reply(memory.copy_within_metered(dst, src, len, fuel)))
@@ -157,9 +166,11 @@ impl<'r> Slots<Memory<'r>> {
         len: u32,
         fuel: &mut Fuel,
     ) -> Option<Reply>
-        ensures { WithCharge (WritesRangeOfMemoryAt index (byte_copy_of dst src len segment.now))
+        ensures copied { WithCharge
+            (WritesRangeOfMemoryAt index (byte_copy_of dst src len segment.now))
             (metered self.old.slots.items (Some fuel.old)) (reply_or_no_such result)
             (metered self.new.slots.items (Some fuel.new)) }
+        ensures reserved { self.new.slots.reserved ≡ self.old.slots.reserved }
     {
         let memory = self.live_mut(index)?;
         Some(memory_reply(memory.init_metered(segment, dst, src, len, fuel)))
@@ -174,8 +185,9 @@ impl<'r> Slots<Memory<'r>> {
         offset: u64,
         stored: Stored,
     ) -> Option<Reply>
-        ensures { StoresMemoryAt index (ptr + offset) (bytes_of_stored stored) self.old.slots.items
-            (reply_or_no_such result) self.new.slots.items }
+        ensures stored { StoresMemoryAt index (ptr + offset) (bytes_of_stored stored)
+            self.old.slots.items (reply_or_no_such result) self.new.slots.items }
+        ensures reserved { self.new.slots.reserved ≡ self.old.slots.reserved }
     {
         let memory = self.live_mut(index)?;
         let answer = store(memory, ptr, offset, stored);
@@ -198,14 +210,15 @@ pub(crate) enum Stored {
     Lane(StoreLaneOp, V128),
 }
 
-/// A part of a list of bytes: its bounds are tested before the reply's buffer is allocated.
+/// A part of a list of bytes: its bounds are tested before the reply's buffer is allocated. No byte
+/// takes no memory.
 pub(crate) fn bytes_reply(alloc: Global, memory: &[u8], offset: usize, len: usize) -> Reply
     ensures { ReadsBytes (at memory.now offset len) result }
 {
     if !lies_within(memory, offset as u64, len as u64) {
         return Reply::Memory(MemoryError::OutOfBoundsAccess);
     }
-    match memory[offset..offset + len].to_vec(alloc) {
+    match copy_of_bytes(alloc, &memory[offset..offset + len]) {
         Ok(bytes) => Reply::Bytes(ByteList::from(bytes)),
         Err(_) => Reply::NoRoom,
     }

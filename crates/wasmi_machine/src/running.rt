@@ -1,5 +1,5 @@
 //! One call, and runs of calls. They are our own: upstream leaves running to the interpreter.
-ghost use Rattle.std.specs.Prelude.{◌≡◌, Some, IfOk, OnErr};
+ghost use Rattle.std.specs.Prelude.{◌≡◌, ◌≤◌, ◌↔◌, Some, IfOk, IsOk, OnErr, OnOk, length};
 ghost use Rattle.wasmi_meter.specs.Limiter.{optional_rules, lent_limiter, KeepsLoan};
 ghost use Rattle.wasmi_machine.specs.State.{IsValid, world, HoldsTotals};
 ghost use Rattle.wasmi_machine.specs.Steps.{IsRunOf, RepliesWith};
@@ -7,6 +7,7 @@ ghost use Rattle.wasmi_machine.specs.declared.calls.Call.TheVariants.{GrowMemory
 
 use crate::calls::{Call, Reply};
 use crate::machine::Machine;
+use crate::replies::{Replies, TooManyCalls};
 use std::alloc::AllocError;
 use wasmi_meter::{Reserving, ResourceLimiter, ResourceLimiterRef};
 
@@ -133,4 +134,92 @@ pub fn run_reserving<L: Reserving>(
     ensures valid { IsValid machine.new }
 {
     run_lending(machine, calls, limiter)
+}
+
+/// Executes calls one after another, as `run`, but puts their replies into memory that is there, in
+/// place of those that it has. It takes no memory for them.
+///
+/// # Errors
+///
+/// `TooManyCalls` if there are more calls than the capacity of `replies`; then nothing has
+/// happened.
+pub fn run_into<L: ResourceLimiter>(
+    machine: &mut Machine,
+    calls: &[Call],
+    limiter: &mut ResourceLimiterRef<L>,
+    replies: &mut Replies,
+) -> Result<(), TooManyCalls>
+    ensures loan { KeepsLoan limiter.old limiter.new }
+    ensures run { OnOk result (IsRunOf (optional_rules L.rules) calls.now
+        (world machine.old (lent_limiter limiter.old)) replies.new.items
+        (world machine.new (lent_limiter limiter.new))) }
+    ensures accepted { IsOk result ↔ (length calls.now ≤ replies.old.capacity) }
+    ensures err { OnErr result ((machine.new ≡ machine.old) × (limiter.new ≡ limiter.old)
+        × (replies.new ≡ replies.old)) }
+    ensures capacity { replies.new.capacity ≡ replies.old.capacity }
+    ensures valid { IsValid machine.new }
+{
+    machine.tell_valid();
+    if replies.capacity() < calls.len() {
+        return Err(TooManyCalls);
+    }
+    replies.clear();
+    for call in calls {
+        let reply = machine.step(call, limiter);
+        replies.push(reply);
+    }
+    Ok(())
+}
+
+/// Executes calls, as `run_into`, but borrows the limiter for this run alone, so that its state
+/// afterwards is known.
+///
+/// # Errors
+///
+/// That of `run_into`.
+pub fn run_into_lending<L: ResourceLimiter>(
+    machine: &mut Machine,
+    calls: &[Call],
+    limiter: &mut L,
+    replies: &mut Replies,
+) -> Result<(), TooManyCalls>
+    ensures run { OnOk result (IsRunOf (optional_rules L.rules) calls.now
+        (world machine.old (Some limiter.old)) replies.new.items
+        (world machine.new (Some limiter.new))) }
+    ensures accepted { IsOk result ↔ (length calls.now ≤ replies.old.capacity) }
+    ensures err { OnErr result ((machine.new ≡ machine.old) × (limiter.new ≡ limiter.old)
+        × (replies.new ≡ replies.old)) }
+    ensures capacity { replies.new.capacity ≡ replies.old.capacity }
+    ensures valid { IsValid machine.new }
+{
+    let mut lent = ResourceLimiterRef::from(limiter);
+    let result = run_into(machine, calls, &mut lent, replies);
+    let _limiter = lent.into_limiter();
+    result
+}
+
+/// Executes calls, as `run_into`, under a limiter that holds exactly what the machine has, and does
+/// so again afterwards.
+///
+/// # Errors
+///
+/// That of `run_into`.
+pub fn run_into_reserving<L: Reserving>(
+    machine: &mut Machine,
+    calls: &[Call],
+    limiter: &mut L,
+    replies: &mut Replies,
+) -> Result<(), TooManyCalls>
+    requires totals { HoldsTotals (L.Reserving.holdings limiter.old) machine.old }
+    ensures run { OnOk result (IsRunOf (optional_rules L.rules) calls.now
+        (world machine.old (Some limiter.old)) replies.new.items
+        (world machine.new (Some limiter.new))) }
+    ensures accepted { IsOk result ↔ (length calls.now ≤ replies.old.capacity) }
+    ensures err { OnErr result ((machine.new ≡ machine.old) × (limiter.new ≡ limiter.old)
+        × (replies.new ≡ replies.old)) }
+    ensures capacity { replies.new.capacity ≡ replies.old.capacity }
+    ensures held { HoldsTotals (L.Reserving.holdings limiter.new) machine.new }
+    ensures valid { IsValid machine.new }
+{
+    run_into_lending(machine, calls, limiter, replies)
 }

@@ -2,13 +2,13 @@
 ghost use Rattle.std.specs.Prelude.{◌≡◌, ◌<◌, ◌++◌, ℕ, [], ◌∷◌, length, map, sum, IsSome, IfSome, IfNone, Some, slice_set};
 ghost use Rattle.std.specs.Borrow.{sem, Lends, LendsIf};
 ghost use Rattle.std.specs.Option.{option_copied, option_copied_mut};
-ghost use Rattle.std.specs.Vec.{vec_capacity};
 ghost use Rattle.wasmi_store.specs.Table.{size_of};
 ghost use Rattle.wasmi_machine.specs.Effects.{DropsAt, reply_or_no_such};
 ghost use Rattle.wasmi_machine.specs.State.{live_value, live_at, with_live, slot_count};
 ghost use Rattle.wasmi_machine.specs.declared.slots.Slot.TheVariants.{Gone, Live};
 
 use crate::calls::Reply;
+use crate::reserved_list::ReservedList;
 use std::alloc::Global;
 use std::mem;
 use wasmi_store::{Memory, Table};
@@ -74,21 +74,36 @@ impl<T> Slot<T> {
     }
 }
 
+/// How many slots of each kind.
+#[derive(Clone, Copy, Debug, Default)]
+pub struct SlotCounts {
+    /// Of memories.
+    pub memories: usize,
+    /// Of tables.
+    pub tables: usize,
+    /// Of element segments.
+    pub segments: usize,
+    /// Of data segments.
+    pub data_segments: usize,
+    /// Of globals.
+    pub globals: usize,
+}
+
 /// Slots by their indices, which count from 0.
 #[derive(Drop)]
 pub(crate) struct Slots<T> {
-    pub(crate) slots: Vec<Slot<T>>,
+    pub(crate) slots: ReservedList<Slot<T>>,
 }
 
 impl<T> Slots<T> {
     ghost use Rattle.wasmi_machine.specs.contracts.slots.Slots.{the_row};
 
-    /// No slot yet. It takes no memory.
+    /// No slot yet, and none reserved. It takes no memory.
     pub(crate) fn new(alloc: Global) -> Self
-        ensures { result.slots.items ≡ [] }
+        ensures { result.slots ≡ record { items = []; reserved = 0; capacity = 0 } }
     {
         Slots {
-            slots: Vec::new(alloc),
+            slots: ReservedList::new(alloc),
         }
     }
 
@@ -121,7 +136,7 @@ impl<T> Slots<T> {
             (Lends (the_row T.row) T.row self.entry result (with_live self.old index)) }
         ensures value { live_at self.old.slots.items index ≡ Some result.now }
     {
-        self.slots[index].value_mut()
+        self.slots.item_mut(index).value_mut()
     }
 
     /// Takes the live value of an index out of its slot, if there is one, so that it can be changed
@@ -131,11 +146,12 @@ impl<T> Slots<T> {
         ensures taken { IfSome result
             (λ x. self.new.slots.items ≡ slice_set self.old.slots.items index (Gone 0)) }
         ensures none { IfNone result (self.new.slots.items ≡ self.old.slots.items) }
+        ensures reserved { self.new.slots.reserved ≡ self.old.slots.reserved }
     {
         if self.live(index).is_none() {
             return None;
         }
-        match mem::replace(&mut self.slots[index], Slot::Gone(0)) {
+        match mem::replace(self.slots.item_mut(index), Slot::Gone(0)) {
             Slot::Live(value) => Some(value),
             Slot::Gone(_) => unreachable!(),
         }
@@ -145,13 +161,12 @@ impl<T> Slots<T> {
     pub(crate) fn push(&mut self, value: T) -> usize
     where
         T: Drop,
-        requires room { length self.old.slots.items < vec_capacity self.old.slots }
+        requires room { length self.old.slots.items < self.old.slots.capacity }
         ensures index { result ≡ length self.old.slots.items }
         ensures slots { self.new.slots.items ≡ self.old.slots.items ++ Live value ∷ [] }
+        ensures reserved { self.new.slots.reserved ≡ self.old.slots.reserved }
     {
-        let index = self.slots.len();
-        self.slots.push_reserved(Slot::Live(value));
-        index
+        self.slots.push(Slot::Live(value))
     }
 }
 
@@ -160,11 +175,12 @@ impl<T: Counted> Slots<T> {
     pub(crate) fn drop_live(&mut self, index: usize) -> Option<Reply>
     where
         T: Drop,
-        ensures { DropsAt T.Counted.count index self.old.slots.items (reply_or_no_such result)
-            self.new.slots.items }
+        ensures dropped { DropsAt T.Counted.count index self.old.slots.items
+            (reply_or_no_such result) self.new.slots.items }
+        ensures reserved { self.new.slots.reserved ≡ self.old.slots.reserved }
     {
         let last = self.live(index)?.count();
-        self.slots[index] = Slot::Gone(last);
+        *self.slots.item_mut(index) = Slot::Gone(last);
         Some(Reply::Done)
     }
 
@@ -173,7 +189,7 @@ impl<T: Counted> Slots<T> {
         ensures { result ≡ sum (map (slot_count T.Counted.count) self.now.slots.items) }
     {
         let mut total = 0;
-        for slot in &self.slots {
+        for slot in self.slots.as_slice() {
             total += slot.count() as u128;
         }
         total

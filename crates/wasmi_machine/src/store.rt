@@ -1,6 +1,6 @@
 //! The store of a machine: what was made, the registers and the meter, and what each call does to
 //! them.
-ghost use Rattle.std.specs.Prelude.{◌≡◌};
+ghost use Rattle.std.specs.Prelude.{◌≡◌, OnOk, OnErr};
 ghost use Rattle.wasmi_meter.specs.Limiter.{optional_rules, lent_limiter, KeepsLoan};
 ghost use Rattle.wasmi_machine.specs.Effects.{reply_or_no_such};
 
@@ -8,11 +8,12 @@ use crate::calls::{Call, Reply};
 use crate::data::DataSegment;
 use crate::memories::{Stored, bytes_reply};
 use crate::registers::Registers;
-use crate::slots::Slots;
+use crate::reserved_list::ReservedList;
+use crate::slots::{SlotCounts, Slots};
 use crate::values::{
     create_data, create_global, create_segment, drop_data, drop_items, get_global, set_global,
 };
-use std::alloc::Global as Allocator;
+use std::alloc::{AllocError, Global as Allocator};
 use std::marker::Model;
 use wasmi_meter::{Fuel, ResourceLimiter, ResourceLimiterRef};
 use wasmi_store::{ElementSegment, ElementSegmentRef, Memory, Table};
@@ -27,9 +28,9 @@ pub(crate) struct MachineStore<'r> {
     pub(crate) alloc: Allocator,
     pub(crate) memories: Slots<Memory<'r>>,
     pub(crate) tables: Slots<Table>,
-    pub(crate) segments: Vec<ElementSegment>,
-    pub(crate) data_segments: Vec<DataSegment>,
-    pub(crate) globals: Vec<Global>,
+    pub(crate) segments: ReservedList<ElementSegment>,
+    pub(crate) data_segments: ReservedList<DataSegment>,
+    pub(crate) globals: ReservedList<Global>,
     pub(crate) registers: Registers,
     pub(crate) fuel: Fuel,
     pub(crate) spare: Option<&'r mut [u8]>,
@@ -50,13 +51,38 @@ impl<'r> Model for MachineStore<'r> {
       registers = m.registers.values;
       meter = m.fuel;
       spare = option_copied_mut m.spare;
+      reserved = record {
+        memories = m.memories.slots.reserved;
+        tables = m.tables.slots.reserved;
+        segments = m.segments.reserved;
+        data_segments = m.data_segments.reserved;
+        globals = m.globals.reserved;
+      };
     } };
 }
 
 impl<'r> MachineStore<'r> {
     ghost use Rattle.wasmi_machine.specs.Steps.{RepliesWith, RepliesWithoutLimiter, subject_of, Memories, Tables, RegisterFile, VectorAccesses};
-    ghost use Rattle.wasmi_machine.specs.State.{world};
+    ghost use Rattle.wasmi_machine.specs.State.{world, with_reserved};
     ghost use Rattle.wasmi_machine.specs.declared.calls.Call.TheVariants.{GrowMemory};
+
+    /// Reserves so many more slots of each kind, or none if memory for some is refused.
+    pub(crate) fn reserve(&mut self, slots: SlotCounts) -> Result<(), AllocError>
+        ensures reserved { OnOk result (self.new ≡ with_reserved self.old slots) }
+        ensures refused { OnErr result (self.new ≡ self.old) }
+    {
+        self.memories.slots.try_reserve(slots.memories)?;
+        self.tables.slots.try_reserve(slots.tables)?;
+        self.segments.try_reserve(slots.segments)?;
+        self.data_segments.try_reserve(slots.data_segments)?;
+        self.globals.try_reserve(slots.globals)?;
+        self.memories.slots.keep_reserved(slots.memories);
+        self.tables.slots.keep_reserved(slots.tables);
+        self.segments.keep_reserved(slots.segments);
+        self.data_segments.keep_reserved(slots.data_segments);
+        self.globals.keep_reserved(slots.globals);
+        Ok(())
+    }
 
     /// Grows a memory by so many pages.
     #[inline(always)]
@@ -113,7 +139,7 @@ impl<'r> MachineStore<'r> {
             Call::DropData(segment) => drop_data(&mut self.data_segments, *segment),
             Call::NewGlobal { value, ty } => create_global(&mut self.globals, *value, *ty),
             Call::SetGlobal { global, value } => set_global(&mut self.globals, *global, *value),
-            Call::GetGlobal(global) => get_global(&self.globals, *global),
+            Call::GetGlobal(global) => get_global(self.globals.as_slice(), *global),
             Call::NewTable { .. }
             | Call::GrowTable { .. }
             | Call::DropTable(_)

@@ -1,11 +1,11 @@
 //! The tables of a machine, by their indices.
-ghost use Rattle.std.specs.Prelude.{◌≡◌, ◌≢◌, ◌<◌, length, Some};
+ghost use Rattle.std.specs.Prelude.{◌≡◌, ◌≢◌, ◌<◌, ◌≤◌, length, Some};
 ghost use Rattle.wasmi_meter.specs.Limiter.{optional_rules, lent_limiter, KeepsLoan};
 ghost use Rattle.wasmi_store.specs.Growth.{metered_value, metered, WithCharge};
 ghost use Rattle.wasmi_store.specs.Segment.{segment_of};
 ghost use Rattle.wasmi_store.specs.Table.{MakesTable, GrowsTableCharging, filling_of, copy_of, initialization_of};
-ghost use Rattle.wasmi_machine.specs.Effects.{reply_of, reply_or_no_such, ActsAt, CopiesSlot, Creates};
-ghost use Rattle.wasmi_machine.specs.TableEffects.{SetsElementAt, WritesTableAt, WritesTableFrom};
+ghost use Rattle.wasmi_machine.specs.Effects.{reply_of, reply_or_no_such, ActsAt, CopiesSlot, Creates, IfNoRoom};
+ghost use Rattle.wasmi_machine.specs.TableEffects.{ReservesElementsAt, SetsElementAt, WritesTableAt, WritesTableFrom};
 ghost use Rattle.wasmi_machine.specs.State.{live_at};
 
 use crate::calls::Reply;
@@ -28,6 +28,8 @@ impl Slots<Table> {
         ensures made { Creates Reply.Table
             (MakesTable (optional_rules L.rules) ty init) self.old.slots.items
             (lent_limiter limiter.old) result self.new.slots.items (lent_limiter limiter.new) }
+        ensures room { IfNoRoom result (self.old.slots.reserved ≤ length self.old.slots.items) }
+        ensures reserved { self.new.slots.reserved ≡ self.old.slots.reserved }
     {
         if self.slots.try_reserve(1).is_err() {
             return Reply::NoRoom;
@@ -54,6 +56,7 @@ impl Slots<Table> {
             (metered_value self.old.slots.items (Some fuel.old) (lent_limiter limiter.old))
             (reply_or_no_such result)
             (metered_value self.new.slots.items (Some fuel.new) (lent_limiter limiter.new)) }
+        ensures reserved { self.new.slots.reserved ≡ self.old.slots.reserved }
     {
         let table = self.live_mut(index)?;
         match table.grow_metered(delta, init, fuel, limiter) {
@@ -62,10 +65,24 @@ impl Slots<Table> {
         }
     }
 
+    /// Reserves memory for so many elements of a table in all.
+    pub(crate) fn reserve(&mut self, index: usize, elements: u64) -> Option<Reply>
+        ensures elements { ReservesElementsAt index elements self.old.slots.items
+            (reply_or_no_such result) self.new.slots.items }
+        ensures reserved { self.new.slots.reserved ≡ self.old.slots.reserved }
+    {
+        let table = self.live_mut(index)?;
+        match table.reserve(elements) {
+            Ok(()) => Some(Reply::Done),
+            Err(_) => Some(Reply::NoRoom),
+        }
+    }
+
     /// Sets an element of a table.
     pub(crate) fn set(&mut self, index: usize, element: u64, value: TypedRawRef) -> Option<Reply>
-        ensures { SetsElementAt index element value self.old.slots.items
+        ensures set { SetsElementAt index element value self.old.slots.items
             (reply_or_no_such result) self.new.slots.items }
+        ensures reserved { self.new.slots.reserved ≡ self.old.slots.reserved }
     {
         let table = self.live_mut(index)?;
         Some(table_reply(table.set(element, value)))
@@ -80,9 +97,10 @@ impl Slots<Table> {
         len: u64,
         fuel: &mut Fuel,
     ) -> Option<Reply>
-        ensures { WithCharge (WritesTableAt index (filling_of dst value len))
+        ensures filled { WithCharge (WritesTableAt index (filling_of dst value len))
             (metered self.old.slots.items (Some fuel.old)) (reply_or_no_such result)
             (metered self.new.slots.items (Some fuel.new)) }
+        ensures reserved { self.new.slots.reserved ≡ self.old.slots.reserved }
     {
         let table = self.live_mut(index)?;
         Some(table_reply(table.fill_metered(dst, value, len, fuel)))
@@ -98,10 +116,11 @@ impl Slots<Table> {
         len: u32,
         fuel: &mut Fuel,
     ) -> Option<Reply>
-        ensures { WithCharge
+        ensures copied { WithCharge
             (WritesTableAt index (initialization_of dst src len (segment_of segment.entry)))
             (metered self.old.slots.items (Some fuel.old)) (reply_or_no_such result)
             (metered self.new.slots.items (Some fuel.new)) }
+        ensures reserved { self.new.slots.reserved ≡ self.old.slots.reserved }
     {
         let table = self.live_mut(index)?;
         Some(table_reply(table.init_metered(segment, dst, src, len, fuel)))
@@ -117,16 +136,18 @@ impl Slots<Table> {
         len: u64,
         fuel: &mut Fuel,
     ) -> Option<Reply>
-        ensures { WithCharge
+        ensures copied { WithCharge
             (WritesTableFrom (live_at self.old.slots.items src_index) dst_index
             (copy_of dst src len))
             (metered self.old.slots.items (Some fuel.old)) (reply_or_no_such result)
             (metered self.new.slots.items (Some fuel.new)) }
+        ensures reserved { self.new.slots.reserved ≡ self.old.slots.reserved }
     {
         if dst_index == src_index {
             return self.copy_in_one(dst_index, dst, src, len, fuel);
         }
-        if dst_index >= self.slots.len() || src_index >= self.slots.len() {
+        let count = self.slots.as_slice().len();
+        if dst_index >= count || src_index >= count {
             return None;
         }
         let slots = self.slots.as_mut_slice();
@@ -142,10 +163,11 @@ impl Slots<Table> {
         len: u64,
         fuel: &mut Fuel,
     ) -> Option<Reply>
-        ensures { WithCharge
+        ensures copied { WithCharge
             (WritesTableFrom (live_at self.old.slots.items index) index (copy_of dst src len))
             (metered self.old.slots.items (Some fuel.old)) (reply_or_no_such result)
             (metered self.new.slots.items (Some fuel.new)) }
+        ensures reserved { self.new.slots.reserved ≡ self.old.slots.reserved }
     {
         let table = self.live_mut(index)?;
         Some(table_reply(table.copy_within_metered(dst, src, len, fuel)))

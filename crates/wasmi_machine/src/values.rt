@@ -1,11 +1,13 @@
 //! The element segments, data segments and globals of a machine, by their indices. These are
 //! functions of one list of the store each, so that what else the store has stays out of their
 //! contracts.
+ghost use Rattle.std.specs.Prelude.{◌≡◌, ◌⊎◌, ◌<◌, ◌≤◌, length};
 ghost use Rattle.wasmi_machine.specs.Effects.{AddsItem};
 ghost use Rattle.wasmi_machine.specs.ValueEffects.{CreatesSegment, DropsDataAt, DropsItemsAt, SetsGlobalAt, GetsGlobalAt};
 
 use crate::calls::Reply;
 use crate::data::DataSegment;
+use crate::reserved_list::ReservedList;
 use std::alloc::Global as Allocator;
 use wasmi_raw::{RawRef, RawVal};
 use wasmi_store::ElementSegment;
@@ -14,29 +16,28 @@ use wasmi_types::RefType;
 
 /// Makes an element segment.
 pub(crate) fn create_segment(
-    segments: &mut Vec<ElementSegment>,
+    segments: &mut ReservedList<ElementSegment>,
     alloc: Allocator,
     ty: RefType,
     items: &[RawRef],
 ) -> Reply
-    ensures { CreatesSegment ty items.now segments.old.items result segments.new.items }
+    ensures made { CreatesSegment (segments.old.reserved ≤ length segments.old.items) ty items.now
+        segments.old.items result segments.new.items }
+    ensures reserved { segments.new.reserved ≡ segments.old.reserved }
 {
     if segments.try_reserve(1).is_err() {
         return Reply::NoRoom;
     }
     match ElementSegment::new(alloc, ty, items.iter().copied()) {
-        Ok(segment) => {
-            let index = segments.len();
-            segments.push_reserved(segment);
-            Reply::Made(index)
-        }
+        Ok(segment) => Reply::Made(segments.push(segment)),
         Err(error) => Reply::Segment(error),
     }
 }
 
 /// Drops the items of an element segment.
-pub(crate) fn drop_items(segments: &mut Vec<ElementSegment>, index: usize) -> Reply
-    ensures { DropsItemsAt index segments.old.items result segments.new.items }
+pub(crate) fn drop_items(segments: &mut ReservedList<ElementSegment>, index: usize) -> Reply
+    ensures dropped { DropsItemsAt index segments.old.items result segments.new.items }
+    ensures reserved { segments.new.reserved ≡ segments.old.reserved }
 {
     let Some(segment) = segments.get_mut(index) else {
         return Reply::NoSuch;
@@ -46,8 +47,15 @@ pub(crate) fn drop_items(segments: &mut Vec<ElementSegment>, index: usize) -> Re
 }
 
 /// Makes a data segment of a copy of the bytes.
-pub(crate) fn create_data(segments: &mut Vec<DataSegment>, alloc: Allocator, bytes: &[u8]) -> Reply
-    ensures { AddsItem bytes.now segments.old.items result segments.new.items }
+pub(crate) fn create_data(
+    segments: &mut ReservedList<DataSegment>,
+    alloc: Allocator,
+    bytes: &[u8],
+) -> Reply
+    ensures made { AddsItem
+        ((0 < length bytes.now) ⊎ (segments.old.reserved ≤ length segments.old.items)) bytes.now
+        segments.old.items result segments.new.items }
+    ensures reserved { segments.new.reserved ≡ segments.old.reserved }
 {
     match DataSegment::new(alloc, bytes) {
         Ok(segment) => add_item(segments, segment),
@@ -56,8 +64,9 @@ pub(crate) fn create_data(segments: &mut Vec<DataSegment>, alloc: Allocator, byt
 }
 
 /// Drops the bytes of a data segment.
-pub(crate) fn drop_data(segments: &mut Vec<DataSegment>, index: usize) -> Reply
-    ensures { DropsDataAt index segments.old.items result segments.new.items }
+pub(crate) fn drop_data(segments: &mut ReservedList<DataSegment>, index: usize) -> Reply
+    ensures dropped { DropsDataAt index segments.old.items result segments.new.items }
+    ensures reserved { segments.new.reserved ≡ segments.old.reserved }
 {
     let Some(segment) = segments.get_mut(index) else {
         return Reply::NoSuch;
@@ -67,28 +76,38 @@ pub(crate) fn drop_data(segments: &mut Vec<DataSegment>, index: usize) -> Reply
 }
 
 /// Makes a global.
-pub(crate) fn create_global(globals: &mut Vec<Global>, value: RawVal, ty: GlobalType) -> Reply
-    ensures { AddsItem
+pub(crate) fn create_global(
+    globals: &mut ReservedList<Global>,
+    value: RawVal,
+    ty: GlobalType,
+) -> Reply
+    ensures made { AddsItem (globals.old.reserved ≤ length globals.old.items)
         (record { value = value; ty = ty }) globals.old.items result globals.new.items }
+    ensures reserved { globals.new.reserved ≡ globals.old.reserved }
 {
     add_item(globals, Global::new(value, ty))
 }
 
 /// Adds an item to a list, unless memory for its place is refused.
-fn add_item<T: Drop>(items: &mut Vec<T>, item: T) -> Reply
-    ensures { AddsItem item items.old.items result items.new.items }
+fn add_item<T: Drop>(items: &mut ReservedList<T>, item: T) -> Reply
+    ensures made { AddsItem (items.old.reserved ≤ length items.old.items) item items.old.items result
+        items.new.items }
+    ensures reserved { items.new.reserved ≡ items.old.reserved }
 {
     if items.try_reserve(1).is_err() {
         return Reply::NoRoom;
     }
-    let index = items.len();
-    items.push_reserved(item);
-    Reply::Made(index)
+    Reply::Made(items.push(item))
 }
 
 /// Sets a global.
-pub(crate) fn set_global(globals: &mut Vec<Global>, index: usize, value: TypedRawVal) -> Reply
-    ensures { SetsGlobalAt index value globals.old.items result globals.new.items }
+pub(crate) fn set_global(
+    globals: &mut ReservedList<Global>,
+    index: usize,
+    value: TypedRawVal,
+) -> Reply
+    ensures set { SetsGlobalAt index value globals.old.items result globals.new.items }
+    ensures reserved { globals.new.reserved ≡ globals.old.reserved }
 {
     let Some(global) = globals.get_mut(index) else {
         return Reply::NoSuch;

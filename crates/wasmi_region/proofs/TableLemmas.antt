@@ -119,7 +119,7 @@ module _ {S : Type 0} (t : RegionGrowth S) where
             → TellsOf t.limits request OutOfSystemMemory p error l' → EndsIn attempt (Err error) x m' l'
         grows_short short error l' tells =
             any.grows_refused attempt p reaches m' enough OutOfSystemMemory
-            (refl, rw is.desired_is at short) x refl error l' tells
+            ((refl, omega (arith, t.some)), rw is.desired_is at short) x refl error l' tells
 
         -- where the price is paid and the region is long enough, the table has grown, and the old size is answered
         pub grows_met : (x' : TableValue) → x' ≡ with_added x t.delta t.reference

@@ -34,10 +34,10 @@ creation_in ty room = record (creation_of ty ty.element) {
 }
 
 -- what is asked and paid where a table on a region of so many references grows by n elements, and the causes of a
--- refusal: it is out of memory if the region is shorter than the new size
+-- refusal: those of any table, and only if the region is shorter than the new size
 abbrev pub growth_in : ℕ → TableValue → ℕ → ℕ → Request TableValue TableError
 growth_in room x n reference = record (growth_of x n reference) {
-  refuses = λ cause. (cause ≡ OutOfSystemMemory) × (room < size_of x + n);
+  refuses = λ cause. (growth_of x n reference).refuses cause × (room < size_of x + n);
 }
 
 -- the growth of a table on a region of so many references, by n elements

@@ -13,8 +13,8 @@ use Rattle.wasmi_machine.specs.declared.calls.Call.{Call}
 use Rattle.wasmi_machine.specs.declared.calls.Call.TheVariants.{Write, NewData, NewSegment}
 use Rattle.wasmi_machine.specs.declared.calls.Reply.{Reply}
 use Rattle.wasmi_machine.specs.declared.calls.Reply.TheVariants.{Made}
-use Rattle.wasmi_machine.specs.State.{State, new_state, World, Turn}
-use Rattle.wasmi_machine.specs.Effects.{ActsMetered}
+use Rattle.wasmi_machine.specs.State.{State, new_state, no_slots, World, Turn}
+use Rattle.wasmi_machine.specs.Effects.{ActsMetered, Asks}
 use Rattle.wasmi_machine.specs.Steps.{Effect, Told, BytesRead, FuelSet, Changed, MemoryMade, LentMemoryMade, MemoryGrown, TableMade, TableGrown, RangeWritten, MemoryWritten, TableWritten, effect_of, HasEffect, Step, Run, IsRunOf}
 use Rattle.wasmi_machine.specs.Determinism.{IsDeterministic, AcceptsNotices, IsNotOutOfMemory}
 use Rattle.wasmi_machine.proofs.DeterminismLemmas.{unlimited_unique, quota_unique}
@@ -28,9 +28,8 @@ use Rattle.wasmi_script.specs.declared.running.Held.TheVariants as holding
 use Rattle.wasmi_grammar.specs.declared.script.Script.{Script}
 use Rattle.wasmi_grammar.specs.declared.header.Header.{Header}
 use Rattle.wasmi_grammar.specs.declared.header.LimiterLine.{LimiterLine}
-use Rattle.wasmi_grammar.specs.declared.header.MeterLine.{MeterLine}
 use Rattle.wasmi_grammar.specs.declared.header.LimiterLine.TheVariants.{Quota, Answers, Tenants}
-use Rattle.wasmi_grammar.specs.Headers.{meter_meaning, meter_off, meter_of, region_bytes, start_of}
+use Rattle.wasmi_grammar.specs.Headers.{meter_meaning, meter_off, region_bytes, start_of, tenant_start}
 use Rattle.wasmi_script.specs.Printing.{line}
 use Rattle.wasmi_script.specs.Texts.{kind_text, reply_text, error_text}
 use Rattle.wasmi_meter.specs.declared.answer_list.LimiterAnswer.{LimiterAnswer}
@@ -126,6 +125,19 @@ module _ {S : Type 0} (rules : Rules S) where
     after = a.after;
   }
 
+  -- a turn that makes something under the limiter does so by any other call too
+  asks_again : {Lacks A : Type 0} {with_part : A → State} {Relation : S → Reply → A → S → Type 0} (w : World S)
+      (turn : Turn) (w' : World S) (other : Call) → Asks w turn w' Lacks with_part Relation
+      → Asks w (by_call turn other) w' Lacks with_part Relation
+  asks_again w turn w' other a = record {
+    free = a.free;
+    part = a.part;
+    limiter = a.limiter;
+    effect = a.effect;
+    room = a.room;
+    after = a.after;
+  }
+
   -- a turn that takes an effect takes it by any other call too
   retold_effect : (w : World S) (turn : Turn) (w' : World S) (other : Call) (effect : Effect)
       → HasEffect rules effect w turn w' → HasEffect rules effect w (by_call turn other) w'
@@ -137,12 +149,9 @@ module _ {S : Type 0} (rules : Rules S) where
       record { free = step.free; machine = step.machine; effect = step.effect; after = step.after }
   retold_effect w turn w' other (Changed change) step =
       record { free = step.free; machine = step.machine; effect = step.effect; after = step.after }
-  retold_effect w turn w' other (MemoryMade ty) step =
-      record { free = step.free; part = step.part; limiter = step.limiter; effect = step.effect; after = step.after }
-  retold_effect w turn w' other (LentMemoryMade ty) step =
-      record { free = step.free; part = step.part; limiter = step.limiter; effect = step.effect; after = step.after }
-  retold_effect w turn w' other (TableMade ty init) step =
-      record { free = step.free; part = step.part; limiter = step.limiter; effect = step.effect; after = step.after }
+  retold_effect w turn w' other (MemoryMade ty) step = asks_again w turn w' other step
+  retold_effect w turn w' other (LentMemoryMade ty) step = asks_again w turn w' other step
+  retold_effect w turn w' other (TableMade ty init) step = asks_again w turn w' other step
   retold_effect w turn w' other (MemoryGrown k pages) step = acts_again w turn w' other step
   retold_effect w turn w' other (TableGrown k n init) step = acts_again w turn w' other step
   retold_effect w turn w' other (RangeWritten (TableWritten k source dst len)) step =
@@ -203,12 +212,18 @@ module _ {L : Type 0} (rules : Rules L) (once : IsDeterministic rules) (accepts 
         ran = retold (optional_rules rules) calls calls' w b.after b.replies same b.ran;
       })
 
--- scripts that say the same start with the same machine
-starts_same : (header header' : Header) → header.meter ≡ header'.meter → header.region ≡ header'.region
-    → start_of header ≡ start_of header'
-starts_same header header' meter region =
+-- the tenants of scripts that say the same start with the same machine
+tenants_same : (header header' : Header) → header.meter ≡ header'.meter → header.reserve ≡ header'.reserve
+    → tenant_start header ≡ tenant_start header'
+tenants_same header header' meter reserve =
     λ i. record (new_state (option_map_or meter_meaning (meter i) meter_off))
-    { spare = option_map region_bytes (region i) }
+    { reserved = option_map_or (λ slots. slots) (reserve i) no_slots }
+
+-- scripts that say the same start with the same machine
+starts_same : (header header' : Header) → header.meter ≡ header'.meter → header.reserve ≡ header'.reserve
+    → header.region ≡ header'.region → start_of header ≡ start_of header'
+starts_same header header' meter reserve region =
+    λ i. record (tenants_same header header' meter reserve i) { spare = option_map region_bytes (region i) }
 
 -- two quotas of a line that hold nothing are one
 new_quotas : (asked : _) (quota quota' : quotas.Quota) → IsNewQuota asked quota → IsNewQuota asked quota'
@@ -339,7 +354,8 @@ module _ (once : IsDeterministic tenant_rules) where
       → SameReplies ran.replies.items ran'.replies.items ran.held ran'.held
   by_unique limiter script script' ran ran' none same replay replay' has = by limiter none replay replay' where
     start : start_of script.header ≡ start_of script'.header
-    start = starts_same script.header script'.header (ap ScriptMeaning.meter same) (ap ScriptMeaning.region same)
+    start = starts_same script.header script'.header (ap ScriptMeaning.meter same) (ap ScriptMeaning.reserve same)
+        (ap ScriptMeaning.region same)
 
     alone : (l : Option LimiterLine) → HasNoAnswers l → IsReplayOnOne l script.header (calls_of script) ran
         → IsReplayOnOne l script'.header (calls_of script') ran'
@@ -357,10 +373,11 @@ module _ (once : IsDeterministic tenant_rules) where
     by (Some (Quota asked)) none replay replay' = alone (Some (Quota asked)) none replay replay'
     by (Some (Answers words)) none replay replay' = absurd none
     by (Some (Tenants asked)) none (pool, held, answers) (pool', held', answers') =
-        let meters : meter_of script'.header ≡ meter_of script.header =
-        ap (λ (m : Option MeterLine). option_map_or meter_meaning m meter_off) (ap ScriptMeaning.meter (sym same)) in
-        let again = subst (λ m. AnswersParts (new_pool asked (new_state m))
-        (parts_in script'.parts) ran'.replies.items pool') meters answers' in
+        let first : tenant_start script'.header ≡ tenant_start script.header =
+        tenants_same script'.header script.header (ap ScriptMeaning.meter (sym same))
+        (ap ScriptMeaning.reserve (sym same)) in
+        let again = subst (λ s. AnswersParts (new_pool asked s) (parts_in script'.parts) ran'.replies.items pool') first
+        answers' in
         let one = parts_unique (parts_in script.parts) (parts_in script'.parts) _ (ap ScriptMeaning.parts same)
         ran.replies.items ran'.replies.items pool pool' has answers again in
         record { answers = one.0; text = ap held_text (held ∙ ap holding.Tenants one.1 ∙ sym held') }
@@ -400,7 +417,8 @@ module _ (once : IsDeterministic tenant_rules) where
           → SameReplies ran.replies.items ran'.replies.items ran.held ran'.held
       by (Some (Answers words)) (Some (Answers words')) quiet said replay replay' =
           let given : words.items ≡ words'.items = cc in
-          let start = starts_same script.header script'.header (ap ScriptMeaning.meter same) (ap ScriptMeaning.region same) in
+          let start = starts_same script.header script'.header (ap ScriptMeaning.meter same)
+          (ap ScriptMeaning.reserve same) (ap ScriptMeaning.region same) in
           let calls' = calls_of script' in
           listed_unique words.items (start_of script.header) (calls_of script) calls' ran.replies.items
           ran'.replies.items ran.held ran'.held quiet (calls_same script script' same) (

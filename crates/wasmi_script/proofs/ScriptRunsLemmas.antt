@@ -5,10 +5,10 @@ use Rattle.wasmi_meter.specs.declared.limiter.NoLimits.{NoLimits}
 use Rattle.wasmi_meter.specs.Limiter.{optional_rules, unlimited_rules}
 use Rattle.wasmi_machine.specs.declared.calls.Call.{Call}
 use Rattle.wasmi_machine.specs.declared.calls.Reply.{Reply}
-use Rattle.wasmi_machine.specs.State.{State, new_state, World, world}
+use Rattle.wasmi_machine.specs.State.{State, World, world}
 use Rattle.wasmi_machine.specs.Steps.{IsRunOf}
 use Rattle.wasmi_grammar.specs.declared.header.Header.{Header}
-use Rattle.wasmi_grammar.specs.Headers.{meter_of, region_bytes, start_of}
+use Rattle.wasmi_grammar.specs.Headers.{region_bytes, start_of, tenant_start}
 use Rattle.wasmi_script.specs.ScriptRuns.{AnswersParts}
 use Rattle.std.specs.List.{slice_get}
 use Rattle.std.proofs.lemmas.List.{take_more}
@@ -23,13 +23,13 @@ use Rattle.wasmi_machine.specs.Determinism.{IsDeterministic}
 use Rattle.wasmi_machine.proofs.ToldLemmas.{accepted_replies_are_one}
 use Rattle.wasmi_script.specs.Decided.{NeverComplains, QuietListsAcceptNotices, QuietListsDecideReplies}
 
--- a machine with the meter of these header lines and with their region is the one that a script starts with
+-- a machine with the meter, the slots and the region of these header lines is the one that a script starts with
 pub starts : {A : Type 0} (header : Header) (machine : State) (seen region : Option (Vec ℕ A))
-    → machine ≡ record (new_state (meter_of header)) { spare = option_map (λ bytes. bytes.items) seen }
+    → machine ≡ record (tenant_start header) { spare = option_map (λ bytes. bytes.items) seen }
     → seen ≡ region → option_map (λ bytes. bytes.items) region ≡ option_map region_bytes header.region
     → machine ≡ start_of header
 starts header machine seen region made same filled =
-    made ∙ (λ i. record (new_state (meter_of header))
+    made ∙ (λ i. record (tenant_start header)
     { spare = (ap (option_map (λ bytes. bytes.items)) same ∙ filled) i })
 
 -- a run from a machine that is the one to start with, and whose limiter is none

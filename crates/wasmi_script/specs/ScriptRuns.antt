@@ -8,7 +8,7 @@ use Rattle.wasmi_meter.specs.declared.holdings.Holdings.{Holdings}
 use Rattle.wasmi_meter.specs.declared.amounts.Amounts.{Amounts}
 use Rattle.wasmi_meter.specs.Capped.{nothing, quota_rules, cap_of, holdings}
 use Rattle.wasmi_machine.specs.declared.calls.Call.{Call}
-use Rattle.wasmi_machine.specs.State.{State, new_state, World, HoldsTotals}
+use Rattle.wasmi_machine.specs.State.{State, World, HoldsTotals}
 use Rattle.wasmi_machine.specs.Steps.{IsRunOf}
 use Rattle.wasmi_machine.specs.declared.calls.Reply.{Reply}
 use Rattle.wasmi_budget.specs.Pool.{PoolValue, RunsTenant}
@@ -25,7 +25,7 @@ use Rattle.wasmi_script.specs.declared.running.Held.{Held}
 use Rattle.wasmi_script.specs.declared.running.Ran.{Ran}
 use Rattle.wasmi_meter.specs.declared.answer_list.LimiterAnswer.{LimiterAnswer}
 use Rattle.wasmi_meter.specs.AnswerList.{AnswersAhead, answer_list_rules, new_answers}
-use Rattle.wasmi_grammar.specs.Headers.{meter_of, start_of}
+use Rattle.wasmi_grammar.specs.Headers.{start_of, tenant_start}
 
 -- what a limiter holds that has permitted nothing yet
 abbrev pub nothing_held : Holdings
@@ -58,7 +58,8 @@ IsReplayUnder (Some (Lines.Answers answers)) start calls replies held =
     IsListedReplay answers.items start calls replies held
 IsReplayUnder (Some (Lines.Tenants line)) start calls replies held = ⊥
 
--- the replies are those of a run of the calls on a new machine with the meter and the region of these header lines
+-- the replies are those of a run of the calls on a new machine with the meter, the reserved slots and the region of these
+-- header lines
 abbrev pub IsReplayOnOne : Option LimiterLine → Header → List Call → Ran → Type 0
 IsReplayOnOne limiter header calls ran = IsReplayUnder limiter (start_of header) calls ran.replies.items ran.held
 
@@ -74,14 +75,15 @@ AnswersParts pool (part ∷ parts) replies pool' =
     (answered : List Reply) × (later : List Reply) × (middle : PoolValue) × (replies ≡ answered ++ later)
     × RunsTenant pool part.tenant part.calls answered middle × AnswersParts middle parts later pool'
 
--- The replies are those of the parts, one after another, on a pool of new machines with the script's meter.
+-- The replies are those of the parts, one after another, on a pool of new machines with the script's meter and its
+-- reserved slots.
 -- What is held is what the pool's machines have then.
 abbrev pub IsPoolReplay : TenantsLine → Script → Ran → Type 0
 IsPoolReplay line script ran = (pool : PoolValue) × (ran.held ≡ Holding.Tenants pool)
-    × AnswersParts (new_pool line (new_state (meter_of script.header))) (parts_in script.parts) ran.replies.items pool
+    × AnswersParts (new_pool line (tenant_start script.header)) (parts_in script.parts) ran.replies.items pool
 
--- the replies are those of the parts on a pool, or those of a run on a new machine with the script's meter and its
--- region
+-- the replies are those of the parts on a pool, or those of a run on a new machine with the script's meter, its reserved
+-- slots and its region
 abbrev pub IsReplayBy : Option LimiterLine → Script → Ran → Type 0
 IsReplayBy (Some (Lines.Tenants line)) script ran = IsPoolReplay line script ran
 IsReplayBy limiter script ran = IsReplayOnOne limiter script.header (calls_of script) ran

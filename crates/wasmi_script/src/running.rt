@@ -1,7 +1,7 @@
 //! The run of a script's calls.
 ghost use Rattle.std.specs.Prelude.{◌≡◌, None, Some, IfOk};
 ghost use Rattle.std.specs.Option.{option_map, option_copied_mut};
-ghost use Rattle.wasmi_grammar.specs.Headers.{meter_of, region_bytes, start_of};
+ghost use Rattle.wasmi_grammar.specs.Headers.{meter_of, region_bytes, start_of, tenant_start};
 ghost use Rattle.wasmi_machine.specs.State.{new_state};
 ghost use Rattle.wasmi_script.specs.ScriptRuns.{IsReplayOf, IsReplayOnOne, IsListedReplay, IsPoolReplay, new_pool};
 
@@ -88,12 +88,27 @@ fn machine_of<'r>(alloc: Global, header: &Header, region: Option<&'r mut Vec<u8>
     }
 }
 
+/// The machine that the script starts with, or each of its tenants: a new one, as by `machine_of`,
+/// with the slots reserved that the header lines ask for.
+fn start<'r>(
+    alloc: Global,
+    header: &Header,
+    region: Option<&'r mut Vec<u8>>,
+) -> Result<Machine<'r>, AllocError>
+    ensures { IfOk result (λ machine. machine ≡ record (tenant_start header.now)
+        { spare = option_map (λ bytes. bytes.items) (option_copied_mut region.entry) }) }
+{
+    let mut machine = machine_of(alloc, header, region);
+    machine.reserve(header.slots())?;
+    Ok(machine)
+}
+
 /// Runs the calls on a new machine without a limiter.
 fn run_freely(alloc: Global, header: &Header, calls: &[Call]) -> Result<Ran, AllocError>
     ensures { IfOk result (IsReplayOnOne None header.now calls.now) }
 {
     let mut region = region_of(alloc, header)?;
-    let mut machine = machine_of(alloc, header, region.as_mut());
+    let mut machine = start(alloc, header, region.as_mut())?;
     let mut limiter = ResourceLimiterRef::<NoLimits>::default();
     let replies = run(&mut machine, calls, &mut limiter)?;
     let held = Held::Nothing;
@@ -110,7 +125,7 @@ fn run_under_quota(
     ensures { IfOk result (IsReplayOnOne (Some (LimiterLine.Quota caps)) header.now calls.now) }
 {
     let mut region = region_of(alloc, header)?;
-    let mut machine = machine_of(alloc, header, region.as_mut());
+    let mut machine = start(alloc, header, region.as_mut())?;
     let mut quota = Quota::new(caps.bytes, caps.elements);
     let replies = run_reserving(&mut machine, calls, &mut quota)?;
     let held = Held::Quota(Amounts {
@@ -132,13 +147,14 @@ fn run_answered(
 {
     let mut limiter = AnswerList::new(answers.to_vec(alloc)?);
     let mut region = region_of(alloc, header)?;
-    let mut machine = machine_of(alloc, header, region.as_mut());
+    let mut machine = start(alloc, header, region.as_mut())?;
     let replies = run_lending(&mut machine, calls, &mut limiter)?;
     let held = Held::Nothing;
     Ok(Ran { replies, held })
 }
 
-/// Runs the script's parts, each by its tenant, on a pool of new machines with the script's meter.
+/// Runs the script's parts, each by its tenant, on a pool of new machines with the script's meter and
+/// its reserved slots.
 fn run_pool(alloc: Global, script: &Script, line: TenantsLine) -> Result<Ran, AllocError>
     ensures { IfOk result (IsPoolReplay line script.now) }
 {
@@ -157,14 +173,15 @@ fn run_pool(alloc: Global, script: &Script, line: TenantsLine) -> Result<Ran, Al
     Ok(Ran { replies, held })
 }
 
-/// A pool of new machines with the meter of the header, under the caps of the line.
+/// A pool of new machines with the meter and the reserved slots of the header, under the caps of the
+/// line.
 fn pool_of(alloc: Global, header: &Header, line: TenantsLine) -> Result<Pool<'static>, AllocError>
-    ensures { IfOk result (λ pool. pool ≡ new_pool line (new_state (meter_of header.now))) }
+    ensures { IfOk result (λ pool. pool ≡ new_pool line (tenant_start header.now)) }
 {
     let mut pool = Pool::new(alloc, line.caps.bytes, line.caps.elements);
     for _index in 0..line.count {
         // A new machine has nothing, so room alone can be wanting.
-        if pool.add(Machine::new(alloc, fuel_of(header))).is_err() {
+        if pool.add(start(alloc, header, None)?).is_err() {
             return Err(AllocError);
         }
     }

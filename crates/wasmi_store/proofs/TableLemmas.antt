@@ -1,7 +1,7 @@
 -- The making and the growth of a table, by what was tested on the way; an element segment in the midst of being read.
 use Rattle.std.proofs.Common.{◌≡◌, ℕ, ◌+◌, ◌-◌, Bool, true, false, Option, Some, None, Result, Ok, Err, List, ◌++◌, length, take, replicate, refl, ap, ◌∙◌, arith, ◌<◌, [], ◌∷◌, sym, subst, length-append}
 use Rattle.std.proofs.lemmas.List.{take_all, length-replicate}
-use Rattle.std.specs.Prelude.{MatchBool}
+use Rattle.std.specs.Prelude.{MatchBool, OnErr, is_err}
 use Rattle.wasmi_typed.specs.declared.typed_ref.TypedRawRef.{TypedRawRef}
 use Rattle.wasmi_meter.specs.declared.fuel.CustomFuelCosts.{CustomFuelCosts}
 use Rattle.wasmi_meter.specs.declared.error.TableError.{TableError}
@@ -17,6 +17,11 @@ use Rattle.wasmi_store.proofs.GrowthLemmas.{no_cause, a_cause, permitted_by, Tel
 use Rattle.wasmi_types.proofs.ReadingLemmas.{SoFar, SoFar-next, Yields-snoc}
 use Rattle.wasmi_store.specs.Segment.{most_items, IsOutOfMemory}
 use Rattle.wasmi_store.proofs.GrowthLemmas as any
+
+-- where a call failed, what holds of its failures holds
+pub of_failure : {T E P : Type 0} (result : Result T E) → is_err result ≡ true → OnErr result P → P
+of_failure (Ok value) failed fact = cc
+of_failure (Err error) failed fact = fact
 
 -- a list that is resized upwards
 pub resized : (xs : List ℕ) (size n desired reference : ℕ) → size ≡ length xs → desired ≡ length xs + n
@@ -127,10 +132,12 @@ module _ {S : Type 0} {rules : Rules S} {x : TableValue} {m : Meter} {l : S} {n 
     grows_unpaid = any.grows_unpaid t p reaches m'
 
     module _ (enough : Charges m (due m (element_price n)) (Ok tt) m') where
-      -- where the price is paid and memory is wanting, the limiter gets a notice, and the table stays
-      pub grows_refused : (x' : TableValue) → x' ≡ x → (error : TableError) (l' : S)
+      -- where the price is paid and memory is wanting that wasn't reserved, the limiter gets a notice, and the table
+      -- stays
+      pub grows_refused : x.reserved < question.desired → (x' : TableValue) → x' ≡ x → (error : TableError) (l' : S)
           → TellsOf rules (growth_of x n reference) OutOfSystemMemory p error l' → EndsIn t (Err error) x' m' l'
-      grows_refused = any.grows_refused t p reaches m' enough OutOfSystemMemory refl
+      grows_refused short =
+          any.grows_refused t p reaches m' enough OutOfSystemMemory (refl, rw desired_is at short)
 
       -- where the price is paid and memory isn't wanting, the table has grown, and the old size is answered
       pub grows_met : (x' : TableValue) → x' ≡ with_added x n reference → (old : ℕ) → old ≡ size_of x

@@ -15,7 +15,7 @@ use Rattle.wasmi_types.specs.declared.value.RefType.TheVariants.{Func, Extern}
 use Rattle.wasmi_store.specs.Growth.{metered, WithCharge}
 use Rattle.wasmi_store.specs.Write.{MeteredWrite, EndsBy, IsRefusedFor, Writes, WritesCharging, write_charge, write_due, items_write, WritesItems, BulkWrites, item_price}
 use Rattle.wasmi_store.specs.Memory.{MemoryValue, bytes_write}
-use Rattle.wasmi_store.specs.Table.{elements_write, element_price, table_of, TableTypeValue, same_type}
+use Rattle.wasmi_store.specs.Table.{elements_write, element_price, with_elements, TableValue, same_type}
 use Rattle.wasmi_meter.specs.declared.error.MemoryError.TheVariants as memory
 use Rattle.std.proofs.lemmas.List.{length-take-le, take-take, take_at, drop_at, drop-drop, drop-take}
 
@@ -52,14 +52,15 @@ charging write {s} {result = result} writes =
     (write_charge (write s.value) s result, record { writes = writes; charged = refl })
 
 -- a write over elements is one over the table that has them, where the types are the same
-pub writes_elements : (ty : TableTypeValue) (typed : Bool) (written : Option (List ℕ)) (outside : TableError)
-    (paid : Option ℕ) (xs : List ℕ) (m : Option Meter) (result : Result (Unit {0}) TableError) (xs' : List ℕ)
-    (m' : Option Meter) → typed ≡ true
-    → WritesItems OutOfFuel written outside (option_map element_price paid) (metered xs m) result (metered xs' m')
-    → Writes (elements_write (table_of ty xs) typed written outside paid) (metered (table_of ty xs) m) result
-    (metered (table_of ty xs') m')
-writes_elements ty typed written outside paid xs m result xs' m' same writes = rw same
-    (writes_put (table_of ty) outside (option_map element_price paid) OutOfFuel xs m result xs' m' written writes)
+pub writes_elements : (x : TableValue) (typed : Bool) (written : Option (List ℕ)) (outside : TableError)
+    (paid : Option ℕ) (m : Option Meter) (result : Result (Unit {0}) TableError) (xs' : List ℕ) (m' : Option Meter)
+    → typed ≡ true
+    → WritesItems OutOfFuel written outside (option_map element_price paid) (metered x.elements m) result
+    (metered xs' m')
+    → Writes (elements_write x typed written outside paid) (metered x m) result (metered (with_elements x xs') m')
+writes_elements x typed written outside paid m result xs' m' same writes = rw same
+    (writes_put (with_elements x) outside (option_map element_price paid) OutOfFuel x.elements m result xs' m' written
+    writes)
 
 -- a write over bytes is one over the memory that has them
 pub writes_bytes : (x : MemoryValue) (written : Option (List ℕ)) (paid : ℕ) (m : Option Meter)

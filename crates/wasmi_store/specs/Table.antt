@@ -1,5 +1,5 @@
 -- Tables: their types, making one, growing it, reading and writing its elements (core specification, table types and table instances).
-use Rattle.std.specs.Prelude.{◌≡◌, ◌^◌, ◌≤◌, ◌<◌, ℕ, Bool, true, false, nat_le, nat_lt, Option, ◌+◌, List, [], ◌∷◌, ◌++◌, length, replicate, nat_eq, if◌then◌else◌, MatchBool, MatchOption, Some, None, Result, Ok, Err, slice_get}
+use Rattle.std.specs.Prelude.{◌≡◌, ◌^◌, ◌≤◌, ◌<◌, ℕ, Bool, true, false, nat_le, nat_lt, Option, ◌+◌, List, [], ◌∷◌, ◌++◌, length, replicate, max, nat_eq, if◌then◌else◌, MatchBool, MatchOption, Some, None, Result, Ok, Err, slice_get}
 use Rattle.std.specs.Option.{option_map_or, ForSome, option_map}
 use Rattle.wasmi_types.specs.declared.value.RefType.{RefType}
 use Rattle.wasmi_types.specs.declared.value.RefType.TheVariants.{Func, Extern}
@@ -53,14 +53,23 @@ pub record IsSubtype (a b : TableTypeValue) : Type 0 where
   pub minimum : b.minimum ≤ a.minimum
   pub maximum : IsNoLooser a.maximum b.maximum
 
--- a table: its type, and its elements, each a reference or 0 for null
+-- a table: its type, its elements, each a reference or 0 for null, and how many elements in all memory was reserved for
 pub record TableValue : Type 0 where
   pub ty : TableTypeValue
   pub elements : List ℕ
+  pub reserved : ℕ
 
--- the table of a type with these elements
+-- the table of a type with these elements, for which nothing was reserved
 abbrev pub table_of : TableTypeValue → List ℕ → TableValue
-table_of ty elements = record { ty = ty; elements = elements }
+table_of ty elements = record { ty = ty; elements = elements; reserved = 0 }
+
+-- the table with these elements
+abbrev pub with_elements : TableValue → List ℕ → TableValue
+with_elements x elements = record x { elements = elements }
+
+-- the table for whose first n elements memory is reserved, unless that was so for more
+abbrev pub with_elements_reserved : TableValue → ℕ → TableValue
+with_elements_reserved x n = record x { reserved = max x.reserved n }
 
 -- how many elements a table has
 abbrev pub size_of : TableValue → ℕ
@@ -83,11 +92,11 @@ dynamic_type x = record x.ty { minimum = size_of x }
 
 -- a new table at the minimum of its type, with one reference in each place
 abbrev pub new_table : TableTypeValue → ℕ → TableValue
-new_table ty reference = record { ty = ty; elements = replicate ty.minimum reference }
+new_table ty reference = table_of ty (replicate ty.minimum reference)
 
 -- the table with n more elements
 abbrev pub with_added : TableValue → ℕ → ℕ → TableValue
-with_added x n reference = record { ty = x.ty; elements = x.elements ++ replicate n reference }
+with_added x n reference = with_elements x (x.elements ++ replicate n reference)
 
 -- the fuel for so many elements, of 4 bytes each
 abbrev pub element_price : ℕ → CustomFuelCosts → ℕ
@@ -109,7 +118,7 @@ creation_of ty init = record {
 }
 
 -- what is asked and paid where a table grows by n elements, and the causes of a refusal: the maximum is tested after
--- the permission
+-- the permission, and memory is wanting only for more elements than it was reserved for
 abbrev pub growth_of : TableValue → ℕ → ℕ → Request TableValue TableError
 growth_of x n reference = record {
   early = if is_indexable x.ty (size_of x + n) then None else Some GrowOutOfBounds;
@@ -120,7 +129,7 @@ growth_of x n reference = record {
   late = if is_within_maximum x.ty (size_of x + n) then None else Some GrowOutOfBounds;
   price = Some (element_price n);
   unpaid = OutOfFuel;
-  refuses = λ cause. cause ≡ OutOfSystemMemory;
+  refuses = λ cause. (cause ≡ OutOfSystemMemory) × (x.reserved < size_of x + n);
   grown = with_added x n reference;
 }
 
@@ -163,7 +172,7 @@ element_at x index =
 abbrev pub SetsTableRaw : ℕ → ℕ → TableValue → Result (Unit {0}) TableError → TableValue → Type 0
 SetsTableRaw index reference x result x' = MatchOption (overwrite x.elements index (reference ∷ []))
     ((result ≡ Err SetOutOfBounds) × (x' ≡ x))
-    (λ elements. (result ≡ Ok tt) × (x' ≡ record x { elements = elements }))
+    (λ elements. (result ≡ Ok tt) × (x' ≡ with_elements x elements))
 
 -- the element at an index is set to a reference that has a type, which is tested first
 abbrev pub SetsTable : ℕ → TypedRawRef → TableValue → Result (Unit {0}) TableError → TableValue → Type 0
@@ -179,7 +188,7 @@ TableWrite = MeteredWrite TableValue TableError
 abbrev pub elements_write : TableValue → Bool → Option (List ℕ) → TableError → Option ℕ → TableWrite
 elements_write x typed written outside paid = record {
   early = if typed then None else Some ElementTypeMismatch;
-  written = option_map (table_of x.ty) written;
+  written = option_map (with_elements x) written;
   outside = outside;
   price = option_map element_price paid;
   unpaid = OutOfFuel;

@@ -1,11 +1,11 @@
 //! Tables.
-ghost use Rattle.std.specs.Prelude.{◌≡◌, ◌+◌, ◌<◌, ◌∷◌, [], length, take, drop, ℕ, Some, None};
+ghost use Rattle.std.specs.Prelude.{◌≡◌, ◌+◌, ◌<◌, ◌∷◌, [], OnErr, OnOk, length, take, drop, ℕ, Some, None};
 ghost use Rattle.wasmi_types.specs.Access.{overwrite};
 ghost use Rattle.wasmi_meter.specs.Limiter.{optional_rules, lent_limiter, KeepsLoan};
 ghost use Rattle.wasmi_meter.specs.Meter.{meter_at_entry, meter_at_exit};
 ghost use Rattle.wasmi_store.specs.Growth.{metered_value, metered};
 ghost use Rattle.wasmi_store.specs.Segment.{segment_of};
-ghost use Rattle.wasmi_store.specs.Table.{IsSubtype, TableValue, IsSized, size_of, dynamic_type, element_at, element_price, MakesTable, GrowsTableRaw, GrowsTable, SetsTable, SetsTableRaw, WritesTable, filling_of, raw_filling_of, copy_of, initialization_of};
+ghost use Rattle.wasmi_store.specs.Table.{IsSubtype, TableValue, with_elements_reserved, IsSized, size_of, dynamic_type, element_at, element_price, MakesTable, GrowsTableRaw, GrowsTable, SetsTable, SetsTableRaw, WritesTable, filling_of, raw_filling_of, copy_of, initialization_of};
 
 mod element;
 mod ty;
@@ -15,7 +15,7 @@ use crate::growth::{TABLE_DENIED as DENIED, charge, permission, tell};
 use crate::range::write_range;
 use crate::with_meter;
 pub use element::{ElementSegment, ElementSegmentRef, SegmentError};
-use std::alloc::Global;
+use std::alloc::{AllocError, Global};
 use std::marker::Model;
 pub use ty::TableType;
 use wasmi_meter::{Fuel, ResourceLimiter, ResourceLimiterRef, TableError};
@@ -35,17 +35,24 @@ use wasmi_typed::TypedRawRef;
 pub struct Table {
     ty: TableType,
     elements: Vec<RawRef>,
+    reserved: usize,
 }
 
 impl Model for Table {
-    ghost use Rattle.std.specs.Prelude.{length};
+    ghost use Rattle.std.specs.Prelude.{◌≤◌, length};
+    ghost use Rattle.std.specs.Vec.{vec_capacity};
     ghost use Rattle.wasmi_store.specs.Table.{TableValue, IsSized};
 
     ghost Value = { TableValue };
 
-    ghost view = { λ t. record { ty = t.ty; elements = t.elements.items } };
+    ghost view = { λ t. record {
+      ty = t.ty;
+      elements = t.elements.items;
+      reserved = t.reserved;
+    } };
 
-    ghost invariant = { λ t. IsSized t.ty (length t.elements.items) };
+    ghost invariant = { λ t. IsSized t.ty (length t.elements.items)
+        × (t.reserved ≤ vec_capacity t.elements) };
 }
 
 impl Table {
@@ -75,7 +82,11 @@ impl Table {
         let answer = limiter.table_growing(0, size, ty.maximum_size());
         permission(answer, DENIED, DENIED)?;
         match vec![in alloc; init.raw; size] {
-            Ok(elements) => Ok(Table { ty, elements }),
+            Ok(elements) => Ok(Table {
+                ty,
+                elements,
+                reserved: 0,
+            }),
             Err(_) => Err(tell(limiter, TableError::OutOfSystemMemory, DENIED)),
         }
     }
@@ -98,6 +109,26 @@ impl Table {
         let made = Table::new(alloc, ty, init, &mut lent);
         let _limiter = lent.into_limiter();
         made
+    }
+
+    /// Reserves memory for so many elements in all, those that are there included: until it has
+    /// more, a growth isn't refused with `OutOfSystemMemory`. What is reserved already stays so, and
+    /// no element is added.
+    ///
+    /// # Errors
+    ///
+    /// `AllocError` if the memory is refused. Then no more is reserved.
+    pub fn reserve(&mut self, elements: u64) -> Result<(), AllocError>
+        ensures reserved { OnOk result (self.new ≡ with_elements_reserved self.old elements) }
+        ensures refused { OnErr result ((self.new ≡ self.old) × (self.old.reserved < elements)) }
+    {
+        let Ok(elements) = usize::try_from(elements) else {
+            return Err(AllocError);
+        };
+        let additional = elements.saturating_sub(self.elements.len());
+        self.elements.try_reserve_exact(additional)?;
+        self.reserved = self.reserved.max(elements);
+        Ok(())
     }
 
     /// The type that it was made with.

@@ -3,6 +3,7 @@
 mod error {
     //! Why a pool refuses.
 
+    use crate::proved::machine::TooManyCalls;
     use crate::rattle::alloc::AllocError;
     use core::fmt;
 
@@ -64,6 +65,47 @@ mod error {
 
     impl core::error::Error for PoolError {}
 
+    /// Why a pool doesn't run a tenant's calls into memory that is kept for replies, in the order of the
+    /// tests.
+    #[derive(Debug, PartialEq, Eq)]
+    pub enum RunIntoError {
+        /// No tenant has the index.
+        NoTenant,
+        /// There are more calls than there is memory for replies. No call was executed.
+        TooManyCalls,
+    }
+
+    /// # Contract
+    ///
+    /// ```text
+    /// output = λ error. Some (run_into_error_text error)
+    /// ```
+    ///
+    /// Definitions: [`run_into_error_text`](crate::specs::budget::PoolSpecs#run_into_error_text).
+    impl fmt::Display for RunIntoError {
+        #[inline]
+        fn fmt(&self, f: &mut fmt::Formatter<'_>) -> fmt::Result {
+            f.write_str(match self {
+                Self::NoTenant => "tried to run a tenant that is not in the pool",
+                Self::TooManyCalls => "more calls than there is memory for replies",
+            })
+        }
+    }
+
+    impl core::error::Error for RunIntoError {}
+
+    /// # Contract
+    ///
+    /// ```text
+    /// from_gives = λ _ error. error ≡ into.TooManyCalls
+    /// ```
+    impl From<TooManyCalls> for RunIntoError {
+        #[inline]
+        fn from(_: TooManyCalls) -> Self {
+            RunIntoError::TooManyCalls
+        }
+    }
+
     /// # Contract
     ///
     /// ```text
@@ -73,6 +115,46 @@ mod error {
         #[inline]
         fn from(_: AllocError) -> Self {
             PoolError::OutOfMemory
+        }
+    }
+
+    /// Why a pool reserves no slots for a tenant, in the order of the tests.
+    #[derive(Debug, PartialEq, Eq)]
+    pub enum ReserveError {
+        /// No tenant has the index.
+        NoTenant,
+        /// Memory for some of the slots was refused. None more is reserved.
+        OutOfMemory,
+    }
+
+    /// # Contract
+    ///
+    /// ```text
+    /// output = λ error. Some (reserve_error_text error)
+    /// ```
+    ///
+    /// Definitions: [`reserve_error_text`](crate::specs::budget::PoolSpecs#reserve_error_text).
+    impl fmt::Display for ReserveError {
+        #[inline]
+        fn fmt(&self, f: &mut fmt::Formatter<'_>) -> fmt::Result {
+            f.write_str(match self {
+                Self::NoTenant => "tried to reserve slots for a tenant that is not in the pool",
+                Self::OutOfMemory => "out of memory for the slots",
+            })
+        }
+    }
+
+    impl core::error::Error for ReserveError {}
+
+    /// # Contract
+    ///
+    /// ```text
+    /// from_gives = λ _ error. error ≡ reserve.OutOfMemory
+    /// ```
+    impl From<AllocError> for ReserveError {
+        #[inline]
+        fn from(_: AllocError) -> Self {
+            ReserveError::OutOfMemory
         }
     }
 }
@@ -172,10 +254,10 @@ pub mod laws {
 mod pool {
     //! The pool.
 
-    use crate::proved::budget::error::{AddError, PoolError};
-    use crate::proved::budget::tenant::{CountedMachine, Tenant, replace_amounts};
+    use crate::proved::budget::error::{AddError, PoolError, ReserveError, RunIntoError};
+    use crate::proved::budget::tenant::CountedMachine;
     use crate::proved::budget::tenants::Tenants;
-    use crate::proved::machine::{Call, Machine, Reply};
+    use crate::proved::machine::{Call, Machine, Replies, Reply, SlotCounts};
     use crate::proved::meter::Amounts;
     use crate::rattle::Vec;
 
@@ -315,6 +397,30 @@ mod pool {
             Some(machine)
         }
 
+        /// Reserves so many more slots of each kind on the machine of a tenant, as `Machine::reserve`
+        /// does. What is reserved counts within no cap.
+        ///
+        /// # Errors
+        ///
+        /// In the order of the tests: `NoTenant` if no tenant has the index; `OutOfMemory` if memory for
+        /// some of the slots is refused. Then none more is reserved.
+        ///
+        /// # Contract
+        ///
+        /// ```text
+        /// ensures reserved: OnOk result (ReservesForTenant self.old index slots self.new)
+        /// ensures no_tenant: IsErrOf result ReserveError.NoTenant
+        ///     ↔ (machine_of self.old index ≡ None)
+        /// ensures refused: OnErr result (self.new ≡ self.old)
+        /// ensures within: IsWithinCaps self.new
+        /// ```
+        ///
+        /// Definitions: [`ReservesForTenant`](crate::specs::budget::PoolSpecs#ReservesForTenant), [`machine_of`](crate::specs::budget::PoolSpecs#machine_of), [`IsWithinCaps`](crate::specs::budget::PoolSpecs#IsWithinCaps).
+        #[inline]
+        pub fn reserve(&mut self, index: usize, slots: SlotCounts) -> Result<(), ReserveError> {
+            self.tenants.reserve(index, slots)
+        }
+
         /// Executes calls on the machine of a tenant, under a limiter that permits what keeps all
         /// tenants together within the caps. It costs memory for the replies, a search among the indices
         /// of the tenants, and what the calls cost, however much was made or dropped before.
@@ -337,12 +443,43 @@ mod pool {
         /// Definitions: [`RunsTenant`](crate::specs::budget::PoolSpecs#RunsTenant), [`machine_of`](crate::specs::budget::PoolSpecs#machine_of), [`IsWithinCaps`](crate::specs::budget::PoolSpecs#IsWithinCaps).
         #[inline]
         pub fn run(&mut self, index: usize, calls: &[Call]) -> Result<Vec<Reply>, PoolError> {
-            let Some(mut tenant) = self.tenant(index) else {
-                return Err(PoolError::NoTenant);
-            };
-            let replies = self.tenants.run(index, calls, &mut tenant)?;
-            self.held_by_all = tenant.held_by_all();
-            Ok(replies)
+            self.tenants
+                .run(index, calls, self.caps, &mut self.held_by_all)
+        }
+
+        /// Executes calls on the machine of a tenant, as `run`, but puts their replies into memory that
+        /// is there, in place of those that it has. It takes no memory for them.
+        ///
+        /// # Errors
+        ///
+        /// In the order of the tests: `NoTenant` if no tenant has the index; `TooManyCalls` if there are
+        /// more calls than the capacity of `replies`. Then no call was executed, and the replies stay.
+        ///
+        /// # Contract
+        ///
+        /// ```text
+        /// ensures ran: OnOk result
+        ///     (RunsTenant self.old index calls.now replies.new.items self.new)
+        /// ensures no_tenant: IsErrOf result RunIntoError.NoTenant
+        ///     ↔ (machine_of self.old index ≡ None)
+        /// ensures too_many: IsErrOf result RunIntoError.TooManyCalls
+        ///     → (replies.old.capacity < length calls.now)
+        /// ensures accepted: OnOk result (length calls.now ≤ replies.old.capacity)
+        /// ensures refused: OnErr result ((self.new ≡ self.old) × (replies.new ≡ replies.old))
+        /// ensures capacity: replies.new.capacity ≡ replies.old.capacity
+        /// ensures within: IsWithinCaps self.new
+        /// ```
+        ///
+        /// Definitions: [`RunsTenant`](crate::specs::budget::PoolSpecs#RunsTenant), [`machine_of`](crate::specs::budget::PoolSpecs#machine_of), [`IsWithinCaps`](crate::specs::budget::PoolSpecs#IsWithinCaps).
+        #[inline]
+        pub fn run_into(
+            &mut self,
+            index: usize,
+            calls: &[Call],
+            replies: &mut Replies,
+        ) -> Result<(), RunIntoError> {
+            self.tenants
+                .run_into(index, calls, self.caps, &mut self.held_by_all, replies)
         }
 
         /// Executes one call on the machine of a tenant, as `run` executes a list of it alone. It takes
@@ -375,13 +512,12 @@ mod pool {
             {
                 return self.step_unasked(index, call);
             }
-            let Some(mut tenant) = self.tenant(index) else {
+            let stepped = self
+                .tenants
+                .step(index, call, self.caps, &mut self.held_by_all);
+            let Some(reply) = stepped else {
                 return Err(PoolError::NoTenant);
             };
-            let Some(reply) = self.tenants.step(index, call, &mut tenant) else {
-                return Err(PoolError::NoTenant);
-            };
-            replace_amounts(&mut self.held_by_all, tenant.held_by_all());
             Ok(reply)
         }
 
@@ -483,32 +619,14 @@ mod pool {
         fn held(&self, index: usize) -> Option<Amounts> {
             Some(self.tenants.get(index)?.held)
         }
-
-        /// The limiter under which a tenant's machine runs.
-        ///
-        /// # Contract
-        ///
-        /// ```text
-        /// ensures: result
-        ///     ≡ option_map (tenant_at self.now index) (machine_of self.now index)
-        /// ```
-        ///
-        /// Definitions: [`tenant_at`](crate::specs::budget::PoolSpecs#tenant_at), [`machine_of`](crate::specs::budget::PoolSpecs#machine_of).
-        #[inline(always)]
-        fn tenant(&self, index: usize) -> Option<Tenant> {
-            let held = self.held(index)?;
-            let others = Amounts {
-                bytes: self.held_by_all.bytes - held.bytes,
-                elements: self.held_by_all.elements - held.elements,
-            };
-            Some(Tenant::new(self.caps, others, held))
-        }
     }
 }
 mod tenant {
     //! One machine of a pool, with what it has, and its limiter.
 
-    use crate::proved::machine::{Call, Machine, Reply, run_reserving};
+    use crate::proved::machine::{
+        Call, Machine, Replies, Reply, SlotCounts, TooManyCalls, run_into_lending, run_lending,
+    };
     use crate::proved::meter::{Amounts, CappedLimiter, Holdings, Kind, ResourceLimiterRef};
     use crate::rattle::Vec;
     use crate::rattle::alloc::AllocError;
@@ -525,21 +643,25 @@ mod tenant {
     }
 
     impl Tenant {
-        /// A tenant that has these holdings, beside the others', under the caps.
+        /// A tenant that holds so much of what all tenants hold, under the caps.
         ///
         /// # Contract
         ///
         /// ```text
-        /// ensures: result ≡ record
-        ///     { caps = caps; others = others; holdings = record { held = held; last = None } }
+        /// requires bytes: held.bytes ≤ all.bytes
+        /// requires elements: held.elements ≤ all.elements
+        /// ensures value: result ≡ tenant_of caps all held
         /// ```
         ///
-        /// Definitions: [`holdings`](crate::specs::budget::PoolSpecs#holdings).
+        /// Definitions: [`tenant_of`](crate::specs::budget::PoolSpecs#tenant_of).
         #[inline]
-        pub(crate) fn new(caps: Amounts, others: Amounts, held: Amounts) -> Self {
+        fn new(caps: Amounts, all: Amounts, held: Amounts) -> Self {
             Tenant {
                 caps,
-                others,
+                others: Amounts {
+                    bytes: all.bytes - held.bytes,
+                    elements: all.elements - held.elements,
+                },
                 holdings: Holdings::new(held),
             }
         }
@@ -555,11 +677,34 @@ mod tenant {
         ///
         /// Definitions: [`held_together`](crate::specs::meter::CappedSpecs#held_together), [`capped_tenant`](crate::specs::budget::PoolSpecs#capped_tenant), [`amounts_of`](crate::specs::meter::CappedSpecs#amounts_of).
         #[inline]
-        pub(crate) fn held_by_all(&self) -> Amounts {
+        fn held_by_all(&self) -> Amounts {
             let held = self.holdings.held();
             Amounts {
                 bytes: self.others.bytes + held.bytes,
                 elements: self.others.elements + held.elements,
+            }
+        }
+
+        /// Leaves what it holds, and what all tenants hold, in the place of what it held and what all
+        /// held before. Nothing is written where it holds as much, as it does after most calls: it
+        /// takes longer to read both amounts at once after each was written by itself.
+        ///
+        /// # Contract
+        ///
+        /// ```text
+        /// requires fits: (kind : Kind) → held_together capped_tenant self.now kind < 2 ^ 64
+        /// requires before: all.old ≡ amounts_of (held_before self.now held.old)
+        /// ensures held: held.new ≡ (holdings self.now).held
+        /// ensures all: all.new ≡ amounts_of (held_together capped_tenant self.now)
+        /// ```
+        ///
+        /// Definitions: [`held_together`](crate::specs::meter::CappedSpecs#held_together), [`capped_tenant`](crate::specs::budget::PoolSpecs#capped_tenant), [`amounts_of`](crate::specs::meter::CappedSpecs#amounts_of), [`held_before`](crate::specs::budget::PoolSpecs#held_before), [`holdings`](crate::specs::budget::PoolSpecs#holdings).
+        #[inline(always)]
+        fn leave(&self, held: &mut Amounts, all: &mut Amounts) {
+            let now = self.holdings.held();
+            if held.bytes != now.bytes || held.elements != now.elements {
+                *held = now;
+                *all = self.held_by_all();
             }
         }
     }
@@ -608,47 +753,94 @@ mod tenant {
     }
 
     impl<'r> CountedMachine<'r> {
-        /// Executes calls under a tenant that holds what the machine has: it does so again
-        /// afterwards, and what it holds is taken over from it.
+        /// Reserves so many more slots. What the machine has stays, so no tenant holds it.
         ///
         /// # Contract
         ///
         /// ```text
-        /// requires totals: HoldsTotals (holdings tenant.old) self.old
-        /// ensures run: IfOk result (λ replies. IsRunOf (optional_rules tenant_rules) calls.now
-        ///     (world self.old (Some tenant.old)) replies.items (world self.new (Some tenant.new)))
-        /// ensures err: OnErr result ((self.new ≡ self.old) × (tenant.new ≡ tenant.old))
-        /// ensures held: HoldsTotals (holdings tenant.new) self.new
+        /// ensures reserved: OnOk result (self.new ≡ with_reserved self.old slots)
+        /// ensures refused: OnErr result (self.new ≡ self.old)
         /// ```
         ///
-        /// Definitions: [`HoldsTotals`](crate::specs::machine::StateSpecs#HoldsTotals), [`holdings`](crate::specs::budget::PoolSpecs#holdings), [`IsRunOf`](crate::specs::machine::StepsSpecs#IsRunOf), [`optional_rules`](crate::specs::meter::LimiterSpecs#optional_rules), [`tenant_rules`](crate::specs::budget::PoolSpecs#tenant_rules), [`world`](crate::specs::machine::StateSpecs#world).
+        /// Definitions: [`with_reserved`](crate::specs::machine::StateSpecs#with_reserved).
+        #[inline]
+        pub(crate) fn reserve(&mut self, slots: SlotCounts) -> Result<(), AllocError> {
+            self.machine.reserve(slots)
+        }
+
+        /// Executes calls under its limiter in a pool with these caps, whose tenants hold `all`, which
+        /// becomes what they hold afterwards.
+        ///
+        /// # Contract
+        ///
+        /// ```text
+        /// requires part: IsPart caps all.old self.old
+        /// ensures run: IfOk result (λ replies. RunsAsPart caps all.old self.old calls.now
+        ///     replies.items self.new all.new)
+        /// ensures err: OnErr result ((self.new ≡ self.old) × (all.new ≡ all.old))
+        /// ```
+        ///
+        /// Definitions: [`IsPart`](crate::specs::budget::PoolSpecs#IsPart), [`RunsAsPart`](crate::specs::budget::PoolSpecs#RunsAsPart).
         #[inline]
         pub(crate) fn run(
             &mut self,
             calls: &[Call],
-            tenant: &mut Tenant,
+            caps: Amounts,
+            all: &mut Amounts,
         ) -> Result<Vec<Reply>, AllocError> {
-            let replies = run_reserving(&mut self.machine, calls, tenant)?;
-            self.held = tenant.holdings.held();
+            let mut tenant = Tenant::new(caps, *all, self.held);
+            let replies = run_lending(&mut self.machine, calls, &mut tenant)?;
+            tenant.leave(&mut self.held, all);
             Ok(replies)
         }
 
-        /// Executes one call, as `run` executes each of a list. It takes no memory for the reply.
+        /// Executes calls, as `run`, but puts their replies into memory that is there.
         ///
         /// # Contract
         ///
         /// ```text
-        /// requires totals: HoldsTotals (holdings tenant.old) self.old
-        /// ensures run: IsRunOf (optional_rules tenant_rules) (call.now ∷ [])
-        ///     (world self.old (Some tenant.old)) (result ∷ []) (world self.new (Some tenant.new))
-        /// ensures held: HoldsTotals (holdings tenant.new) self.new
+        /// requires part: IsPart caps all.old self.old
+        /// ensures run: OnOk result (RunsAsPart caps all.old self.old calls.now replies.new.items
+        ///     self.new all.new)
+        /// ensures accepted: IsOk result ↔ (length calls.now ≤ replies.old.capacity)
+        /// ensures err: OnErr result ((self.new ≡ self.old) × (all.new ≡ all.old)
+        ///     × (replies.new ≡ replies.old))
+        /// ensures capacity: replies.new.capacity ≡ replies.old.capacity
         /// ```
         ///
-        /// Definitions: [`HoldsTotals`](crate::specs::machine::StateSpecs#HoldsTotals), [`holdings`](crate::specs::budget::PoolSpecs#holdings), [`IsRunOf`](crate::specs::machine::StepsSpecs#IsRunOf), [`optional_rules`](crate::specs::meter::LimiterSpecs#optional_rules), [`tenant_rules`](crate::specs::budget::PoolSpecs#tenant_rules), [`world`](crate::specs::machine::StateSpecs#world).
+        /// Definitions: [`IsPart`](crate::specs::budget::PoolSpecs#IsPart), [`RunsAsPart`](crate::specs::budget::PoolSpecs#RunsAsPart).
+        #[inline]
+        pub(crate) fn run_into(
+            &mut self,
+            calls: &[Call],
+            caps: Amounts,
+            all: &mut Amounts,
+            replies: &mut Replies,
+        ) -> Result<(), TooManyCalls> {
+            let mut tenant = Tenant::new(caps, *all, self.held);
+            run_into_lending(&mut self.machine, calls, &mut tenant, replies)?;
+            tenant.leave(&mut self.held, all);
+            Ok(())
+        }
+
+        /// Executes one call, as `run` executes a list of it alone. It takes no memory for the reply.
+        ///
+        /// # Contract
+        ///
+        /// ```text
+        /// requires part: IsPart caps all.old self.old
+        /// ensures run: RunsAsPart caps all.old self.old (call.now ∷ []) (result ∷ []) self.new
+        ///     all.new
+        /// ```
+        ///
+        /// Definitions: [`IsPart`](crate::specs::budget::PoolSpecs#IsPart), [`RunsAsPart`](crate::specs::budget::PoolSpecs#RunsAsPart).
         #[inline(always)]
-        pub(crate) fn step(&mut self, call: &Call, tenant: &mut Tenant) -> Reply {
-            let reply = step_holding(&mut self.machine, call, tenant);
-            replace_amounts(&mut self.held, tenant.holdings.held());
+        pub(crate) fn step(&mut self, call: &Call, caps: Amounts, all: &mut Amounts) -> Reply {
+            let mut tenant = Tenant::new(caps, *all, self.held);
+            let reply = step_lending(&mut self.machine, call, &mut tenant);
+            if !is_refused_growth(&reply) {
+                tenant.leave(&mut self.held, all);
+            }
             reply
         }
 
@@ -668,35 +860,32 @@ mod tenant {
         }
     }
 
-    /// Puts other amounts in the place of some. Nothing is written where they are the same, as they are
-    /// after most calls: it takes longer to read both at once after each was written by itself.
+    /// Whether a reply is an error of a memory or a table, after which a machine has what it had.
     ///
     /// # Contract
     ///
     /// ```text
-    /// ensures: place.new ≡ amounts
+    /// ensures: IsTrue result → IsRefusal reply.now
     /// ```
+    ///
+    /// Definitions: [`IsRefusal`](crate::specs::machine::StateSpecs#IsRefusal).
     #[inline(always)]
-    pub(crate) fn replace_amounts(place: &mut Amounts, amounts: Amounts) {
-        if place.bytes != amounts.bytes || place.elements != amounts.elements {
-            *place = amounts;
-        }
+    fn is_refused_growth(reply: &Reply) -> bool {
+        matches!(reply, Reply::Memory(_) | Reply::Table(_))
     }
 
-    /// Executes one call under a tenant that holds what the machine has, and does so again afterwards.
+    /// Executes one call under a limiter that is known again afterwards.
     ///
     /// # Contract
     ///
     /// ```text
-    /// requires totals: HoldsTotals (holdings tenant.old) machine.old
-    /// ensures run: IsRunOf (optional_rules tenant_rules) (call.now ∷ [])
-    ///     (world machine.old (Some tenant.old)) (result ∷ []) (world machine.new (Some tenant.new))
-    /// ensures held: HoldsTotals (holdings tenant.new) machine.new
+    /// ensures: RepliesWith (optional_rules tenant_rules) call.now
+    ///     (world machine.old (Some tenant.old)) result (world machine.new (Some tenant.new))
     /// ```
     ///
-    /// Definitions: [`HoldsTotals`](crate::specs::machine::StateSpecs#HoldsTotals), [`holdings`](crate::specs::budget::PoolSpecs#holdings), [`IsRunOf`](crate::specs::machine::StepsSpecs#IsRunOf), [`optional_rules`](crate::specs::meter::LimiterSpecs#optional_rules), [`tenant_rules`](crate::specs::budget::PoolSpecs#tenant_rules), [`world`](crate::specs::machine::StateSpecs#world).
+    /// Definitions: [`RepliesWith`](crate::specs::machine::StepsSpecs#RepliesWith), [`optional_rules`](crate::specs::meter::LimiterSpecs#optional_rules), [`tenant_rules`](crate::specs::budget::PoolSpecs#tenant_rules), [`world`](crate::specs::machine::StateSpecs#world).
     #[inline(always)]
-    fn step_holding(machine: &mut Machine, call: &Call, tenant: &mut Tenant) -> Reply {
+    fn step_lending(machine: &mut Machine, call: &Call, tenant: &mut Tenant) -> Reply {
         // By itself, so that a growth by plain arguments is no `Call` in memory.
         if let Call::GrowMemory { memory, pages } = call {
             return machine.grow_memory_lending(*memory, *pages, tenant);
@@ -734,9 +923,10 @@ mod tenant {
 mod tenants {
     //! The machines of a pool at their indices.
 
-    use crate::proved::budget::error::PoolError;
-    use crate::proved::budget::tenant::{CountedMachine, Tenant};
-    use crate::proved::machine::{Call, Reply};
+    use crate::proved::budget::error::{PoolError, ReserveError, RunIntoError};
+    use crate::proved::budget::tenant::CountedMachine;
+    use crate::proved::machine::{Call, Replies, Reply, SlotCounts};
+    use crate::proved::meter::Amounts;
     use crate::rattle::Vec;
 
     /// The place of an index among rising ones, if it is one of them. It is found without a search
@@ -865,62 +1055,125 @@ mod tenants {
             Some(self.machines.remove(place))
         }
 
-        /// Executes calls on the machine at an index, under a tenant that holds what the machine has.
+        /// Reserves so many more slots of the machine at an index.
         ///
         /// # Contract
         ///
         /// ```text
-        /// requires totals: (s : State) → slice_index_or self.old index None ≡ Some s
-        ///     → HoldsTotals (holdings tenant.old) s
-        /// ensures ran: IfOk result
-        ///     (λ replies. RunsMachine self.old index tenant.old calls.now replies.items self.new
-        ///     tenant.new)
-        /// ensures no_tenant: IsErrOf result PoolError.NoTenant
+        /// ensures reserved: OnOk result (ReservesAt self.old index slots self.new)
+        /// ensures no_tenant: IsErrOf result ReserveError.NoTenant
         ///     ↔ (slice_index_or self.old index None ≡ None)
-        /// ensures refused: OnErr result ((self.new ≡ self.old) × (tenant.new ≡ tenant.old))
+        /// ensures refused: OnErr result (self.new ≡ self.old)
         /// ```
         ///
-        /// Definitions: [`State`](crate::specs::machine::StateSpecs#State), [`HoldsTotals`](crate::specs::machine::StateSpecs#HoldsTotals), [`holdings`](crate::specs::budget::PoolSpecs#holdings), [`RunsMachine`](crate::specs::budget::PoolSpecs#RunsMachine).
+        /// Definitions: [`ReservesAt`](crate::specs::budget::PoolSpecs#ReservesAt).
+        #[inline]
+        pub(crate) fn reserve(
+            &mut self,
+            index: usize,
+            slots: SlotCounts,
+        ) -> Result<(), ReserveError> {
+            let Some(place) = place_of(&self.indices, index) else {
+                return Err(ReserveError::NoTenant);
+            };
+            let counted = &mut self.machines[place];
+            counted.reserve(slots)?;
+            Ok(())
+        }
+
+        /// Executes calls on the machine at an index, under its limiter in a pool with these caps, whose
+        /// tenants hold `all`, which becomes what they hold afterwards.
+        ///
+        /// # Contract
+        ///
+        /// ```text
+        /// requires kept: IsKept (pool_of caps self.old) all.old
+        /// ensures ran: IfOk result (λ replies. RunsTenant (pool_of caps self.old) index calls.now
+        ///     replies.items (pool_of caps self.new))
+        /// ensures no_tenant: IsErrOf result PoolError.NoTenant
+        ///     ↔ (slice_index_or self.old index None ≡ None)
+        /// ensures refused: OnErr result (self.new ≡ self.old)
+        /// ensures kept: IsKept (pool_of caps self.new) all.new
+        /// ```
+        ///
+        /// Definitions: [`IsKept`](crate::specs::budget::PoolSpecs#IsKept), [`pool_of`](crate::specs::budget::PoolSpecs#pool_of), [`RunsTenant`](crate::specs::budget::PoolSpecs#RunsTenant).
         #[inline]
         pub(crate) fn run(
             &mut self,
             index: usize,
             calls: &[Call],
-            tenant: &mut Tenant,
+            caps: Amounts,
+            all: &mut Amounts,
         ) -> Result<Vec<Reply>, PoolError> {
             let Some(place) = place_of(&self.indices, index) else {
                 return Err(PoolError::NoTenant);
             };
             let machine = &mut self.machines[place];
-            let replies = machine.run(calls, tenant)?;
+            let replies = machine.run(calls, caps, all)?;
             Ok(replies)
         }
 
-        /// Executes one call on the machine at an index, if there is one, under a tenant that holds
-        /// what the machine has.
+        /// Executes calls, as `run`, but puts their replies into memory that is there.
         ///
         /// # Contract
         ///
         /// ```text
-        /// requires totals: (s : State) → slice_index_or self.old index None ≡ Some s
-        ///     → HoldsTotals (holdings tenant.old) s
-        /// ensures stepped: MatchOption result
-        ///     ((slice_index_or self.old index None ≡ None) × (self.new ≡ self.old)
-        ///     × (tenant.new ≡ tenant.old))
-        ///     (λ reply. RunsMachine self.old index tenant.old (call.now ∷ []) (reply ∷ []) self.new
-        ///     tenant.new)
+        /// requires kept: IsKept (pool_of caps self.old) all.old
+        /// ensures ran: OnOk result (RunsTenant (pool_of caps self.old) index calls.now
+        ///     replies.new.items (pool_of caps self.new))
+        /// ensures no_tenant: IsErrOf result RunIntoError.NoTenant
+        ///     ↔ (slice_index_or self.old index None ≡ None)
+        /// ensures too_many: IsErrOf result RunIntoError.TooManyCalls
+        ///     → (replies.old.capacity < length calls.now)
+        /// ensures accepted: OnOk result (length calls.now ≤ replies.old.capacity)
+        /// ensures refused: OnErr result ((self.new ≡ self.old) × (replies.new ≡ replies.old))
+        /// ensures capacity: replies.new.capacity ≡ replies.old.capacity
+        /// ensures kept: IsKept (pool_of caps self.new) all.new
         /// ```
         ///
-        /// Definitions: [`State`](crate::specs::machine::StateSpecs#State), [`HoldsTotals`](crate::specs::machine::StateSpecs#HoldsTotals), [`holdings`](crate::specs::budget::PoolSpecs#holdings), [`RunsMachine`](crate::specs::budget::PoolSpecs#RunsMachine).
+        /// Definitions: [`IsKept`](crate::specs::budget::PoolSpecs#IsKept), [`pool_of`](crate::specs::budget::PoolSpecs#pool_of), [`RunsTenant`](crate::specs::budget::PoolSpecs#RunsTenant).
+        #[inline]
+        pub(crate) fn run_into(
+            &mut self,
+            index: usize,
+            calls: &[Call],
+            caps: Amounts,
+            all: &mut Amounts,
+            replies: &mut Replies,
+        ) -> Result<(), RunIntoError> {
+            let Some(place) = place_of(&self.indices, index) else {
+                return Err(RunIntoError::NoTenant);
+            };
+            let counted = &mut self.machines[place];
+            counted.run_into(calls, caps, all, replies)?;
+            Ok(())
+        }
+
+        /// Executes one call on the machine at an index, if there is one, as `run` executes a list of
+        /// it alone.
+        ///
+        /// # Contract
+        ///
+        /// ```text
+        /// requires kept: IsKept (pool_of caps self.old) all.old
+        /// ensures stepped: MatchOption result
+        ///     ((slice_index_or self.old index None ≡ None) × (self.new ≡ self.old))
+        ///     (λ reply. RunsTenant (pool_of caps self.old) index (call.now ∷ []) (reply ∷ [])
+        ///     (pool_of caps self.new))
+        /// ensures kept: IsKept (pool_of caps self.new) all.new
+        /// ```
+        ///
+        /// Definitions: [`IsKept`](crate::specs::budget::PoolSpecs#IsKept), [`pool_of`](crate::specs::budget::PoolSpecs#pool_of), [`RunsTenant`](crate::specs::budget::PoolSpecs#RunsTenant).
         #[inline(always)]
         pub(crate) fn step(
             &mut self,
             index: usize,
             call: &Call,
-            tenant: &mut Tenant,
+            caps: Amounts,
+            all: &mut Amounts,
         ) -> Option<Reply> {
             let place = place_of(&self.indices, index)?;
-            Some(self.machines[place].step(call, tenant))
+            Some(self.machines[place].step(call, caps, all))
         }
 
         /// Executes one call that asks no limiter on the machine at an index, if there is one.
@@ -943,6 +1196,6 @@ mod tenants {
     }
 }
 
-pub use error::{AddError, PoolError};
+pub use error::{AddError, PoolError, ReserveError, RunIntoError};
 pub use pool::Pool;
 pub use tenant::Tenant;

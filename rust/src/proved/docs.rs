@@ -488,8 +488,13 @@ Definitions: [`WritesMemory`](crate::specs::store::MemorySpecs#WritesMemory).
 
 ```text
 Value = TableValue
-view = λ t. record { ty = t.ty; elements = t.elements.items }
+view = λ t. record {
+    ty = t.ty;
+    elements = t.elements.items;
+    reserved = t.reserved;
+    }
 invariant = λ t. IsSized t.ty (length t.elements.items)
+    × (t.reserved ≤ vec_capacity t.elements)
 ```
 
 Definitions: [`TableValue`](crate::specs::store::TableSpecs#TableValue), [`IsSized`](crate::specs::store::TableSpecs#IsSized).

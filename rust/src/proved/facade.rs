@@ -1,5 +1,12 @@
 //! Metered WebAssembly memories and tables under a resource limiter, instructions on numbers and
 //! vectors, and a machine that runs lists of calls: the crates of this library under one name.
+pub use crate::proved::accesses::access;
+pub use crate::proved::lanes::{on_vectors, words};
+pub use crate::proved::machine::{
+    ByteList, Call, DataSegment, Machine, Replies, Reply, SlotCounts, TooManyCalls, laws, run,
+    run_into, run_into_lending, run_into_reserving, run_lending, run_reserving,
+};
+
 pub mod simd {
     //! The vector instructions, the loads and stores of vectors, and the lane types and indices.
     //!
@@ -110,11 +117,6 @@ pub mod wasm {
     };
 }
 
-pub use crate::proved::accesses::access;
-pub use crate::proved::lanes::{on_vectors, words};
-pub use crate::proved::machine::{
-    ByteList, Call, DataSegment, Machine, Reply, laws, run, run_lending, run_reserving,
-};
 pub use crate::proved::meter::{
     Amounts, AnswerList, AnyLimiter, CustomFuelCosts, Fuel, FuelCosts, FuelCostsProvider,
     FuelError, Holdings, Kind, Lender, LimiterAnswer, LimiterByKind, LimiterError, LimiterRef,

@@ -546,6 +546,7 @@ mod error {
 mod header {
     //! The header lines of a script.
 
+    use crate::proved::machine::SlotCounts;
     use crate::proved::meter::{Amounts, LimiterAnswer};
     use crate::proved::operands::operand::{self, list_of};
     use crate::proved::operands::{LineError, number};
@@ -602,6 +603,8 @@ mod header {
         pub limiter_line: Option<LimiterLine>,
         /// The `region` line, if there is one. Without it no region is lent.
         pub region: Option<RegionLine>,
+        /// The `reserve` line, if there is one. Without it no slot is reserved.
+        pub reserve: Option<SlotCounts>,
     }
 
     impl Header {
@@ -621,6 +624,22 @@ mod header {
                 Some(LimiterLine::Tenants(line)) => line.count,
                 _ => 0,
             }
+        }
+
+        /// How many slots of each kind the script's machine, or each of its tenants, has reserved: none
+        /// without a `reserve` line.
+        ///
+        /// # Contract
+        ///
+        /// ```text
+        /// ensures: result ≡ slots_of self.now
+        /// ```
+        ///
+        /// Definitions: [`slots_of`](crate::specs::grammar::HeadersSpecs#slots_of).
+        #[must_use]
+        #[inline]
+        pub fn slots(&self) -> SlotCounts {
+            self.reserve.unwrap_or_default()
         }
     }
 
@@ -655,6 +674,27 @@ mod header {
     pub(crate) fn region_line(operands: &[&str]) -> Result<RegionLine, LineError> {
         let (len, byte) = operand::two(operands)?;
         Ok(RegionLine { len, byte })
+    }
+
+    /// What the words after `reserve` say.
+    ///
+    /// # Contract
+    ///
+    /// ```text
+    /// ensures: Accepts result (WritesReserve operands.now)
+    /// ```
+    ///
+    /// Definitions: [`Accepts`](crate::specs::operands::LineWordsSpecs#Accepts), [`WritesReserve`](crate::specs::grammar::HeadersSpecs#WritesReserve).
+    #[inline]
+    pub(crate) fn reserve_line(operands: &[&str]) -> Result<SlotCounts, LineError> {
+        let (memories, tables, segments, data_segments, globals) = operand::five(operands)?;
+        Ok(SlotCounts {
+            memories,
+            tables,
+            segments,
+            data_segments,
+            globals,
+        })
     }
 
     /// `quota B E`.
@@ -753,9 +793,10 @@ mod script {
     use crate::proved::grammar::command::command;
     use crate::proved::grammar::error::ParseError;
     use crate::proved::grammar::header::{
-        Header, LimiterLine, MeterLine, RegionLine, listed, meter_line, quota, region_line, tenants,
+        Header, LimiterLine, MeterLine, RegionLine, listed, meter_line, quota, region_line,
+        reserve_line, tenants,
     };
-    use crate::proved::machine::Call;
+    use crate::proved::machine::{Call, SlotCounts};
     use crate::proved::operands::{LineError, operand, read_words};
     use crate::rattle::Vec;
     use crate::rattle::alloc::AllocError;
@@ -997,6 +1038,7 @@ mod script {
                 Line::Meter(line) => self.take_meter(line),
                 Line::Limiter(line) => self.take_limiter(line),
                 Line::Region(line) => self.take_region(line),
+                Line::Reserve(slots) => self.take_reserve(slots),
                 Line::As(tenant) => self.take_part(tenant),
                 Line::Call(call) => self.take_call(call),
             }
@@ -1065,6 +1107,25 @@ mod script {
             Ok(())
         }
 
+        /// Takes in a `reserve` line, of which a script has at most one.
+        ///
+        /// # Contract
+        ///
+        /// ```text
+        /// ensures ok: OnOk result (AddsReserve self.old slots self.new)
+        /// ensures refused: OnErr result ((new : Script) → ¬ (AddsReserve self.old slots new))
+        /// ```
+        ///
+        /// Definitions: [`AddsReserve`](crate::specs::grammar::LinesSpecs#AddsReserve).
+        #[inline]
+        fn take_reserve(&mut self, slots: SlotCounts) -> Result<(), LineError> {
+            if !self.parts.is_empty() || self.header.reserve.is_some() {
+                return Err(LineError::BadCommand);
+            }
+            self.header.reserve = Some(slots);
+            Ok(())
+        }
+
         /// Takes in a command's call.
         ///
         /// # Contract
@@ -1107,6 +1168,7 @@ mod script {
         Meter(MeterLine),
         Limiter(LimiterLine),
         Region(RegionLine),
+        Reserve(SlotCounts),
         As(usize),
         Call(Call),
     }
@@ -1128,6 +1190,7 @@ mod script {
             "answers" => Ok(Line::Limiter(listed(operands)?)),
             "tenants" => Ok(Line::Limiter(tenants(operands)?)),
             "region" => Ok(Line::Region(region_line(operands)?)),
+            "reserve" => Ok(Line::Reserve(reserve_line(operands)?)),
             "as" => Ok(Line::As(operand::one(operands)?)),
             _ => Ok(Line::Call(command(name, operands)?)),
         }

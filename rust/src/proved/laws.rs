@@ -192,3 +192,25 @@ pub fn independent_calls_commute<L: ResourceLimiter>() {}
 /// `L` is the type of the limiter, a [`ResourceLimiter`](crate::machine::ResourceLimiter#contract).
 #[inline]
 pub fn machines_do_alike<L: ResourceLimiter>() {}
+
+/// The reply to a call that needs no memory but what was reserved doesn't say out of memory
+/// (`NeedsNoMemory`): it makes nothing, or a memory in the spare region, a global or a segment of
+/// nothing in a slot that is reserved; it grows no memory but one in a lent region, and no table;
+/// and it reads no byte.
+///
+/// Nor does any reply to a list of such calls, if every memory lies in a lent region at first, and
+/// as many slots of each kind are reserved and free as the list takes (`IsReservedFor`): what is
+/// asked is known before the first call.
+///
+/// # Contract
+///
+/// ```text
+/// ensures turn: ReservedCallsSucceed (optional_rules L.rules)
+/// ensures run: ReservedRunsSucceed (optional_rules L.rules)
+/// ```
+///
+/// Definitions: [`ReservedCallsSucceed`](crate::specs::laws::ReservedSpecs#ReservedCallsSucceed), [`optional_rules`](crate::specs::meter::LimiterSpecs#optional_rules), [`ReservedRunsSucceed`](crate::specs::laws::ReservedSpecs#ReservedRunsSucceed).
+///
+/// `L` is the type of the limiter, a [`ResourceLimiter`](crate::machine::ResourceLimiter#contract).
+#[inline]
+pub fn reserved_suffices<L: ResourceLimiter>() {}

@@ -439,15 +439,12 @@ mod data {
         /// # Contract
         ///
         /// ```text
-        /// ensures: IfOk result (λ segment. segment ≡ bytes.now)
+        /// ensures made: IfOk result (λ segment. segment ≡ bytes.now)
+        /// ensures refused: OnErr result (0 < length bytes.now)
         /// ```
         #[inline]
         pub(crate) fn new(bytes: &[u8]) -> Result<Self, AllocError> {
-            let copy = if bytes.is_empty() {
-                Vec::new()
-            } else {
-                bytes.try_to_vec()?
-            };
+            let copy = copy_of_bytes(bytes)?;
             Ok(DataSegment { bytes: copy })
         }
 
@@ -490,6 +487,23 @@ mod data {
         pub(crate) fn drop_bytes(&mut self) {
             self.bytes = Vec::new();
         }
+    }
+
+    /// A copy of bytes. That of no byte takes no memory.
+    ///
+    /// # Contract
+    ///
+    /// ```text
+    /// ensures copied: IfOk result (λ copy. copy.items ≡ bytes.now)
+    /// ensures empty: IfOk result (λ copy. length copy.items ≡ 0 → vec_capacity copy ≡ 0)
+    /// ensures refused: OnErr result (0 < length bytes.now)
+    /// ```
+    #[inline]
+    pub(crate) fn copy_of_bytes(bytes: &[u8]) -> Result<Vec<u8>, AllocError> {
+        if bytes.is_empty() {
+            return Ok(Vec::new());
+        }
+        bytes.try_to_vec()
     }
 }
 #[cfg(any(doc, test))]
@@ -819,14 +833,15 @@ mod machine {
     use crate::proved::machine::data::DataSegment;
     use crate::proved::machine::memories::Stored;
     use crate::proved::machine::registers::Registers;
-    use crate::proved::machine::slots::Slots;
+    use crate::proved::machine::reserved_list::ReservedList;
+    use crate::proved::machine::slots::{SlotCounts, Slots};
     use crate::proved::machine::store::MachineStore;
     use crate::proved::meter::{Fuel, FuelError};
     use crate::proved::ops::StoreOp;
     use crate::proved::raw::RawVal;
     use crate::proved::store::{ElementSegment, Memory, Table};
     use crate::proved::typed::Global;
-    use crate::rattle::Vec;
+    use crate::rattle::alloc::AllocError;
     use core::fmt;
     use core::fmt::{Debug, Formatter, Write};
 
@@ -903,14 +918,58 @@ mod machine {
             let store = MachineStore {
                 memories: Slots::new(),
                 tables: Slots::new(),
-                segments: Vec::new(),
-                data_segments: Vec::new(),
-                globals: Vec::new(),
+                segments: ReservedList::new(),
+                data_segments: ReservedList::new(),
+                globals: ReservedList::new(),
                 registers: Registers::default(),
                 fuel,
                 spare,
             };
             Machine { store }
+        }
+
+        /// Reserves so many more slots of each kind, beside those of what was made. What is made in them
+        /// later takes no memory for its slot, so it isn't refused with `NoRoom`, unless that is for the
+        /// bytes of a data segment. What is reserved already stays so, and doesn't add up: to reserve 4
+        /// slots twice, with nothing made between, reserves 4.
+        ///
+        /// # Errors
+        ///
+        /// `AllocError` if memory for some of them is refused. Then none more is reserved.
+        ///
+        /// # Contract
+        ///
+        /// ```text
+        /// ensures reserved: OnOk result (self.new ≡ with_reserved self.old slots)
+        /// ensures refused: OnErr result (self.new ≡ self.old)
+        /// ```
+        ///
+        /// Definitions: [`with_reserved`](crate::specs::machine::StateSpecs#with_reserved).
+        #[inline]
+        pub fn reserve(&mut self, slots: SlotCounts) -> Result<(), AllocError> {
+            self.store.reserve(slots)
+        }
+
+        /// Reserves memory for so many elements in all of a table, those that are there included, as
+        /// [`Table::reserve`] does: until it has more, no growth of it is refused with
+        /// `OutOfSystemMemory`. What is reserved already stays so.
+        ///
+        /// It isn't a call, so a run has no turn for it. The reply is `Done`, `NoSuch` if there is no
+        /// such table, or `NoRoom` if the memory is refused; after the last two nothing has changed.
+        ///
+        /// # Contract
+        ///
+        /// ```text
+        /// ensures tables: ReservesElementsAt table elements self.old.tables result
+        ///     self.new.tables
+        /// ensures rest: self.new ≡ with_tables self.old self.new.tables
+        /// ```
+        ///
+        /// Definitions: [`ReservesElementsAt`](crate::specs::machine::TableEffectsSpecs#ReservesElementsAt), [`with_tables`](crate::specs::machine::StateSpecs#with_tables).
+        #[inline(always)]
+        pub fn reserve_elements(&mut self, table: usize, elements: u64) -> Reply {
+            let reply = self.store.tables.reserve(table, elements);
+            reply.unwrap_or(Reply::NoSuch)
         }
 
         /// The meter.
@@ -1120,6 +1179,7 @@ mod memories {
     //! The memories of a machine, by their indices.
 
     use crate::proved::machine::calls::{ByteList, Reply};
+    use crate::proved::machine::data::copy_of_bytes;
     use crate::proved::machine::slots::{Slot, Slots};
     use crate::proved::meter::{Fuel, MemoryError, ResourceLimiter, ResourceLimiterRef};
     use crate::proved::ops::{StoreLaneOp, StoreOp};
@@ -1128,7 +1188,6 @@ mod memories {
     use crate::proved::store::{Memory, MemoryType};
     use crate::proved::types::TrapCode;
     use crate::proved::vector_access::simd::v128_store;
-    use crate::rattle::SliceExt;
 
     impl<'r> Slots<Memory<'r>> {
         /// Makes a memory in a new slot, which is reserved before the limiter is asked.
@@ -1140,9 +1199,11 @@ mod memories {
         /// ensures made: Creates Reply.Memory
         ///     (MakesMemory (optional_rules L.rules) Owned ty) self.old.slots.items
         ///     (lent_limiter limiter.old) result self.new.slots.items (lent_limiter limiter.new)
+        /// ensures room: IfNoRoom result (self.old.slots.reserved ≤ length self.old.slots.items)
+        /// ensures reserved: self.new.slots.reserved ≡ self.old.slots.reserved
         /// ```
         ///
-        /// Definitions: [`KeepsLoan`](crate::specs::meter::LimiterSpecs#KeepsLoan), [`Creates`](crate::specs::machine::EffectsSpecs#Creates), [`MakesMemory`](crate::specs::store::MemorySpecs#MakesMemory), [`optional_rules`](crate::specs::meter::LimiterSpecs#optional_rules), [`Owned`](crate::specs::store::BufferSpecs#Owned), [`lent_limiter`](crate::specs::meter::LimiterSpecs#lent_limiter).
+        /// Definitions: [`KeepsLoan`](crate::specs::meter::LimiterSpecs#KeepsLoan), [`Creates`](crate::specs::machine::EffectsSpecs#Creates), [`MakesMemory`](crate::specs::store::MemorySpecs#MakesMemory), [`optional_rules`](crate::specs::meter::LimiterSpecs#optional_rules), [`Owned`](crate::specs::store::BufferSpecs#Owned), [`lent_limiter`](crate::specs::meter::LimiterSpecs#lent_limiter), [`IfNoRoom`](crate::specs::machine::EffectsSpecs#IfNoRoom).
         ///
         /// `L` is the type of the limiter, a [`ResourceLimiter`](crate::machine::ResourceLimiter#contract).
         #[inline(always)]
@@ -1172,9 +1233,11 @@ mod memories {
         ///     (lent_limiter limiter.old) result
         ///     (record { slots = self.new.slots.items; spare = option_copied_mut spare.new })
         ///     (lent_limiter limiter.new)
+        /// ensures room: IfNoRoom result (self.old.slots.reserved ≤ length self.old.slots.items)
+        /// ensures reserved: self.new.slots.reserved ≡ self.old.slots.reserved
         /// ```
         ///
-        /// Definitions: [`KeepsLoan`](crate::specs::meter::LimiterSpecs#KeepsLoan), [`CreatesLent`](crate::specs::machine::MemoryEffectsSpecs#CreatesLent), [`optional_rules`](crate::specs::meter::LimiterSpecs#optional_rules), [`lent_limiter`](crate::specs::meter::LimiterSpecs#lent_limiter).
+        /// Definitions: [`KeepsLoan`](crate::specs::meter::LimiterSpecs#KeepsLoan), [`CreatesLent`](crate::specs::machine::MemoryEffectsSpecs#CreatesLent), [`optional_rules`](crate::specs::meter::LimiterSpecs#optional_rules), [`lent_limiter`](crate::specs::meter::LimiterSpecs#lent_limiter), [`IfNoRoom`](crate::specs::machine::EffectsSpecs#IfNoRoom).
         ///
         /// `L` is the type of the limiter, a [`ResourceLimiter`](crate::machine::ResourceLimiter#contract).
         #[inline(always)]
@@ -1203,8 +1266,9 @@ mod memories {
         /// # Contract
         ///
         /// ```text
-        /// ensures: WritesMemoryAt index offset bytes.now self.old.slots.items
+        /// ensures written: WritesMemoryAt index offset bytes.now self.old.slots.items
         ///     (reply_or_no_such result) self.new.slots.items
+        /// ensures reserved: self.new.slots.reserved ≡ self.old.slots.reserved
         /// ```
         ///
         /// Definitions: [`WritesMemoryAt`](crate::specs::machine::MemoryEffectsSpecs#WritesMemoryAt), [`reply_or_no_such`](crate::specs::machine::EffectsSpecs#reply_or_no_such).
@@ -1222,9 +1286,10 @@ mod memories {
         /// # Contract
         ///
         /// ```text
-        /// ensures: WithCharge (WritesRangeOfMemoryAt index (byte_filling_of dst value len))
+        /// ensures filled: WithCharge (WritesRangeOfMemoryAt index (byte_filling_of dst value len))
         ///     (metered self.old.slots.items (Some fuel.old)) (reply_or_no_such result)
         ///     (metered self.new.slots.items (Some fuel.new))
+        /// ensures reserved: self.new.slots.reserved ≡ self.old.slots.reserved
         /// ```
         ///
         /// Definitions: [`WithCharge`](crate::specs::store::GrowthSpecs#WithCharge), [`WritesRangeOfMemoryAt`](crate::specs::machine::MemoryEffectsSpecs#WritesRangeOfMemoryAt), [`byte_filling_of`](crate::specs::store::MemorySpecs#byte_filling_of), [`metered`](crate::specs::store::GrowthSpecs#metered), [`reply_or_no_such`](crate::specs::machine::EffectsSpecs#reply_or_no_such).
@@ -1246,11 +1311,12 @@ mod memories {
         /// # Contract
         ///
         /// ```text
-        /// ensures: WithCharge
+        /// ensures copied: WithCharge
         ///     (WritesMemoryFrom (live_at self.old.slots.items src_index) dst_index
         ///     (memory_copy_of dst src len))
         ///     (metered self.old.slots.items (Some fuel.old)) (reply_or_no_such result)
         ///     (metered self.new.slots.items (Some fuel.new))
+        /// ensures reserved: self.new.slots.reserved ≡ self.old.slots.reserved
         /// ```
         ///
         /// Definitions: [`WithCharge`](crate::specs::store::GrowthSpecs#WithCharge), [`WritesMemoryFrom`](crate::specs::machine::MemoryEffectsSpecs#WritesMemoryFrom), [`live_at`](crate::specs::machine::StateSpecs#live_at), [`memory_copy_of`](crate::specs::machine::MemoryEffectsSpecs#memory_copy_of), [`metered`](crate::specs::store::GrowthSpecs#metered), [`reply_or_no_such`](crate::specs::machine::EffectsSpecs#reply_or_no_such).
@@ -1274,7 +1340,7 @@ mod memories {
                 )),
                 None => None,
             };
-            self.slots[dst_index] = Slot::Live(memory);
+            *self.slots.item_mut(dst_index) = Slot::Live(memory);
             copied
         }
 
@@ -1283,10 +1349,11 @@ mod memories {
         /// # Contract
         ///
         /// ```text
-        /// ensures: WithCharge
+        /// ensures copied: WithCharge
         ///     (WritesMemoryFrom (live_at self.old.slots.items index) index (memory_copy_of dst src len))
         ///     (metered self.old.slots.items (Some fuel.old)) (reply_or_no_such result)
         ///     (metered self.new.slots.items (Some fuel.new))
+        /// ensures reserved: self.new.slots.reserved ≡ self.old.slots.reserved
         /// ```
         ///
         /// Definitions: [`WithCharge`](crate::specs::store::GrowthSpecs#WithCharge), [`WritesMemoryFrom`](crate::specs::machine::MemoryEffectsSpecs#WritesMemoryFrom), [`live_at`](crate::specs::machine::StateSpecs#live_at), [`memory_copy_of`](crate::specs::machine::MemoryEffectsSpecs#memory_copy_of), [`metered`](crate::specs::store::GrowthSpecs#metered), [`reply_or_no_such`](crate::specs::machine::EffectsSpecs#reply_or_no_such).
@@ -1310,9 +1377,11 @@ mod memories {
         /// # Contract
         ///
         /// ```text
-        /// ensures: WithCharge (WritesRangeOfMemoryAt index (byte_copy_of dst src len segment.now))
+        /// ensures copied: WithCharge
+        ///     (WritesRangeOfMemoryAt index (byte_copy_of dst src len segment.now))
         ///     (metered self.old.slots.items (Some fuel.old)) (reply_or_no_such result)
         ///     (metered self.new.slots.items (Some fuel.new))
+        /// ensures reserved: self.new.slots.reserved ≡ self.old.slots.reserved
         /// ```
         ///
         /// Definitions: [`WithCharge`](crate::specs::store::GrowthSpecs#WithCharge), [`WritesRangeOfMemoryAt`](crate::specs::machine::MemoryEffectsSpecs#WritesRangeOfMemoryAt), [`byte_copy_of`](crate::specs::store::MemorySpecs#byte_copy_of), [`metered`](crate::specs::store::GrowthSpecs#metered), [`reply_or_no_such`](crate::specs::machine::EffectsSpecs#reply_or_no_such).
@@ -1337,8 +1406,9 @@ mod memories {
         /// # Contract
         ///
         /// ```text
-        /// ensures: StoresMemoryAt index (ptr + offset) (bytes_of_stored stored) self.old.slots.items
-        ///     (reply_or_no_such result) self.new.slots.items
+        /// ensures stored: StoresMemoryAt index (ptr + offset) (bytes_of_stored stored)
+        ///     self.old.slots.items (reply_or_no_such result) self.new.slots.items
+        /// ensures reserved: self.new.slots.reserved ≡ self.old.slots.reserved
         /// ```
         ///
         /// Definitions: [`StoresMemoryAt`](crate::specs::machine::MemoryEffectsSpecs#StoresMemoryAt), [`bytes_of_stored`](crate::specs::machine::MemoryEffectsSpecs#bytes_of_stored), [`reply_or_no_such`](crate::specs::machine::EffectsSpecs#reply_or_no_such).
@@ -1378,7 +1448,8 @@ mod memories {
         Lane(StoreLaneOp, V128),
     }
 
-    /// A part of a list of bytes: its bounds are tested before the reply's buffer is allocated.
+    /// A part of a list of bytes: its bounds are tested before the reply's buffer is allocated. No byte
+    /// takes no memory.
     ///
     /// # Contract
     ///
@@ -1392,7 +1463,7 @@ mod memories {
         if !lies_within(memory, offset as u64, len as u64) {
             return Reply::Memory(MemoryError::OutOfBoundsAccess);
         }
-        match memory[offset..][..len].try_to_vec() {
+        match copy_of_bytes(&memory[offset..][..len]) {
             Ok(bytes) => Reply::Bytes(ByteList::from(bytes)),
             Err(_) => Reply::NoRoom,
         }
@@ -1549,11 +1620,329 @@ mod registers {
         }
     }
 }
+mod replies {
+    //! Memory for replies that is kept from run to run.
+
+    use crate::proved::machine::calls::Reply;
+    use crate::rattle::Vec;
+    use crate::rattle::alloc::AllocError;
+    use core::fmt;
+
+    /// The replies of a run, in memory that is kept for those of the next one: `run_into` puts them
+    /// there, and takes no memory for them.
+    ///
+    /// # Model
+    ///
+    /// ```text
+    /// Value = RepliesValue
+    /// view = λ r. record {
+    ///     items = r.replies.items;
+    ///     capacity = vec_capacity r.replies;
+    ///     }
+    /// ```
+    ///
+    /// Definitions: [`RepliesValue`](crate::specs::machine::RepliesSpecs#RepliesValue).
+    #[derive(Debug)]
+    pub struct Replies {
+        replies: Vec<Reply>,
+    }
+
+    impl Replies {
+        /// No reply yet, with memory for so many.
+        ///
+        /// # Errors
+        ///
+        /// `AllocError` if memory for so many is refused.
+        ///
+        /// # Contract
+        ///
+        /// ```text
+        /// ensures: IfOk result (λ made. made ≡ record { items = []; capacity = capacity })
+        /// ```
+        #[inline]
+        pub fn with_capacity(capacity: usize) -> Result<Self, AllocError> {
+            let replies = Vec::with_capacity(capacity)?;
+            Ok(Replies { replies })
+        }
+
+        /// The replies, in the order of the calls.
+        ///
+        /// # Contract
+        ///
+        /// ```text
+        /// ensures: result.now ≡ self.now.items
+        /// ```
+        #[must_use]
+        #[inline]
+        pub fn as_slice(&self) -> &[Reply] {
+            self.replies.as_slice()
+        }
+
+        /// How many replies there are.
+        ///
+        /// # Contract
+        ///
+        /// ```text
+        /// ensures: result ≡ length self.now.items
+        /// ```
+        #[must_use]
+        #[inline]
+        pub fn len(&self) -> usize {
+            self.replies.len()
+        }
+
+        /// Whether there is no reply.
+        ///
+        /// # Contract
+        ///
+        /// ```text
+        /// ensures: result ≡ (length self.now.items == 0)
+        /// ```
+        #[must_use]
+        #[inline]
+        pub fn is_empty(&self) -> bool {
+            self.replies.is_empty()
+        }
+
+        /// For how many replies there is memory, those that are there included.
+        ///
+        /// # Contract
+        ///
+        /// ```text
+        /// ensures: result ≡ self.now.capacity
+        /// ```
+        #[must_use]
+        #[inline]
+        pub fn capacity(&self) -> usize {
+            self.replies.capacity()
+        }
+
+        /// Drops all replies, and keeps the memory.
+        ///
+        /// # Contract
+        ///
+        /// ```text
+        /// ensures: self.new ≡ record self.old { items = [] }
+        /// ```
+        #[inline]
+        pub(crate) fn clear(&mut self) {
+            self.replies.clear();
+        }
+
+        /// Adds a reply, for which there is memory.
+        ///
+        /// # Contract
+        ///
+        /// ```text
+        /// requires room: length self.old.items < self.old.capacity
+        /// ensures added: self.new ≡ record self.old { items = self.old.items ++ reply ∷ [] }
+        /// ```
+        #[inline]
+        pub(crate) fn push(&mut self, reply: Reply) {
+            self.replies.push_reserved(reply);
+        }
+    }
+
+    /// Why `run_into` doesn't execute a list: it has more calls than there is memory for replies.
+    #[derive(Clone, Copy, Debug, PartialEq, Eq)]
+    pub struct TooManyCalls;
+
+    /// # Contract
+    ///
+    /// ```text
+    /// output = λ error. Some too_many_calls_text
+    /// ```
+    ///
+    /// Definitions: [`too_many_calls_text`](crate::specs::machine::RepliesSpecs#too_many_calls_text).
+    impl fmt::Display for TooManyCalls {
+        #[inline]
+        fn fmt(&self, f: &mut fmt::Formatter<'_>) -> fmt::Result {
+            f.write_str("more calls than there is memory for replies")
+        }
+    }
+
+    impl core::error::Error for TooManyCalls {}
+}
+mod reserved_list {
+    //! Lists with memory for items that are still to be added.
+
+    use crate::rattle::Vec;
+    use crate::rattle::alloc::AllocError;
+
+    /// Items by their indices, which count from 0. Up to as many as are reserved, those that are there
+    /// included, one more takes no memory.
+    ///
+    /// # Model
+    ///
+    /// ```text
+    /// Value = ReservedListValue T
+    /// view = λ list. record {
+    ///     items = list.items.items;
+    ///     reserved = list.reserved;
+    ///     capacity = vec_capacity list.items;
+    ///     }
+    /// invariant = λ list. list.reserved ≤ vec_capacity list.items
+    /// ```
+    ///
+    /// Definitions: [`ReservedListValue`](crate::specs::machine::ReservedListSpecs#ReservedListValue).
+    ///
+    /// `T` is any type.
+    pub(crate) struct ReservedList<T> {
+        items: Vec<T>,
+        reserved: usize,
+    }
+
+    impl<T> ReservedList<T> {
+        /// No item yet, and none reserved. It takes no memory.
+        ///
+        /// # Contract
+        ///
+        /// ```text
+        /// ensures: result ≡ record { items = []; reserved = 0; capacity = 0 }
+        /// ```
+        #[inline]
+        pub(crate) fn new() -> Self {
+            ReservedList {
+                items: Vec::new(),
+                reserved: 0,
+            }
+        }
+
+        /// The items.
+        ///
+        /// # Contract
+        ///
+        /// ```text
+        /// ensures: result.now ≡ self.now.items
+        /// ```
+        #[inline]
+        pub(crate) fn as_slice(&self) -> &[T] {
+            self.items.as_slice()
+        }
+
+        /// The item of an index, if there is one.
+        ///
+        /// # Contract
+        ///
+        /// ```text
+        /// ensures: option_copied result ≡ slice_get self.now.items index
+        /// ```
+        #[inline]
+        pub(crate) fn get(&self, index: usize) -> Option<&T> {
+            self.items.get(index)
+        }
+
+        /// The item of an index, to be changed.
+        ///
+        /// # Contract
+        ///
+        /// ```text
+        /// requires there: index < length self.old.items
+        /// ensures* writes_back: sem 𝓛
+        ///     (Lends (the_row T.row) T.row self.entry result (with_item self.old index))
+        /// ensures value: slice_get self.old.items index ≡ Some result.now
+        /// ```
+        ///
+        /// Definitions: [`with_item`](crate::specs::machine::ReservedListSpecs#with_item).
+        ///
+        /// `T` is any type.
+        #[inline]
+        pub(crate) fn item_mut(&mut self, index: usize) -> &mut T {
+            &mut self.items[index]
+        }
+
+        /// The item of an index, if there is one, to be changed.
+        ///
+        /// # Contract
+        ///
+        /// ```text
+        /// ensures* writes_back: sem 𝓛
+        ///     (LendsIf (the_row T.row) T.row self.entry result (with_item self.old index) self.old)
+        /// ensures value: option_copied_mut result ≡ slice_get self.old.items index
+        /// ```
+        ///
+        /// Definitions: [`with_item`](crate::specs::machine::ReservedListSpecs#with_item).
+        ///
+        /// `T` is any type.
+        #[inline]
+        pub(crate) fn get_mut(&mut self, index: usize) -> Option<&mut T> {
+            self.items.get_mut(index)
+        }
+
+        /// The items, to be changed.
+        ///
+        /// # Contract
+        ///
+        /// ```text
+        /// ensures* writes_back: sem 𝓛
+        ///     (Lends (the_row T.row) (Array T.row 0) self.entry result (with_items self.old))
+        /// ensures value: result.now ≡ self.old.items
+        /// ```
+        ///
+        /// Definitions: [`with_items`](crate::specs::machine::ReservedListSpecs#with_items).
+        ///
+        /// `T` is any type.
+        #[inline]
+        pub(crate) fn as_mut_slice(&mut self) -> &mut [T] {
+            self.items.as_mut_slice()
+        }
+
+        /// Asks for memory for so many more items, unless it is there.
+        ///
+        /// # Errors
+        ///
+        /// `AllocError` if it is refused; then so many more items aren't reserved.
+        ///
+        /// # Contract
+        ///
+        /// ```text
+        /// ensures items: self.new.items ≡ self.old.items
+        /// ensures reserved: self.new.reserved ≡ self.old.reserved
+        /// ensures had: OnOk result (length self.old.items + additional ≤ self.new.capacity)
+        /// ensures refused: OnErr result (self.old.reserved < length self.old.items + additional)
+        /// ```
+        #[inline]
+        pub(crate) fn try_reserve(&mut self, additional: usize) -> Result<(), AllocError> {
+            self.items.try_reserve(additional)
+        }
+
+        /// Reserves so many more items, for which there is memory.
+        ///
+        /// # Contract
+        ///
+        /// ```text
+        /// requires room: length self.old.items + additional ≤ self.old.capacity
+        /// ensures reserved: self.new ≡ record self.old
+        ///     { reserved = max self.old.reserved (length self.old.items + additional) }
+        /// ```
+        #[inline]
+        pub(crate) fn keep_reserved(&mut self, additional: usize) {
+            self.reserved = self.reserved.max(self.items.len() + additional);
+        }
+
+        /// Adds an item, for which there is memory, and returns its index.
+        ///
+        /// # Contract
+        ///
+        /// ```text
+        /// requires room: length self.old.items < self.old.capacity
+        /// ensures index: result ≡ length self.old.items
+        /// ensures items: self.new ≡ record self.old { items = self.old.items ++ item ∷ [] }
+        /// ```
+        #[inline]
+        pub(crate) fn push(&mut self, item: T) -> usize {
+            let index = self.items.len();
+            self.items.push_reserved(item);
+            index
+        }
+    }
+}
 mod running {
     //! One call, and runs of calls. They are our own: upstream leaves running to the interpreter.
 
     use crate::proved::machine::calls::{Call, Reply};
     use crate::proved::machine::machine::Machine;
+    use crate::proved::machine::replies::{Replies, TooManyCalls};
     use crate::proved::meter::{Reserving, ResourceLimiter, ResourceLimiterRef};
     use crate::rattle::Vec;
     use crate::rattle::alloc::AllocError;
@@ -1742,13 +2131,137 @@ mod running {
         );
         run_lending(machine, calls, limiter)
     }
+
+    /// Executes calls one after another, as `run`, but puts their replies into memory that is there, in
+    /// place of those that it has. It takes no memory for them.
+    ///
+    /// # Errors
+    ///
+    /// `TooManyCalls` if there are more calls than the capacity of `replies`; then nothing has
+    /// happened.
+    ///
+    /// # Contract
+    ///
+    /// ```text
+    /// ensures loan: KeepsLoan limiter.old limiter.new
+    /// ensures run: OnOk result (IsRunOf (optional_rules L.rules) calls.now
+    ///     (world machine.old (lent_limiter limiter.old)) replies.new.items
+    ///     (world machine.new (lent_limiter limiter.new)))
+    /// ensures accepted: IsOk result ↔ (length calls.now ≤ replies.old.capacity)
+    /// ensures err: OnErr result ((machine.new ≡ machine.old) × (limiter.new ≡ limiter.old)
+    ///     × (replies.new ≡ replies.old))
+    /// ensures capacity: replies.new.capacity ≡ replies.old.capacity
+    /// ensures valid: IsValid machine.new
+    /// ```
+    ///
+    /// Definitions: [`KeepsLoan`](crate::specs::meter::LimiterSpecs#KeepsLoan), [`IsRunOf`](crate::specs::machine::StepsSpecs#IsRunOf), [`optional_rules`](crate::specs::meter::LimiterSpecs#optional_rules), [`world`](crate::specs::machine::StateSpecs#world), [`lent_limiter`](crate::specs::meter::LimiterSpecs#lent_limiter), [`IsValid`](crate::specs::machine::StateSpecs#IsValid).
+    ///
+    /// `L` is the type of the limiter, a [`ResourceLimiter`](crate::machine::ResourceLimiter#contract).
+    #[inline]
+    pub fn run_into<L: ResourceLimiter>(
+        machine: &mut Machine,
+        calls: &[Call],
+        limiter: &mut ResourceLimiterRef<L>,
+        replies: &mut Replies,
+    ) -> Result<(), TooManyCalls> {
+        machine.tell_valid();
+        if replies.capacity() < calls.len() {
+            return Err(TooManyCalls);
+        }
+        replies.clear();
+        for call in calls {
+            let reply = machine.step(call, limiter);
+            replies.push(reply);
+        }
+        Ok(())
+    }
+
+    /// Executes calls, as `run_into`, but borrows the limiter for this run alone, so that its state
+    /// afterwards is known.
+    ///
+    /// # Errors
+    ///
+    /// That of `run_into`.
+    ///
+    /// # Contract
+    ///
+    /// ```text
+    /// ensures run: OnOk result (IsRunOf (optional_rules L.rules) calls.now
+    ///     (world machine.old (Some limiter.old)) replies.new.items
+    ///     (world machine.new (Some limiter.new)))
+    /// ensures accepted: IsOk result ↔ (length calls.now ≤ replies.old.capacity)
+    /// ensures err: OnErr result ((machine.new ≡ machine.old) × (limiter.new ≡ limiter.old)
+    ///     × (replies.new ≡ replies.old))
+    /// ensures capacity: replies.new.capacity ≡ replies.old.capacity
+    /// ensures valid: IsValid machine.new
+    /// ```
+    ///
+    /// Definitions: [`IsRunOf`](crate::specs::machine::StepsSpecs#IsRunOf), [`optional_rules`](crate::specs::meter::LimiterSpecs#optional_rules), [`world`](crate::specs::machine::StateSpecs#world), [`IsValid`](crate::specs::machine::StateSpecs#IsValid).
+    ///
+    /// `L` is the type of the limiter, a [`ResourceLimiter`](crate::machine::ResourceLimiter#contract).
+    #[inline]
+    pub fn run_into_lending<L: ResourceLimiter>(
+        machine: &mut Machine,
+        calls: &[Call],
+        limiter: &mut L,
+        replies: &mut Replies,
+    ) -> Result<(), TooManyCalls> {
+        let mut lent = ResourceLimiterRef::from(limiter);
+        let result = run_into(machine, calls, &mut lent, replies);
+        let _limiter = lent.into_limiter();
+        result
+    }
+
+    /// Executes calls, as `run_into`, under a limiter that holds exactly what the machine has, and does
+    /// so again afterwards.
+    ///
+    /// # Errors
+    ///
+    /// That of `run_into`.
+    ///
+    /// # Panics
+    ///
+    /// Panics if what the limiter holds isn't the machine's totals.
+    ///
+    /// # Contract
+    ///
+    /// ```text
+    /// requires totals: HoldsTotals (L.Reserving.holdings limiter.old) machine.old
+    /// ensures run: OnOk result (IsRunOf (optional_rules L.rules) calls.now
+    ///     (world machine.old (Some limiter.old)) replies.new.items
+    ///     (world machine.new (Some limiter.new)))
+    /// ensures accepted: IsOk result ↔ (length calls.now ≤ replies.old.capacity)
+    /// ensures err: OnErr result ((machine.new ≡ machine.old) × (limiter.new ≡ limiter.old)
+    ///     × (replies.new ≡ replies.old))
+    /// ensures capacity: replies.new.capacity ≡ replies.old.capacity
+    /// ensures held: HoldsTotals (L.Reserving.holdings limiter.new) machine.new
+    /// ensures valid: IsValid machine.new
+    /// ```
+    ///
+    /// Definitions: [`HoldsTotals`](crate::specs::machine::StateSpecs#HoldsTotals), [`IsRunOf`](crate::specs::machine::StepsSpecs#IsRunOf), [`optional_rules`](crate::specs::meter::LimiterSpecs#optional_rules), [`world`](crate::specs::machine::StateSpecs#world), [`IsValid`](crate::specs::machine::StateSpecs#IsValid).
+    ///
+    /// `L` is the type of the limiter, a [`Reserving`](crate::machine::Reserving#contract).
+    #[inline]
+    pub fn run_into_reserving<L: Reserving>(
+        machine: &mut Machine,
+        calls: &[Call],
+        limiter: &mut L,
+        replies: &mut Replies,
+    ) -> Result<(), TooManyCalls> {
+        assert!(
+            u128::from(limiter.held_bytes()) == machine.total_bytes()
+                && u128::from(limiter.held_elements()) == machine.total_elements(),
+            "what the limiter holds isn't the machine's totals"
+        );
+        run_into_lending(machine, calls, limiter, replies)
+    }
 }
 mod slots {
     //! Slots: what was made, each at the index of its making.
 
     use crate::proved::machine::calls::Reply;
+    use crate::proved::machine::reserved_list::ReservedList;
     use crate::proved::store::{Memory, Table};
-    use crate::rattle::Vec;
     use core::mem;
 
     /// What counts in a machine's totals: a memory by its bytes, a table by its elements.
@@ -1831,22 +2344,39 @@ mod slots {
         }
     }
 
+    /// How many slots of each kind.
+    #[derive(Clone, Copy, Debug, Default)]
+    pub struct SlotCounts {
+        /// Of memories.
+        pub memories: usize,
+        /// Of tables.
+        pub tables: usize,
+        /// Of element segments.
+        pub segments: usize,
+        /// Of data segments.
+        pub data_segments: usize,
+        /// Of globals.
+        pub globals: usize,
+    }
+
     /// Slots by their indices, which count from 0.
     pub(crate) struct Slots<T> {
-        pub(crate) slots: Vec<Slot<T>>,
+        pub(crate) slots: ReservedList<Slot<T>>,
     }
 
     impl<T> Slots<T> {
-        /// No slot yet. It takes no memory.
+        /// No slot yet, and none reserved. It takes no memory.
         ///
         /// # Contract
         ///
         /// ```text
-        /// ensures: result.slots.items ≡ []
+        /// ensures: result.slots ≡ record { items = []; reserved = 0; capacity = 0 }
         /// ```
         #[inline]
         pub(crate) fn new() -> Self {
-            Slots { slots: Vec::new() }
+            Slots {
+                slots: ReservedList::new(),
+            }
         }
 
         /// The live value of an index, if there is one.
@@ -1902,7 +2432,7 @@ mod slots {
         /// `T` is any type.
         #[inline]
         fn value_mut(&mut self, index: usize) -> &mut T {
-            self.slots[index].value_mut()
+            self.slots.item_mut(index).value_mut()
         }
 
         /// Takes the live value of an index out of its slot, if there is one, so that it can be changed
@@ -1915,6 +2445,7 @@ mod slots {
         /// ensures taken: IfSome result
         ///     (λ x. self.new.slots.items ≡ slice_set self.old.slots.items index (Gone 0))
         /// ensures none: IfNone result (self.new.slots.items ≡ self.old.slots.items)
+        /// ensures reserved: self.new.slots.reserved ≡ self.old.slots.reserved
         /// ```
         ///
         /// Definitions: [`live_at`](crate::specs::machine::StateSpecs#live_at).
@@ -1923,7 +2454,7 @@ mod slots {
             if self.live(index).is_none() {
                 return None;
             }
-            match mem::replace(&mut self.slots[index], Slot::Gone(0)) {
+            match mem::replace(self.slots.item_mut(index), Slot::Gone(0)) {
                 Slot::Live(value) => Some(value),
                 Slot::Gone(_) => unreachable!(),
             }
@@ -1934,15 +2465,14 @@ mod slots {
         /// # Contract
         ///
         /// ```text
-        /// requires room: length self.old.slots.items < vec_capacity self.old.slots
+        /// requires room: length self.old.slots.items < self.old.slots.capacity
         /// ensures index: result ≡ length self.old.slots.items
         /// ensures slots: self.new.slots.items ≡ self.old.slots.items ++ Live value ∷ []
+        /// ensures reserved: self.new.slots.reserved ≡ self.old.slots.reserved
         /// ```
         #[inline]
         pub(crate) fn push(&mut self, value: T) -> usize {
-            let index = self.slots.len();
-            self.slots.push_reserved(Slot::Live(value));
-            index
+            self.slots.push(Slot::Live(value))
         }
     }
 
@@ -1952,8 +2482,9 @@ mod slots {
         /// # Contract
         ///
         /// ```text
-        /// ensures: DropsAt T.Counted.count index self.old.slots.items (reply_or_no_such result)
-        ///     self.new.slots.items
+        /// ensures dropped: DropsAt T.Counted.count index self.old.slots.items
+        ///     (reply_or_no_such result) self.new.slots.items
+        /// ensures reserved: self.new.slots.reserved ≡ self.old.slots.reserved
         /// ```
         ///
         /// Definitions: [`DropsAt`](crate::specs::machine::EffectsSpecs#DropsAt), [`reply_or_no_such`](crate::specs::machine::EffectsSpecs#reply_or_no_such).
@@ -1962,7 +2493,7 @@ mod slots {
         #[inline]
         pub(crate) fn drop_live(&mut self, index: usize) -> Option<Reply> {
             let last = self.live(index)?.count();
-            self.slots[index] = Slot::Gone(last);
+            *self.slots.item_mut(index) = Slot::Gone(last);
             Some(Reply::Done)
         }
 
@@ -1980,7 +2511,7 @@ mod slots {
         #[inline]
         pub(crate) fn total(&self) -> u128 {
             let mut total = 0;
-            for slot in &self.slots {
+            for slot in self.slots.as_slice() {
                 total += slot.count() as u128;
             }
             total
@@ -1995,14 +2526,15 @@ mod store {
     use crate::proved::machine::data::DataSegment;
     use crate::proved::machine::memories::{Stored, bytes_reply};
     use crate::proved::machine::registers::Registers;
-    use crate::proved::machine::slots::Slots;
+    use crate::proved::machine::reserved_list::ReservedList;
+    use crate::proved::machine::slots::{SlotCounts, Slots};
     use crate::proved::machine::values::{
         create_data, create_global, create_segment, drop_data, drop_items, get_global, set_global,
     };
     use crate::proved::meter::{Fuel, ResourceLimiter, ResourceLimiterRef};
     use crate::proved::store::{ElementSegment, ElementSegmentRef, Memory, Table};
     use crate::proved::typed::Global;
-    use crate::rattle::Vec;
+    use crate::rattle::alloc::AllocError;
 
     /// Memories, tables, element segments, data segments and globals by their indices, registers, the
     /// meter, and the spare region, if there is one.
@@ -2022,6 +2554,13 @@ mod store {
     ///     registers = m.registers.values;
     ///     meter = m.fuel;
     ///     spare = option_copied_mut m.spare;
+    ///     reserved = record {
+    ///     memories = m.memories.slots.reserved;
+    ///     tables = m.tables.slots.reserved;
+    ///     segments = m.segments.reserved;
+    ///     data_segments = m.data_segments.reserved;
+    ///     globals = m.globals.reserved;
+    ///     };
     ///     }
     /// ```
     ///
@@ -2029,15 +2568,40 @@ mod store {
     pub(crate) struct MachineStore<'r> {
         pub(crate) memories: Slots<Memory<'r>>,
         pub(crate) tables: Slots<Table>,
-        pub(crate) segments: Vec<ElementSegment>,
-        pub(crate) data_segments: Vec<DataSegment>,
-        pub(crate) globals: Vec<Global>,
+        pub(crate) segments: ReservedList<ElementSegment>,
+        pub(crate) data_segments: ReservedList<DataSegment>,
+        pub(crate) globals: ReservedList<Global>,
         pub(crate) registers: Registers,
         pub(crate) fuel: Fuel,
         pub(crate) spare: Option<&'r mut [u8]>,
     }
 
     impl<'r> MachineStore<'r> {
+        /// Reserves so many more slots of each kind, or none if memory for some is refused.
+        ///
+        /// # Contract
+        ///
+        /// ```text
+        /// ensures reserved: OnOk result (self.new ≡ with_reserved self.old slots)
+        /// ensures refused: OnErr result (self.new ≡ self.old)
+        /// ```
+        ///
+        /// Definitions: [`with_reserved`](crate::specs::machine::StateSpecs#with_reserved).
+        #[inline]
+        pub(crate) fn reserve(&mut self, slots: SlotCounts) -> Result<(), AllocError> {
+            self.memories.slots.try_reserve(slots.memories)?;
+            self.tables.slots.try_reserve(slots.tables)?;
+            self.segments.try_reserve(slots.segments)?;
+            self.data_segments.try_reserve(slots.data_segments)?;
+            self.globals.try_reserve(slots.globals)?;
+            self.memories.slots.keep_reserved(slots.memories);
+            self.tables.slots.keep_reserved(slots.tables);
+            self.segments.keep_reserved(slots.segments);
+            self.data_segments.keep_reserved(slots.data_segments);
+            self.globals.keep_reserved(slots.globals);
+            Ok(())
+        }
+
         /// Grows a memory by so many pages.
         ///
         /// # Contract
@@ -2108,7 +2672,7 @@ mod store {
                 Call::DropData(segment) => drop_data(&mut self.data_segments, *segment),
                 Call::NewGlobal { value, ty } => create_global(&mut self.globals, *value, *ty),
                 Call::SetGlobal { global, value } => set_global(&mut self.globals, *global, *value),
-                Call::GetGlobal(global) => get_global(&self.globals, *global),
+                Call::GetGlobal(global) => get_global(self.globals.as_slice(), *global),
                 Call::NewTable { .. } => self.step_table(call, limiter).unwrap_or(Reply::NoSuch),
                 Call::GrowTable { .. } => self.step_table(call, limiter).unwrap_or(Reply::NoSuch),
                 Call::DropTable(_) => self.step_table(call, limiter).unwrap_or(Reply::NoSuch),
@@ -2417,9 +2981,11 @@ mod tables {
         /// ensures made: Creates Reply.Table
         ///     (MakesTable (optional_rules L.rules) ty init) self.old.slots.items
         ///     (lent_limiter limiter.old) result self.new.slots.items (lent_limiter limiter.new)
+        /// ensures room: IfNoRoom result (self.old.slots.reserved ≤ length self.old.slots.items)
+        /// ensures reserved: self.new.slots.reserved ≡ self.old.slots.reserved
         /// ```
         ///
-        /// Definitions: [`KeepsLoan`](crate::specs::meter::LimiterSpecs#KeepsLoan), [`Creates`](crate::specs::machine::EffectsSpecs#Creates), [`MakesTable`](crate::specs::store::TableSpecs#MakesTable), [`optional_rules`](crate::specs::meter::LimiterSpecs#optional_rules), [`lent_limiter`](crate::specs::meter::LimiterSpecs#lent_limiter).
+        /// Definitions: [`KeepsLoan`](crate::specs::meter::LimiterSpecs#KeepsLoan), [`Creates`](crate::specs::machine::EffectsSpecs#Creates), [`MakesTable`](crate::specs::store::TableSpecs#MakesTable), [`optional_rules`](crate::specs::meter::LimiterSpecs#optional_rules), [`lent_limiter`](crate::specs::meter::LimiterSpecs#lent_limiter), [`IfNoRoom`](crate::specs::machine::EffectsSpecs#IfNoRoom).
         ///
         /// `L` is the type of the limiter, a [`ResourceLimiter`](crate::machine::ResourceLimiter#contract).
         #[inline(always)]
@@ -2450,6 +3016,7 @@ mod tables {
         ///     (metered_value self.old.slots.items (Some fuel.old) (lent_limiter limiter.old))
         ///     (reply_or_no_such result)
         ///     (metered_value self.new.slots.items (Some fuel.new) (lent_limiter limiter.new))
+        /// ensures reserved: self.new.slots.reserved ≡ self.old.slots.reserved
         /// ```
         ///
         /// Definitions: [`KeepsLoan`](crate::specs::meter::LimiterSpecs#KeepsLoan), [`WithCharge`](crate::specs::store::GrowthSpecs#WithCharge), [`ActsAt`](crate::specs::machine::EffectsSpecs#ActsAt), [`reply_of`](crate::specs::machine::EffectsSpecs#reply_of), [`GrowsTableCharging`](crate::specs::store::TableSpecs#GrowsTableCharging), [`optional_rules`](crate::specs::meter::LimiterSpecs#optional_rules), [`metered_value`](crate::specs::store::GrowthSpecs#metered_value), [`lent_limiter`](crate::specs::meter::LimiterSpecs#lent_limiter), [`reply_or_no_such`](crate::specs::machine::EffectsSpecs#reply_or_no_such).
@@ -2471,13 +3038,34 @@ mod tables {
             }
         }
 
+        /// Reserves memory for so many elements of a table in all.
+        ///
+        /// # Contract
+        ///
+        /// ```text
+        /// ensures elements: ReservesElementsAt index elements self.old.slots.items
+        ///     (reply_or_no_such result) self.new.slots.items
+        /// ensures reserved: self.new.slots.reserved ≡ self.old.slots.reserved
+        /// ```
+        ///
+        /// Definitions: [`ReservesElementsAt`](crate::specs::machine::TableEffectsSpecs#ReservesElementsAt), [`reply_or_no_such`](crate::specs::machine::EffectsSpecs#reply_or_no_such).
+        #[inline(always)]
+        pub(crate) fn reserve(&mut self, index: usize, elements: u64) -> Option<Reply> {
+            let table = self.live_mut(index)?;
+            match table.reserve(elements) {
+                Ok(()) => Some(Reply::Done),
+                Err(_) => Some(Reply::NoRoom),
+            }
+        }
+
         /// Sets an element of a table.
         ///
         /// # Contract
         ///
         /// ```text
-        /// ensures: SetsElementAt index element value self.old.slots.items
+        /// ensures set: SetsElementAt index element value self.old.slots.items
         ///     (reply_or_no_such result) self.new.slots.items
+        /// ensures reserved: self.new.slots.reserved ≡ self.old.slots.reserved
         /// ```
         ///
         /// Definitions: [`SetsElementAt`](crate::specs::machine::TableEffectsSpecs#SetsElementAt), [`reply_or_no_such`](crate::specs::machine::EffectsSpecs#reply_or_no_such).
@@ -2497,9 +3085,10 @@ mod tables {
         /// # Contract
         ///
         /// ```text
-        /// ensures: WithCharge (WritesTableAt index (filling_of dst value len))
+        /// ensures filled: WithCharge (WritesTableAt index (filling_of dst value len))
         ///     (metered self.old.slots.items (Some fuel.old)) (reply_or_no_such result)
         ///     (metered self.new.slots.items (Some fuel.new))
+        /// ensures reserved: self.new.slots.reserved ≡ self.old.slots.reserved
         /// ```
         ///
         /// Definitions: [`WithCharge`](crate::specs::store::GrowthSpecs#WithCharge), [`WritesTableAt`](crate::specs::machine::TableEffectsSpecs#WritesTableAt), [`filling_of`](crate::specs::store::TableSpecs#filling_of), [`metered`](crate::specs::store::GrowthSpecs#metered), [`reply_or_no_such`](crate::specs::machine::EffectsSpecs#reply_or_no_such).
@@ -2521,10 +3110,11 @@ mod tables {
         /// # Contract
         ///
         /// ```text
-        /// ensures: WithCharge
+        /// ensures copied: WithCharge
         ///     (WritesTableAt index (initialization_of dst src len (segment_of segment.entry)))
         ///     (metered self.old.slots.items (Some fuel.old)) (reply_or_no_such result)
         ///     (metered self.new.slots.items (Some fuel.new))
+        /// ensures reserved: self.new.slots.reserved ≡ self.old.slots.reserved
         /// ```
         ///
         /// Definitions: [`WithCharge`](crate::specs::store::GrowthSpecs#WithCharge), [`WritesTableAt`](crate::specs::machine::TableEffectsSpecs#WritesTableAt), [`initialization_of`](crate::specs::store::TableSpecs#initialization_of), [`segment_of`](crate::specs::store::SegmentSpecs#segment_of), [`metered`](crate::specs::store::GrowthSpecs#metered), [`reply_or_no_such`](crate::specs::machine::EffectsSpecs#reply_or_no_such).
@@ -2549,11 +3139,12 @@ mod tables {
         /// # Contract
         ///
         /// ```text
-        /// ensures: WithCharge
+        /// ensures copied: WithCharge
         ///     (WritesTableFrom (live_at self.old.slots.items src_index) dst_index
         ///     (copy_of dst src len))
         ///     (metered self.old.slots.items (Some fuel.old)) (reply_or_no_such result)
         ///     (metered self.new.slots.items (Some fuel.new))
+        /// ensures reserved: self.new.slots.reserved ≡ self.old.slots.reserved
         /// ```
         ///
         /// Definitions: [`WithCharge`](crate::specs::store::GrowthSpecs#WithCharge), [`WritesTableFrom`](crate::specs::machine::TableEffectsSpecs#WritesTableFrom), [`live_at`](crate::specs::machine::StateSpecs#live_at), [`copy_of`](crate::specs::store::TableSpecs#copy_of), [`metered`](crate::specs::store::GrowthSpecs#metered), [`reply_or_no_such`](crate::specs::machine::EffectsSpecs#reply_or_no_such).
@@ -2570,7 +3161,8 @@ mod tables {
             if dst_index == src_index {
                 return self.copy_in_one(dst_index, dst, src, len, fuel);
             }
-            if dst_index >= self.slots.len() || src_index >= self.slots.len() {
+            let count = self.slots.as_slice().len();
+            if dst_index >= count || src_index >= count {
                 return None;
             }
             let slots = self.slots.as_mut_slice();
@@ -2582,10 +3174,11 @@ mod tables {
         /// # Contract
         ///
         /// ```text
-        /// ensures: WithCharge
+        /// ensures copied: WithCharge
         ///     (WritesTableFrom (live_at self.old.slots.items index) index (copy_of dst src len))
         ///     (metered self.old.slots.items (Some fuel.old)) (reply_or_no_such result)
         ///     (metered self.new.slots.items (Some fuel.new))
+        /// ensures reserved: self.new.slots.reserved ≡ self.old.slots.reserved
         /// ```
         ///
         /// Definitions: [`WithCharge`](crate::specs::store::GrowthSpecs#WithCharge), [`WritesTableFrom`](crate::specs::machine::TableEffectsSpecs#WritesTableFrom), [`live_at`](crate::specs::machine::StateSpecs#live_at), [`copy_of`](crate::specs::store::TableSpecs#copy_of), [`metered`](crate::specs::store::GrowthSpecs#metered), [`reply_or_no_such`](crate::specs::machine::EffectsSpecs#reply_or_no_such).
@@ -2685,24 +3278,26 @@ mod values {
 
     use crate::proved::machine::calls::Reply;
     use crate::proved::machine::data::DataSegment;
+    use crate::proved::machine::reserved_list::ReservedList;
     use crate::proved::raw::{RawRef, RawVal};
     use crate::proved::store::ElementSegment;
     use crate::proved::typed::{Global, GlobalType, TypedRawVal};
     use crate::proved::types::RefType;
-    use crate::rattle::Vec;
 
     /// Makes an element segment.
     ///
     /// # Contract
     ///
     /// ```text
-    /// ensures: CreatesSegment ty items.now segments.old.items result segments.new.items
+    /// ensures made: CreatesSegment (segments.old.reserved ≤ length segments.old.items) ty items.now
+    ///     segments.old.items result segments.new.items
+    /// ensures reserved: segments.new.reserved ≡ segments.old.reserved
     /// ```
     ///
     /// Definitions: [`CreatesSegment`](crate::specs::machine::ValueEffectsSpecs#CreatesSegment).
     #[inline(always)]
     pub(crate) fn create_segment(
-        segments: &mut Vec<ElementSegment>,
+        segments: &mut ReservedList<ElementSegment>,
         ty: RefType,
         items: &[RawRef],
     ) -> Reply {
@@ -2710,11 +3305,7 @@ mod values {
             return Reply::NoRoom;
         }
         match ElementSegment::new(ty, items.iter().copied()) {
-            Ok(segment) => {
-                let index = segments.len();
-                segments.push_reserved(segment);
-                Reply::Made(index)
-            }
+            Ok(segment) => Reply::Made(segments.push(segment)),
             Err(error) => Reply::Segment(error),
         }
     }
@@ -2724,12 +3315,13 @@ mod values {
     /// # Contract
     ///
     /// ```text
-    /// ensures: DropsItemsAt index segments.old.items result segments.new.items
+    /// ensures dropped: DropsItemsAt index segments.old.items result segments.new.items
+    /// ensures reserved: segments.new.reserved ≡ segments.old.reserved
     /// ```
     ///
     /// Definitions: [`DropsItemsAt`](crate::specs::machine::ValueEffectsSpecs#DropsItemsAt).
     #[inline(always)]
-    pub(crate) fn drop_items(segments: &mut Vec<ElementSegment>, index: usize) -> Reply {
+    pub(crate) fn drop_items(segments: &mut ReservedList<ElementSegment>, index: usize) -> Reply {
         let Some(segment) = segments.get_mut(index) else {
             return Reply::NoSuch;
         };
@@ -2742,12 +3334,15 @@ mod values {
     /// # Contract
     ///
     /// ```text
-    /// ensures: AddsItem bytes.now segments.old.items result segments.new.items
+    /// ensures made: AddsItem
+    ///     ((0 < length bytes.now) ⊎ (segments.old.reserved ≤ length segments.old.items)) bytes.now
+    ///     segments.old.items result segments.new.items
+    /// ensures reserved: segments.new.reserved ≡ segments.old.reserved
     /// ```
     ///
     /// Definitions: [`AddsItem`](crate::specs::machine::EffectsSpecs#AddsItem).
     #[inline(always)]
-    pub(crate) fn create_data(segments: &mut Vec<DataSegment>, bytes: &[u8]) -> Reply {
+    pub(crate) fn create_data(segments: &mut ReservedList<DataSegment>, bytes: &[u8]) -> Reply {
         match DataSegment::new(bytes) {
             Ok(segment) => add_item(segments, segment),
             Err(_) => Reply::NoRoom,
@@ -2759,12 +3354,13 @@ mod values {
     /// # Contract
     ///
     /// ```text
-    /// ensures: DropsDataAt index segments.old.items result segments.new.items
+    /// ensures dropped: DropsDataAt index segments.old.items result segments.new.items
+    /// ensures reserved: segments.new.reserved ≡ segments.old.reserved
     /// ```
     ///
     /// Definitions: [`DropsDataAt`](crate::specs::machine::ValueEffectsSpecs#DropsDataAt).
     #[inline(always)]
-    pub(crate) fn drop_data(segments: &mut Vec<DataSegment>, index: usize) -> Reply {
+    pub(crate) fn drop_data(segments: &mut ReservedList<DataSegment>, index: usize) -> Reply {
         let Some(segment) = segments.get_mut(index) else {
             return Reply::NoSuch;
         };
@@ -2777,13 +3373,18 @@ mod values {
     /// # Contract
     ///
     /// ```text
-    /// ensures: AddsItem
+    /// ensures made: AddsItem (globals.old.reserved ≤ length globals.old.items)
     ///     (record { value = value; ty = ty }) globals.old.items result globals.new.items
+    /// ensures reserved: globals.new.reserved ≡ globals.old.reserved
     /// ```
     ///
     /// Definitions: [`AddsItem`](crate::specs::machine::EffectsSpecs#AddsItem).
     #[inline(always)]
-    pub(crate) fn create_global(globals: &mut Vec<Global>, value: RawVal, ty: GlobalType) -> Reply {
+    pub(crate) fn create_global(
+        globals: &mut ReservedList<Global>,
+        value: RawVal,
+        ty: GlobalType,
+    ) -> Reply {
         add_item(globals, Global::new(value, ty))
     }
 
@@ -2792,18 +3393,18 @@ mod values {
     /// # Contract
     ///
     /// ```text
-    /// ensures: AddsItem item items.old.items result items.new.items
+    /// ensures made: AddsItem (items.old.reserved ≤ length items.old.items) item items.old.items result
+    ///     items.new.items
+    /// ensures reserved: items.new.reserved ≡ items.old.reserved
     /// ```
     ///
     /// Definitions: [`AddsItem`](crate::specs::machine::EffectsSpecs#AddsItem).
     #[inline(always)]
-    fn add_item<T>(items: &mut Vec<T>, item: T) -> Reply {
+    fn add_item<T>(items: &mut ReservedList<T>, item: T) -> Reply {
         if items.try_reserve(1).is_err() {
             return Reply::NoRoom;
         }
-        let index = items.len();
-        items.push_reserved(item);
-        Reply::Made(index)
+        Reply::Made(items.push(item))
     }
 
     /// Sets a global.
@@ -2811,12 +3412,17 @@ mod values {
     /// # Contract
     ///
     /// ```text
-    /// ensures: SetsGlobalAt index value globals.old.items result globals.new.items
+    /// ensures set: SetsGlobalAt index value globals.old.items result globals.new.items
+    /// ensures reserved: globals.new.reserved ≡ globals.old.reserved
     /// ```
     ///
     /// Definitions: [`SetsGlobalAt`](crate::specs::machine::ValueEffectsSpecs#SetsGlobalAt).
     #[inline(always)]
-    pub(crate) fn set_global(globals: &mut Vec<Global>, index: usize, value: TypedRawVal) -> Reply {
+    pub(crate) fn set_global(
+        globals: &mut ReservedList<Global>,
+        index: usize,
+        value: TypedRawVal,
+    ) -> Reply {
         let Some(global) = globals.get_mut(index) else {
             return Reply::NoSuch;
         };
@@ -2846,4 +3452,8 @@ mod values {
 pub use calls::{ByteList, Call, Reply};
 pub use data::DataSegment;
 pub use machine::Machine;
-pub use running::{run, run_lending, run_reserving};
+pub use replies::{Replies, TooManyCalls};
+pub use running::{
+    run, run_into, run_into_lending, run_into_reserving, run_lending, run_reserving,
+};
+pub use slots::SlotCounts;

@@ -1015,6 +1015,27 @@ mod running {
         }
     }
 
+    /// The machine that the script starts with, or each of its tenants: a new one, as by `machine_of`,
+    /// with the slots reserved that the header lines ask for.
+    ///
+    /// # Contract
+    ///
+    /// ```text
+    /// ensures: IfOk result (λ machine. machine ≡ record (tenant_start header.now)
+    ///     { spare = option_map (λ bytes. bytes.items) (option_copied_mut region.entry) })
+    /// ```
+    ///
+    /// Definitions: [`tenant_start`](crate::specs::grammar::HeadersSpecs#tenant_start).
+    #[inline]
+    fn start<'r>(
+        header: &Header,
+        region: Option<&'r mut Vec<u8>>,
+    ) -> Result<Machine<'r>, AllocError> {
+        let mut machine = machine_of(header, region);
+        machine.reserve(header.slots())?;
+        Ok(machine)
+    }
+
     /// Runs the calls on a new machine without a limiter.
     ///
     /// # Contract
@@ -1027,7 +1048,7 @@ mod running {
     #[inline]
     fn run_freely(header: &Header, calls: &[Call]) -> Result<Ran, AllocError> {
         let mut region = region_of(header)?;
-        let mut machine = machine_of(header, region.as_mut());
+        let mut machine = start(header, region.as_mut())?;
         let mut limiter = ResourceLimiterRef::<NoLimits>::default();
         let replies = run(&mut machine, calls, &mut limiter)?;
         let held = Held::Nothing;
@@ -1046,7 +1067,7 @@ mod running {
     #[inline]
     fn run_under_quota(header: &Header, calls: &[Call], caps: Amounts) -> Result<Ran, AllocError> {
         let mut region = region_of(header)?;
-        let mut machine = machine_of(header, region.as_mut());
+        let mut machine = start(header, region.as_mut())?;
         let mut quota = Quota::new(caps.bytes, caps.elements);
         let replies = run_reserving(&mut machine, calls, &mut quota)?;
         let held = Held::Quota(Amounts {
@@ -1074,13 +1095,14 @@ mod running {
     ) -> Result<Ran, AllocError> {
         let mut limiter = AnswerList::new(answers.try_to_vec()?);
         let mut region = region_of(header)?;
-        let mut machine = machine_of(header, region.as_mut());
+        let mut machine = start(header, region.as_mut())?;
         let replies = run_lending(&mut machine, calls, &mut limiter)?;
         let held = Held::Nothing;
         Ok(Ran { replies, held })
     }
 
-    /// Runs the script's parts, each by its tenant, on a pool of new machines with the script's meter.
+    /// Runs the script's parts, each by its tenant, on a pool of new machines with the script's meter and
+    /// its reserved slots.
     ///
     /// # Contract
     ///
@@ -1106,21 +1128,22 @@ mod running {
         Ok(Ran { replies, held })
     }
 
-    /// A pool of new machines with the meter of the header, under the caps of the line.
+    /// A pool of new machines with the meter and the reserved slots of the header, under the caps of the
+    /// line.
     ///
     /// # Contract
     ///
     /// ```text
-    /// ensures: IfOk result (λ pool. pool ≡ new_pool line (new_state (meter_of header.now)))
+    /// ensures: IfOk result (λ pool. pool ≡ new_pool line (tenant_start header.now))
     /// ```
     ///
-    /// Definitions: [`new_pool`](crate::specs::script::ScriptRunsSpecs#new_pool), [`new_state`](crate::specs::machine::StateSpecs#new_state), [`meter_of`](crate::specs::grammar::HeadersSpecs#meter_of).
+    /// Definitions: [`new_pool`](crate::specs::script::ScriptRunsSpecs#new_pool), [`tenant_start`](crate::specs::grammar::HeadersSpecs#tenant_start).
     #[inline]
     fn pool_of(header: &Header, line: TenantsLine) -> Result<Pool<'static>, AllocError> {
         let mut pool = Pool::new(line.caps.bytes, line.caps.elements);
         for _index in 0..line.count {
             // A new machine has nothing, so room alone can be wanting.
-            if pool.add(Machine::new(fuel_of(header))).is_err() {
+            if pool.add(start(header, None)?).is_err() {
                 return Err(AllocError);
             }
         }

@@ -3182,7 +3182,7 @@ abbrev pub <b id="segment_error_text">segment_error_text</b> : SegmentError → 
     pub mod SegmentSpecs {}
     #[doc = r####"Tables: their types, making one, growing it, reading and writing its elements (core specification, table types and table instances).
 
-<pre><code>use Rattle.std.specs.Prelude.{◌≡◌, ◌^◌, ◌≤◌, ◌&lt;◌, ℕ, Bool, true, false, nat_le, nat_lt, Option, ◌+◌, List, [], ◌∷◌, ◌++◌, length, replicate, nat_eq, if◌then◌else◌, MatchBool, MatchOption, Some, None, Result, Ok, Err, slice_get}
+<pre><code>use Rattle.std.specs.Prelude.{◌≡◌, ◌^◌, ◌≤◌, ◌&lt;◌, ℕ, Bool, true, false, nat_le, nat_lt, Option, ◌+◌, List, [], ◌∷◌, ◌++◌, length, replicate, max, nat_eq, if◌then◌else◌, MatchBool, MatchOption, Some, None, Result, Ok, Err, slice_get}
 use Rattle.std.specs.Option.{option_map_or, ForSome, option_map}
 use Rattle.wasmi_types.specs.declared.value.RefType.{RefType}
 use Rattle.wasmi_types.specs.declared.value.RefType.TheVariants.{Func, Extern}
@@ -3236,14 +3236,23 @@ pub record <b id="IsSubtype">IsSubtype</b> (a b : <a href="../../store/TableSpec
   pub <b id="minimum">minimum</b> : b.minimum ≤ a.minimum
   pub <b id="maximum">maximum</b> : <a href="../../store/MemorySpecs/index.html#IsNoLooser">IsNoLooser</a> a.maximum b.maximum
 
--- a table: its type, and its elements, each a reference or 0 for null
+-- a table: its type, its elements, each a reference or 0 for null, and how many elements in all memory was reserved for
 pub record <b id="TableValue">TableValue</b> : Type 0 where
   pub <b id="ty">ty</b> : <a href="../../store/TableSpecs/index.html#TableTypeValue">TableTypeValue</a>
   pub <b id="elements">elements</b> : List ℕ
+  pub <b id="reserved">reserved</b> : ℕ
 
--- the table of a type with these elements
+-- the table of a type with these elements, for which nothing was reserved
 abbrev pub <b id="table_of">table_of</b> : <a href="../../store/TableSpecs/index.html#TableTypeValue">TableTypeValue</a> → List ℕ → <a href="../../store/TableSpecs/index.html#TableValue">TableValue</a>
-<a href="../../store/TableSpecs/index.html#table_of">table_of</a> <a href="../../store/TableSpecs/index.html#ty">ty</a> <a href="../../store/TableSpecs/index.html#elements">elements</a> = record { <a href="../../store/TableSpecs/index.html#ty">ty</a> = <a href="../../store/TableSpecs/index.html#ty">ty</a>; <a href="../../store/TableSpecs/index.html#elements">elements</a> = <a href="../../store/TableSpecs/index.html#elements">elements</a> }
+<a href="../../store/TableSpecs/index.html#table_of">table_of</a> <a href="../../store/TableSpecs/index.html#ty">ty</a> <a href="../../store/TableSpecs/index.html#elements">elements</a> = record { <a href="../../store/TableSpecs/index.html#ty">ty</a> = <a href="../../store/TableSpecs/index.html#ty">ty</a>; <a href="../../store/TableSpecs/index.html#elements">elements</a> = <a href="../../store/TableSpecs/index.html#elements">elements</a>; <a href="../../store/TableSpecs/index.html#reserved">reserved</a> = 0 }
+
+-- the table with these elements
+abbrev pub <b id="with_elements">with_elements</b> : <a href="../../store/TableSpecs/index.html#TableValue">TableValue</a> → List ℕ → <a href="../../store/TableSpecs/index.html#TableValue">TableValue</a>
+<a href="../../store/TableSpecs/index.html#with_elements">with_elements</a> x <a href="../../store/TableSpecs/index.html#elements">elements</a> = record x { <a href="../../store/TableSpecs/index.html#elements">elements</a> = <a href="../../store/TableSpecs/index.html#elements">elements</a> }
+
+-- the table for whose first n elements memory is reserved, unless that was so for more
+abbrev pub <b id="with_elements_reserved">with_elements_reserved</b> : <a href="../../store/TableSpecs/index.html#TableValue">TableValue</a> → ℕ → <a href="../../store/TableSpecs/index.html#TableValue">TableValue</a>
+<a href="../../store/TableSpecs/index.html#with_elements_reserved">with_elements_reserved</a> x n = record x { <a href="../../store/TableSpecs/index.html#reserved">reserved</a> = max x.reserved n }
 
 -- how many elements a table has
 abbrev pub <b id="size_of">size_of</b> : <a href="../../store/TableSpecs/index.html#TableValue">TableValue</a> → ℕ
@@ -3266,11 +3275,11 @@ abbrev pub <b id="dynamic_type">dynamic_type</b> : <a href="../../store/TableSpe
 
 -- a new table at the minimum of its type, with one reference in each place
 abbrev pub <b id="new_table">new_table</b> : <a href="../../store/TableSpecs/index.html#TableTypeValue">TableTypeValue</a> → ℕ → <a href="../../store/TableSpecs/index.html#TableValue">TableValue</a>
-<a href="../../store/TableSpecs/index.html#new_table">new_table</a> <a href="../../store/TableSpecs/index.html#ty">ty</a> reference = record { <a href="../../store/TableSpecs/index.html#ty">ty</a> = <a href="../../store/TableSpecs/index.html#ty">ty</a>; <a href="../../store/TableSpecs/index.html#elements">elements</a> = replicate ty.minimum reference }
+<a href="../../store/TableSpecs/index.html#new_table">new_table</a> <a href="../../store/TableSpecs/index.html#ty">ty</a> reference = <a href="../../store/TableSpecs/index.html#table_of">table_of</a> <a href="../../store/TableSpecs/index.html#ty">ty</a> (replicate ty.minimum reference)
 
 -- the table with n more elements
 abbrev pub <b id="with_added">with_added</b> : <a href="../../store/TableSpecs/index.html#TableValue">TableValue</a> → ℕ → ℕ → <a href="../../store/TableSpecs/index.html#TableValue">TableValue</a>
-<a href="../../store/TableSpecs/index.html#with_added">with_added</a> x n reference = record { <a href="../../store/TableSpecs/index.html#ty">ty</a> = x.ty; <a href="../../store/TableSpecs/index.html#elements">elements</a> = x.elements ++ replicate n reference }
+<a href="../../store/TableSpecs/index.html#with_added">with_added</a> x n reference = <a href="../../store/TableSpecs/index.html#with_elements">with_elements</a> x (x.elements ++ replicate n reference)
 
 -- the fuel for so many elements, of 4 bytes each
 abbrev pub <b id="element_price">element_price</b> : ℕ → CustomFuelCosts → ℕ
@@ -3292,7 +3301,7 @@ abbrev pub <b id="creation_of">creation_of</b> : <a href="../../store/TableSpecs
 }
 
 -- what is asked and paid where a table grows by n elements, and the causes of a refusal: the maximum is tested after
--- the permission
+-- the permission, and memory is wanting only for more elements than it was reserved for
 abbrev pub <b id="growth_of">growth_of</b> : <a href="../../store/TableSpecs/index.html#TableValue">TableValue</a> → ℕ → ℕ → <a href="../../meter/AttemptSpecs/index.html#Request">Request</a> <a href="../../store/TableSpecs/index.html#TableValue">TableValue</a> TableError
 <a href="../../store/TableSpecs/index.html#growth_of">growth_of</a> x n reference = record {
   early = if <a href="../../store/TableSpecs/index.html#is_indexable">is_indexable</a> x.ty (<a href="../../store/TableSpecs/index.html#size_of">size_of</a> x + n) then None else Some GrowOutOfBounds;
@@ -3303,7 +3312,7 @@ abbrev pub <b id="growth_of">growth_of</b> : <a href="../../store/TableSpecs/ind
   late = if <a href="../../store/TableSpecs/index.html#is_within_maximum">is_within_maximum</a> x.ty (<a href="../../store/TableSpecs/index.html#size_of">size_of</a> x + n) then None else Some GrowOutOfBounds;
   price = Some (<a href="../../store/TableSpecs/index.html#element_price">element_price</a> n);
   unpaid = OutOfFuel;
-  refuses = λ cause. cause ≡ OutOfSystemMemory;
+  refuses = λ cause. (cause ≡ OutOfSystemMemory) × (x.reserved &lt; <a href="../../store/TableSpecs/index.html#size_of">size_of</a> x + n);
   grown = <a href="../../store/TableSpecs/index.html#with_added">with_added</a> x n reference;
 }
 
@@ -3346,7 +3355,7 @@ abbrev pub <b id="element_at">element_at</b> : <a href="../../store/TableSpecs/i
 abbrev pub <b id="SetsTableRaw">SetsTableRaw</b> : ℕ → ℕ → <a href="../../store/TableSpecs/index.html#TableValue">TableValue</a> → Result (Unit {0}) TableError → <a href="../../store/TableSpecs/index.html#TableValue">TableValue</a> → Type 0
 <a href="../../store/TableSpecs/index.html#SetsTableRaw">SetsTableRaw</a> <a href="../../store/TableSpecs/index.html#index">index</a> reference x result x&#x27; = MatchOption (<a href="../../types/AccessSpecs/index.html#overwrite">overwrite</a> x.elements <a href="../../store/TableSpecs/index.html#index">index</a> (reference ∷ []))
     ((result ≡ Err SetOutOfBounds) × (x&#x27; ≡ x))
-    (λ <a href="../../store/TableSpecs/index.html#elements">elements</a>. (result ≡ Ok tt) × (x&#x27; ≡ record x { <a href="../../store/TableSpecs/index.html#elements">elements</a> = <a href="../../store/TableSpecs/index.html#elements">elements</a> }))
+    (λ <a href="../../store/TableSpecs/index.html#elements">elements</a>. (result ≡ Ok tt) × (x&#x27; ≡ <a href="../../store/TableSpecs/index.html#with_elements">with_elements</a> x <a href="../../store/TableSpecs/index.html#elements">elements</a>))
 
 -- the element at an index is set to a reference that has a type, which is tested first
 abbrev pub <b id="SetsTable">SetsTable</b> : ℕ → TypedRawRef → <a href="../../store/TableSpecs/index.html#TableValue">TableValue</a> → Result (Unit {0}) TableError → <a href="../../store/TableSpecs/index.html#TableValue">TableValue</a> → Type 0
@@ -3362,7 +3371,7 @@ abbrev pub <b id="TableWrite">TableWrite</b> : Type 0
 abbrev pub <b id="elements_write">elements_write</b> : <a href="../../store/TableSpecs/index.html#TableValue">TableValue</a> → Bool → Option (List ℕ) → TableError → Option ℕ → <a href="../../store/TableSpecs/index.html#TableWrite">TableWrite</a>
 <a href="../../store/TableSpecs/index.html#elements_write">elements_write</a> x typed written outside paid = record {
   early = if typed then None else Some ElementTypeMismatch;
-  written = option_map (<a href="../../store/TableSpecs/index.html#table_of">table_of</a> x.ty) written;
+  written = option_map (<a href="../../store/TableSpecs/index.html#with_elements">with_elements</a> x) written;
   outside = outside;
   price = option_map <a href="../../store/TableSpecs/index.html#element_price">element_price</a> paid;
   unpaid = OutOfFuel;
@@ -3749,9 +3758,14 @@ abbrev pub <b id="AddsEntry">AddsEntry</b> : {X A E : Type 0} → (X → A) → 
 <a href="../../machine/EffectsSpecs/index.html#AddsEntry">AddsEntry</a> entry refusal (Ok x) list reply list&#x27; = (reply ≡ Made (length list)) × (list&#x27; ≡ list ++ entry x ∷ [])
 <a href="../../machine/EffectsSpecs/index.html#AddsEntry">AddsEntry</a> entry refusal (Err error) list reply list&#x27; = (reply ≡ refusal error) × (list&#x27; ≡ list)
 
--- an item is added to a list, unless there is no memory for it
-abbrev pub <b id="AddsItem">AddsItem</b> : {X : Type 0} → X → List X → Reply → List X → Type 0
-<a href="../../machine/EffectsSpecs/index.html#AddsItem">AddsItem</a> x items reply items&#x27; = ((reply ≡ NoRoom) × (items&#x27; ≡ items))
+-- where the reply is that there is no room, a fact that is then so
+abbrev pub <b id="IfNoRoom">IfNoRoom</b> : Reply → Type 0 → Type 0
+<a href="../../machine/EffectsSpecs/index.html#IfNoRoom">IfNoRoom</a> NoRoom Lacks = Lacks
+<a href="../../machine/EffectsSpecs/index.html#IfNoRoom">IfNoRoom</a> reply Lacks = Unit {0}
+
+-- an item is added to a list, unless there is no memory for it, which may lack as a fact says
+abbrev pub <b id="AddsItem">AddsItem</b> : {X : Type 0} → Type 0 → X → List X → Reply → List X → Type 0
+<a href="../../machine/EffectsSpecs/index.html#AddsItem">AddsItem</a> Lacks x items reply items&#x27; = ((reply ≡ NoRoom) × (items&#x27; ≡ items) × Lacks)
     ⊎ ((reply ≡ Made (length items)) × (items&#x27; ≡ items ++ x ∷ []))
 
 -- what the item of an index has is dropped
@@ -3838,12 +3852,14 @@ module _ {S : Type 0} (w : <a href="../../machine/StateSpecs/index.html#World">W
     pub <b id="effect">effect</b> : Effect turn.reply <a href="../../machine/EffectsSpecs/index.html#machine">machine</a>
     pub <b id="after">after</b> : w&#x27; ≡ record w { state = <a href="../../machine/EffectsSpecs/index.html#machine">machine</a> }
 
-  -- a turn that makes something under the limiter, without a charge
-  pub record <b id="Asks">Asks</b> {A : Type 0} (with_part : A → <a href="../../machine/StateSpecs/index.html#State">State</a>) (Effect : S → Reply → A → S → Type 0) : Type 0 where
+  -- a turn that makes something under the limiter, without a charge; there may be no room for it as a fact says
+  pub record <b id="Asks">Asks</b> {A : Type 0} (Lacks : Type 0) (with_part : A → <a href="../../machine/StateSpecs/index.html#State">State</a>) (Effect : S → Reply → A → S → Type 0)
+      : Type 0 where
     pub <b id="free">free</b> : <a href="../../machine/StateSpecs/index.html#IsFree">IsFree</a> turn
     pub <b id="part">part</b> : A
     pub <b id="limiter">limiter</b> : S
     pub <b id="effect">effect</b> : Effect w.limiter turn.reply <a href="../../machine/EffectsSpecs/index.html#part">part</a> <a href="../../machine/EffectsSpecs/index.html#limiter">limiter</a>
+    pub <b id="room">room</b> : <a href="../../machine/EffectsSpecs/index.html#IfNoRoom">IfNoRoom</a> turn.reply Lacks
     pub <b id="after">after</b> : w&#x27; ≡ <a href="../../machine/StateSpecs/index.html#world">world</a> (with_part <a href="../../machine/EffectsSpecs/index.html#part">part</a>) <a href="../../machine/EffectsSpecs/index.html#limiter">limiter</a>
 
   -- a turn that acts on one part of the state, with a charge, and with the bytes that it has written by its reply
@@ -4087,6 +4103,7 @@ pub record <b id="SameContents">SameContents</b> (s s&#x27; : <a href="../../mac
   pub <b id="data_segments">data_segments</b> : s&#x27;.<a href="../../machine/LawsSpecs/index.html#data_segments">data_segments</a> ≡ s.data_segments
   pub <b id="globals">globals</b> : s&#x27;.<a href="../../machine/LawsSpecs/index.html#globals">globals</a> ≡ s.globals
   pub <b id="registers">registers</b> : s&#x27;.<a href="../../machine/LawsSpecs/index.html#registers">registers</a> ≡ s.registers
+  pub <b id="reserved">reserved</b> : s&#x27;.<a href="../../machine/LawsSpecs/index.html#reserved">reserved</a> ≡ s.reserved
 
 -- the spare region stays, unless a memory was to be made in it: then it is used up if there was room for a slot
 abbrev pub <b id="KeepsSpare">KeepsSpare</b> : Call → Reply → <a href="../../machine/StateSpecs/index.html#State">State</a> → <a href="../../machine/StateSpecs/index.html#State">State</a> → Type 0
@@ -4309,7 +4326,7 @@ abbrev pub <b id="RunInRegions">RunInRegions</b> : {S : Type 0} → <a href="../
     pub mod LentMemorySpecs {}
     #[doc = r####"The calls on memories: what each does to the list of slots.
 
-<pre><code>use Rattle.std.specs.Prelude.{◌≡◌, ◌⊎◌, ◌*◌, ℕ, Option, Some, None, Result, List, MatchOption}
+<pre><code>use Rattle.std.specs.Prelude.{◌≡◌, ◌⊎◌, ◌*◌, ◌&lt;◌, ℕ, Option, Some, None, Result, List, length, MatchOption}
 use Rattle.std.specs.Option.{option_map, option_map_or}
 use Rattle.wasmi_types.specs.Access.{<a href="../../types/AccessSpecs/index.html#at">at</a>}
 use Rattle.wasmi_types.specs.Numbers.{<a href="../../types/NumbersSpecs/index.html#le_bytes">le_bytes</a>}
@@ -4348,10 +4365,10 @@ abbrev pub <b id="CreatesLent">CreatesLent</b> : {S : Type 0} → <a href="../..
     (λ region. <a href="../../machine/EffectsSpecs/index.html#Creates">Creates</a> Memory (<a href="../../store/MemorySpecs/index.html#MakesMemory">MakesMemory</a> rules (<a href="../../store/BufferSpecs/index.html#Lent">Lent</a> region) ty) part.slots l reply part&#x27;.slots l&#x27;
     × (part&#x27;.spare ≡ <a href="../../machine/MemoryEffectsSpecs/index.html#spare_after">spare_after</a> reply part.spare))
 
--- a read: its bounds are tested before memory for the reply is asked for
+-- a read: its bounds are tested before memory for the reply is asked for, which no byte needs
 abbrev pub <b id="ReadsBytes">ReadsBytes</b> : Option (List ℕ) → Reply → Type 0
 <a href="../../machine/MemoryEffectsSpecs/index.html#ReadsBytes">ReadsBytes</a> None reply = reply ≡ Memory OutOfBoundsAccess
-<a href="../../machine/MemoryEffectsSpecs/index.html#ReadsBytes">ReadsBytes</a> (Some bytes) reply = (reply ≡ NoRoom) ⊎ (reply ≡ Bytes bytes)
+<a href="../../machine/MemoryEffectsSpecs/index.html#ReadsBytes">ReadsBytes</a> (Some bytes) reply = ((reply ≡ NoRoom) × (0 &lt; length bytes)) ⊎ (reply ≡ Bytes bytes)
 
 -- the reply to a read of so many bytes from an offset on, by the memory of an index
 abbrev pub <b id="ReadsMemoryAt">ReadsMemoryAt</b> : ℕ → ℕ → ℕ → List (Slot <a href="../../store/MemorySpecs/index.html#MemoryValue">MemoryValue</a>) → Reply → Type 0
@@ -4486,11 +4503,47 @@ abbrev pub <b id="StoresVectorAt">StoresVectorAt</b> : ℕ → ℕ → Option (L
 </code></pre>
 "####]
     pub mod RegisterEffectsSpecs {}
+    #[doc = r####"Replies in memory that is kept from run to run.
+
+<pre><code>use Rattle.std.specs.Prelude.{ℕ, List, codes}
+use Rattle.wasmi_machine.specs.declared.calls.Reply.{Reply}
+
+-- the replies, and for how many there is memory
+pub record <b id="RepliesValue">RepliesValue</b> : Type 0 where
+  pub <b id="items">items</b> : List Reply
+  pub <b id="capacity">capacity</b> : ℕ
+
+-- the text of why a list isn&#x27;t executed
+abbrev pub <b id="too_many_calls_text">too_many_calls_text</b> : List ℕ
+<a href="../../machine/RepliesSpecs/index.html#too_many_calls_text">too_many_calls_text</a> = codes "more calls than there is memory for replies"
+</code></pre>
+"####]
+    pub mod RepliesSpecs {}
+    #[doc = r####"Lists with memory for items that are still to be added.
+
+<pre><code>use Rattle.std.specs.Prelude.{ℕ, List, length, slice_set}
+use Rattle.std.specs.List.{refill}
+
+-- a list: its items, up to how many of them are reserved, and for how many there is memory
+pub record <b id="ReservedListValue">ReservedListValue</b> (X : Type 0) : Type 0 where
+  pub <b id="items">items</b> : List X
+  pub <b id="reserved">reserved</b> : ℕ
+  pub <b id="capacity">capacity</b> : ℕ
+
+-- the list with another item at an index
+abbrev pub <b id="with_item">with_item</b> : {X : Type 0} → <a href="../../machine/ReservedListSpecs/index.html#ReservedListValue">ReservedListValue</a> X → ℕ → X → <a href="../../machine/ReservedListSpecs/index.html#ReservedListValue">ReservedListValue</a> X
+<a href="../../machine/ReservedListSpecs/index.html#with_item">with_item</a> list k x = record list { <a href="../../machine/ReservedListSpecs/index.html#items">items</a> = slice_set list.items k x }
+
+-- the list whose items were written over, by as many
+abbrev pub <b id="with_items">with_items</b> : {X : Type 0} → <a href="../../machine/ReservedListSpecs/index.html#ReservedListValue">ReservedListValue</a> X → List X → <a href="../../machine/ReservedListSpecs/index.html#ReservedListValue">ReservedListValue</a> X
+<a href="../../machine/ReservedListSpecs/index.html#with_items">with_items</a> list xs = record list { <a href="../../machine/ReservedListSpecs/index.html#items">items</a> = refill (length list.items) list.items xs }
+</code></pre>
+"####]
+    pub mod ReservedListSpecs {}
     #[doc = r####"What a machine is to its callers: its state, a world of it with a limiter, its totals, and when it is valid (core specification, the store).
 
-<pre><code>use Rattle.std.specs.Prelude.{ℕ, List, [], Option, Some, None, slice_get, replicate, ◌≡◌, length, map, sum, ◌≤◌, All}
+<pre><code>use Rattle.std.specs.Prelude.{ℕ, ◌+◌, List, [], Option, Some, None, slice_get, replicate, ◌≡◌, length, map, max, sum, ◌≤◌, All}
 use Rattle.std.specs.Option.{option_and_then}
-use Rattle.std.specs.Vec.{with_item}
 use Rattle.wasmi_raw.specs.declared.raw.RawVal.{RawVal}
 use Rattle.wasmi_raw.specs.RawVal.{<a href="../../raw/RawValSpecs/index.html#raw_of">raw_of</a>}
 use Rattle.wasmi_meter.specs.Meter.{<a href="../../meter/MeterSpecs/index.html#Meter">Meter</a>}
@@ -4498,9 +4551,11 @@ use Rattle.wasmi_typed.specs.Global.{<a href="../../typed/GlobalSpecs/index.html
 use Rattle.wasmi_store.specs.Memory.{<a href="../../store/MemorySpecs/index.html#MemoryValue">MemoryValue</a>, <a href="../../store/MemorySpecs/index.html#IsValidMemory">IsValidMemory</a>}
 use Rattle.wasmi_store.specs.Segment.{<a href="../../store/SegmentSpecs/index.html#SegmentValue">SegmentValue</a>, <a href="../../store/SegmentSpecs/index.html#most_items">most_items</a>}
 use Rattle.wasmi_store.specs.Table.{<a href="../../store/TableSpecs/index.html#TableValue">TableValue</a>, <a href="../../store/TableSpecs/index.html#size_of">size_of</a>, <a href="../../store/TableSpecs/index.html#IsValidTable">IsValidTable</a>}
+use Rattle.wasmi_machine.specs.ReservedList.{<a href="../../machine/ReservedListSpecs/index.html#with_item">with_item</a>}
 use Rattle.wasmi_machine.specs.declared.slots.Slot.{Slot}
 use Rattle.wasmi_machine.specs.declared.slots.Slot.TheVariants.{Live, Gone}
 use Rattle.wasmi_machine.specs.declared.slots.Slots.{Slots}
+use Rattle.wasmi_machine.specs.declared.slots.SlotCounts.{SlotCounts}
 use Rattle.wasmi_machine.specs.declared.calls.Call.{Call}
 use Rattle.wasmi_machine.specs.declared.calls.Reply.{Reply}
 use Rattle.wasmi_meter.specs.declared.limiter.Kind.{Kind}
@@ -4523,10 +4578,11 @@ module _ {X : Type 0} where
 
   -- the slots with this live value at an index
   abbrev pub <b id="with_live">with_live</b> : Slots X → ℕ → X → Slots X
-  <a href="../../machine/StateSpecs/index.html#with_live">with_live</a> s k x = record { <a href="../../machine/StateSpecs/index.html#slots">slots</a> = with_item s.slots k (Live x) }
+  <a href="../../machine/StateSpecs/index.html#with_live">with_live</a> s k x = record { <a href="../../machine/StateSpecs/index.html#slots">slots</a> = <a href="../../machine/ReservedListSpecs/index.html#with_item">with_item</a> s.slots k (Live x) }
 
 -- the memories, tables, element segments, data segments and globals that were made, each kind in its order, the
--- registers, the meter, and the bytes of the spare region, if there is one
+-- registers, the meter, the bytes of the spare region, if there is one, and up to how many slots of each kind are
+-- reserved, those of what was made included
 pub record <b id="State">State</b> : Type 0 where
   pub <b id="memories">memories</b> : List (Slot <a href="../../store/MemorySpecs/index.html#MemoryValue">MemoryValue</a>)
   pub <b id="tables">tables</b> : List (Slot <a href="../../store/TableSpecs/index.html#TableValue">TableValue</a>)
@@ -4536,8 +4592,13 @@ pub record <b id="State">State</b> : Type 0 where
   pub <b id="registers">registers</b> : List RawVal
   pub <b id="meter">meter</b> : <a href="../../meter/MeterSpecs/index.html#Meter">Meter</a>
   pub <b id="spare">spare</b> : Option (List ℕ)
+  pub <b id="reserved">reserved</b> : SlotCounts
 
--- a machine on which nothing was made yet, with 16 registers of zeros
+-- no slot of any kind
+abbrev pub <b id="no_slots">no_slots</b> : SlotCounts
+<a href="../../machine/StateSpecs/index.html#no_slots">no_slots</a> = record { <a href="../../machine/StateSpecs/index.html#memories">memories</a> = 0; <a href="../../machine/StateSpecs/index.html#tables">tables</a> = 0; <a href="../../machine/StateSpecs/index.html#segments">segments</a> = 0; <a href="../../machine/StateSpecs/index.html#data_segments">data_segments</a> = 0; <a href="../../machine/StateSpecs/index.html#globals">globals</a> = 0 }
+
+-- a machine on which nothing was made or reserved yet, with 16 registers of zeros
 abbrev pub <b id="new_state">new_state</b> : <a href="../../meter/MeterSpecs/index.html#Meter">Meter</a> → <a href="../../machine/StateSpecs/index.html#State">State</a>
 <a href="../../machine/StateSpecs/index.html#new_state">new_state</a> <a href="../../machine/StateSpecs/index.html#meter">meter</a> = record {
   <a href="../../machine/StateSpecs/index.html#memories">memories</a> = [];
@@ -4548,11 +4609,28 @@ abbrev pub <b id="new_state">new_state</b> : <a href="../../meter/MeterSpecs/ind
   <a href="../../machine/StateSpecs/index.html#registers">registers</a> = replicate 16 (<a href="../../raw/RawValSpecs/index.html#raw_of">raw_of</a> 0);
   <a href="../../machine/StateSpecs/index.html#meter">meter</a> = <a href="../../machine/StateSpecs/index.html#meter">meter</a>;
   <a href="../../machine/StateSpecs/index.html#spare">spare</a> = None;
+  <a href="../../machine/StateSpecs/index.html#reserved">reserved</a> = <a href="../../machine/StateSpecs/index.html#no_slots">no_slots</a>;
 }
 
 -- the state with this spare region
 abbrev pub <b id="with_spare">with_spare</b> : <a href="../../machine/StateSpecs/index.html#State">State</a> → List ℕ → <a href="../../machine/StateSpecs/index.html#State">State</a>
 <a href="../../machine/StateSpecs/index.html#with_spare">with_spare</a> s region = record s { <a href="../../machine/StateSpecs/index.html#spare">spare</a> = Some region }
+
+-- up to how many of a list are reserved, once so many more than it has are
+abbrev pub <b id="reserved_for">reserved_for</b> : {A : Type 0} → ℕ → List A → ℕ → ℕ
+<a href="../../machine/StateSpecs/index.html#reserved_for">reserved_for</a> <a href="../../machine/StateSpecs/index.html#reserved">reserved</a> list additional = max <a href="../../machine/StateSpecs/index.html#reserved">reserved</a> (length list + additional)
+
+-- the state with so many more slots of each kind reserved
+abbrev pub <b id="with_reserved">with_reserved</b> : <a href="../../machine/StateSpecs/index.html#State">State</a> → SlotCounts → <a href="../../machine/StateSpecs/index.html#State">State</a>
+<a href="../../machine/StateSpecs/index.html#with_reserved">with_reserved</a> s more = record s {
+  <a href="../../machine/StateSpecs/index.html#reserved">reserved</a> = record {
+    <a href="../../machine/StateSpecs/index.html#memories">memories</a> = <a href="../../machine/StateSpecs/index.html#reserved_for">reserved_for</a> s.reserved.<a href="../../machine/StateSpecs/index.html#memories">memories</a> s.memories more.memories;
+    <a href="../../machine/StateSpecs/index.html#tables">tables</a> = <a href="../../machine/StateSpecs/index.html#reserved_for">reserved_for</a> s.reserved.<a href="../../machine/StateSpecs/index.html#tables">tables</a> s.tables more.tables;
+    <a href="../../machine/StateSpecs/index.html#segments">segments</a> = <a href="../../machine/StateSpecs/index.html#reserved_for">reserved_for</a> s.reserved.<a href="../../machine/StateSpecs/index.html#segments">segments</a> s.segments more.segments;
+    <a href="../../machine/StateSpecs/index.html#data_segments">data_segments</a> = <a href="../../machine/StateSpecs/index.html#reserved_for">reserved_for</a> s.reserved.<a href="../../machine/StateSpecs/index.html#data_segments">data_segments</a> s.data_segments more.data_segments;
+    <a href="../../machine/StateSpecs/index.html#globals">globals</a> = <a href="../../machine/StateSpecs/index.html#reserved_for">reserved_for</a> s.reserved.<a href="../../machine/StateSpecs/index.html#globals">globals</a> s.globals more.globals;
+  };
+}
 
 -- the state with other memories
 abbrev pub <b id="with_memories">with_memories</b> : <a href="../../machine/StateSpecs/index.html#State">State</a> → List (Slot <a href="../../store/MemorySpecs/index.html#MemoryValue">MemoryValue</a>) → <a href="../../machine/StateSpecs/index.html#State">State</a>
@@ -4673,7 +4751,7 @@ abbrev pub <b id="IsValidCall">IsValidCall</b> : Call → Type 0
     pub mod StateSpecs {}
     #[doc = r####"One step of the machine: what each call does, and what that changes in a world; and whole runs.
 
-<pre><code>use Rattle.std.specs.Prelude.{◌≡◌, ◌+◌, ℕ, Bool, true, false, List, Option, Some, None, Result, Ok, slice_get, [], ◌∷◌, map}
+<pre><code>use Rattle.std.specs.Prelude.{◌≡◌, ◌⊎◌, ◌+◌, ◌&lt;◌, ◌≤◌, ℕ, Bool, true, false, List, Option, Some, None, Result, Ok, slice_get, [], ◌∷◌, length, map}
 use Rattle.std.specs.Option.{option_map, option_and_then}
 use Rattle.wasmi_types.specs.Numbers.{<a href="../../types/NumbersSpecs/index.html#le_bytes">le_bytes</a>}
 use Rattle.wasmi_types.specs.declared.trap.TrapCode.{TrapCode}
@@ -4874,6 +4952,10 @@ abbrev pub <b id="effect_of">effect_of</b> : <a href="../../machine/StateSpecs/i
 <a href="../../machine/StepsSpecs/index.html#effect_of">effect_of</a> s (call.StoreLane op a k ptr offset) =
     <a href="../../machine/StepsSpecs/index.html#Changed">Changed</a> (<a href="../../machine/StepsSpecs/index.html#BytesStored">BytesStored</a> k (ptr + offset) (option_map (<a href="../../ops/VectorOpsSpecs/index.html#stored_lane">stored_lane</a> op) (<a href="../../machine/RegisterEffectsSpecs/index.html#vector_at">vector_at</a> s.registers a)))
 
+-- memory for one more slot may lack, since each one that is reserved is used
+abbrev pub <b id="LacksSlot">LacksSlot</b> : {A : Type 0} → ℕ → List A → Type 0
+<a href="../../machine/StepsSpecs/index.html#LacksSlot">LacksSlot</a> reserved list = reserved ≤ length list
+
 -- one part of the state changes: a line for each kind
 abbrev pub <b id="HasChange">HasChange</b> : <a href="../../machine/StepsSpecs/index.html#Change">Change</a> → <a href="../../machine/StateSpecs/index.html#State">State</a> → Reply → <a href="../../machine/StateSpecs/index.html#State">State</a> → Type 0
 <a href="../../machine/StepsSpecs/index.html#HasChange">HasChange</a> (<a href="../../machine/StepsSpecs/index.html#BytesWritten">BytesWritten</a> k offset bytes) s = <a href="../../machine/EffectsSpecs/index.html#ChangesPart">ChangesPart</a> (<a href="../../machine/StateSpecs/index.html#with_memories">with_memories</a> s) (<a href="../../machine/MemoryEffectsSpecs/index.html#WritesMemoryAt">WritesMemoryAt</a> k offset bytes s.memories)
@@ -4882,11 +4964,14 @@ abbrev pub <b id="HasChange">HasChange</b> : <a href="../../machine/StepsSpecs/i
 <a href="../../machine/StepsSpecs/index.html#HasChange">HasChange</a> (<a href="../../machine/StepsSpecs/index.html#MemoryDropped">MemoryDropped</a> k) s = <a href="../../machine/EffectsSpecs/index.html#ChangesPart">ChangesPart</a> (<a href="../../machine/StateSpecs/index.html#with_memories">with_memories</a> s) (<a href="../../machine/EffectsSpecs/index.html#DropsAt">DropsAt</a> <a href="../../machine/StateSpecs/index.html#byte_count">byte_count</a> k s.memories)
 <a href="../../machine/StepsSpecs/index.html#HasChange">HasChange</a> (<a href="../../machine/StepsSpecs/index.html#TableDropped">TableDropped</a> k) s = <a href="../../machine/EffectsSpecs/index.html#ChangesPart">ChangesPart</a> (<a href="../../machine/StateSpecs/index.html#with_tables">with_tables</a> s) (<a href="../../machine/EffectsSpecs/index.html#DropsAt">DropsAt</a> <a href="../../store/TableSpecs/index.html#size_of">size_of</a> k s.tables)
 <a href="../../machine/StepsSpecs/index.html#HasChange">HasChange</a> (<a href="../../machine/StepsSpecs/index.html#ElementSet">ElementSet</a> k index value) s = <a href="../../machine/EffectsSpecs/index.html#ChangesPart">ChangesPart</a> (<a href="../../machine/StateSpecs/index.html#with_tables">with_tables</a> s) (<a href="../../machine/TableEffectsSpecs/index.html#SetsElementAt">SetsElementAt</a> k index value s.tables)
-<a href="../../machine/StepsSpecs/index.html#HasChange">HasChange</a> (<a href="../../machine/StepsSpecs/index.html#SegmentMade">SegmentMade</a> ty items) s = <a href="../../machine/EffectsSpecs/index.html#ChangesPart">ChangesPart</a> (<a href="../../machine/StateSpecs/index.html#with_segments">with_segments</a> s) (<a href="../../machine/ValueEffectsSpecs/index.html#CreatesSegment">CreatesSegment</a> ty items s.segments)
+<a href="../../machine/StepsSpecs/index.html#HasChange">HasChange</a> (<a href="../../machine/StepsSpecs/index.html#SegmentMade">SegmentMade</a> ty items) s = <a href="../../machine/EffectsSpecs/index.html#ChangesPart">ChangesPart</a> (<a href="../../machine/StateSpecs/index.html#with_segments">with_segments</a> s)
+    (<a href="../../machine/ValueEffectsSpecs/index.html#CreatesSegment">CreatesSegment</a> (<a href="../../machine/StepsSpecs/index.html#LacksSlot">LacksSlot</a> s.reserved.segments s.segments) ty items s.segments)
 <a href="../../machine/StepsSpecs/index.html#HasChange">HasChange</a> (<a href="../../machine/StepsSpecs/index.html#ItemsDropped">ItemsDropped</a> k) s = <a href="../../machine/EffectsSpecs/index.html#ChangesPart">ChangesPart</a> (<a href="../../machine/StateSpecs/index.html#with_segments">with_segments</a> s) (<a href="../../machine/ValueEffectsSpecs/index.html#DropsItemsAt">DropsItemsAt</a> k s.segments)
-<a href="../../machine/StepsSpecs/index.html#HasChange">HasChange</a> (<a href="../../machine/StepsSpecs/index.html#DataMade">DataMade</a> bytes) s = <a href="../../machine/EffectsSpecs/index.html#ChangesPart">ChangesPart</a> (<a href="../../machine/StateSpecs/index.html#with_data_segments">with_data_segments</a> s) (<a href="../../machine/EffectsSpecs/index.html#AddsItem">AddsItem</a> bytes s.data_segments)
+<a href="../../machine/StepsSpecs/index.html#HasChange">HasChange</a> (<a href="../../machine/StepsSpecs/index.html#DataMade">DataMade</a> bytes) s = <a href="../../machine/EffectsSpecs/index.html#ChangesPart">ChangesPart</a> (<a href="../../machine/StateSpecs/index.html#with_data_segments">with_data_segments</a> s)
+    (<a href="../../machine/EffectsSpecs/index.html#AddsItem">AddsItem</a> ((0 &lt; length bytes) ⊎ <a href="../../machine/StepsSpecs/index.html#LacksSlot">LacksSlot</a> s.reserved.data_segments s.data_segments) bytes s.data_segments)
 <a href="../../machine/StepsSpecs/index.html#HasChange">HasChange</a> (<a href="../../machine/StepsSpecs/index.html#DataDropped">DataDropped</a> k) s = <a href="../../machine/EffectsSpecs/index.html#ChangesPart">ChangesPart</a> (<a href="../../machine/StateSpecs/index.html#with_data_segments">with_data_segments</a> s) (<a href="../../machine/ValueEffectsSpecs/index.html#DropsDataAt">DropsDataAt</a> k s.data_segments)
-<a href="../../machine/StepsSpecs/index.html#HasChange">HasChange</a> (<a href="../../machine/StepsSpecs/index.html#GlobalMade">GlobalMade</a> global) s = <a href="../../machine/EffectsSpecs/index.html#ChangesPart">ChangesPart</a> (<a href="../../machine/StateSpecs/index.html#with_globals">with_globals</a> s) (<a href="../../machine/EffectsSpecs/index.html#AddsItem">AddsItem</a> global s.globals)
+<a href="../../machine/StepsSpecs/index.html#HasChange">HasChange</a> (<a href="../../machine/StepsSpecs/index.html#GlobalMade">GlobalMade</a> global) s = <a href="../../machine/EffectsSpecs/index.html#ChangesPart">ChangesPart</a> (<a href="../../machine/StateSpecs/index.html#with_globals">with_globals</a> s)
+    (<a href="../../machine/EffectsSpecs/index.html#AddsItem">AddsItem</a> (<a href="../../machine/StepsSpecs/index.html#LacksSlot">LacksSlot</a> s.reserved.globals s.globals) global s.globals)
 <a href="../../machine/StepsSpecs/index.html#HasChange">HasChange</a> (<a href="../../machine/StepsSpecs/index.html#GlobalSet">GlobalSet</a> k value) s = <a href="../../machine/EffectsSpecs/index.html#ChangesPart">ChangesPart</a> (<a href="../../machine/StateSpecs/index.html#with_globals">with_globals</a> s) (<a href="../../machine/ValueEffectsSpecs/index.html#SetsGlobalAt">SetsGlobalAt</a> k value s.globals)
 
 -- a range of one part of the state is written over: a line for each kind
@@ -4905,14 +4990,17 @@ abbrev pub <b id="HasEffect">HasEffect</b> : {S : Type 0} → <a href="../../met
 <a href="../../machine/StepsSpecs/index.html#HasEffect">HasEffect</a> rules (<a href="../../machine/StepsSpecs/index.html#FuelSet">FuelSet</a> fuel) w turn w&#x27; = <a href="../../machine/EffectsSpecs/index.html#Changes">Changes</a> w turn w&#x27; (<a href="../../machine/ValueEffectsSpecs/index.html#SetsFuel">SetsFuel</a> fuel w.state)
 <a href="../../machine/StepsSpecs/index.html#HasEffect">HasEffect</a> rules (<a href="../../machine/StepsSpecs/index.html#Changed">Changed</a> change) w turn w&#x27; = <a href="../../machine/EffectsSpecs/index.html#Changes">Changes</a> w turn w&#x27; (<a href="../../machine/StepsSpecs/index.html#HasChange">HasChange</a> change w.state)
 <a href="../../machine/StepsSpecs/index.html#HasEffect">HasEffect</a> rules (<a href="../../machine/StepsSpecs/index.html#MemoryMade">MemoryMade</a> ty) w turn w&#x27; =
-    <a href="../../machine/EffectsSpecs/index.html#Asks">Asks</a> w turn w&#x27; (<a href="../../machine/StateSpecs/index.html#with_memories">with_memories</a> w.state) (<a href="../../machine/EffectsSpecs/index.html#Creates">Creates</a> reply.Memory (<a href="../../store/MemorySpecs/index.html#MakesMemory">MakesMemory</a> rules <a href="../../store/BufferSpecs/index.html#Owned">Owned</a> ty) w.state.memories)
+    <a href="../../machine/EffectsSpecs/index.html#Asks">Asks</a> w turn w&#x27; (<a href="../../machine/StepsSpecs/index.html#LacksSlot">LacksSlot</a> w.state.reserved.memories w.state.memories) (<a href="../../machine/StateSpecs/index.html#with_memories">with_memories</a> w.state)
+    (<a href="../../machine/EffectsSpecs/index.html#Creates">Creates</a> reply.Memory (<a href="../../store/MemorySpecs/index.html#MakesMemory">MakesMemory</a> rules <a href="../../store/BufferSpecs/index.html#Owned">Owned</a> ty) w.state.memories)
 <a href="../../machine/StepsSpecs/index.html#HasEffect">HasEffect</a> rules (<a href="../../machine/StepsSpecs/index.html#LentMemoryMade">LentMemoryMade</a> ty) w turn w&#x27; =
-    <a href="../../machine/EffectsSpecs/index.html#Asks">Asks</a> w turn w&#x27; (<a href="../../machine/StateSpecs/index.html#with_memory_part">with_memory_part</a> w.state) (<a href="../../machine/MemoryEffectsSpecs/index.html#CreatesLent">CreatesLent</a> rules ty (<a href="../../machine/StateSpecs/index.html#memory_part">memory_part</a> w.state))
+    <a href="../../machine/EffectsSpecs/index.html#Asks">Asks</a> w turn w&#x27; (<a href="../../machine/StepsSpecs/index.html#LacksSlot">LacksSlot</a> w.state.reserved.memories w.state.memories) (<a href="../../machine/StateSpecs/index.html#with_memory_part">with_memory_part</a> w.state)
+    (<a href="../../machine/MemoryEffectsSpecs/index.html#CreatesLent">CreatesLent</a> rules ty (<a href="../../machine/StateSpecs/index.html#memory_part">memory_part</a> w.state))
 <a href="../../machine/StepsSpecs/index.html#HasEffect">HasEffect</a> rules (<a href="../../machine/StepsSpecs/index.html#MemoryGrown">MemoryGrown</a> k pages) w turn w&#x27; = <a href="../../machine/EffectsSpecs/index.html#ActsMetered">ActsMetered</a> w turn w&#x27; w.state.memories (<a href="../../machine/StateSpecs/index.html#with_memories">with_memories</a> w.state)
     (<a href="../../machine/EffectsSpecs/index.html#ActsAt">ActsAt</a> k (<a href="../../machine/EffectsSpecs/index.html#reply_of">reply_of</a> reply.Number reply.Memory) (<a href="../../store/MemorySpecs/index.html#GrowsMemoryCharging">GrowsMemoryCharging</a> rules pages))
     (<a href="../../machine/MemoryEffectsSpecs/index.html#bytes_appended">bytes_appended</a> (<a href="../../machine/StateSpecs/index.html#live_at">live_at</a> w.state.memories k) pages)
 <a href="../../machine/StepsSpecs/index.html#HasEffect">HasEffect</a> rules (<a href="../../machine/StepsSpecs/index.html#TableMade">TableMade</a> ty init) w turn w&#x27; =
-    <a href="../../machine/EffectsSpecs/index.html#Asks">Asks</a> w turn w&#x27; (<a href="../../machine/StateSpecs/index.html#with_tables">with_tables</a> w.state) (<a href="../../machine/EffectsSpecs/index.html#Creates">Creates</a> reply.Table (<a href="../../store/TableSpecs/index.html#MakesTable">MakesTable</a> rules ty init) w.state.tables)
+    <a href="../../machine/EffectsSpecs/index.html#Asks">Asks</a> w turn w&#x27; (<a href="../../machine/StepsSpecs/index.html#LacksSlot">LacksSlot</a> w.state.reserved.tables w.state.tables) (<a href="../../machine/StateSpecs/index.html#with_tables">with_tables</a> w.state)
+    (<a href="../../machine/EffectsSpecs/index.html#Creates">Creates</a> reply.Table (<a href="../../store/TableSpecs/index.html#MakesTable">MakesTable</a> rules ty init) w.state.tables)
 <a href="../../machine/StepsSpecs/index.html#HasEffect">HasEffect</a> rules (<a href="../../machine/StepsSpecs/index.html#TableGrown">TableGrown</a> k n init) w turn w&#x27; = <a href="../../machine/EffectsSpecs/index.html#ActsMetered">ActsMetered</a> w turn w&#x27; w.state.tables (<a href="../../machine/StateSpecs/index.html#with_tables">with_tables</a> w.state)
     (<a href="../../machine/EffectsSpecs/index.html#ActsAt">ActsAt</a> k (<a href="../../machine/EffectsSpecs/index.html#reply_of">reply_of</a> reply.Number reply.Table) (<a href="../../store/TableSpecs/index.html#GrowsTableCharging">GrowsTableCharging</a> rules n init)) (<a href="../../machine/TableEffectsSpecs/index.html#element_bytes">element_bytes</a> n)
 <a href="../../machine/StepsSpecs/index.html#HasEffect">HasEffect</a> rules (<a href="../../machine/StepsSpecs/index.html#RangeWritten">RangeWritten</a> write) w turn w&#x27; = <a href="../../machine/StepsSpecs/index.html#HasRangeWrite">HasRangeWrite</a> write w turn w&#x27;
@@ -4954,14 +5042,14 @@ abbrev pub <b id="IsRunOf">IsRunOf</b> : {S : Type 0} → <a href="../../meter/L
     pub mod StepsSpecs {}
     #[doc = r####"The calls on tables: what each does to the list of slots.
 
-<pre><code>use Rattle.std.specs.Prelude.{◌≡◌, ℕ, Option, Some, Result, List}
+<pre><code>use Rattle.std.specs.Prelude.{◌≡◌, ◌&lt;◌, ◌⊎◌, ℕ, Option, Some, Result, List}
 use Rattle.std.specs.Option.{option_map, option_map_or}
 use Rattle.wasmi_typed.specs.declared.typed_ref.TypedRawRef.{TypedRawRef}
 use Rattle.wasmi_meter.specs.declared.error.TableError.{TableError}
 use Rattle.wasmi_store.specs.Segment.{<a href="../../store/SegmentSpecs/index.html#SegmentValue">SegmentValue</a>}
-use Rattle.wasmi_store.specs.Table.{<a href="../../store/TableSpecs/index.html#TableValue">TableValue</a>, <a href="../../store/TableSpecs/index.html#TableWrite">TableWrite</a>, <a href="../../store/TableSpecs/index.html#SetsTable">SetsTable</a>, <a href="../../store/TableSpecs/index.html#element_at">element_at</a>, <a href="../../store/TableSpecs/index.html#filling_of">filling_of</a>, <a href="../../store/TableSpecs/index.html#copy_of">copy_of</a>, <a href="../../store/TableSpecs/index.html#initialization_of">initialization_of</a>}
+use Rattle.wasmi_store.specs.Table.{<a href="../../store/TableSpecs/index.html#TableValue">TableValue</a>, <a href="../../store/TableSpecs/index.html#TableWrite">TableWrite</a>, <a href="../../store/TableSpecs/index.html#with_elements_reserved">with_elements_reserved</a>, <a href="../../store/TableSpecs/index.html#SetsTable">SetsTable</a>, <a href="../../store/TableSpecs/index.html#element_at">element_at</a>, <a href="../../store/TableSpecs/index.html#filling_of">filling_of</a>, <a href="../../store/TableSpecs/index.html#copy_of">copy_of</a>, <a href="../../store/TableSpecs/index.html#initialization_of">initialization_of</a>}
 use Rattle.wasmi_machine.specs.declared.calls.Reply.{Reply}
-use Rattle.wasmi_machine.specs.declared.calls.Reply.TheVariants.{Done, Reference, Table, NoSuch}
+use Rattle.wasmi_machine.specs.declared.calls.Reply.TheVariants.{Done, Reference, Table, NoRoom, NoSuch}
 use Rattle.wasmi_machine.specs.declared.slots.Slot.{Slot}
 use Rattle.wasmi_machine.specs.Effects.{<a href="../../machine/EffectsSpecs/index.html#reply_of">reply_of</a>, <a href="../../machine/EffectsSpecs/index.html#ChangesAt">ChangesAt</a>, <a href="../../machine/EffectsSpecs/index.html#MeteredSlots">MeteredSlots</a>, <a href="../../machine/EffectsSpecs/index.html#WritesAt">WritesAt</a>, <a href="../../machine/EffectsSpecs/index.html#WritesFrom">WritesFrom</a>, <a href="../../machine/EffectsSpecs/index.html#item_bytes">item_bytes</a>}
 
@@ -4974,6 +5062,13 @@ abbrev pub <b id="SetsElementAt">SetsElementAt</b> : ℕ → ℕ → TypedRawRef
 <a href="../../machine/TableEffectsSpecs/index.html#SetsElementAt">SetsElementAt</a> k index value slots reply slots&#x27; = <a href="../../machine/EffectsSpecs/index.html#ChangesAt">ChangesAt</a> k slots reply slots&#x27;
     (λ x x&#x27;. (result : Result (Unit {0}) TableError) × <a href="../../store/TableSpecs/index.html#SetsTable">SetsTable</a> index value x result x&#x27;
     × (reply ≡ <a href="../../machine/EffectsSpecs/index.html#reply_of">reply_of</a> (λ _. Done) Table result))
+
+-- memory is reserved for so many elements in all of the table of an index, unless it is refused for more than it was
+-- reserved for; then nothing has changed
+abbrev pub <b id="ReservesElementsAt">ReservesElementsAt</b> : ℕ → ℕ → List (Slot <a href="../../store/TableSpecs/index.html#TableValue">TableValue</a>) → Reply → List (Slot <a href="../../store/TableSpecs/index.html#TableValue">TableValue</a>) → Type 0
+<a href="../../machine/TableEffectsSpecs/index.html#ReservesElementsAt">ReservesElementsAt</a> k n slots reply slots&#x27; = <a href="../../machine/EffectsSpecs/index.html#ChangesAt">ChangesAt</a> k slots reply slots&#x27;
+    (λ x x&#x27;. ((reply ≡ Done) × (x&#x27; ≡ <a href="../../store/TableSpecs/index.html#with_elements_reserved">with_elements_reserved</a> x n))
+    ⊎ ((reply ≡ NoRoom) × (x.reserved &lt; n) × (x&#x27; ≡ x)))
 
 -- a range of the table of an index is written over, with its charge
 abbrev pub <b id="WritesTableAt">WritesTableAt</b> : ℕ → (<a href="../../store/TableSpecs/index.html#TableValue">TableValue</a> → <a href="../../store/TableSpecs/index.html#TableWrite">TableWrite</a>) → <a href="../../machine/EffectsSpecs/index.html#MeteredSlots">MeteredSlots</a> <a href="../../store/TableSpecs/index.html#TableValue">TableValue</a> → Reply → ℕ
@@ -5029,9 +5124,9 @@ abbrev pub <b id="IsSegmentOf">IsSegmentOf</b> : RefType → List ℕ → Result
 <a href="../../machine/ValueEffectsSpecs/index.html#IsSegmentOf">IsSegmentOf</a> ty items (Err TooManyItems) = <a href="../../store/SegmentSpecs/index.html#most_items">most_items</a> &lt; length items
 <a href="../../machine/ValueEffectsSpecs/index.html#IsSegmentOf">IsSegmentOf</a> ty items (Err OutOfSystemMemory) = 0 &lt; length items
 
--- an element segment is made
-abbrev pub <b id="CreatesSegment">CreatesSegment</b> : RefType → List ℕ → List <a href="../../store/SegmentSpecs/index.html#SegmentValue">SegmentValue</a> → Reply → List <a href="../../store/SegmentSpecs/index.html#SegmentValue">SegmentValue</a> → Type 0
-<a href="../../machine/ValueEffectsSpecs/index.html#CreatesSegment">CreatesSegment</a> ty items segments reply segments&#x27; = ((reply ≡ NoRoom) × (segments&#x27; ≡ segments))
+-- an element segment is made, unless there is no memory for its slot, which may lack as a fact says
+abbrev pub <b id="CreatesSegment">CreatesSegment</b> : Type 0 → RefType → List ℕ → List <a href="../../store/SegmentSpecs/index.html#SegmentValue">SegmentValue</a> → Reply → List <a href="../../store/SegmentSpecs/index.html#SegmentValue">SegmentValue</a> → Type 0
+<a href="../../machine/ValueEffectsSpecs/index.html#CreatesSegment">CreatesSegment</a> Lacks ty items segments reply segments&#x27; = ((reply ≡ NoRoom) × (segments&#x27; ≡ segments) × Lacks)
     ⊎ ((result : Result <a href="../../store/SegmentSpecs/index.html#SegmentValue">SegmentValue</a> SegmentError) × <a href="../../machine/ValueEffectsSpecs/index.html#IsSegmentOf">IsSegmentOf</a> ty items result
     × <a href="../../machine/EffectsSpecs/index.html#AddsEntry">AddsEntry</a> (λ x. x) Segment result segments reply segments&#x27;)
 
@@ -5403,6 +5498,128 @@ module _ {S : Type 0} (rules : <a href="../../meter/LimiterSpecs/index.html#Rule
 </code></pre>
 "####]
     pub mod PlacesSpecs {}
+    #[doc = r####"Calls and runs that need no memory but what was reserved: none of their replies says out of memory.
+
+<pre><code>use Rattle.std.specs.Prelude.{◌≡◌, ◌&lt;◌, ◌≤◌, ◌+◌, ◌⊎◌, ℕ, Bool, true, false, List, [], length, All, MatchOption, count_by}
+use Rattle.wasmi_store.specs.Buffer.{<a href="../../store/BufferSpecs/index.html#Room">Room</a>, <a href="../../store/BufferSpecs/index.html#Owned">Owned</a>, <a href="../../store/BufferSpecs/index.html#Lent">Lent</a>}
+use Rattle.wasmi_store.specs.Memory.{<a href="../../store/MemorySpecs/index.html#MemoryValue">MemoryValue</a>}
+use Rattle.wasmi_store.specs.Table.{<a href="../../store/TableSpecs/index.html#TableValue">TableValue</a>, <a href="../../store/TableSpecs/index.html#size_of">size_of</a>}
+use Rattle.wasmi_meter.specs.Limiter.{<a href="../../meter/LimiterSpecs/index.html#Rules">Rules</a>}
+use Rattle.wasmi_machine.specs.declared.calls.Call.{Call}
+use Rattle.wasmi_machine.specs.declared.calls.Call.TheVariants.{NewMemory, NewLentMemory, GrowMemory, Read, NewTable, GrowTable, NewSegment, NewData, NewGlobal}
+use Rattle.wasmi_machine.specs.declared.calls.Reply.{Reply}
+use Rattle.wasmi_machine.specs.declared.slots.Slot.{Slot}
+use Rattle.wasmi_machine.specs.State.{<a href="../../machine/StateSpecs/index.html#State">State</a>, <a href="../../machine/StateSpecs/index.html#live_at">live_at</a>, <a href="../../machine/StateSpecs/index.html#World">World</a>, <a href="../../machine/StateSpecs/index.html#Turn">Turn</a>}
+use Rattle.wasmi_machine.specs.Effects.{<a href="../../machine/EffectsSpecs/index.html#OnLive">OnLive</a>}
+use Rattle.wasmi_machine.specs.Determinism.{<a href="../../machine/DeterminismSpecs/index.html#IsNotOutOfMemory">IsNotOutOfMemory</a>}
+use Rattle.wasmi_machine.specs.Steps.{<a href="../../machine/StepsSpecs/index.html#Step">Step</a>, <a href="../../machine/StepsSpecs/index.html#IsRunOf">IsRunOf</a>}
+
+-- bytes grow in what is left of a lent region
+abbrev pub <b id="IsLentRoom">IsLentRoom</b> : <a href="../../store/BufferSpecs/index.html#Room">Room</a> → Type 0
+<a href="../../laws/ReservedSpecs/index.html#IsLentRoom">IsLentRoom</a> <a href="../../store/BufferSpecs/index.html#Owned">Owned</a> = ⊥
+<a href="../../laws/ReservedSpecs/index.html#IsLentRoom">IsLentRoom</a> (<a href="../../store/BufferSpecs/index.html#Lent">Lent</a> rest) = Unit {0}
+
+-- a memory lies in a lent region
+abbrev pub <b id="IsLent">IsLent</b> : <a href="../../store/MemorySpecs/index.html#MemoryValue">MemoryValue</a> → Type 0
+<a href="../../laws/ReservedSpecs/index.html#IsLent">IsLent</a> x = <a href="../../laws/ReservedSpecs/index.html#IsLentRoom">IsLentRoom</a> x.room
+
+-- an index names a memory in a lent region, if it names a live one
+abbrev pub <b id="IsInRegion">IsInRegion</b> : List (Slot <a href="../../store/MemorySpecs/index.html#MemoryValue">MemoryValue</a>) → ℕ → Type 0
+<a href="../../laws/ReservedSpecs/index.html#IsInRegion">IsInRegion</a> slots k = <a href="../../machine/EffectsSpecs/index.html#OnLive">OnLive</a> (<a href="../../machine/StateSpecs/index.html#live_at">live_at</a> slots k) (Unit {0}) <a href="../../laws/ReservedSpecs/index.html#IsLent">IsLent</a>
+
+-- memory is reserved for all elements of a table up to its maximum
+abbrev pub <b id="IsReservedToMaximum">IsReservedToMaximum</b> : <a href="../../store/TableSpecs/index.html#TableValue">TableValue</a> → Type 0
+<a href="../../laws/ReservedSpecs/index.html#IsReservedToMaximum">IsReservedToMaximum</a> x = MatchOption x.ty.maximum ⊥ (λ maximum. maximum ≤ x.reserved)
+
+-- an index names a table that is reserved up to its maximum, if it names a live one
+abbrev pub <b id="IsReservedTable">IsReservedTable</b> : List (Slot <a href="../../store/TableSpecs/index.html#TableValue">TableValue</a>) → ℕ → Type 0
+<a href="../../laws/ReservedSpecs/index.html#IsReservedTable">IsReservedTable</a> slots k = <a href="../../machine/EffectsSpecs/index.html#OnLive">OnLive</a> (<a href="../../machine/StateSpecs/index.html#live_at">live_at</a> slots k) (Unit {0}) <a href="../../laws/ReservedSpecs/index.html#IsReservedToMaximum">IsReservedToMaximum</a>
+
+-- memory is reserved for n more elements of a table, or for all up to its maximum
+abbrev pub <b id="HasElements">HasElements</b> : ℕ → <a href="../../store/TableSpecs/index.html#TableValue">TableValue</a> → Type 0
+<a href="../../laws/ReservedSpecs/index.html#HasElements">HasElements</a> n x = (<a href="../../store/TableSpecs/index.html#size_of">size_of</a> x + n ≤ x.reserved) ⊎ <a href="../../laws/ReservedSpecs/index.html#IsReservedToMaximum">IsReservedToMaximum</a> x
+
+-- a table of an index, if it is there, has memory for n more elements
+abbrev pub <b id="HasElementsAt">HasElementsAt</b> : List (Slot <a href="../../store/TableSpecs/index.html#TableValue">TableValue</a>) → ℕ → ℕ → Type 0
+<a href="../../laws/ReservedSpecs/index.html#HasElementsAt">HasElementsAt</a> slots k n = <a href="../../machine/EffectsSpecs/index.html#OnLive">OnLive</a> (<a href="../../machine/StateSpecs/index.html#live_at">live_at</a> slots k) (Unit {0}) (<a href="../../laws/ReservedSpecs/index.html#HasElements">HasElements</a> n)
+
+-- memory for one more slot is there, since one that is reserved is free
+abbrev pub <b id="HasSlot">HasSlot</b> : {A : Type 0} → ℕ → List A → Type 0
+<a href="../../laws/ReservedSpecs/index.html#HasSlot">HasSlot</a> reserved list = length list &lt; reserved
+
+-- a call on a machine in this state needs no memory: what it makes has a slot that is reserved, and nothing else that
+-- isn&#x27;t in a lent region; the memory that it grows lies in one; the table that it grows has the memory reserved; no byte
+-- is read; and no table is made
+abbrev pub <b id="NeedsNoMemory">NeedsNoMemory</b> : <a href="../../machine/StateSpecs/index.html#State">State</a> → Call → Type 0
+<a href="../../laws/ReservedSpecs/index.html#NeedsNoMemory">NeedsNoMemory</a> s (NewMemory ty) = ⊥
+<a href="../../laws/ReservedSpecs/index.html#NeedsNoMemory">NeedsNoMemory</a> s (NewLentMemory ty) = <a href="../../laws/ReservedSpecs/index.html#HasSlot">HasSlot</a> s.reserved.<a href="../../laws/ReservedSpecs/index.html#memories">memories</a> s.memories
+<a href="../../laws/ReservedSpecs/index.html#NeedsNoMemory">NeedsNoMemory</a> s (GrowMemory k pages) = <a href="../../laws/ReservedSpecs/index.html#IsInRegion">IsInRegion</a> s.memories k
+<a href="../../laws/ReservedSpecs/index.html#NeedsNoMemory">NeedsNoMemory</a> s (Read k offset len) = len ≡ 0
+<a href="../../laws/ReservedSpecs/index.html#NeedsNoMemory">NeedsNoMemory</a> s (NewTable ty init) = ⊥
+<a href="../../laws/ReservedSpecs/index.html#NeedsNoMemory">NeedsNoMemory</a> s (GrowTable k n init) = (n ≡ 0) ⊎ <a href="../../laws/ReservedSpecs/index.html#HasElementsAt">HasElementsAt</a> s.tables k n
+<a href="../../laws/ReservedSpecs/index.html#NeedsNoMemory">NeedsNoMemory</a> s (NewSegment ty items) = (items.items ≡ []) × <a href="../../laws/ReservedSpecs/index.html#HasSlot">HasSlot</a> s.reserved.<a href="../../laws/ReservedSpecs/index.html#segments">segments</a> s.segments
+<a href="../../laws/ReservedSpecs/index.html#NeedsNoMemory">NeedsNoMemory</a> s (NewData bytes) = (bytes.items ≡ []) × <a href="../../laws/ReservedSpecs/index.html#HasSlot">HasSlot</a> s.reserved.<a href="../../laws/ReservedSpecs/index.html#data_segments">data_segments</a> s.data_segments
+<a href="../../laws/ReservedSpecs/index.html#NeedsNoMemory">NeedsNoMemory</a> s (NewGlobal value ty) = <a href="../../laws/ReservedSpecs/index.html#HasSlot">HasSlot</a> s.reserved.<a href="../../laws/ReservedSpecs/index.html#globals">globals</a> s.globals
+<a href="../../laws/ReservedSpecs/index.html#NeedsNoMemory">NeedsNoMemory</a> s call = Unit {0}
+
+-- a call needs no memory but for the slot of what it makes, where a memory that it grows and that was there in this
+-- state still lies in its region, and a table that it grows is still reserved up to its maximum
+abbrev pub <b id="NeedsOnlySlot">NeedsOnlySlot</b> : <a href="../../machine/StateSpecs/index.html#State">State</a> → Call → Type 0
+<a href="../../laws/ReservedSpecs/index.html#NeedsOnlySlot">NeedsOnlySlot</a> s (NewMemory ty) = ⊥
+<a href="../../laws/ReservedSpecs/index.html#NeedsOnlySlot">NeedsOnlySlot</a> s (GrowMemory k pages) = <a href="../../laws/ReservedSpecs/index.html#IsInRegion">IsInRegion</a> s.memories k
+<a href="../../laws/ReservedSpecs/index.html#NeedsOnlySlot">NeedsOnlySlot</a> s (Read k offset len) = len ≡ 0
+<a href="../../laws/ReservedSpecs/index.html#NeedsOnlySlot">NeedsOnlySlot</a> s (NewTable ty init) = ⊥
+<a href="../../laws/ReservedSpecs/index.html#NeedsOnlySlot">NeedsOnlySlot</a> s (GrowTable k n init) = (n ≡ 0) ⊎ <a href="../../laws/ReservedSpecs/index.html#IsReservedTable">IsReservedTable</a> s.tables k
+<a href="../../laws/ReservedSpecs/index.html#NeedsOnlySlot">NeedsOnlySlot</a> s (NewSegment ty items) = items.items ≡ []
+<a href="../../laws/ReservedSpecs/index.html#NeedsOnlySlot">NeedsOnlySlot</a> s (NewData bytes) = bytes.items ≡ []
+<a href="../../laws/ReservedSpecs/index.html#NeedsOnlySlot">NeedsOnlySlot</a> s call = Unit {0}
+
+-- whether a call makes a memory in the spare region
+abbrev pub <b id="makes_lent_memory">makes_lent_memory</b> : Call → Bool
+<a href="../../laws/ReservedSpecs/index.html#makes_lent_memory">makes_lent_memory</a> (NewLentMemory ty) = true
+<a href="../../laws/ReservedSpecs/index.html#makes_lent_memory">makes_lent_memory</a> call = false
+
+-- whether a call makes an element segment
+abbrev pub <b id="makes_segment">makes_segment</b> : Call → Bool
+<a href="../../laws/ReservedSpecs/index.html#makes_segment">makes_segment</a> (NewSegment ty items) = true
+<a href="../../laws/ReservedSpecs/index.html#makes_segment">makes_segment</a> call = false
+
+-- whether a call makes a data segment
+abbrev pub <b id="makes_data">makes_data</b> : Call → Bool
+<a href="../../laws/ReservedSpecs/index.html#makes_data">makes_data</a> (NewData bytes) = true
+<a href="../../laws/ReservedSpecs/index.html#makes_data">makes_data</a> call = false
+
+-- whether a call makes a global
+abbrev pub <b id="makes_global">makes_global</b> : Call → Bool
+<a href="../../laws/ReservedSpecs/index.html#makes_global">makes_global</a> (NewGlobal value ty) = true
+<a href="../../laws/ReservedSpecs/index.html#makes_global">makes_global</a> call = false
+
+-- as many slots as these calls take are reserved and free
+abbrev pub <b id="HasSlots">HasSlots</b> : {A : Type 0} → ℕ → List A → (Call → Bool) → List Call → Type 0
+<a href="../../laws/ReservedSpecs/index.html#HasSlots">HasSlots</a> reserved list makes calls = length list + count_by makes calls ≤ reserved
+
+-- a machine has reserved what these calls need: each needs only a slot, and of each kind as many slots as they take are
+-- reserved and free
+pub record <b id="IsReservedFor">IsReservedFor</b> (s : <a href="../../machine/StateSpecs/index.html#State">State</a>) (calls : List Call) : Type 0 where
+  pub <b id="needs">needs</b> : All (<a href="../../laws/ReservedSpecs/index.html#NeedsOnlySlot">NeedsOnlySlot</a> s) calls
+  pub <b id="memories">memories</b> : <a href="../../laws/ReservedSpecs/index.html#HasSlots">HasSlots</a> s.reserved.<a href="../../laws/ReservedSpecs/index.html#memories">memories</a> s.memories <a href="../../laws/ReservedSpecs/index.html#makes_lent_memory">makes_lent_memory</a> calls
+  pub <b id="segments">segments</b> : <a href="../../laws/ReservedSpecs/index.html#HasSlots">HasSlots</a> s.reserved.<a href="../../laws/ReservedSpecs/index.html#segments">segments</a> s.segments <a href="../../laws/ReservedSpecs/index.html#makes_segment">makes_segment</a> calls
+  pub <b id="data_segments">data_segments</b> : <a href="../../laws/ReservedSpecs/index.html#HasSlots">HasSlots</a> s.reserved.<a href="../../laws/ReservedSpecs/index.html#data_segments">data_segments</a> s.data_segments <a href="../../laws/ReservedSpecs/index.html#makes_data">makes_data</a> calls
+  pub <b id="globals">globals</b> : <a href="../../laws/ReservedSpecs/index.html#HasSlots">HasSlots</a> s.reserved.<a href="../../laws/ReservedSpecs/index.html#globals">globals</a> s.globals <a href="../../laws/ReservedSpecs/index.html#makes_global">makes_global</a> calls
+
+module _ {S : Type 0} (rules : <a href="../../meter/LimiterSpecs/index.html#Rules">Rules</a> S) where
+  -- the reply to a call that needs no memory doesn&#x27;t say out of memory
+  abbrev pub <b id="ReservedCallsSucceed">ReservedCallsSucceed</b> : Type 0
+  <a href="../../laws/ReservedSpecs/index.html#ReservedCallsSucceed">ReservedCallsSucceed</a> = (w : <a href="../../machine/StateSpecs/index.html#World">World</a> S) (turn : <a href="../../machine/StateSpecs/index.html#Turn">Turn</a>) (w&#x27; : <a href="../../machine/StateSpecs/index.html#World">World</a> S) → <a href="../../machine/StepsSpecs/index.html#Step">Step</a> rules w turn w&#x27;
+      → <a href="../../laws/ReservedSpecs/index.html#NeedsNoMemory">NeedsNoMemory</a> w.state turn.call → <a href="../../machine/DeterminismSpecs/index.html#IsNotOutOfMemory">IsNotOutOfMemory</a> turn.reply
+
+  -- no reply to calls for which a machine has reserved what they need says out of memory
+  abbrev pub <b id="ReservedRunsSucceed">ReservedRunsSucceed</b> : Type 0
+  <a href="../../laws/ReservedSpecs/index.html#ReservedRunsSucceed">ReservedRunsSucceed</a> = (calls : List Call) (w : <a href="../../machine/StateSpecs/index.html#World">World</a> S) (replies : List Reply) (w&#x27; : <a href="../../machine/StateSpecs/index.html#World">World</a> S)
+      → <a href="../../laws/ReservedSpecs/index.html#IsReservedFor">IsReservedFor</a> w.state calls → <a href="../../machine/StepsSpecs/index.html#IsRunOf">IsRunOf</a> rules calls w replies w&#x27; → All <a href="../../machine/DeterminismSpecs/index.html#IsNotOutOfMemory">IsNotOutOfMemory</a> replies
+</code></pre>
+"####]
+    pub mod ReservedSpecs {}
     #[doc = r####"Laws of whole runs, and of the meter over them.
 
 <pre><code>use Rattle.std.specs.Prelude.{◌≡◌, ◌≤◌, ◌++◌, ℕ, List, length, take, drop, map, Option, Some, slice_get, All, ◌+◌, is_some}
@@ -5672,22 +5889,27 @@ abbrev pub <b id="RemovedStayRemoved">RemovedStayRemoved</b> : Type 0
     #[doc = r####"A pool of tenants: a tenant's rules, what the machines hold together, what a run of one of them does, and what its errors print.
 
 <pre><code>use Rattle.wasmi_meter.specs.declared.holdings.Holdings.{Holdings}
-use Rattle.wasmi_meter.specs.Capped.{<a href="../../meter/CappedSpecs/index.html#amount_of">amount_of</a>, <a href="../../meter/CappedSpecs/index.html#nothing">nothing</a>, <a href="../../meter/CappedSpecs/index.html#amounts_of">amounts_of</a>, <a href="../../meter/CappedSpecs/index.html#Capped">Capped</a>, <a href="../../meter/CappedSpecs/index.html#capped_rules">capped_rules</a>}
+use Rattle.wasmi_meter.specs.Capped.{<a href="../../meter/CappedSpecs/index.html#amount_of">amount_of</a>, <a href="../../meter/CappedSpecs/index.html#nothing">nothing</a>, <a href="../../meter/CappedSpecs/index.html#amounts_of">amounts_of</a>, <a href="../../meter/CappedSpecs/index.html#Capped">Capped</a>, <a href="../../meter/CappedSpecs/index.html#capped_rules">capped_rules</a>, <a href="../../meter/CappedSpecs/index.html#held_together">held_together</a>}
 use Rattle.wasmi_meter.specs.Limiter.{<a href="../../meter/LimiterSpecs/index.html#Rules">Rules</a>, <a href="../../meter/LimiterSpecs/index.html#optional_rules">optional_rules</a>}
 use Rattle.wasmi_budget.specs.declared.tenant.Tenant.{Tenant}
-use Rattle.std.specs.Prelude.{◌≡◌, ◌≤◌, ◌&lt;◌, ◌^◌, ◌++◌, ⊤, ℕ, List, [], ◌∷◌, Option, Some, None, slice_index_or, slice_set, sum_by, remove, codes}
+use Rattle.std.specs.Prelude.{◌≡◌, ◌≤◌, ◌&lt;◌, ◌+◌, ◌-◌, ◌^◌, ◌++◌, ⊤, ℕ, List, [], ◌∷◌, Option, Some, None, slice_index_or, slice_set, sum_by, remove, codes}
 use Rattle.wasmi_meter.specs.declared.limiter.Kind.{Kind}
 use Rattle.wasmi_meter.specs.declared.limiter.Kind.TheVariants.{Bytes, Elements}
 use Rattle.wasmi_meter.specs.declared.amounts.Amounts.{Amounts}
 use Rattle.wasmi_machine.specs.declared.calls.Call.{Call}
 use Rattle.wasmi_machine.specs.declared.calls.Call.TheVariants.{Binary, CopyMemory, FillMemory, InitMemory, SetFuel, Store}
 use Rattle.wasmi_machine.specs.declared.calls.Reply.{Reply}
-use Rattle.wasmi_machine.specs.State.{<a href="../../machine/StateSpecs/index.html#State">State</a>, <a href="../../machine/StateSpecs/index.html#total">total</a>, <a href="../../machine/StateSpecs/index.html#world">world</a>, <a href="../../machine/StateSpecs/index.html#HoldsTotals">HoldsTotals</a>}
+use Rattle.wasmi_machine.specs.State.{<a href="../../machine/StateSpecs/index.html#State">State</a>, <a href="../../machine/StateSpecs/index.html#total">total</a>, <a href="../../machine/StateSpecs/index.html#world">world</a>, <a href="../../machine/StateSpecs/index.html#with_reserved">with_reserved</a>, <a href="../../machine/StateSpecs/index.html#HoldsTotals">HoldsTotals</a>}
 use Rattle.wasmi_machine.specs.Steps.{<a href="../../machine/StepsSpecs/index.html#IsRunOf">IsRunOf</a>, <a href="../../machine/StepsSpecs/index.html#RepliesWith">RepliesWith</a>}
+use Rattle.wasmi_machine.specs.declared.slots.SlotCounts.{SlotCounts}
 use Rattle.wasmi_budget.specs.declared.error.AddError.{AddError}
 use Rattle.wasmi_budget.specs.declared.error.AddError.TheVariants.{NotEmpty, NoRoom}
 use Rattle.wasmi_budget.specs.declared.error.PoolError.{PoolError}
 use Rattle.wasmi_budget.specs.declared.error.PoolError.TheVariants.{NoTenant, OutOfMemory}
+use Rattle.wasmi_budget.specs.declared.error.ReserveError.{ReserveError}
+use Rattle.wasmi_budget.specs.declared.error.ReserveError.TheVariants as reserve
+use Rattle.wasmi_budget.specs.declared.error.RunIntoError.{RunIntoError}
+use Rattle.wasmi_budget.specs.declared.error.RunIntoError.TheVariants as into
 
 -- what a tenant holds
 abbrev pub <b id="holdings">holdings</b> : Tenant → Holdings
@@ -5728,15 +5950,19 @@ abbrev pub <b id="total_at">total_at</b> : Option <a href="../../machine/StateSp
 abbrev pub <b id="total_of">total_of</b> : List (Option <a href="../../machine/StateSpecs/index.html#State">State</a>) → Kind → ℕ
 <a href="../../budget/PoolSpecs/index.html#total_of">total_of</a> <a href="../../budget/PoolSpecs/index.html#machines">machines</a> kind = sum_by (λ s. <a href="../../budget/PoolSpecs/index.html#total_at">total_at</a> s kind) <a href="../../budget/PoolSpecs/index.html#machines">machines</a>
 
+-- a pool with these caps and machines
+abbrev pub <b id="pool_of">pool_of</b> : Amounts → List (Option <a href="../../machine/StateSpecs/index.html#State">State</a>) → <a href="../../budget/PoolSpecs/index.html#PoolValue">PoolValue</a>
+<a href="../../budget/PoolSpecs/index.html#pool_of">pool_of</a> <a href="../../budget/PoolSpecs/index.html#caps">caps</a> <a href="../../budget/PoolSpecs/index.html#machines">machines</a> = record { <a href="../../budget/PoolSpecs/index.html#caps">caps</a> = <a href="../../budget/PoolSpecs/index.html#caps">caps</a>; <a href="../../budget/PoolSpecs/index.html#machines">machines</a> = <a href="../../budget/PoolSpecs/index.html#machines">machines</a> }
+
 -- all machines together are within the caps
 abbrev pub <b id="IsWithinCaps">IsWithinCaps</b> : <a href="../../budget/PoolSpecs/index.html#PoolValue">PoolValue</a> → Type 0
 <a href="../../budget/PoolSpecs/index.html#IsWithinCaps">IsWithinCaps</a> pool = (kind : Kind) → <a href="../../budget/PoolSpecs/index.html#total_of">total_of</a> pool.machines kind ≤ <a href="../../meter/CappedSpecs/index.html#amount_of">amount_of</a> pool.caps kind
 
 -- all machines together are within the caps, which are numbers of 64 bits, and have these amounts
-pub record <b id="IsKept">IsKept</b> (pool : <a href="../../budget/PoolSpecs/index.html#PoolValue">PoolValue</a>) (<a href="../../budget/PoolSpecs/index.html#held">held</a> : Amounts) : Type 0 where
+pub record <b id="IsKept">IsKept</b> (pool : <a href="../../budget/PoolSpecs/index.html#PoolValue">PoolValue</a>) (held : Amounts) : Type 0 where
   pub <b id="within">within</b> : <a href="../../budget/PoolSpecs/index.html#IsWithinCaps">IsWithinCaps</a> pool
   pub <b id="fits">fits</b> : (kind : Kind) → <a href="../../meter/CappedSpecs/index.html#amount_of">amount_of</a> pool.caps kind &lt; 2 ^ 64
-  pub <b id="counted">counted</b> : <a href="../../budget/PoolSpecs/index.html#held">held</a> ≡ <a href="../../meter/CappedSpecs/index.html#amounts_of">amounts_of</a> (<a href="../../budget/PoolSpecs/index.html#total_of">total_of</a> pool.machines)
+  pub <b id="counted">counted</b> : held ≡ <a href="../../meter/CappedSpecs/index.html#amounts_of">amounts_of</a> (<a href="../../budget/PoolSpecs/index.html#total_of">total_of</a> pool.machines)
 
 -- the limiter of the machine s of an index: it holds what the machine has, beside what the others have
 abbrev pub <b id="tenant_at">tenant_at</b> : <a href="../../budget/PoolSpecs/index.html#PoolValue">PoolValue</a> → ℕ → <a href="../../machine/StateSpecs/index.html#State">State</a> → Tenant
@@ -5744,7 +5970,7 @@ abbrev pub <b id="tenant_at">tenant_at</b> : <a href="../../budget/PoolSpecs/ind
     record {
       <a href="../../budget/PoolSpecs/index.html#caps">caps</a> = pool.caps;
       others = <a href="../../meter/CappedSpecs/index.html#amounts_of">amounts_of</a> (<a href="../../budget/PoolSpecs/index.html#total_of">total_of</a> (remove pool.machines index));
-      <a href="../../budget/PoolSpecs/index.html#holdings">holdings</a> = record { <a href="../../budget/PoolSpecs/index.html#held">held</a> = <a href="../../meter/CappedSpecs/index.html#amounts_of">amounts_of</a> (<a href="../../machine/StateSpecs/index.html#total">total</a> s); last = None };
+      <a href="../../budget/PoolSpecs/index.html#holdings">holdings</a> = record { held = <a href="../../meter/CappedSpecs/index.html#amounts_of">amounts_of</a> (<a href="../../machine/StateSpecs/index.html#total">total</a> s); last = None };
     }
 
 -- the machine has no bytes and no elements, and dropped none
@@ -5777,16 +6003,32 @@ pub record <b id="RunsTenantBy">RunsTenantBy</b> (rules : <a href="../../meter/L
 abbrev pub <b id="RunsTenant">RunsTenant</b> : <a href="../../budget/PoolSpecs/index.html#PoolValue">PoolValue</a> → ℕ → List Call → List Reply → <a href="../../budget/PoolSpecs/index.html#PoolValue">PoolValue</a> → Type 0
 <a href="../../budget/PoolSpecs/index.html#RunsTenant">RunsTenant</a> = <a href="../../budget/PoolSpecs/index.html#RunsTenantBy">RunsTenantBy</a> (<a href="../../meter/LimiterSpecs/index.html#optional_rules">optional_rules</a> <a href="../../budget/PoolSpecs/index.html#tenant_rules">tenant_rules</a>)
 
--- the machine at an index has run these calls under a tenant, which holds what it has then, and all others are the same
-pub record <b id="RunsMachine">RunsMachine</b> (<a href="../../budget/PoolSpecs/index.html#machines">machines</a> : List (Option <a href="../../machine/StateSpecs/index.html#State">State</a>)) (index : ℕ) (tenant : Tenant) (calls : List Call)
-    (replies : List Reply) (machines&#x27; : List (Option <a href="../../machine/StateSpecs/index.html#State">State</a>)) (<a href="../../budget/PoolSpecs/index.html#tenant%27">tenant&#x27;</a> : Tenant) : Type 0 where
-  pub <b id="machine">machine</b> : <a href="../../machine/StateSpecs/index.html#State">State</a>
-  pub <b id="found">found</b> : slice_index_or <a href="../../budget/PoolSpecs/index.html#machines">machines</a> index None ≡ Some <a href="../../budget/PoolSpecs/index.html#machine">machine</a>
-  pub <b id="machine&#x27;">machine&#x27;</b> : <a href="../../machine/StateSpecs/index.html#State">State</a>
-  pub <b id="ran">ran</b> : <a href="../../machine/StepsSpecs/index.html#IsRunOf">IsRunOf</a> (<a href="../../meter/LimiterSpecs/index.html#optional_rules">optional_rules</a> <a href="../../budget/PoolSpecs/index.html#tenant_rules">tenant_rules</a>) calls (<a href="../../machine/StateSpecs/index.html#world">world</a> <a href="../../budget/PoolSpecs/index.html#machine">machine</a> (Some tenant)) replies
-      (<a href="../../machine/StateSpecs/index.html#world">world</a> <a href="../../budget/PoolSpecs/index.html#machine%27">machine&#x27;</a> (Some <a href="../../budget/PoolSpecs/index.html#tenant%27">tenant&#x27;</a>))
-  pub <b id="after">after</b> : machines&#x27; ≡ slice_set <a href="../../budget/PoolSpecs/index.html#machines">machines</a> index (Some <a href="../../budget/PoolSpecs/index.html#machine%27">machine&#x27;</a>)
-  pub <b id="held">held</b> : <a href="../../machine/StateSpecs/index.html#HoldsTotals">HoldsTotals</a> (<a href="../../budget/PoolSpecs/index.html#holdings">holdings</a> <a href="../../budget/PoolSpecs/index.html#tenant%27">tenant&#x27;</a>) <a href="../../budget/PoolSpecs/index.html#machine%27">machine&#x27;</a>
+-- the tenant that holds so much of what all hold, under the caps
+abbrev pub <b id="tenant_of">tenant_of</b> : Amounts → Amounts → Amounts → Tenant
+<a href="../../budget/PoolSpecs/index.html#tenant_of">tenant_of</a> <a href="../../budget/PoolSpecs/index.html#caps">caps</a> all held = record {
+  <a href="../../budget/PoolSpecs/index.html#caps">caps</a> = <a href="../../budget/PoolSpecs/index.html#caps">caps</a>;
+  others = record { <a href="../../budget/PoolSpecs/index.html#bytes">bytes</a> = all.bytes - held.bytes; <a href="../../budget/PoolSpecs/index.html#elements">elements</a> = all.elements - held.elements };
+  <a href="../../budget/PoolSpecs/index.html#holdings">holdings</a> = record { held = held; last = None };
+}
+
+-- what all hold of a kind where a tenant holds so much
+abbrev pub <b id="held_before">held_before</b> : Tenant → Amounts → Kind → ℕ
+<a href="../../budget/PoolSpecs/index.html#held_before">held_before</a> tenant held kind = <a href="../../meter/CappedSpecs/index.html#amount_of">amount_of</a> tenant.others kind + <a href="../../meter/CappedSpecs/index.html#amount_of">amount_of</a> held kind
+
+-- what a machine has is a part of what all hold, which is within the caps, numbers of 64 bits
+pub record <b id="IsPart">IsPart</b> (<a href="../../budget/PoolSpecs/index.html#caps">caps</a> all : Amounts) (s : <a href="../../machine/StateSpecs/index.html#State">State</a>) : Type 0 where
+  pub <b id="within">within</b> : (kind : Kind) → <a href="../../meter/CappedSpecs/index.html#amount_of">amount_of</a> all kind ≤ <a href="../../meter/CappedSpecs/index.html#amount_of">amount_of</a> <a href="../../budget/PoolSpecs/index.html#caps">caps</a> kind
+  pub <b id="fits">fits</b> : (kind : Kind) → <a href="../../meter/CappedSpecs/index.html#amount_of">amount_of</a> <a href="../../budget/PoolSpecs/index.html#caps">caps</a> kind &lt; 2 ^ 64
+  pub <b id="counted">counted</b> : (kind : Kind) → <a href="../../machine/StateSpecs/index.html#total">total</a> s kind ≤ <a href="../../meter/CappedSpecs/index.html#amount_of">amount_of</a> all kind
+
+-- a machine has run these calls under the tenant that it has where all hold so much, and they hold so much then
+pub record <b id="RunsAsPart">RunsAsPart</b> (<a href="../../budget/PoolSpecs/index.html#caps">caps</a> all : Amounts) (s : <a href="../../machine/StateSpecs/index.html#State">State</a>) (calls : List Call) (replies : List Reply) (s&#x27; : <a href="../../machine/StateSpecs/index.html#State">State</a>)
+    (all&#x27; : Amounts) : Type 0 where
+  pub <b id="tenant&#x27;">tenant&#x27;</b> : Tenant
+  pub <b id="ran">ran</b> : <a href="../../machine/StepsSpecs/index.html#IsRunOf">IsRunOf</a> (<a href="../../meter/LimiterSpecs/index.html#optional_rules">optional_rules</a> <a href="../../budget/PoolSpecs/index.html#tenant_rules">tenant_rules</a>) calls
+      (<a href="../../machine/StateSpecs/index.html#world">world</a> s (Some (<a href="../../budget/PoolSpecs/index.html#tenant_of">tenant_of</a> <a href="../../budget/PoolSpecs/index.html#caps">caps</a> all (<a href="../../meter/CappedSpecs/index.html#amounts_of">amounts_of</a> (<a href="../../machine/StateSpecs/index.html#total">total</a> s))))) replies (<a href="../../machine/StateSpecs/index.html#world">world</a> s&#x27; (Some <a href="../../budget/PoolSpecs/index.html#tenant%27">tenant&#x27;</a>))
+  pub <b id="holds">holds</b> : <a href="../../machine/StateSpecs/index.html#HoldsTotals">HoldsTotals</a> (<a href="../../budget/PoolSpecs/index.html#holdings">holdings</a> <a href="../../budget/PoolSpecs/index.html#tenant%27">tenant&#x27;</a>) s&#x27;
+  pub <b id="together">together</b> : all&#x27; ≡ <a href="../../meter/CappedSpecs/index.html#amounts_of">amounts_of</a> (<a href="../../meter/CappedSpecs/index.html#held_together">held_together</a> <a href="../../budget/PoolSpecs/index.html#capped_tenant">capped_tenant</a> <a href="../../budget/PoolSpecs/index.html#tenant%27">tenant&#x27;</a>)
 
 -- a call is a store of an item, an instruction on two vectors, a write over a range of a memory or a setting of the
 -- fuel, which asks no limiter
@@ -5818,6 +6060,18 @@ pub record <b id="RemovesTenant">RemovesTenant</b> (pool : <a href="../../budget
   pub <b id="found">found</b> : <a href="../../budget/PoolSpecs/index.html#machine_of">machine_of</a> pool index ≡ Some s
   pub <b id="removed">removed</b> : pool&#x27; ≡ record pool { <a href="../../budget/PoolSpecs/index.html#machines">machines</a> = slice_set pool.machines index None }
 
+-- the machine at an index has so many more slots reserved, and all others are the same
+pub record <b id="ReservesAt">ReservesAt</b> (<a href="../../budget/PoolSpecs/index.html#machines">machines</a> : List (Option <a href="../../machine/StateSpecs/index.html#State">State</a>)) (index : ℕ) (more : SlotCounts)
+    (machines&#x27; : List (Option <a href="../../machine/StateSpecs/index.html#State">State</a>)) : Type 0 where
+  pub <b id="machine">machine</b> : <a href="../../machine/StateSpecs/index.html#State">State</a>
+  pub <b id="found">found</b> : slice_index_or <a href="../../budget/PoolSpecs/index.html#machines">machines</a> index None ≡ Some <a href="../../budget/PoolSpecs/index.html#machine">machine</a>
+  pub <b id="after">after</b> : machines&#x27; ≡ slice_set <a href="../../budget/PoolSpecs/index.html#machines">machines</a> index (Some (<a href="../../machine/StateSpecs/index.html#with_reserved">with_reserved</a> <a href="../../budget/PoolSpecs/index.html#machine">machine</a> more))
+
+-- the machine of a tenant has so many more slots reserved, and all else is the same
+abbrev pub <b id="ReservesForTenant">ReservesForTenant</b> : <a href="../../budget/PoolSpecs/index.html#PoolValue">PoolValue</a> → ℕ → SlotCounts → <a href="../../budget/PoolSpecs/index.html#PoolValue">PoolValue</a> → Type 0
+<a href="../../budget/PoolSpecs/index.html#ReservesForTenant">ReservesForTenant</a> pool index more pool&#x27; =
+    (pool&#x27;.<a href="../../budget/PoolSpecs/index.html#caps">caps</a> ≡ pool.caps) × <a href="../../budget/PoolSpecs/index.html#ReservesAt">ReservesAt</a> pool.machines index more pool&#x27;.<a href="../../budget/PoolSpecs/index.html#machines">machines</a>
+
 -- the text of why a machine isn&#x27;t added to a pool
 abbrev pub <b id="add_error_text">add_error_text</b> : AddError → List ℕ
 <a href="../../budget/PoolSpecs/index.html#add_error_text">add_error_text</a> NotEmpty = codes "tried to add a <a href="../../budget/PoolSpecs/index.html#machine">machine</a> that has or had <a href="../../budget/PoolSpecs/index.html#bytes">bytes</a> or <a href="../../budget/PoolSpecs/index.html#elements">elements</a>"
@@ -5827,6 +6081,16 @@ abbrev pub <b id="add_error_text">add_error_text</b> : AddError → List ℕ
 abbrev pub <b id="pool_error_text">pool_error_text</b> : PoolError → List ℕ
 <a href="../../budget/PoolSpecs/index.html#pool_error_text">pool_error_text</a> NoTenant = codes "tried to run a tenant that is not in the pool"
 <a href="../../budget/PoolSpecs/index.html#pool_error_text">pool_error_text</a> OutOfMemory = codes "out of memory for the replies"
+
+-- the text of why a pool makes no run into memory that is kept
+abbrev pub <b id="run_into_error_text">run_into_error_text</b> : RunIntoError → List ℕ
+<a href="../../budget/PoolSpecs/index.html#run_into_error_text">run_into_error_text</a> into.NoTenant = codes "tried to run a tenant that is not in the pool"
+<a href="../../budget/PoolSpecs/index.html#run_into_error_text">run_into_error_text</a> into.TooManyCalls = codes "more calls than there is memory for replies"
+
+-- the text of why a pool reserves no slots
+abbrev pub <b id="reserve_error_text">reserve_error_text</b> : ReserveError → List ℕ
+<a href="../../budget/PoolSpecs/index.html#reserve_error_text">reserve_error_text</a> reserve.NoTenant = codes "tried to reserve slots for a tenant that is not in the pool"
+<a href="../../budget/PoolSpecs/index.html#reserve_error_text">reserve_error_text</a> reserve.OutOfMemory = codes "out of memory for the slots"
 </code></pre>
 "####]
     pub mod PoolSpecs {}
@@ -5981,10 +6245,10 @@ abbrev pub <b id="creation_in">creation_in</b> : <a href="../../store/TableSpecs
 }
 
 -- what is asked and paid where a table on a region of so many references grows by n elements, and the causes of a
--- refusal: it is out of memory if the region is shorter than the new size
+-- refusal: those of any table, and only if the region is shorter than the new size
 abbrev pub <b id="growth_in">growth_in</b> : ℕ → <a href="../../store/TableSpecs/index.html#TableValue">TableValue</a> → ℕ → ℕ → <a href="../../meter/AttemptSpecs/index.html#Request">Request</a> <a href="../../store/TableSpecs/index.html#TableValue">TableValue</a> TableError
 <a href="../../region/TableSpecs/index.html#growth_in">growth_in</a> room x n reference = record (<a href="../../store/TableSpecs/index.html#growth_of">growth_of</a> x n reference) {
-  refuses = λ cause. (cause ≡ OutOfSystemMemory) × (room &lt; <a href="../../store/TableSpecs/index.html#size_of">size_of</a> x + n);
+  refuses = λ cause. (<a href="../../store/TableSpecs/index.html#growth_of">growth_of</a> x n reference).refuses cause × (room &lt; <a href="../../store/TableSpecs/index.html#size_of">size_of</a> x + n);
 }
 
 -- the growth of a table on a region of so many references, by n elements
@@ -6439,7 +6703,8 @@ abbrev pub <b id="IsVectorWord">IsVectorWord</b> : List ℕ → Type 0
 <pre><code>use Rattle.std.specs.Prelude.{◌≡◌, ◌≤◌, ℕ, Option, List, Some, None, length, codes, replicate}
 use Rattle.std.specs.Option.{option_map, option_map_or}
 use Rattle.wasmi_meter.specs.Meter.{<a href="../../meter/MeterSpecs/index.html#default_costs">default_costs</a>, <a href="../../meter/MeterSpecs/index.html#Meter">Meter</a>}
-use Rattle.wasmi_machine.specs.State.{<a href="../../machine/StateSpecs/index.html#State">State</a>, <a href="../../machine/StateSpecs/index.html#new_state">new_state</a>}
+use Rattle.wasmi_machine.specs.State.{<a href="../../machine/StateSpecs/index.html#State">State</a>, <a href="../../machine/StateSpecs/index.html#new_state">new_state</a>, <a href="../../machine/StateSpecs/index.html#no_slots">no_slots</a>}
+use Rattle.wasmi_machine.specs.declared.slots.SlotCounts.{SlotCounts}
 use Rattle.wasmi_grammar.specs.declared.header.Header.{Header}
 use Rattle.wasmi_grammar.specs.declared.header.MeterLine.{MeterLine}
 use Rattle.wasmi_grammar.specs.declared.header.MeterLine.TheVariants.{Off, On}
@@ -6479,6 +6744,13 @@ abbrev pub <b id="WritesRegion">WritesRegion</b> : <a href="../../operands/LineW
 <a href="../../grammar/HeadersSpecs/index.html#WritesRegion">WritesRegion</a> words line =
     (length words ≡ 2) × <a href="../../operands/LineWordsSpecs/index.html#WritesNumber">WritesNumber</a> 64 (<a href="../../operands/LineWordsSpecs/index.html#word_at">word_at</a> words 0) line.len × <a href="../../operands/LineWordsSpecs/index.html#WritesNumber">WritesNumber</a> 8 (<a href="../../operands/LineWordsSpecs/index.html#word_at">word_at</a> words 1) line.byte
 
+-- the words after the first write how many slots of each kind the line reserves
+abbrev pub <b id="WritesReserve">WritesReserve</b> : <a href="../../operands/LineWordsSpecs/index.html#LineWords">LineWords</a> → SlotCounts → Type 0
+<a href="../../grammar/HeadersSpecs/index.html#WritesReserve">WritesReserve</a> words slots =
+    (length words ≡ 5) × <a href="../../operands/LineWordsSpecs/index.html#WritesNumber">WritesNumber</a> 64 (<a href="../../operands/LineWordsSpecs/index.html#word_at">word_at</a> words 0) slots.memories
+    × <a href="../../operands/LineWordsSpecs/index.html#WritesNumber">WritesNumber</a> 64 (<a href="../../operands/LineWordsSpecs/index.html#word_at">word_at</a> words 1) slots.tables × <a href="../../operands/LineWordsSpecs/index.html#WritesNumber">WritesNumber</a> 64 (<a href="../../operands/LineWordsSpecs/index.html#word_at">word_at</a> words 2) slots.segments
+    × <a href="../../operands/LineWordsSpecs/index.html#WritesNumber">WritesNumber</a> 64 (<a href="../../operands/LineWordsSpecs/index.html#word_at">word_at</a> words 3) slots.data_segments × <a href="../../operands/LineWordsSpecs/index.html#WritesNumber">WritesNumber</a> 64 (<a href="../../operands/LineWordsSpecs/index.html#word_at">word_at</a> words 4) slots.globals
+
 -- the words after the first write which tenant the `as` line means
 abbrev pub <b id="WritesTenant">WritesTenant</b> : <a href="../../operands/LineWordsSpecs/index.html#LineWords">LineWords</a> → ℕ → Type 0
 <a href="../../grammar/HeadersSpecs/index.html#WritesTenant">WritesTenant</a> words tenant = (length words ≡ 1) × <a href="../../operands/LineWordsSpecs/index.html#WritesNumber">WritesNumber</a> 64 (<a href="../../operands/LineWordsSpecs/index.html#word_at">word_at</a> words 0) tenant
@@ -6511,9 +6783,17 @@ abbrev pub <b id="meter_of">meter_of</b> : Header → <a href="../../meter/Meter
 abbrev pub <b id="region_bytes">region_bytes</b> : RegionLine → List ℕ
 <a href="../../grammar/HeadersSpecs/index.html#region_bytes">region_bytes</a> line = replicate line.len line.byte
 
--- the machine that a script starts with: new, with its meter and its region
+-- how many slots of each kind the header lines reserve: none without a line that says more
+abbrev pub <b id="slots_of">slots_of</b> : Header → SlotCounts
+<a href="../../grammar/HeadersSpecs/index.html#slots_of">slots_of</a> header = option_map_or (λ slots. slots) header.reserve <a href="../../machine/StateSpecs/index.html#no_slots">no_slots</a>
+
+-- the machine that each tenant of a script starts with: new, with the script&#x27;s meter and with its slots reserved
+abbrev pub <b id="tenant_start">tenant_start</b> : Header → <a href="../../machine/StateSpecs/index.html#State">State</a>
+<a href="../../grammar/HeadersSpecs/index.html#tenant_start">tenant_start</a> header = record (<a href="../../machine/StateSpecs/index.html#new_state">new_state</a> (<a href="../../grammar/HeadersSpecs/index.html#meter_of">meter_of</a> header)) { reserved = <a href="../../grammar/HeadersSpecs/index.html#slots_of">slots_of</a> header }
+
+-- the machine that a script without tenants starts with: such a machine, with its region
 abbrev pub <b id="start_of">start_of</b> : Header → <a href="../../machine/StateSpecs/index.html#State">State</a>
-<a href="../../grammar/HeadersSpecs/index.html#start_of">start_of</a> header = record (<a href="../../machine/StateSpecs/index.html#new_state">new_state</a> (<a href="../../grammar/HeadersSpecs/index.html#meter_of">meter_of</a> header)) { spare = option_map <a href="../../grammar/HeadersSpecs/index.html#region_bytes">region_bytes</a> header.region }
+<a href="../../grammar/HeadersSpecs/index.html#start_of">start_of</a> header = record (<a href="../../grammar/HeadersSpecs/index.html#tenant_start">tenant_start</a> header) { spare = option_map <a href="../../grammar/HeadersSpecs/index.html#region_bytes">region_bytes</a> header.region }
 </code></pre>
 "####]
     pub mod HeadersSpecs {}
@@ -6523,16 +6803,17 @@ abbrev pub <b id="start_of">start_of</b> : Header → <a href="../../machine/Sta
 use Rattle.std.specs.List.{slice_split}
 use Rattle.std.specs.Str.{IsUtf8}
 use Rattle.wasmi_machine.specs.declared.calls.Call.{Call}
+use Rattle.wasmi_machine.specs.declared.slots.SlotCounts.{SlotCounts}
 use Rattle.wasmi_grammar.specs.declared.header.LimiterLine.{LimiterLine}
 use Rattle.wasmi_grammar.specs.declared.header.MeterLine.{MeterLine}
 use Rattle.wasmi_grammar.specs.declared.header.RegionLine.{RegionLine}
 use Rattle.wasmi_grammar.specs.declared.script.Line.{Line}
-use Rattle.wasmi_grammar.specs.declared.script.Line.TheVariants.{<a href="../../meter/MeterSpecs/index.html#Meter">Meter</a>, Limiter, Region, As, Call as Command}
+use Rattle.wasmi_grammar.specs.declared.script.Line.TheVariants.{<a href="../../meter/MeterSpecs/index.html#Meter">Meter</a>, Limiter, Region, Reserve, As, Call as Command}
 use Rattle.wasmi_grammar.specs.declared.script.Script.{Script}
 use Rattle.wasmi_operands.specs.LineWords.{<a href="../../operands/LineWordsSpecs/index.html#LineWords">LineWords</a>, <a href="../../operands/LineWordsSpecs/index.html#word_at">word_at</a>, <a href="../../operands/LineWordsSpecs/index.html#words_in">words_in</a>}
 use Rattle.wasmi_grammar.specs.Parts.{<a href="../../grammar/PartsSpecs/index.html#parts_in">parts_in</a>, <a href="../../grammar/PartsSpecs/index.html#calls_in">calls_in</a>}
 use Rattle.wasmi_grammar.specs.Commands.{<a href="../../grammar/CommandsSpecs/index.html#NamesAfter">NamesAfter</a>}
-use Rattle.wasmi_grammar.specs.Headers.{<a href="../../grammar/HeadersSpecs/index.html#WritesMeter">WritesMeter</a>, <a href="../../grammar/HeadersSpecs/index.html#NamesLimiterAfter">NamesLimiterAfter</a>, <a href="../../grammar/HeadersSpecs/index.html#WritesRegion">WritesRegion</a>, <a href="../../grammar/HeadersSpecs/index.html#WritesTenant">WritesTenant</a>, <a href="../../grammar/HeadersSpecs/index.html#AreApart">AreApart</a>, <a href="../../grammar/HeadersSpecs/index.html#tenants_of">tenants_of</a>}
+use Rattle.wasmi_grammar.specs.Headers.{<a href="../../grammar/HeadersSpecs/index.html#WritesMeter">WritesMeter</a>, <a href="../../grammar/HeadersSpecs/index.html#NamesLimiterAfter">NamesLimiterAfter</a>, <a href="../../grammar/HeadersSpecs/index.html#WritesRegion">WritesRegion</a>, <a href="../../grammar/HeadersSpecs/index.html#WritesReserve">WritesReserve</a>, <a href="../../grammar/HeadersSpecs/index.html#WritesTenant">WritesTenant</a>, <a href="../../grammar/HeadersSpecs/index.html#AreApart">AreApart</a>, <a href="../../grammar/HeadersSpecs/index.html#tenants_of">tenants_of</a>}
 use Rattle.wasmi_grammar.specs.declared.error.ParseError.{ParseError}
 use Rattle.wasmi_grammar.specs.declared.error.ParseError.TheVariants.{BadCommand, OutOfMemory}
 
@@ -6541,6 +6822,7 @@ abbrev pub <b id="NamesLine">NamesLine</b> : List ℕ → <a href="../../operand
 <a href="../../grammar/LinesSpecs/index.html#NamesLine">NamesLine</a> name operands (<a href="../../meter/MeterSpecs/index.html#Meter">Meter</a> line) = (name ≡ codes "meter") × <a href="../../grammar/HeadersSpecs/index.html#WritesMeter">WritesMeter</a> operands line
 <a href="../../grammar/LinesSpecs/index.html#NamesLine">NamesLine</a> name operands (Limiter line) = <a href="../../grammar/HeadersSpecs/index.html#NamesLimiterAfter">NamesLimiterAfter</a> name operands line
 <a href="../../grammar/LinesSpecs/index.html#NamesLine">NamesLine</a> name operands (Region line) = (name ≡ codes "region") × <a href="../../grammar/HeadersSpecs/index.html#WritesRegion">WritesRegion</a> operands line
+<a href="../../grammar/LinesSpecs/index.html#NamesLine">NamesLine</a> name operands (Reserve slots) = (name ≡ codes "reserve") × <a href="../../grammar/HeadersSpecs/index.html#WritesReserve">WritesReserve</a> operands slots
 <a href="../../grammar/LinesSpecs/index.html#NamesLine">NamesLine</a> name operands (As tenant) = (name ≡ codes "as") × <a href="../../grammar/HeadersSpecs/index.html#WritesTenant">WritesTenant</a> operands tenant
 <a href="../../grammar/LinesSpecs/index.html#NamesLine">NamesLine</a> name operands (Command call) = <a href="../../grammar/CommandsSpecs/index.html#NamesAfter">NamesAfter</a> name operands call
 
@@ -6572,6 +6854,13 @@ pub record <b id="AddsRegion">AddsRegion</b> (old : Script) (line : RegionLine) 
   pub <b id="header">header</b> : new.header ≡ record old.header { region = Some line }
   pub <b id="parts">parts</b> : new.parts ≡ old.parts
 
+-- a `reserve` line, the first one and before all commands
+pub record <b id="AddsReserve">AddsReserve</b> (old : Script) (slots : SlotCounts) (new : Script) : Type 0 where
+  pub <b id="before_commands">before_commands</b> : <a href="../../grammar/LinesSpecs/index.html#HasNoCommands">HasNoCommands</a> old
+  pub <b id="first">first</b> : old.header.reserve ≡ None
+  pub <b id="header">header</b> : new.header ≡ record old.header { reserve = Some slots }
+  pub <b id="parts">parts</b> : new.parts ≡ old.parts
+
 -- a command, whose call comes after those of the lines before
 pub record <b id="AddsCall">AddsCall</b> (old : Script) (call : Call) (new : Script) : Type 0 where
   pub <b id="parts">parts</b> : new.parts ≡ record old.parts { calls = old.parts.calls ++ call ∷ [] }
@@ -6588,6 +6877,7 @@ abbrev pub <b id="AddsLine">AddsLine</b> : Script → Line → Script → Type 0
 <a href="../../grammar/LinesSpecs/index.html#AddsLine">AddsLine</a> old (<a href="../../meter/MeterSpecs/index.html#Meter">Meter</a> line) new = <a href="../../grammar/LinesSpecs/index.html#AddsMeter">AddsMeter</a> old line new
 <a href="../../grammar/LinesSpecs/index.html#AddsLine">AddsLine</a> old (Limiter line) new = <a href="../../grammar/LinesSpecs/index.html#AddsLimiter">AddsLimiter</a> old line new
 <a href="../../grammar/LinesSpecs/index.html#AddsLine">AddsLine</a> old (Region line) new = <a href="../../grammar/LinesSpecs/index.html#AddsRegion">AddsRegion</a> old line new
+<a href="../../grammar/LinesSpecs/index.html#AddsLine">AddsLine</a> old (Reserve slots) new = <a href="../../grammar/LinesSpecs/index.html#AddsReserve">AddsReserve</a> old slots new
 <a href="../../grammar/LinesSpecs/index.html#AddsLine">AddsLine</a> old (As tenant) new = <a href="../../grammar/LinesSpecs/index.html#AddsPart">AddsPart</a> old tenant new
 <a href="../../grammar/LinesSpecs/index.html#AddsLine">AddsLine</a> old (Command call) new = <a href="../../grammar/LinesSpecs/index.html#AddsCall">AddsCall</a> old call new
 
@@ -6613,7 +6903,7 @@ unfoldable pub <b id="lines_in">lines_in</b> : List ℕ → List (List ℕ)
 
 -- no line was taken yet
 pub record <b id="IsNewScript">IsNewScript</b> (<a href="../../grammar/LinesSpecs/index.html#script">script</a> : Script) : Type 0 where
-  pub <b id="no_header">no_header</b> : script.header ≡ record { meter = None; limiter_line = None; region = None }
+  pub <b id="no_header">no_header</b> : script.header ≡ record { meter = None; limiter_line = None; region = None; reserve = None }
   pub <b id="no_commands">no_commands</b> : script.parts ≡ record { earlier = []; tenant = 0; calls = [] }
 
 -- the lines, taken one after the other from none on, lead to this script
@@ -6658,6 +6948,7 @@ abbrev pub <b id="IsParseError">IsParseError</b> : List ℕ → ParseError → T
 use Rattle.std.specs.Option.{option_map}
 use Rattle.wasmi_types.specs.declared.value.RefType.{RefType}
 use Rattle.wasmi_machine.specs.declared.calls.Call.{Call}
+use Rattle.wasmi_machine.specs.declared.slots.SlotCounts.{SlotCounts}
 use Rattle.wasmi_machine.specs.declared.calls.Call.TheVariants.{Write, NewData, NewSegment}
 use Rattle.wasmi_grammar.specs.declared.script.Script.{Script}
 use Rattle.wasmi_grammar.specs.declared.header.MeterLine.{MeterLine}
@@ -6706,6 +6997,7 @@ pub record <b id="ScriptMeaning">ScriptMeaning</b> : Type 0 where
   pub <b id="meter">meter</b> : Option MeterLine
   pub <b id="limiter">limiter</b> : Option <a href="../../grammar/MeaningsSpecs/index.html#LimiterMeaning">LimiterMeaning</a>
   pub <b id="region">region</b> : Option RegionLine
+  pub <b id="reserve">reserve</b> : Option SlotCounts
   pub <b id="parts">parts</b> : List <a href="../../grammar/MeaningsSpecs/index.html#PartMeaning">PartMeaning</a>
 
 -- what a script says
@@ -6714,6 +7006,7 @@ abbrev pub <b id="script_meaning">script_meaning</b> : Script → <a href="../..
   <a href="../../grammar/MeaningsSpecs/index.html#meter">meter</a> = script.header.<a href="../../grammar/MeaningsSpecs/index.html#meter">meter</a>;
   <a href="../../grammar/MeaningsSpecs/index.html#limiter">limiter</a> = option_map <a href="../../grammar/MeaningsSpecs/index.html#limiter_meaning">limiter_meaning</a> script.header.limiter_line;
   <a href="../../grammar/MeaningsSpecs/index.html#region">region</a> = script.header.<a href="../../grammar/MeaningsSpecs/index.html#region">region</a>;
+  <a href="../../grammar/MeaningsSpecs/index.html#reserve">reserve</a> = script.header.<a href="../../grammar/MeaningsSpecs/index.html#reserve">reserve</a>;
   <a href="../../grammar/MeaningsSpecs/index.html#parts">parts</a> = map <a href="../../grammar/MeaningsSpecs/index.html#part_meaning">part_meaning</a> (<a href="../../grammar/PartsSpecs/index.html#parts_in">parts_in</a> script.parts);
 }
 
@@ -7063,7 +7356,7 @@ use Rattle.wasmi_meter.specs.declared.holdings.Holdings.{Holdings}
 use Rattle.wasmi_meter.specs.declared.amounts.Amounts.{Amounts}
 use Rattle.wasmi_meter.specs.Capped.{<a href="../../script/ScriptRunsSpecs/index.html#nothing">nothing</a>, <a href="../../meter/CappedSpecs/index.html#quota_rules">quota_rules</a>, <a href="../../meter/CappedSpecs/index.html#cap_of">cap_of</a>, <a href="../../meter/CappedSpecs/index.html#holdings">holdings</a>}
 use Rattle.wasmi_machine.specs.declared.calls.Call.{Call}
-use Rattle.wasmi_machine.specs.State.{<a href="../../machine/StateSpecs/index.html#State">State</a>, <a href="../../machine/StateSpecs/index.html#new_state">new_state</a>, <a href="../../machine/StateSpecs/index.html#World">World</a>, <a href="../../machine/StateSpecs/index.html#HoldsTotals">HoldsTotals</a>}
+use Rattle.wasmi_machine.specs.State.{<a href="../../machine/StateSpecs/index.html#State">State</a>, <a href="../../machine/StateSpecs/index.html#World">World</a>, <a href="../../machine/StateSpecs/index.html#HoldsTotals">HoldsTotals</a>}
 use Rattle.wasmi_machine.specs.Steps.{<a href="../../machine/StepsSpecs/index.html#IsRunOf">IsRunOf</a>}
 use Rattle.wasmi_machine.specs.declared.calls.Reply.{Reply}
 use Rattle.wasmi_budget.specs.Pool.{<a href="../../budget/PoolSpecs/index.html#PoolValue">PoolValue</a>, <a href="../../budget/PoolSpecs/index.html#RunsTenant">RunsTenant</a>}
@@ -7080,7 +7373,7 @@ use Rattle.wasmi_script.specs.declared.running.Held.{Held}
 use Rattle.wasmi_script.specs.declared.running.Ran.{<a href="../../budget/LawsSpecs/index.html#Ran">Ran</a>}
 use Rattle.wasmi_meter.specs.declared.answer_list.LimiterAnswer.{LimiterAnswer}
 use Rattle.wasmi_meter.specs.AnswerList.{<a href="../../meter/AnswerListSpecs/index.html#AnswersAhead">AnswersAhead</a>, <a href="../../meter/AnswerListSpecs/index.html#answer_list_rules">answer_list_rules</a>, <a href="../../meter/AnswerListSpecs/index.html#new_answers">new_answers</a>}
-use Rattle.wasmi_grammar.specs.Headers.{<a href="../../grammar/HeadersSpecs/index.html#meter_of">meter_of</a>, <a href="../../grammar/HeadersSpecs/index.html#start_of">start_of</a>}
+use Rattle.wasmi_grammar.specs.Headers.{<a href="../../grammar/HeadersSpecs/index.html#start_of">start_of</a>, <a href="../../grammar/HeadersSpecs/index.html#tenant_start">tenant_start</a>}
 
 -- what a limiter holds that has permitted nothing yet
 abbrev pub <b id="nothing_held">nothing_held</b> : Holdings
@@ -7113,7 +7406,8 @@ abbrev pub <b id="IsReplayUnder">IsReplayUnder</b> : Option LimiterLine → <a h
     <a href="../../script/ScriptRunsSpecs/index.html#IsListedReplay">IsListedReplay</a> answers.items start calls replies held
 <a href="../../script/ScriptRunsSpecs/index.html#IsReplayUnder">IsReplayUnder</a> (Some (Lines.Tenants line)) start calls replies held = ⊥
 
--- the replies are those of a run of the calls on a new machine with the meter and the region of these header lines
+-- the replies are those of a run of the calls on a new machine with the meter, the reserved slots and the region of these
+-- header lines
 abbrev pub <b id="IsReplayOnOne">IsReplayOnOne</b> : Option LimiterLine → Header → List Call → <a href="../../budget/LawsSpecs/index.html#Ran">Ran</a> → Type 0
 <a href="../../script/ScriptRunsSpecs/index.html#IsReplayOnOne">IsReplayOnOne</a> limiter header calls ran = <a href="../../script/ScriptRunsSpecs/index.html#IsReplayUnder">IsReplayUnder</a> limiter (<a href="../../grammar/HeadersSpecs/index.html#start_of">start_of</a> header) calls ran.replies.items ran.held
 
@@ -7129,14 +7423,15 @@ abbrev pub <b id="AnswersParts">AnswersParts</b> : <a href="../../budget/PoolSpe
     (answered : List Reply) × (later : List Reply) × (middle : <a href="../../budget/PoolSpecs/index.html#PoolValue">PoolValue</a>) × (replies ≡ answered ++ later)
     × <a href="../../budget/PoolSpecs/index.html#RunsTenant">RunsTenant</a> pool part.tenant part.calls answered middle × <a href="../../script/ScriptRunsSpecs/index.html#AnswersParts">AnswersParts</a> middle parts later pool&#x27;
 
--- The replies are those of the parts, one after another, on a pool of new machines with the script&#x27;s meter.
+-- The replies are those of the parts, one after another, on a pool of new machines with the script&#x27;s meter and its
+-- reserved slots.
 -- What is held is what the pool&#x27;s machines have then.
 abbrev pub <b id="IsPoolReplay">IsPoolReplay</b> : TenantsLine → Script → <a href="../../budget/LawsSpecs/index.html#Ran">Ran</a> → Type 0
 <a href="../../script/ScriptRunsSpecs/index.html#IsPoolReplay">IsPoolReplay</a> line script ran = (pool : <a href="../../budget/PoolSpecs/index.html#PoolValue">PoolValue</a>) × (ran.held ≡ Holding.Tenants pool)
-    × <a href="../../script/ScriptRunsSpecs/index.html#AnswersParts">AnswersParts</a> (<a href="../../script/ScriptRunsSpecs/index.html#new_pool">new_pool</a> line (<a href="../../machine/StateSpecs/index.html#new_state">new_state</a> (<a href="../../grammar/HeadersSpecs/index.html#meter_of">meter_of</a> script.header))) (<a href="../../grammar/PartsSpecs/index.html#parts_in">parts_in</a> script.parts) ran.replies.items pool
+    × <a href="../../script/ScriptRunsSpecs/index.html#AnswersParts">AnswersParts</a> (<a href="../../script/ScriptRunsSpecs/index.html#new_pool">new_pool</a> line (<a href="../../grammar/HeadersSpecs/index.html#tenant_start">tenant_start</a> script.header)) (<a href="../../grammar/PartsSpecs/index.html#parts_in">parts_in</a> script.parts) ran.replies.items pool
 
--- the replies are those of the parts on a pool, or those of a run on a new machine with the script&#x27;s meter and its
--- region
+-- the replies are those of the parts on a pool, or those of a run on a new machine with the script&#x27;s meter, its reserved
+-- slots and its region
 abbrev pub <b id="IsReplayBy">IsReplayBy</b> : Option LimiterLine → Script → <a href="../../budget/LawsSpecs/index.html#Ran">Ran</a> → Type 0
 <a href="../../script/ScriptRunsSpecs/index.html#IsReplayBy">IsReplayBy</a> (Some (Lines.Tenants line)) script ran = <a href="../../script/ScriptRunsSpecs/index.html#IsPoolReplay">IsPoolReplay</a> line script ran
 <a href="../../script/ScriptRunsSpecs/index.html#IsReplayBy">IsReplayBy</a> limiter script ran = <a href="../../script/ScriptRunsSpecs/index.html#IsReplayOnOne">IsReplayOnOne</a> limiter script.header (<a href="../../grammar/LinesSpecs/index.html#calls_of">calls_of</a> script) ran

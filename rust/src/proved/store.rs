@@ -2722,6 +2722,7 @@ mod table {
     use crate::proved::store::range::write_range;
     use crate::proved::store::with_meter;
     use crate::proved::typed::TypedRawRef;
+    use crate::rattle::alloc::AllocError;
     pub use element::{ElementSegment, ElementSegmentRef, SegmentError};
     pub use ty::TableType;
 
@@ -2739,14 +2740,20 @@ mod table {
     ///
     /// ```text
     /// Value = TableValue
-    /// view = λ t. record { ty = t.ty; elements = t.elements.items }
+    /// view = λ t. record {
+    ///     ty = t.ty;
+    ///     elements = t.elements.items;
+    ///     reserved = t.reserved;
+    ///     }
     /// invariant = λ t. IsSized t.ty (length t.elements.items)
+    ///     × (t.reserved ≤ vec_capacity t.elements)
     /// ```
     ///
     /// Definitions: [`TableValue`](crate::specs::store::TableSpecs#TableValue), [`IsSized`](crate::specs::store::TableSpecs#IsSized).
     pub struct Table {
         ty: TableType,
         elements: Vec<RawRef>,
+        reserved: usize,
     }
 
     impl Table {
@@ -2784,7 +2791,11 @@ mod table {
             let answer = limiter.table_growing(0, size, ty.maximum_size());
             permission(answer, DENIED, DENIED)?;
             match Vec::filled(init.raw, size) {
-                Ok(elements) => Ok(Table { ty, elements }),
+                Ok(elements) => Ok(Table {
+                    ty,
+                    elements,
+                    reserved: 0,
+                }),
                 Err(_) => Err(tell(limiter, TableError::OutOfSystemMemory, DENIED)),
             }
         }
@@ -2815,6 +2826,33 @@ mod table {
             let made = Table::new(ty, init, &mut lent);
             let _limiter = lent.into_limiter();
             made
+        }
+
+        /// Reserves memory for so many elements in all, those that are there included: until it has
+        /// more, a growth isn't refused with `OutOfSystemMemory`. What is reserved already stays so, and
+        /// no element is added.
+        ///
+        /// # Errors
+        ///
+        /// `AllocError` if the memory is refused. Then no more is reserved.
+        ///
+        /// # Contract
+        ///
+        /// ```text
+        /// ensures reserved: OnOk result (self.new ≡ with_elements_reserved self.old elements)
+        /// ensures refused: OnErr result ((self.new ≡ self.old) × (self.old.reserved < elements))
+        /// ```
+        ///
+        /// Definitions: [`with_elements_reserved`](crate::specs::store::TableSpecs#with_elements_reserved).
+        #[inline]
+        pub fn reserve(&mut self, elements: u64) -> Result<(), AllocError> {
+            let Ok(elements) = usize::try_from(elements) else {
+                return Err(AllocError);
+            };
+            let additional = elements.saturating_sub(self.elements.len());
+            self.elements.try_reserve_exact(additional)?;
+            self.reserved = self.reserved.max(elements);
+            Ok(())
         }
 
         /// The type that it was made with.

@@ -95,6 +95,12 @@ impl<T> Vec<T> {
             self.0.try_reserve(more).map_err(|_| AllocError)
         }
 
+        /// Makes room for exactly so many more items, unless there is more.
+        #[inline]
+        pub fn try_reserve_exact(&mut self, more: usize) -> () {
+            self.0.try_reserve_exact(more).map_err(|_| AllocError)
+        }
+
         /// Appends the items of another list, which keeps none; or neither list changes.
         pub fn append(&mut self, other: &mut Self) -> () {
             self.try_reserve(other.0.len())?;

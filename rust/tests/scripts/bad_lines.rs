@@ -34,7 +34,7 @@ static BAD_LINES: [&[u8]; 26] = [
 ];
 
 /// More of them: numbers that are none or too large, words too many or too few.
-static MORE_BAD_LINES: [&[u8]; 48] = [
+static MORE_BAD_LINES: [&[u8]; 53] = [
     b"fuel 99999999999999999999",
     b"fuel 184467440737095516150",
     b"fuel 0x10",
@@ -78,6 +78,11 @@ static MORE_BAD_LINES: [&[u8]; 48] = [
     b"region 1 256",
     b"region 18446744073709551616 0",
     b"region 1 2 3",
+    b"reserve",
+    b"reserve 1 2 3 4",
+    b"reserve 1 2 3 4 5 6",
+    b"reserve 1 2 3 4 -5",
+    b"reserve 18446744073709551616 0 0 0 0",
     b"tenants 0 1 1",
     b"tenants 1025 1 1",
     b"tenants 1 1",
@@ -268,7 +273,7 @@ fn have_bad_lines(rows: &[(&str, &str)]) {
     }
 }
 
-static LATER: [(&str, &str); 16] = [
+static LATER: [(&str, &str); 19] = [
     ("fuel 1\nmeter on 64\nmeter", "line 2: bad command\n"),
     ("meter off\nmeter off", "line 2: bad command\n"),
     ("meter on 1\nmeter off\n", "line 2: bad command\n"),
@@ -277,6 +282,15 @@ static LATER: [(&str, &str); 16] = [
     ("quota 1 1\nmeter off\nquota 2 2", "line 3: bad command\n"),
     ("region 1 1\nregion 1 1", "line 2: bad command\n"),
     ("lent 1 none 0 32\nregion 1 1", "line 2: bad command\n"),
+    (
+        "reserve 1 1 1 1 1\nreserve 1 1 1 1 1",
+        "line 2: bad command\n",
+    ),
+    (
+        "reserve 0 0 0 0 0\nmeter off\nreserve 0 0 0 0 0",
+        "line 3: bad command\n",
+    ),
+    ("left\nreserve 1 1 1 1 1", "line 2: bad command\n"),
     ("left\nanswers permit", "line 2: bad command\n"),
     ("answers\nanswers", "line 2: bad command\n"),
     ("quota 1 1\nanswers deny", "line 2: bad command\n"),
@@ -307,7 +321,7 @@ fn names_a_line_far_down() {
     }
 }
 
-static OF_TENANTS: [(&str, &str); 14] = [
+static OF_TENANTS: [(&str, &str); 15] = [
     ("tenants 1 0 0\nas 1", "line 2: bad command\n"),
     ("tenants 2 1 1\nas", "line 2: bad command\n"),
     ("tenants 2 1 1\nas 0 1", "line 2: bad command\n"),
@@ -324,6 +338,10 @@ static OF_TENANTS: [(&str, &str); 14] = [
         "line 3: bad command\n",
     ),
     ("quota 1 1\nas 0", "line 2: bad command\n"),
+    (
+        "tenants 1 1 1\nas 0\nreserve 1 1 1 1 1",
+        "line 3: bad command\n",
+    ),
     ("left\ntenants 1 1 1", "line 2: bad command\n"),
 ];
 

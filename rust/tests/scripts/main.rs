@@ -124,6 +124,33 @@ fn a_region_without_room() {
 }
 
 #[test]
+fn slots_without_room() {
+    for kind in 0..5 {
+        let mut slots = ["0"; 5];
+        slots[kind] = "18446744073709551615";
+        let (status, printed) = replayed(&format!("reserve {}\nleft\n", slots.join(" ")));
+        assert_eq!((status.code(), printed.as_str()), (3, "out of memory\n"));
+    }
+}
+
+#[test]
+fn reserved_slots_print_nothing() {
+    let calls = "memory 1 none 0 32\ntable func 1 2 32 func 0\nsegment func 1\ndata 1\nglobal i32 var 1 0\n";
+    let printed = "memory 0\ntable 0\nsegment 0\ndata 0\nglobal 0\n";
+    for header in ["", "reserve 1 1 1 1 1\n", "reserve 0 2 0 3 0\nmeter off\n"] {
+        let script = format!("{header}{calls}");
+        assert_eq!(replayed(&script), (Status::Answered, printed.into()));
+    }
+}
+
+#[test]
+fn each_tenant_has_reserved_slots() {
+    let script = "reserve 1 1 1 1 1\ntenants 2 8 0\nmemory 1 none 0 32\nas 1\nmemory 2 none 0 32\n";
+    let printed = "memory 0\nmemory 0\nheld 0 1 0\nheld 1 2 0\n";
+    assert_eq!(replayed(script), (Status::Answered, printed.into()));
+}
+
+#[test]
 fn a_writer_that_fails() {
     let mut full: &mut [u8] = &mut [0; 2];
     let status = replay(&mut "set 0 1 2\n".as_bytes(), &mut full);

@@ -21,6 +21,11 @@ impl Generator {
         self.random.chance(percent).then(|| format!("quota {bytes} {elements}"))
     }
 
+    fn reserve(&mut self, percent: u64) -> Option<String> {
+        let slots = self.list(5, |own| own.random.pick(&[0, 0, 1, 2, 3, 20]));
+        self.random.chance(percent).then(|| format!("reserve{slots}"))
+    }
+
     /// Writes the script of a number and a profile.
     pub fn write_script(&mut self, profile: &str, number: usize) {
         let steps = 40 + self.random.index(60);
@@ -44,7 +49,7 @@ impl Generator {
     }
 
     fn memory_script(&mut self, steps: usize) {
-        let headers = [self.meter(65), self.quota(45)];
+        let headers = [self.meter(65), self.quota(45), self.reserve(20)];
         self.begin(headers.into_iter().flatten().collect());
         self.command("memory 1 3 16 32".into());
         self.command("memory 20 none 0 64".into());
@@ -129,7 +134,7 @@ impl Generator {
         let tenants = if self.random.chance(3) { 1024 } else { 1 + self.random.below(5) };
         let bytes = self.random.pick(&[0, 1, 300, 65535, 65536, 131072, 200000, 1 << 20, u64::MAX]);
         let elements = self.random.pick(&[0_u64, 1, 10, 30, 100, 1000, u64::MAX]);
-        let headers = [self.meter(60), Some(format!("tenants {tenants} {bytes} {elements}"))];
+        let headers = [self.meter(60), Some(format!("tenants {tenants} {bytes} {elements}")), self.reserve(20)];
         self.begin(headers.into_iter().flatten().collect());
         for step in 0..steps {
             self.maybe_as();

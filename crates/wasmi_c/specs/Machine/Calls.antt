@@ -1,5 +1,5 @@
 -- What a call does to a machine with its limiter, what lines of calls do, and what holds of all calls and runs.
-use Rattle.std.specs.Prelude.{◌≡◌, ◌⊎◌, ◌≤◌, ◌<◌, ◌-◌, ℕ, List, length, Option, Some, None, MatchOption, Vec, ◌≢◌, ◌^◌, nat_lt, if◌then◌else◌, ◌++◌, ◌∷◌, []}
+use Rattle.std.specs.Prelude.{◌≡◌, ◌⊎◌, ◌≤◌, ◌<◌, ◌-◌, ℕ, List, length, map, Option, Some, None, MatchOption, Vec, ◌≢◌, ◌^◌, nat_lt, if◌then◌else◌, ◌++◌, ◌∷◌, []}
 use Rattle.std.specs.Global.{Global}
 use Rattle.std.specs.Option.{option_and_then, option_map}
 use Rattle.wasmi_types.specs.Access.{at}
@@ -11,18 +11,20 @@ use Rattle.wasmi_meter.specs.declared.any_limiter.AnyLimiter.{AnyLimiter}
 use Rattle.wasmi_meter.specs.declared.error.MemoryError.TheVariants.{OutOfBoundsAccess}
 use Rattle.wasmi_meter.specs.declared.fuel.FuelError.TheVariants.{FuelMeteringDisabled, OutOfFuel}
 use Rattle.wasmi_meter.specs.declared.limiter.Kind.TheVariants.{Bytes, Elements}
-use Rattle.wasmi_machine.specs.State.{State, live_at, total, World, world, Turn}
+use Rattle.wasmi_machine.specs.State.{State, live_at, total, with_reserved, World, world, Turn}
 use Rattle.wasmi_machine.specs.Steps.{RepliesWith, IsRunOf, Run}
 use Rattle.wasmi_machine.specs.declared.calls.Call.{Call}
 use Rattle.wasmi_machine.specs.declared.calls.Call.TheVariants.{NewSegment}
 use Rattle.wasmi_machine.specs.declared.calls.Reply.{Reply}
+use Rattle.wasmi_machine.specs.declared.slots.SlotCounts.{SlotCounts}
 use Rattle.wasmi_c.specs.Machine.CallStructs.{call_of}
 use Rattle.wasmi_c.specs.MemoryCalls.{memory_fuel_needed}
 use Rattle.wasmi_c.specs.Machine.Caps.{MachineValue, StaysWithinCaps, Keeps}
 use Rattle.wasmi_c.specs.Machine.Replies.{only, with_number, memory_refusal, fuel_refusal, reply_struct, status_of}
-use Rattle.wasmi_c.specs.declared.status.TheConstants.{DONE, NO_CALL, NO_MACHINE, NO_ROOM, NO_SUCH, BAD_LINE, HEADER_LINE, TEXT_CUT}
+use Rattle.wasmi_c.specs.declared.status.TheConstants.{DONE, NO_CALL, NO_MACHINE, NO_ROOM, NO_SUCH, BAD_LINE, HEADER_LINE, TEXT_CUT, LENGTHS_DIFFER}
 use Rattle.wasmi_c.specs.Types.{reference_type_of}
 use Rattle.wasmi_c.specs.declared.machine.call_struct.CallStruct.{CallStruct}
+use Rattle.wasmi_c.specs.declared.machine.limits.Room.{Room}
 use Rattle.wasmi_c.specs.declared.machine.limits.Totals.{Totals}
 use Rattle.wasmi_c.specs.declared.machine.reply_struct.ReplyStruct.{ReplyStruct}
 use Rattle.wasmi_ops.specs.declared.load_store.LoadOp.{LoadOp}
@@ -62,6 +64,45 @@ abbrev pub RepliesToStruct : CallStruct → MachineValue → ReplyStruct → Mac
 RepliesToStruct numbers machine reply machine' = MatchOption (call_of numbers)
     ((reply ≡ only NO_CALL) × (machine' ≡ machine))
     (λ call. RepliesInStruct call machine reply machine')
+
+-- calls by numbers are replied to one after the other, each by such a step
+abbrev pub InTurn : {V : Type 0} → (CallStruct → V → ReplyStruct → V → Type 0)
+    → List CallStruct → V → List ReplyStruct → V → Type 0
+InTurn Replies [] v [] w = w ≡ v
+InTurn {V = V} Replies (numbers ∷ calls) v (reply ∷ replies) w =
+    (next : V) × Replies numbers v reply next × InTurn Replies calls next replies w
+InTurn Replies calls v replies w = ⊥
+
+-- as many replies as calls stand in the place of others; where there are not as many places, nothing has changed
+unfoldable pub RepliesInTurn : {V : Type 0} → (CallStruct → V → ReplyStruct → V → Type 0)
+    → List CallStruct → V → List ReplyStruct → ℕ × List ReplyStruct → V → Type 0
+RepliesInTurn Replies calls v old left w =
+    ((length calls ≢ length old) × (left ≡ (LENGTHS_DIFFER, old)) × (w ≡ v))
+    ⊎ ((length calls ≡ length old) × (left.0 ≡ DONE) × InTurn Replies calls v left.1 w)
+
+-- a machine replies to the calls of a list in turn
+abbrev pub RepliesToList : List CallStruct → List ReplyStruct → MachineValue → ℕ × List ReplyStruct → MachineValue
+    → Type 0
+RepliesToList calls old machine left machine' = RepliesInTurn RepliesToStruct calls machine old left machine'
+
+-- the slots that room is for
+abbrev pub slots_of : Room → SlotCounts
+slots_of room = record {
+  memories = room.memories;
+  tables = room.tables;
+  segments = room.segments;
+  data_segments = room.data_segments;
+  globals = room.globals;
+}
+
+-- what has a machine gets it with so many more slots reserved; or memory for them is refused, and it is the same
+abbrev pub ReservesIn : {V : Type 0} → V → (State → V) → Room → State → ℕ → V → Type 0
+ReservesIn holder with_machine room machine status holder' = ((status ≡ NO_ROOM) × (holder' ≡ holder))
+    ⊎ ((status ≡ DONE) × (holder' ≡ with_machine (with_reserved machine (slots_of room))))
+
+-- so a machine with its limiter
+abbrev pub Reserves : Room → MachineValue → ℕ → MachineValue → Type 0
+Reserves room machine = ReservesIn machine (λ state. record machine { state = state }) room machine.state
 
 -- what a handle holds has become another; where it holds nothing, the status says so, and it holds nothing afterwards
 abbrev pub ActsOnHeld : {R V : Type 0} → R → Option V → R → Option V → (V → V → Type 0) → Type 0
@@ -200,7 +241,7 @@ MachineRuns calls machine replies machine' =
 
 -- no header line
 abbrev pub no_header : Header
-no_header = record { meter = None; limiter_line = None; region = None }
+no_header = record { meter = None; limiter_line = None; region = None; reserve = None }
 
 -- the calls of a script without header lines are run, and bytes are filled with the text of the replies
 pub record RunsScriptBy (Runs : List Call → List Reply → Type 0) (script : Script) (old : List ℕ) (reply : ReplyStruct)
@@ -243,6 +284,13 @@ abbrev pub MachineRunsJoin : Type 0
 MachineRunsJoin = (calls calls' : List Call) (u v w : MachineValue) (replies replies' : List Reply)
     → MachineRuns calls u replies v → MachineRuns calls' v replies' w
     → MachineRuns (calls ++ calls') u (replies ++ replies') w
+
+-- calls that numbers stand for, to which a machine replies in turn, are one run of them, with its replies as structs
+abbrev pub ListsAreRuns : Type 0
+ListsAreRuns = (numbers : List CallStruct) (calls : List Call) (machine : MachineValue) (told : List ReplyStruct)
+    (machine' : MachineValue) → map call_of numbers ≡ map Some calls
+    → InTurn RepliesToStruct numbers machine told machine'
+    → (replies : List Reply) × MachineRuns calls machine replies machine' × (told ≡ map reply_struct replies)
 
 -- a machine replies to two calls with numbers, which are those of the replies of one run of both
 abbrev pub RunsBoth : Call → Call → MachineValue → ReplyStruct × ReplyStruct → Option MachineValue

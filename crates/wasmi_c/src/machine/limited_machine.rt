@@ -12,10 +12,11 @@ use crate::machine::call_struct::{
     BINARY, CallStruct, LOAD, STORE, item_load_numbered, item_store_numbered,
     vector_binary_numbered,
 };
-use crate::machine::limits::{Limits, Totals};
+use crate::machine::limits::{Limits, Room, Totals};
 use crate::machine::reply_struct::ReplyStruct;
 use crate::status::{
-    BAD_LINE, DONE, HEADER_LINE, NO_CALL, NO_ROOM, NO_SUCH, TEXT_CUT, memory_refusal,
+    BAD_LINE, DONE, HEADER_LINE, LENGTHS_DIFFER, NO_CALL, NO_ROOM, NO_SUCH, TEXT_CUT,
+    memory_refusal,
 };
 use crate::types::reference_type;
 use std::alloc::{AllocError, Global};
@@ -45,7 +46,7 @@ impl Model for LimitedMachine {
 }
 
 impl LimitedMachine {
-    ghost use Rattle.wasmi_c.specs.Machine.Calls.{MachineReplies, RepliesInStatus, RepliesInStruct, RepliesInWord, RepliesToCopy, RepliesToSegment, RepliesToStruct, PaysFuel, totals_of};
+    ghost use Rattle.wasmi_c.specs.Machine.Calls.{MachineReplies, RepliesInStatus, RepliesInStruct, RepliesInWord, RepliesToCopy, RepliesToSegment, RepliesToList, RepliesToStruct, Reserves, PaysFuel, totals_of};
     ghost use Rattle.wasmi_c.specs.Machine.Caps.{IsCapped};
     ghost use Rattle.wasmi_c.specs.Machine.NewMachines.{IsNewMachine, IsNewWithAnswers};
 
@@ -127,6 +128,34 @@ impl LimitedMachine {
         match &numbers.call() {
             Some(call) => self.reply_in_struct(call).by_fields(),
             None => ReplyStruct::only(NO_CALL),
+        }
+    }
+
+    /// Replies to the calls that numbers stand for, one after the other, and writes the replies into
+    /// the caller's, if there are as many. It takes no memory for them.
+    #[tactic(auto, unfolding(crate::specs::Machine::Calls::RepliesInTurn))]
+    pub fn run_into(&mut self, calls: &[CallStruct], replies: &mut [ReplyStruct]) -> u8
+        ensures step { RepliesToList calls.now replies.old self.old (result, replies.new) self.new }
+        ensures caps { caps_of self.new.limiter ≡ caps_of self.old.limiter }
+    {
+        if replies.len() != calls.len() {
+            return LENGTHS_DIFFER;
+        }
+        for i in 0..calls.len() {
+            replies[i] = self.reply_to_struct(&calls[i]);
+        }
+        DONE
+    }
+
+    /// Reserves so many more slots of each kind. If memory for some is refused, none more is.
+    #[tactic(auto, using(crate::proofs::MachineLemmas::kept_by_reserve))]
+    pub fn reserve(&mut self, room: &Room) -> u8
+        ensures step { Reserves room.now self.old result self.new }
+        ensures caps { caps_of self.new.limiter ≡ caps_of self.old.limiter }
+    {
+        match self.machine.reserve(room.slots()) {
+            Ok(()) => DONE,
+            Err(_) => NO_ROOM,
         }
     }
 
@@ -475,7 +504,11 @@ pub(crate) fn headless(alloc: Global, lines: &[u8]) -> Result<Script, ReplyStruc
     match parse(alloc, lines) {
         Ok(script) => {
             let header = &script.header;
-            if header.meter.is_none() && header.limiter_line.is_none() && header.region.is_none() {
+            if header.meter.is_none()
+                && header.limiter_line.is_none()
+                && header.region.is_none()
+                && header.reserve.is_none()
+            {
                 Ok(script)
             } else {
                 Err(ReplyStruct::only(HEADER_LINE))

@@ -1,10 +1,11 @@
-//! What a machine is made with, and what it has.
+//! What a machine is made with, what is reserved on it, and what it has.
 ghost use Rattle.std.specs.Prelude.{◌≡◌, IfOk, map};
-ghost use Rattle.wasmi_c.specs.Machine.Calls.{totals_in};
+ghost use Rattle.wasmi_c.specs.Machine.Calls.{slots_of, totals_in};
 ghost use Rattle.wasmi_c.specs.Machine.NewMachines.{IsNewLimiter, meter_with, answer_of};
 
 use crate::types::{if_flag, meter};
 use std::alloc::{AllocError, Global};
+use wasmi_machine::SlotCounts;
 use wasmi_meter::{AnyLimiter, CustomFuelCosts, Fuel, LimiterAnswer, Quota};
 use wasmi_raw::{RawVal, V128};
 
@@ -49,6 +50,37 @@ impl Limits {
             AnyLimiter::Quota(Quota::new(self.bytes, self.elements))
         } else {
             AnyLimiter::Unlimited
+        }
+    }
+}
+
+/// How many slots are reserved on a machine, beside those of what was made.
+#[repr(C)]
+#[derive(Clone, Copy)]
+pub struct Room {
+    /// Slots of memories.
+    pub memories: usize,
+    /// Slots of tables.
+    pub tables: usize,
+    /// Slots of element segments.
+    pub segments: usize,
+    /// Slots of data segments.
+    pub data_segments: usize,
+    /// Slots of globals.
+    pub globals: usize,
+}
+
+impl Room {
+    /// The slots of each kind.
+    pub fn slots(&self) -> SlotCounts
+        ensures { result ≡ slots_of self.now }
+    {
+        SlotCounts {
+            memories: self.memories,
+            tables: self.tables,
+            segments: self.segments,
+            data_segments: self.data_segments,
+            globals: self.globals,
         }
     }
 }

@@ -2181,10 +2181,11 @@ pub mod machine {
             BINARY, CallStruct, LOAD, STORE, item_load_numbered, item_store_numbered,
             vector_binary_numbered,
         };
-        use crate::generated::c::machine::limits::{Limits, Totals};
+        use crate::generated::c::machine::limits::{Limits, Room, Totals};
         use crate::generated::c::machine::reply_struct::ReplyStruct;
         use crate::generated::c::status::{
-            BAD_LINE, DONE, HEADER_LINE, NO_CALL, NO_ROOM, NO_SUCH, TEXT_CUT, memory_refusal,
+            BAD_LINE, DONE, HEADER_LINE, LENGTHS_DIFFER, NO_CALL, NO_ROOM, NO_SUCH, TEXT_CUT,
+            memory_refusal,
         };
         use crate::generated::c::types::reference_type;
         use crate::proved::grammar::{ParseError, Script, parse};
@@ -2327,6 +2328,46 @@ pub mod machine {
                 match &numbers.call() {
                     Some(call) => self.reply_in_struct(call).by_fields(),
                     None => ReplyStruct::only(NO_CALL),
+                }
+            }
+
+            /// Replies to the calls that numbers stand for, one after the other, and writes the replies into
+            /// the caller's, if there are as many. It takes no memory for them.
+            ///
+            /// # Contract
+            ///
+            /// ```text
+            /// ensures step: RepliesToList calls.now replies.old self.old (result, replies.new) self.new
+            /// ensures caps: caps_of self.new.limiter ≡ caps_of self.old.limiter
+            /// ```
+            ///
+            /// Definitions: [`caps_of`](crate::specs::meter::AnyLimiterSpecs#caps_of).
+            #[inline]
+            pub fn run_into(&mut self, calls: &[CallStruct], replies: &mut [ReplyStruct]) -> u8 {
+                if replies.len() != calls.len() {
+                    return LENGTHS_DIFFER;
+                }
+                for i in 0..calls.len() {
+                    replies[i] = self.reply_to_struct(&calls[i]);
+                }
+                DONE
+            }
+
+            /// Reserves so many more slots of each kind. If memory for some is refused, none more is.
+            ///
+            /// # Contract
+            ///
+            /// ```text
+            /// ensures step: Reserves room.now self.old result self.new
+            /// ensures caps: caps_of self.new.limiter ≡ caps_of self.old.limiter
+            /// ```
+            ///
+            /// Definitions: [`Reserves`](crate::specs::meter::CappedSpecs#Reserves), [`caps_of`](crate::specs::meter::AnyLimiterSpecs#caps_of).
+            #[inline]
+            pub fn reserve(&mut self, room: &Room) -> u8 {
+                match self.machine.reserve(room.slots()) {
+                    Ok(()) => DONE,
+                    Err(_) => NO_ROOM,
                 }
             }
 
@@ -2812,6 +2853,7 @@ pub mod machine {
                     if header.meter.is_none()
                         && header.limiter_line.is_none()
                         && header.region.is_none()
+                        && header.reserve.is_none()
                     {
                         Ok(script)
                     } else {
@@ -2846,9 +2888,10 @@ pub mod machine {
         }
     }
     pub mod limits {
-        //! What a machine is made with, and what it has.
+        //! What a machine is made with, what is reserved on it, and what it has.
 
         use crate::generated::c::types::{if_flag, meter};
+        use crate::proved::machine::SlotCounts;
         use crate::proved::meter::{AnyLimiter, CustomFuelCosts, Fuel, LimiterAnswer, Quota};
         use crate::proved::raw::{RawVal, V128};
         use crate::rattle::Vec;
@@ -2907,6 +2950,45 @@ pub mod machine {
                     AnyLimiter::Quota(Quota::new(self.bytes, self.elements))
                 } else {
                     AnyLimiter::Unlimited
+                }
+            }
+        }
+
+        /// How many slots are reserved on a machine, beside those of what was made.
+        #[repr(C)]
+        #[derive(Clone, Copy)]
+        pub struct Room {
+            /// Slots of memories.
+            pub memories: usize,
+            /// Slots of tables.
+            pub tables: usize,
+            /// Slots of element segments.
+            pub segments: usize,
+            /// Slots of data segments.
+            pub data_segments: usize,
+            /// Slots of globals.
+            pub globals: usize,
+        }
+
+        impl Room {
+            /// The slots of each kind.
+            ///
+            /// # Contract
+            ///
+            /// ```text
+            /// ensures: result ≡ slots_of self.now
+            /// ```
+            ///
+            /// Definitions: [`slots_of`](crate::specs::grammar::HeadersSpecs#slots_of).
+            #[must_use]
+            #[inline]
+            pub fn slots(&self) -> SlotCounts {
+                SlotCounts {
+                    memories: self.memories,
+                    tables: self.tables,
+                    segments: self.segments,
+                    data_segments: self.data_segments,
+                    globals: self.globals,
                 }
             }
         }
@@ -4071,12 +4153,14 @@ pub mod pool {
     use crate::generated::c::machine::limited_machine::{
         headless, leave, read_out, references, write_out,
     };
-    use crate::generated::c::machine::limits::{Limits, Totals};
+    use crate::generated::c::machine::limits::{Limits, Room, Totals};
     use crate::generated::c::machine::reply_struct::ReplyStruct;
     use crate::generated::c::pool::pool_box::PoolBox;
-    use crate::generated::c::status::{DONE, HAS_POOL, NO_CALL, NO_POOL, NO_ROOM, NO_TENANT};
+    use crate::generated::c::status::{
+        DONE, HAS_POOL, LENGTHS_DIFFER, NO_CALL, NO_POOL, NO_ROOM, NO_TENANT,
+    };
     use crate::generated::c::types::reference_type;
-    use crate::proved::budget::{Pool, PoolError};
+    use crate::proved::budget::{Pool, PoolError, ReserveError};
     use crate::proved::machine::{Call, Machine, Reply};
     use crate::proved::meter::FuelError;
     use crate::proved::ops::{LoadOp, StoreOp};
@@ -4316,6 +4400,53 @@ pub mod pool {
             match &numbers.call() {
                 Some(call) => self.reply(tenant, call).by_fields(),
                 None => ReplyStruct::only(NO_CALL),
+            }
+        }
+
+        /// Replies to the calls that numbers stand for, one after the other, on the machine of a tenant,
+        /// and writes the replies into the caller's, if there are as many. It takes no memory for them.
+        ///
+        /// # Contract
+        ///
+        /// ```text
+        /// ensures step: TenantRepliesToList tenant calls.now replies.old (result, replies.new)
+        ///     self.old self.new
+        /// ensures caps: self.new.caps ≡ self.old.caps
+        /// ```
+        #[inline]
+        pub fn run_into(
+            &mut self,
+            tenant: usize,
+            calls: &[CallStruct],
+            replies: &mut [ReplyStruct],
+        ) -> u8 {
+            let Some(_) = self.pool.machine(tenant) else {
+                return NO_TENANT;
+            };
+            if replies.len() != calls.len() {
+                return LENGTHS_DIFFER;
+            }
+            for i in 0..calls.len() {
+                replies[i] = self.reply_to_struct(tenant, &calls[i]);
+            }
+            DONE
+        }
+
+        /// Reserves so many more slots of each kind on the machine of a tenant. If memory for some is
+        /// refused, none more is.
+        ///
+        /// # Contract
+        ///
+        /// ```text
+        /// ensures step: TenantReserves tenant room.now result self.old self.new
+        /// ensures caps: self.new.caps ≡ self.old.caps
+        /// ```
+        #[inline]
+        pub fn reserve(&mut self, tenant: usize, room: &Room) -> u8 {
+            match self.pool.reserve(tenant, room.slots()) {
+                Ok(()) => DONE,
+                Err(ReserveError::NoTenant) => NO_TENANT,
+                Err(ReserveError::OutOfMemory) => NO_ROOM,
             }
         }
 
@@ -4865,7 +4996,8 @@ pub mod pool {
         }
     }
 
-    /// What is left of a machine's fuel once an amount is taken; or why so much isn't.
+    /// What is left of a machine's fuel once an amount is taken; or why so much isn't. It is inlined
+    /// before LLVM makes one number of both results, for which each call would wait.
     ///
     /// # Contract
     ///
@@ -4874,7 +5006,7 @@ pub mod pool {
     ///     (λ left. (amount ≤ left → result ≡ Ok (left - amount))
     ///     × (left < amount → result ≡ Err (OutOfFuel amount)))
     /// ```
-    #[inline]
+    #[inline(always)]
     fn left_after(machine: &Machine, amount: u64) -> Result<u64, FuelError> {
         let left = machine.fuel().get_fuel()?;
         match left.checked_sub(amount) {

@@ -608,7 +608,7 @@ mod machine {
 
     use crate::generated::c::machine::call_struct::CallStruct;
     use crate::generated::c::machine::handle::Handle;
-    use crate::generated::c::machine::limits::{Limits, Totals};
+    use crate::generated::c::machine::limits::{Limits, Room, Totals};
     use crate::generated::c::machine::reply_struct::ReplyStruct;
     use crate::generated::c::pool::PoolHandle;
     use crate::generated::c::status::{NO_MACHINE, NO_POOL};
@@ -662,6 +662,39 @@ mod machine {
     #[unsafe(no_mangle)]
     pub extern "C" fn wasmi_machine_call(handle: &mut Handle, call: &CallStruct) -> ReplyStruct {
         handle.call(call)
+    }
+
+    /// # Contract
+    ///
+    /// ```text
+    /// ensures: OnHeld (Reserves room.now) NO_MACHINE
+    ///     handle.old.machine.held result handle.new.machine.held
+    /// ```
+    ///
+    /// Definitions: [`Reserves`](crate::specs::meter::CappedSpecs#Reserves).
+    #[unsafe(no_mangle)]
+    pub extern "C" fn wasmi_machine_reserve(handle: &mut Handle, room: &Room) -> u8 {
+        on_machine!(handle, NO_MACHINE, machine => machine.reserve(room))
+    }
+
+    /// # Contract
+    ///
+    /// ```text
+    /// ensures: OnHeld (RepliesToList calls.now replies.old) (NO_MACHINE, replies.old)
+    ///     handle.old.machine.held (result, replies.new) handle.new.machine.held
+    /// ```
+    #[unsafe(no_mangle)]
+    pub unsafe extern "C" fn wasmi_machine_run_into(
+        handle: &mut Handle,
+        calls: *const CallStruct,
+        calls_len: usize,
+        replies: *mut ReplyStruct,
+        replies_len: usize,
+    ) -> u8 {
+        let calls = unsafe { crate::memory::items(calls, calls_len) };
+        let replies = unsafe { crate::memory::items_mut(replies, replies_len) };
+
+        on_machine!(handle, NO_MACHINE, machine => machine.run_into(calls, replies))
     }
 
     /// # Contract
@@ -984,6 +1017,45 @@ mod machine {
         call: &CallStruct,
     ) -> ReplyStruct {
         handle.call(tenant, call)
+    }
+
+    /// # Contract
+    ///
+    /// ```text
+    /// ensures step: ActsOnHeld NO_POOL handle.old.pool.held result handle.new.pool.held
+    ///     (TenantReserves tenant room.now result)
+    /// ensures caps: KeepsCaps handle.old.pool.held handle.new.pool.held
+    /// ```
+    #[unsafe(no_mangle)]
+    pub extern "C" fn wasmi_pool_reserve(
+        handle: &mut PoolHandle,
+        tenant: usize,
+        room: &Room,
+    ) -> u8 {
+        on_pool!(handle, NO_POOL, pool => pool.reserve(tenant, room))
+    }
+
+    /// # Contract
+    ///
+    /// ```text
+    /// ensures step: ActsOnHeld {R = ℕ × List ReplyStruct} (NO_POOL, replies.old)
+    ///     handle.old.pool.held (result, replies.new) handle.new.pool.held
+    ///     (TenantRepliesToList tenant calls.now replies.old (result, replies.new))
+    /// ensures caps: KeepsCaps handle.old.pool.held handle.new.pool.held
+    /// ```
+    #[unsafe(no_mangle)]
+    pub unsafe extern "C" fn wasmi_pool_run_into(
+        handle: &mut PoolHandle,
+        tenant: usize,
+        calls: *const CallStruct,
+        calls_len: usize,
+        replies: *mut ReplyStruct,
+        replies_len: usize,
+    ) -> u8 {
+        let calls = unsafe { crate::memory::items(calls, calls_len) };
+        let replies = unsafe { crate::memory::items_mut(replies, replies_len) };
+
+        on_pool!(handle, NO_POOL, pool => pool.run_into(tenant, calls, replies))
     }
 
     /// # Contract

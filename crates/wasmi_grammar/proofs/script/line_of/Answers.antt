@@ -33,6 +33,13 @@ returns-in_ok-tenants-in-tenants c = rw c.in-tenants.is c.in_ok-tenants-in-tenan
 pub returns-in_err-region_line-in-region : goal.returns-in_err-region_line-in-region
 returns-in_err-region_line-in-region c = refused_header _ (search rules) c.in-region.is c.in_err-region_line-in-region.ensures
 
+pub returns-in_err-reserve_line-in-reserve : goal.returns-in_err-reserve_line-in-reserve
+returns-in_err-reserve_line-in-reserve c =
+    refused_header _ (search rules) c.in-reserve.is c.in_err-reserve_line-in-reserve.ensures
+
+pub returns-in_ok-reserve_line-in-reserve : goal.returns-in_ok-reserve_line-in-reserve
+returns-in_ok-reserve_line-in-reserve c = (c.in-reserve.is, c.in_ok-reserve_line-in-reserve.ensures)
+
 pub returns-in_err-one-in-as : goal.returns-in_err-one-in-as
 returns-in_err-one-in-as c = refused_header _ (search rules) c.in-as.is c.in_err-one-in-as.ensures
 
@@ -51,7 +58,7 @@ returns-in_err-command-in_default c =
     subst (λ r. AcceptsWithMemory r (NamesLine name words)) (sym is)
     (refused_with_memory error (NamesAfter name words) (NamesLine name words)
     (command_only name words c.in_default.not-meter c.in_default.not-quota c.in_default.not-answers
-    c.in_default.not-tenants c.in_default.not-region c.in_default.not-as) c.in_err-command-in_default.ensures)
+    c.in_default.not-tenants c.in_default.not-region c.in_default.not-reserve c.in_default.not-as) c.in_err-command-in_default.ensures)
 
 pub returns-in_ok-command-in_default : goal.returns-in_ok-command-in_default
 returns-in_ok-command-in_default c = c.in_ok-command-in_default.ensures

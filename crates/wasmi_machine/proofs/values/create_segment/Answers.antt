@@ -19,15 +19,15 @@ copies_read {ty} {answer} read of_source rest = subst (λ items. IsSegmentOf ty 
     (segment_read _ (λ s. iter_rest (copied_source s)) first_copied last_copied ty read.before read.after answer
     read.reads)
 
-pub returns-in-Ok : goal.returns-in-Ok
-returns-in-Ok c = inr (
+pub returns-in-Ok-clause-made : goal.returns-in-Ok-clause-made
+returns-in-Ok-clause-made c = inr (
   Ok c.in-Ok.segment,
   rw c.in-Ok.is at (copies_read c.new.ensures.reading c.copied.ensures.source c.iter.ensures.rest),
   (search rules, search rules),
 )
 
-pub returns-in-Err : goal.returns-in-Err
-returns-in-Err c = inr (
+pub returns-in-Err-clause-made : goal.returns-in-Err-clause-made
+returns-in-Err-clause-made c = inr (
   Err c.in-Err.error,
   rw c.in-Err.is at (copies_read c.new.ensures.reading c.copied.ensures.source c.iter.ensures.rest),
   (refl, search rules),

@@ -7,5 +7,5 @@ use Rattle.wasmi_region.proofs.table.copy.Goals as goal
 
 pub returns : goal.returns
 returns c = charging (copy_of c.args.dst c.args.src c.args.len (table_of c.args.source c.args.items.now))
-    (writes_elements c.args.ty _ (copied c.args.elements.now c.args.dst c.args.items.now c.args.src c.args.len) CopyOutOfBounds
-    (Some c.args.len) _ _ _ _ _ (rw c.element.ensures at c.in_ok-ensure_element_type_matches.ensures) c.copy_items.ensures.written)
+    (writes_elements (table_of c.args.ty c.args.elements.now) _ (copied c.args.elements.now c.args.dst c.args.items.now c.args.src c.args.len) CopyOutOfBounds
+    (Some c.args.len) _ _ _ _ (rw c.element.ensures at c.in_ok-ensure_element_type_matches.ensures) c.copy_items.ensures.written)

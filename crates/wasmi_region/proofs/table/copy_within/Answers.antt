@@ -7,5 +7,5 @@ use Rattle.wasmi_region.proofs.table.copy_within.Goals as goal
 
 pub returns : goal.returns
 returns c = charging (copy_of c.args.dst c.args.src c.args.len (table_of c.args.ty c.args.elements.now))
-    (writes_elements c.args.ty _ (copied c.args.elements.now c.args.dst c.args.elements.now c.args.src c.args.len) CopyOutOfBounds
-    (Some c.args.len) _ _ _ _ _ (same_as_itself c.args.ty.element) c.copy_items_within.ensures.written)
+    (writes_elements (table_of c.args.ty c.args.elements.now) _ (copied c.args.elements.now c.args.dst c.args.elements.now c.args.src c.args.len) CopyOutOfBounds
+    (Some c.args.len) _ _ _ _ (same_as_itself c.args.ty.element) c.copy_items_within.ensures.written)

@@ -1,6 +1,5 @@
-use Rattle.std.proofs.Common.{◌∙◌, codes, lit≤, rules, sym}
+use Rattle.std.proofs.Common.{codes, lit≤}
 use Rattle.wasmi_script.proofs.LengthLemmas.{three_numbers}
-use Rattle.wasmi_script.proofs.OutcomesLemmas.{held_line, no_line}
 use Rattle.wasmi_script.proofs.printing.print_tenant.Goals as goal
 
 pub print_line-requires : goal.print_line-requires

@@ -9,7 +9,7 @@ use Rattle.wasmi_script.proofs.running.run_answered.Goals as goal
 
 pub returns : goal.returns
 returns c =
-    let start = starts c.args.header.now c.machine_of-machine.result _ _ c.machine_of-machine.ensures
+    let start = starts c.args.header.now c.in_ok-machine.machine _ _ c.in_ok-machine.ensures
     c.as_mut.ensures.value c.in_ok-region.ensures in
     let new : c.new-limiter.result ≡ new_answers c.args.answers.now = search rules in
     let ran = subst (λ s. IsRunOf (optional_rules answer_list_rules) c.args.calls.now

@@ -5,7 +5,7 @@ use Rattle.wasmi_script.proofs.running.run_freely.Goals as goal
 
 pub returns : goal.returns
 returns c =
-    let start = starts c.args.header.now c.machine_of-machine.result _ _ c.machine_of-machine.ensures
+    let start = starts c.args.header.now c.in_ok-machine.machine _ _ c.in_ok-machine.ensures
     c.as_mut.ensures.value c.in_ok-region.ensures in (
       refl,
       _,

@@ -2,8 +2,7 @@ use Rattle.std.proofs.Common.{Bor, List, ℕ, zero, suc, ◌≡◌, ◌∙◌, �
 use Rattle.std.specs.Prelude.{IsSome, slice_get}
 use Rattle.std.specs.Option.{option_map}
 use Rattle.std.proofs.lemmas.List.{take_all}
-use Rattle.wasmi_machine.specs.State.{new_state}
-use Rattle.wasmi_grammar.specs.Headers.{meter_of}
+use Rattle.wasmi_grammar.specs.Headers.{tenant_start}
 use Rattle.wasmi_machine.specs.declared.calls.Call.{Call}
 use Rattle.wasmi_grammar.specs.Parts.{TenantRun, parts_in}
 use Rattle.wasmi_script.specs.ScriptRuns.{AnswersParts, new_pool}
@@ -18,7 +17,7 @@ pub loop-index-preserved : goal.loop-index-preserved
 loop-index-preserved c =
     let parts = parts_in c.args.script.now.parts in
     let i = c.loop-index.index in
-    let start = new_pool c.args.line (new_state (meter_of c.args.script.now.header)) in
+    let start = new_pool c.args.line (tenant_start c.args.script.now.header) in
     let found = sym c.get.ensures ∙ ap (option_map run_at) c.unwrap-tenant.ensures in
     subst (λ replies. AnswersParts start (take (i + 1) parts) replies c.run.new.self)
     (sym c.in_ok-append.ensures.items)
@@ -28,7 +27,7 @@ loop-index-preserved c =
 pub returns : goal.returns
 returns c =
     let parts = parts_in c.args.script.now.parts in
-    let start = new_pool c.args.line (new_state (meter_of c.args.script.now.header)) in
+    let start = new_pool c.args.line (tenant_start c.args.script.now.header) in
     let all : take c.loop-index.index parts ≡ parts =
     take_all c.loop-index.index parts (omega (arith, c.loop-index-test.false, c.len-index-end.ensures)) in (
       c.loop-index.pool,

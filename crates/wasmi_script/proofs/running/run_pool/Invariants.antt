@@ -1,11 +1,10 @@
 use Rattle.std.proofs.Common.{take}
-use Rattle.wasmi_machine.specs.State.{new_state}
-use Rattle.wasmi_grammar.specs.Headers.{meter_of}
+use Rattle.wasmi_grammar.specs.Headers.{tenant_start}
 use Rattle.wasmi_grammar.specs.Parts.{parts_in}
 use Rattle.wasmi_script.specs.ScriptRuns.{AnswersParts, new_pool}
 use Rattle.wasmi_script.proofs.running.run_pool.Given as goal
 
 abbrev pub invariant-loop-index : goal.invariant-loop-index
 invariant-loop-index l =
-    AnswersParts (new_pool l.fn.line (new_state (meter_of l.script.header)))
+    AnswersParts (new_pool l.fn.line (tenant_start l.script.header))
     (take l.index (parts_in l.script.parts)) l.replies.items l.pool

@@ -13,6 +13,9 @@ returns-in-Limiter-clause-refused c = refused_as _ _ _ _ c.in-Limiter.is c.take_
 pub returns-in-Region-clause-refused : goal.returns-in-Region-clause-refused
 returns-in-Region-clause-refused c = refused_as _ _ _ _ c.in-Region.is c.take_region.ensures.refused
 
+pub returns-in-Reserve-clause-refused : goal.returns-in-Reserve-clause-refused
+returns-in-Reserve-clause-refused c = refused_as _ _ _ _ c.in-Reserve.is c.take_reserve.ensures.refused
+
 pub returns-in-As-clause-refused : goal.returns-in-As-clause-refused
 returns-in-As-clause-refused c =
     IfErr-weaker c.take_part.result _ _

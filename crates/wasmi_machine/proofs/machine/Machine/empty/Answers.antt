@@ -14,12 +14,19 @@ returns c =
     λ i. record { lo = (all.at k d within).0 i; hi = (all.at k d within).1 i } in
     zero ∙ sym (get_or-replicate 16 k (raw_of 0) d within)) in
     λ i. record {
-      memories = c.new.ensures i;
-      tables = c.new-2.ensures i;
-      segments = c.new-3.ensures.items i;
-      data_segments = c.new-4.ensures.items i;
-      globals = c.new-5.ensures.items i;
+      memories = (c.new.ensures i).items;
+      tables = (c.new-2.ensures i).items;
+      segments = (c.new-3.ensures i).items;
+      data_segments = (c.new-4.ensures i).items;
+      globals = (c.new-5.ensures i).items;
       registers = zeros i;
       meter = c.args.fuel;
       spare = option_copied_mut c.args.spare;
+      reserved = record {
+        memories = (c.new.ensures i).reserved;
+        tables = (c.new-2.ensures i).reserved;
+        segments = (c.new-3.ensures i).reserved;
+        data_segments = (c.new-4.ensures i).reserved;
+        globals = (c.new-5.ensures i).reserved;
+      };
     }

@@ -8,7 +8,7 @@ invariant_of-self c =
     let valid = rw (← c.self-inside.view_is) at c.self.invariant in
     let bytes = stored_bytes c.args.op c.args.value in
     record {
-      memories = vector_store_valid c.args.memory (c.args.ptr + c.args.offset) (Some bytes) _ _ _ c.store-reply.ensures
+      memories = vector_store_valid c.args.memory (c.args.ptr + c.args.offset) (Some bytes) _ _ _ c.store-reply.ensures.stored
           valid.memories;
       tables = valid.tables;
       segments = valid.segments;

@@ -6,8 +6,8 @@ use Rattle.wasmi_machine.proofs.RangeLemmas.{put_copied, put_without}
 use Rattle.wasmi_machine.proofs.memories.Slots+Memory.copy.Goals.{in-Some, in-None}
 use Rattle.wasmi_machine.proofs.memories.Slots+Memory.copy.Goals as goal
 
-pub returns : goal.returns
-returns c =
+pub returns-clause-copied : goal.returns-clause-copied
+returns-clause-copied c =
     let write = memory_copy_of c.args.dst c.args.src c.args.len in
     let slots = c.args.self.now.slots.items in
     let taken = c.in_ok-memory.ensures.taken in

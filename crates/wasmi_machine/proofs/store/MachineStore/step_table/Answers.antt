@@ -1,5 +1,4 @@
 use Rattle.std.proofs.Common.{Some, refl, subst}
-use Rattle.std.proofs.lemmas.Option.{slice_get_past, slice_get_read}
 use Rattle.wasmi_machine.specs.Effects.{reply_or_no_such}
 use Rattle.wasmi_machine.proofs.StoreLemmas.{acts, acts_unasked, asks, alters, replies}
 use Rattle.wasmi_machine.specs.TableEffects.{WritesTableAt}
@@ -11,13 +10,17 @@ use Rattle.wasmi_machine.proofs.RangeLemmas.{range_from}
 use Rattle.wasmi_machine.proofs.store.MachineStore.step_table.Goals as goal
 
 pub returns-in-NewTable-clause-step : goal.returns-in-NewTable-clause-step
-returns-in-NewTable-clause-step g c = rw (c.in-NewTable.is, ← c.self.view_is) (asks _ c.create.ensures.made)
+returns-in-NewTable-clause-step g c =
+    rw (c.in-NewTable.is, ← c.self.view_is, c.create.ensures.reserved)
+    (asks _ c.create.ensures.made c.create.ensures.room)
 
 pub returns-in-GrowTable-clause-step : goal.returns-in-GrowTable-clause-step
-returns-in-GrowTable-clause-step g c = rw (c.in-GrowTable.is, ← c.self.view_is) (acts _ c.grow.ensures.grown)
+returns-in-GrowTable-clause-step g c =
+    rw (c.in-GrowTable.is, ← c.self.view_is, c.grow.ensures.reserved) (acts _ c.grow.ensures.grown)
 
 pub returns-in-DropTable-clause-step : goal.returns-in-DropTable-clause-step
-returns-in-DropTable-clause-step g c = rw (c.in-DropTable.is, ← c.self.view_is) (alters _ c.drop_live.ensures)
+returns-in-DropTable-clause-step g c =
+    rw (c.in-DropTable.is, ← c.self.view_is, c.drop_live.ensures.reserved) (alters _ c.drop_live.ensures.dropped)
 
 pub returns-in_err-live-in-GetElement-clause-step : goal.returns-in_err-live-in-GetElement-clause-step
 returns-in_err-live-in-GetElement-clause-step g c = rw (c.in-GetElement.is, ← c.self.view_is)
@@ -28,38 +31,46 @@ returns-in_ok-live-in-GetElement-clause-step g c = rw (c.in-GetElement.is, ← c
     (replies (rw (← c.live.ensures, c.in_ok-live-in-GetElement.was, ← c.get.ensures) refl))
 
 pub returns-in-SetElement-clause-step : goal.returns-in-SetElement-clause-step
-returns-in-SetElement-clause-step g c = rw (c.in-SetElement.is, ← c.self.view_is) (alters _ c.set.ensures)
+returns-in-SetElement-clause-step g c =
+    rw (c.in-SetElement.is, ← c.self.view_is, c.set.ensures.reserved) (alters _ c.set.ensures.set)
 
 -- no element segment of that index
 pub returns-in_err-segment-in-InitTable-clause-step : goal.returns-in_err-segment-in-InitTable-clause-step
 returns-in_err-segment-in-InitTable-clause-step g c =
-    let none = rw c.deref.ensures.value at (slice_get_past c.deref.result.now c.in-InitTable.segment
-    c.in_err-segment-in-InitTable.ensures.lookup.3) in
-    rw (c.in-InitTable.is, ← c.self.view_is, none, c.from_residual-in_err-segment-in-InitTable.ensures)
-    (acts_unasked _ (0, (refl, refl, refl)))
+    rw (
+      c.in-InitTable.is,
+      ← c.self.view_is,
+      ← c.get-in-InitTable.ensures,
+      c.in_err-segment-in-InitTable.was,
+      c.from_residual-in_err-segment-in-InitTable.ensures,
+    ) (acts_unasked _ (0, (refl, refl, refl)))
 
 pub returns-in_ok-segment-in-InitTable-clause-step : goal.returns-in_ok-segment-in-InitTable-clause-step
 returns-in_ok-segment-in-InitTable-clause-step g c =
-    let lookup = c.in_ok-segment-in-InitTable.ensures.lookup in
-    let there = rw c.deref.ensures.value at (slice_get_read c.deref.result.now _ c.in-InitTable.segment
-    c.in_ok-segment-in-InitTable.segment.now refl lookup.3.0 lookup.1) in
-    rw (c.in-InitTable.is, ← c.self.view_is, there)
-    (acts_unasked _ (
-      c.init.ensures.0,
+    rw (
+      c.in-InitTable.is,
+      ← c.self.view_is,
+      ← c.get-in-InitTable.ensures,
+      c.in_ok-segment-in-InitTable.was,
+      c.init.ensures.reserved,
+    ) (acts_unasked _ (
+      c.init.ensures.copied.0,
       subst (λ segment. WritesTableAt c.in-InitTable.table
           (initialization_of c.in-InitTable.dst c.in-InitTable.src c.in-InitTable.len segment)
           (metered c.self.inside.tables.slots.items (Some c.self.inside.fuel)) (reply_or_no_such c.init.result)
-          c.init.ensures.0 (metered c.init.new.self.slots.items (Some c.init.new.fuel))) c.from.ensures
-          c.init.ensures.1,
+          c.init.ensures.copied.0 (metered c.init.new.self.slots.items (Some c.init.new.fuel))) c.from.ensures
+          c.init.ensures.copied.1,
     ))
 
 pub returns-in-CopyTable-clause-step : goal.returns-in-CopyTable-clause-step
-returns-in-CopyTable-clause-step g c = rw (c.in-CopyTable.is, ← c.self.view_is)
+returns-in-CopyTable-clause-step g c =
+    rw (c.in-CopyTable.is, ← c.self.view_is, c.copy.ensures.reserved)
     (acts_unasked _ (
-      c.copy.ensures.0,
+      c.copy.ensures.copied.0,
       range_from Table (live_at c.self.inside.tables.slots.items c.in-CopyTable.src_table) c.in-CopyTable.dst_table _ _ _ _ _
-          c.copy.ensures.1,
+          c.copy.ensures.copied.1,
     ))
 
 pub returns-in-FillTable-clause-step : goal.returns-in-FillTable-clause-step
-returns-in-FillTable-clause-step g c = rw (c.in-FillTable.is, ← c.self.view_is) (acts_unasked _ c.fill.ensures)
+returns-in-FillTable-clause-step g c =
+    rw (c.in-FillTable.is, ← c.self.view_is, c.fill.ensures.reserved) (acts_unasked _ c.fill.ensures.filled)

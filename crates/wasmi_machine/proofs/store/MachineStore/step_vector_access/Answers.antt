@@ -44,8 +44,34 @@ returns-in_ok-memory-in-LoadLane g c = record {
       ) (rw (c.load-vector-in-LoadLane.ensures, c.data-in-LoadLane.ensures) at c.set_loaded-in-LoadLane.ensures)));
 }
 
+pub returns-in_err-vector-in-VectorStore : goal.returns-in_err-vector-in-VectorStore
+returns-in_err-vector-in-VectorStore g c = record {
+  step = λ l. rw (c.in-VectorStore.is, ← c.self.view_is) (changes_part _
+      (rw (
+        c.from_residual-in_err-vector-in-VectorStore.ensures,
+        ← c.vector-in-VectorStore.ensures,
+        c.in_err-vector-in-VectorStore.was,
+      ) (refl, refl)));
+}
+
 pub returns-in_ok-vector-in-VectorStore : goal.returns-in_ok-vector-in-VectorStore
 returns-in_ok-vector-in-VectorStore g c = record {
-  step = λ l. rw (c.in-VectorStore.is, ← c.self.view_is) (changes_part _
-      (rw (← c.vector-in-VectorStore.ensures, c.in_ok-vector-in-VectorStore.was) c.store.ensures));
+  step = λ l. rw (c.in-VectorStore.is, ← c.self.view_is, c.store.ensures.reserved) (changes_part _
+      (rw (← c.vector-in-VectorStore.ensures, c.in_ok-vector-in-VectorStore.was) c.store.ensures.stored));
+}
+
+pub returns-in_err-vector-in-StoreLane : goal.returns-in_err-vector-in-StoreLane
+returns-in_err-vector-in-StoreLane g c = record {
+  step = λ l. rw (c.in-StoreLane.is, ← c.self.view_is) (changes_part _
+      (rw (
+        c.from_residual-in_err-vector-in-StoreLane.ensures,
+        ← c.vector-in-StoreLane.ensures,
+        c.in_err-vector-in-StoreLane.was,
+      ) (refl, refl)));
+}
+
+pub returns-in_ok-vector-in-StoreLane : goal.returns-in_ok-vector-in-StoreLane
+returns-in_ok-vector-in-StoreLane g c = record {
+  step = λ l. rw (c.in-StoreLane.is, ← c.self.view_is, c.store-in-StoreLane.ensures.reserved) (changes_part _
+      (rw (← c.vector-in-StoreLane.ensures, c.in_ok-vector-in-StoreLane.was) c.store-in-StoreLane.ensures.stored));
 }

@@ -8,10 +8,10 @@ use Rattle.wasmi_store.specs.Table.{copy_of}
 use Rattle.wasmi_store.specs.Growth.{metered}
 use Rattle.wasmi_machine.proofs.tables.Slots+Table.copy.Goals as goal
 
-pub returns : goal.returns
-returns c =
-    let counted : c.args.self.now.slots.len ≡ length c.copy_to_other.new.slots = omega
-    (arith, c.copy_to_other.auto.slots, c.as_mut_slice-slots.ensures.len) in
+pub returns-clause-copied : goal.returns-clause-copied
+returns-clause-copied c =
+    let counted : length c.args.self.now.slots.items ≡ length c.copy_to_other.new.slots = omega
+    (arith, c.copy_to_other.auto.slots, ap length c.as_mut_slice-slots.ensures.value) in
     let write = copy_of c.args.dst c.args.src c.args.len in
     let charge = c.copy_to_other.ensures.copied.0 in
     let reply = reply_or_no_such c.copy_to_other.result in

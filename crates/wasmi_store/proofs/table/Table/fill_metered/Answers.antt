@@ -9,7 +9,7 @@ pub returns : goal.returns
 returns c =
     let long = c.fill_items.ensures.len ∙ ap length c.as_mut_slice-elements.ensures.value ∙ sym c.self.inside.elements.ok.0 in
     rw (← c.self.view_is, with_items_is c.self.inside.elements _ long)
-    (charging (filling_of c.args.dst c.args.val c.args.len) (writes_elements c.self.inside.ty _ _ _ (Some c.args.len) _ _ _ _ _
+    (charging (filling_of c.args.dst c.args.val c.args.len) (writes_elements _ _ _ _ (Some c.args.len) _ _ _ _
     c.in_ok-ensure_element_type_matches.ensures
     (rw c.as_mut_slice-elements.ensures.value at c.fill_items.ensures.written)))
 

@@ -11,7 +11,7 @@ pub returns : goal.returns
 returns c =
     let long = c.init_elements.ensures.len ∙ ap length c.as_mut_slice.ensures.value ∙ sym c.self.inside.elements.ok.0 in
     rw (← c.self.view_is, with_items_is c.self.inside.elements _ long) (charging (initialization_of c.args.dst c.args.src c.args.len (segment_of c.args.element)) (writes_elements
-    c.self.inside.ty _ _ _ (if nat_eq c.args.len 0 then None else Some c.args.len) _ _ _ _ _
+    _ _ _ _ (if nat_eq c.args.len 0 then None else Some c.args.len) _ _ _ _
     (rw c.ty.ensures at c.in_ok-ensure_element_type_matches.ensures)
     (rw (c.as_mut_slice.ensures.value, c.items-items.ensures, c.from-src.ensures, c.from-len.ensures) at
     c.init_elements.ensures.written)))

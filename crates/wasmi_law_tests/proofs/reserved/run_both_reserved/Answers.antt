@@ -1,0 +1,26 @@
+use Rattle.std.proofs.Common.{Option, Some, ap}
+use Rattle.std.proofs.lemmas.Option.{same_Some}
+use Rattle.wasmi_meter.specs.declared.quota.Quota.{Quota}
+use Rattle.wasmi_machine.specs.State.{World, world}
+use Rattle.wasmi_law_tests.proofs.ReservedLemmas.{accepted_too}
+use Rattle.wasmi_law_tests.proofs.reserved.run_both_reserved.Goals as goal
+
+pub returns : goal.returns
+returns c = record {
+  same = accepted_too c.run_into_lending-2.result (λ ran.
+      let w = world c.args.machine.now (Some c.args.quota.now) in
+      let first = c.in_ok-run_into_lending.ensures.run in
+      let second = rw (c.requires.machines, c.requires.quotas) at ran in
+      let has = c.reserved_suffices.ensures.run c.args.calls.now w c.run_into_lending.new.replies.items _
+      c.requires.reserved first in
+      let has' = c.reserved_suffices.ensures.run c.args.calls.now w c.run_into_lending-2.new.replies.items _
+      c.requires.reserved second in
+      let one = c.replies_are_one.ensures c.limiters_leave_no_choice.ensures.quota c.limiters_accept_notices.ensures.quota
+      c.args.calls.now w c.run_into_lending.new.replies.items c.run_into_lending-2.new.replies.items _ _ has has' first
+      second in (
+        one.0,
+        ap (λ (w : World (Option Quota)). w.state) one.1,
+        same_Some c.run_into_lending.new.limiter c.run_into_lending-2.new.limiter
+            (ap (λ (w : World (Option Quota)). w.limiter) one.1),
+      )) c.run_into_lending-2.ensures.run;
+}

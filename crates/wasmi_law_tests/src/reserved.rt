@@ -1,0 +1,102 @@
+//! Callers that set up once, and make calls for which enough was reserved then: none of them runs
+//! out of memory, and what they do is decided by the calls, the machine and the quota alone.
+ghost use Rattle.std.specs.Prelude.{◌≡◌, ◌≤◌, All, length, OnErr, OnOk, Some, Ok};
+ghost use Rattle.wasmi_meter.specs.Limiter.{optional_rules};
+ghost use Rattle.wasmi_machine.specs.Determinism.{IsNotOutOfMemory};
+ghost use Rattle.wasmi_machine.specs.State.{State, with_reserved, world};
+ghost use Rattle.wasmi_machine.specs.Steps.{IsRunOf};
+ghost use Rattle.wasmi_laws.specs.Reserved.{IsReservedFor, NeedsNoMemory};
+ghost use Rattle.wasmi_budget.specs.Pool as pools;
+
+use std::alloc::AllocError;
+use wasmi_budget::{Pool, RunIntoError, Tenant};
+use wasmi_machine::{
+    Call, Machine, Replies, Reply, SlotCounts, TooManyCalls, laws, run_into_lending,
+};
+use wasmi_meter::{Quota, ResourceLimiter};
+
+/// Reserves slots for so many globals, and for nothing else.
+pub fn reserve_globals(machine: &mut Machine, globals: usize) -> Result<(), AllocError>
+    ensures reserved { OnOk result (machine.new ≡ with_reserved machine.old (record
+        { memories = 0; tables = 0; segments = 0; data_segments = 0; globals = globals })) }
+    ensures refused { OnErr result (machine.new ≡ machine.old) }
+{
+    machine.reserve(SlotCounts {
+        globals,
+        ..SlotCounts::default()
+    })
+}
+
+/// Makes one call, which needs no memory but what was reserved: it doesn't run out of memory.
+pub fn call_reserved<L: ResourceLimiter>(
+    machine: &mut Machine,
+    call: &Call,
+    limiter: &mut L,
+) -> Reply
+    requires needs { NeedsNoMemory machine.old call.now }
+    ensures has { IsNotOutOfMemory result }
+{
+    wasmi_laws::reserved_suffices::<L>();
+    machine.step_lending(call, limiter)
+}
+
+/// Makes calls, for which enough was reserved, and for whose replies there is memory: all are made,
+/// and none of them runs out of memory.
+pub fn run_reserved<L: ResourceLimiter>(
+    machine: &mut Machine,
+    calls: &[Call],
+    limiter: &mut L,
+    replies: &mut Replies,
+) -> Result<(), TooManyCalls>
+    requires reserved { IsReservedFor machine.old calls.now }
+    requires room { length calls.now ≤ replies.old.capacity }
+    ensures made { result ≡ Ok tt }
+    ensures run { IsRunOf (optional_rules L.rules) calls.now (world machine.old (Some limiter.old))
+        replies.new.items (world machine.new (Some limiter.new)) }
+    ensures has { All IsNotOutOfMemory replies.new.items }
+{
+    wasmi_laws::reserved_suffices::<L>();
+    run_into_lending(machine, calls, limiter, replies)
+}
+
+/// Makes the same calls on two equal machines under equal quotas, which have reserved enough for
+/// them: the replies are the same, and the machines and the quotas are equal again, whatever memory
+/// the system has.
+pub fn run_both_reserved(
+    machine: &mut Machine,
+    other: &mut Machine,
+    calls: &[Call],
+    quota: &mut Quota,
+    other_quota: &mut Quota,
+    replies: &mut Replies,
+    other_replies: &mut Replies,
+) -> Result<(), TooManyCalls>
+    requires machines { other.old ≡ machine.old }
+    requires quotas { other_quota.old ≡ quota.old }
+    requires reserved { IsReservedFor machine.old calls.now }
+    ensures same { OnOk result ((replies.new.items ≡ other_replies.new.items)
+        × (machine.new ≡ other.new) × (quota.new ≡ other_quota.new)) }
+{
+    laws::limiters_leave_no_choice();
+    laws::limiters_accept_notices();
+    laws::replies_are_one::<Quota>();
+    wasmi_laws::reserved_suffices::<Quota>();
+    run_into_lending(machine, calls, quota, replies)?;
+    run_into_lending(other, calls, other_quota, other_replies)
+}
+
+/// Makes calls on a tenant's machine, which has reserved enough for them: none of them runs out of
+/// memory.
+pub fn run_tenant_reserved(
+    pool: &mut Pool,
+    index: usize,
+    calls: &[Call],
+    replies: &mut Replies,
+) -> Result<(), RunIntoError>
+    requires reserved { (s : State) → pools.machine_of pool.old index ≡ Some s
+        → IsReservedFor s calls.now }
+    ensures has { OnOk result (All IsNotOutOfMemory replies.new.items) }
+{
+    wasmi_laws::reserved_suffices::<Tenant>();
+    pool.run_into(index, calls, replies)
+}

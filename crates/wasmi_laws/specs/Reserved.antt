@@ -1,0 +1,118 @@
+-- Calls and runs that need no memory but what was reserved: none of their replies says out of memory.
+use Rattle.std.specs.Prelude.{◌≡◌, ◌<◌, ◌≤◌, ◌+◌, ◌⊎◌, ℕ, Bool, true, false, List, [], length, All, MatchOption, count_by}
+use Rattle.wasmi_store.specs.Buffer.{Room, Owned, Lent}
+use Rattle.wasmi_store.specs.Memory.{MemoryValue}
+use Rattle.wasmi_store.specs.Table.{TableValue, size_of}
+use Rattle.wasmi_meter.specs.Limiter.{Rules}
+use Rattle.wasmi_machine.specs.declared.calls.Call.{Call}
+use Rattle.wasmi_machine.specs.declared.calls.Call.TheVariants.{NewMemory, NewLentMemory, GrowMemory, Read, NewTable, GrowTable, NewSegment, NewData, NewGlobal}
+use Rattle.wasmi_machine.specs.declared.calls.Reply.{Reply}
+use Rattle.wasmi_machine.specs.declared.slots.Slot.{Slot}
+use Rattle.wasmi_machine.specs.State.{State, live_at, World, Turn}
+use Rattle.wasmi_machine.specs.Effects.{OnLive}
+use Rattle.wasmi_machine.specs.Determinism.{IsNotOutOfMemory}
+use Rattle.wasmi_machine.specs.Steps.{Step, IsRunOf}
+
+-- bytes grow in what is left of a lent region
+abbrev pub IsLentRoom : Room → Type 0
+IsLentRoom Owned = ⊥
+IsLentRoom (Lent rest) = Unit {0}
+
+-- a memory lies in a lent region
+abbrev pub IsLent : MemoryValue → Type 0
+IsLent x = IsLentRoom x.room
+
+-- an index names a memory in a lent region, if it names a live one
+abbrev pub IsInRegion : List (Slot MemoryValue) → ℕ → Type 0
+IsInRegion slots k = OnLive (live_at slots k) (Unit {0}) IsLent
+
+-- memory is reserved for all elements of a table up to its maximum
+abbrev pub IsReservedToMaximum : TableValue → Type 0
+IsReservedToMaximum x = MatchOption x.ty.maximum ⊥ (λ maximum. maximum ≤ x.reserved)
+
+-- an index names a table that is reserved up to its maximum, if it names a live one
+abbrev pub IsReservedTable : List (Slot TableValue) → ℕ → Type 0
+IsReservedTable slots k = OnLive (live_at slots k) (Unit {0}) IsReservedToMaximum
+
+-- memory is reserved for n more elements of a table, or for all up to its maximum
+abbrev pub HasElements : ℕ → TableValue → Type 0
+HasElements n x = (size_of x + n ≤ x.reserved) ⊎ IsReservedToMaximum x
+
+-- a table of an index, if it is there, has memory for n more elements
+abbrev pub HasElementsAt : List (Slot TableValue) → ℕ → ℕ → Type 0
+HasElementsAt slots k n = OnLive (live_at slots k) (Unit {0}) (HasElements n)
+
+-- memory for one more slot is there, since one that is reserved is free
+abbrev pub HasSlot : {A : Type 0} → ℕ → List A → Type 0
+HasSlot reserved list = length list < reserved
+
+-- a call on a machine in this state needs no memory: what it makes has a slot that is reserved, and nothing else that
+-- isn't in a lent region; the memory that it grows lies in one; the table that it grows has the memory reserved; no byte
+-- is read; and no table is made
+abbrev pub NeedsNoMemory : State → Call → Type 0
+NeedsNoMemory s (NewMemory ty) = ⊥
+NeedsNoMemory s (NewLentMemory ty) = HasSlot s.reserved.memories s.memories
+NeedsNoMemory s (GrowMemory k pages) = IsInRegion s.memories k
+NeedsNoMemory s (Read k offset len) = len ≡ 0
+NeedsNoMemory s (NewTable ty init) = ⊥
+NeedsNoMemory s (GrowTable k n init) = (n ≡ 0) ⊎ HasElementsAt s.tables k n
+NeedsNoMemory s (NewSegment ty items) = (items.items ≡ []) × HasSlot s.reserved.segments s.segments
+NeedsNoMemory s (NewData bytes) = (bytes.items ≡ []) × HasSlot s.reserved.data_segments s.data_segments
+NeedsNoMemory s (NewGlobal value ty) = HasSlot s.reserved.globals s.globals
+NeedsNoMemory s call = Unit {0}
+
+-- a call needs no memory but for the slot of what it makes, where a memory that it grows and that was there in this
+-- state still lies in its region, and a table that it grows is still reserved up to its maximum
+abbrev pub NeedsOnlySlot : State → Call → Type 0
+NeedsOnlySlot s (NewMemory ty) = ⊥
+NeedsOnlySlot s (GrowMemory k pages) = IsInRegion s.memories k
+NeedsOnlySlot s (Read k offset len) = len ≡ 0
+NeedsOnlySlot s (NewTable ty init) = ⊥
+NeedsOnlySlot s (GrowTable k n init) = (n ≡ 0) ⊎ IsReservedTable s.tables k
+NeedsOnlySlot s (NewSegment ty items) = items.items ≡ []
+NeedsOnlySlot s (NewData bytes) = bytes.items ≡ []
+NeedsOnlySlot s call = Unit {0}
+
+-- whether a call makes a memory in the spare region
+abbrev pub makes_lent_memory : Call → Bool
+makes_lent_memory (NewLentMemory ty) = true
+makes_lent_memory call = false
+
+-- whether a call makes an element segment
+abbrev pub makes_segment : Call → Bool
+makes_segment (NewSegment ty items) = true
+makes_segment call = false
+
+-- whether a call makes a data segment
+abbrev pub makes_data : Call → Bool
+makes_data (NewData bytes) = true
+makes_data call = false
+
+-- whether a call makes a global
+abbrev pub makes_global : Call → Bool
+makes_global (NewGlobal value ty) = true
+makes_global call = false
+
+-- as many slots as these calls take are reserved and free
+abbrev pub HasSlots : {A : Type 0} → ℕ → List A → (Call → Bool) → List Call → Type 0
+HasSlots reserved list makes calls = length list + count_by makes calls ≤ reserved
+
+-- a machine has reserved what these calls need: each needs only a slot, and of each kind as many slots as they take are
+-- reserved and free
+pub record IsReservedFor (s : State) (calls : List Call) : Type 0 where
+  pub needs : All (NeedsOnlySlot s) calls
+  pub memories : HasSlots s.reserved.memories s.memories makes_lent_memory calls
+  pub segments : HasSlots s.reserved.segments s.segments makes_segment calls
+  pub data_segments : HasSlots s.reserved.data_segments s.data_segments makes_data calls
+  pub globals : HasSlots s.reserved.globals s.globals makes_global calls
+
+module _ {S : Type 0} (rules : Rules S) where
+  -- the reply to a call that needs no memory doesn't say out of memory
+  abbrev pub ReservedCallsSucceed : Type 0
+  ReservedCallsSucceed = (w : World S) (turn : Turn) (w' : World S) → Step rules w turn w'
+      → NeedsNoMemory w.state turn.call → IsNotOutOfMemory turn.reply
+
+  -- no reply to calls for which a machine has reserved what they need says out of memory
+  abbrev pub ReservedRunsSucceed : Type 0
+  ReservedRunsSucceed = (calls : List Call) (w : World S) (replies : List Reply) (w' : World S)
+      → IsReservedFor w.state calls → IsRunOf rules calls w replies w' → All IsNotOutOfMemory replies
