@@ -1,7 +1,7 @@
 /* Compares the instruction of each number of wasmi_core.h with what its name means elsewhere: the scalar ones with a
    list of answers, which is the argument, the others with what scripts print. Then it tries each number for each other
-   name of its kind: none passes, except those of one meaning. It compares each call on arrays with the call on values,
-   for each element. At the end it sees each status. */
+   list of answers, which is the argument, the others with what scripts print. Then it tries each number for each other
+   for each element. At the end it sees each status, and compares the version with that of the headers. */
 #include "wasmi_oracle.h"
 #include <inttypes.h>
 #include <stdio.h>
@@ -559,6 +559,7 @@ int main(int count, char **words) {
     compare_lanes();
     compare_traps();
     compare_scripts();
+    compare("the version", wasmi_core_version() == WASMI_CORE_VERSION_NUMBER);
     printf("%d compared, %d differ\n", compared, differing);
     return differing != 0;
 }

@@ -51,7 +51,7 @@ DEPRECATED = {"wasmi_table_copy": "wasmi_table_copy_within"}    # former names o
 def prototypes(header):
     """The calls of a header: by name, what they return and their parameters."""
     found = PROTOTYPE.findall(without_comments(header))
-    return {name: [given, *map(spaced, parameters.split(","))] for given, name, parameters, _ in found}
+    return {name: [given, *map(spaced, parameters.split(",") if parameters != "void" else [])] for given, name, parameters, _ in found}
 
 
 def attributes(given, parameters):

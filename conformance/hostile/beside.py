@@ -190,7 +190,7 @@ def wrapper(number, name, given, parameters):
     """The function that takes the place of one of the headers."""
     its, arrays = parameters_of(parameters), arrays_of(parameters)
     handles = [(kind, field) for kind, field, _, _ in its if kind in HANDLES]
-    lines = [f"{given} __wrap_{name}({', '.join(parameters)}) {{", "    bool is_compared = true;"]
+    lines = [f"{given} __wrap_{name}({', '.join(parameters) or 'void'}) {{", "    bool is_compared = true;"]
     for kind, field in handles:
         lines += [f"    wasmi_machine {field}_found = taken({field}->at, {field}->is_made, &is_compared);", f"    {kind} {field}_twin = {{{field}_found.at, {field}_found.is_made}};"]
     for kind, field, count in arrays:
@@ -221,7 +221,7 @@ def main(folder):
     calls = {name: it for header in headers for name, it in prototypes(header).items()}
     kinds = {name: fields for header in headers for name, fields in structs(header).items() if name not in HANDLES}
     texts = [HEAD.replace("COUNT]", f"{len(calls)}]").replace("< COUNT ", f"< {len(calls)} "), *(same_struct(*it) for it in kinds.items())]
-    texts += [f"{given} {front}_{name}({', '.join(parameters)});" for front in ("__real", "source") for name, (given, *parameters) in calls.items()]
+    texts += [f"{given} {front}_{name}({', '.join(parameters) or 'void'});" for front in ("__real", "source") for name, (given, *parameters) in calls.items()]
     texts += [wrapper(number, name, given, parameters) for number, (name, (given, *parameters)) in enumerate(calls.items())]
     (folder / "beside.c").write_text("\n".join(texts) + "\n")
     (folder / "wraps").write_text("".join(f"-Wl,--wrap={name}\n" for name in calls))

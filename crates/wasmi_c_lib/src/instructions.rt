@@ -1,5 +1,5 @@
 //! Each instruction by its number, on values and on arrays; the shuffle and the store of a vector by
-//! name; a script of calls.
+//! name; a script of calls; the version.
 ghost use Rattle.std.specs.Prelude.{◌+◌, length};
 ghost use Rattle.wasmi_c.specs.Instruction.{Leaves, unary_result, unary_results, binary_result, binary_results, ternary_result, ternary_results, load_result, load_results, store_result, extract_result, extract_results, load_lane_result, replace_result, replace_results, store_lane_result, StoresBytes, shuffle_result};
 ghost use Rattle.wasmi_types.specs.Numbers.{le_bytes};
@@ -222,4 +222,12 @@ pub extern "C" fn wasmi_script_run(
     ensures answers { AnswersScript script.now text.old text.new needed.new result }
 {
     script::run(alloc, script, text, needed)
+}
+
+/// The version of `include/wasmi_core.h`: major × 65536 + minor × 256 + patch.
+#[unsafe(no_mangle)]
+pub extern "C" fn wasmi_core_version() -> u32
+    ensures { result ≡ 131072 }
+{
+    131_072
 }

@@ -1,7 +1,7 @@
 //! The calls for C, one line each over `wasmi_c`, which the headers of `include/` describe.
 mod instructions {
     //! Each instruction by its number, on values and on arrays; the shuffle and the store of a vector by
-    //! name; a script of calls.
+    //! name; a script of calls; the version.
 
     use crate::generated::c::instruction::result::{InstructionResult, status_of};
     use crate::generated::c::instruction::{binary, lanes, load, shuffle, store, ternary, unary};
@@ -347,6 +347,18 @@ mod instructions {
         let text = unsafe { crate::memory::items_mut(text, text_len) };
 
         script::run(script, text, needed)
+    }
+
+    /// The version of `include/wasmi_core.h`: major × 65536 + minor × 256 + patch.
+    ///
+    /// # Contract
+    ///
+    /// ```text
+    /// ensures: result ≡ 131072
+    /// ```
+    #[unsafe(no_mangle)]
+    pub extern "C" fn wasmi_core_version() -> u32 {
+        131_072
     }
 }
 mod loads {
