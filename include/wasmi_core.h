@@ -1,7 +1,8 @@
 /* The calls of wasmi_core for C and C++, in libwasmi_core.a.
 
    Processors: the archive that is proved is for Linux on x86-64, and takes a processor of x86-64-v2 (SSE4.2 and popcnt,
-   since 2009); on an older one an instruction such as wasmi_i32_popcnt ends the program. The library that is built from
+   since 2009); on an older one an instruction such as wasmi_i32_popcnt ends the program. Its files for pkg-config and
+   CMake define WASMI_CORE_PROVED, so that a program for another target isn't compiled. The library that is built from
    source (rust/c) has the same calls for any target of Rust, and is tested, not proved.
 
    State: there is none. Instructions work on values and bytes of the caller's, and a script is run as a whole
@@ -21,6 +22,10 @@
 #ifndef WASMI_CORE_H
 #define WASMI_CORE_H
 
+#if defined(WASMI_CORE_PROVED) && !(defined(__linux__) && defined(__x86_64__) && defined(__LP64__))
+#error "This libwasmi_core.a is for Linux on x86-64; the library for another target is built from source (rust/c)."
+#endif
+
 #include <stddef.h>
 #include <stdint.h>
 
@@ -33,12 +38,15 @@ extern "C" {
    1.2.0 with wasmi_instructions.h, 1.3.0 with the pools of wasmi_machine.h, and 1.4.0 with writes over a range of a
    machine's memory, data segments, wasmi_pool_remove, wasmi_quota_release_memory and _table, wasmi_memory_new_zeroed
    and wasmi_memory_grow_zeroed. Since 2.0.0 the functions of wasmi_instructions.h have the prefix wasmi_, in place of
-   wasm_; it came with wasmi_table_copy_within, with wasmi_pool_fill, _copy, _init, _new_segment, _new_data and
-   _consume_fuel, and with wasmi_machine_reserve, wasmi_machine_run_into, wasmi_pool_reserve and wasmi_pool_run_into. */
+   wasm_; it came with wasmi_core_version, wasmi_table_copy_within, with wasmi_pool_fill, _copy, _init, _new_segment,
+   _new_data and _consume_fuel, and with wasmi_machine_reserve, wasmi_machine_run_into, wasmi_pool_reserve and
+   wasmi_pool_run_into. */
 #define WASMI_CORE_VERSION "2.0.0"
 #define WASMI_CORE_VERSION_MAJOR 2
 #define WASMI_CORE_VERSION_MINOR 0
 #define WASMI_CORE_VERSION_PATCH 0
+#define WASMI_CORE_VERSION_NUMBER \
+    (WASMI_CORE_VERSION_MAJOR * 65536 + WASMI_CORE_VERSION_MINOR * 256 + WASMI_CORE_VERSION_PATCH)
 
 /* What a compiler is told of a call: that its status has to be looked at, which parameters aren't NULL, and which call
    has taken its place. It is told nothing where WASMI_CORE_NO_ATTRIBUTES is defined. */
@@ -52,10 +60,12 @@ extern "C" {
 #define WASMI_DEPRECATED(other)
 #endif
 
+/* The version of the library that is linked or loaded: WASMI_CORE_VERSION_NUMBER of its headers. */
+uint32_t wasmi_core_version(void);
+
 /* A value: an item of up to 64 bits in lo, or bits 0 to 63 and bits 64 to 127 of a vector, so that lo is the first 8 of
-   its bytes in a memory. An instruction on 32 bits
-   ignores the higher bits of its operands, one on an item of 64 bits ignores hi, and the unused bits of a value are 0.
-   A Boolean is 0 or 1. */
+   its bytes in a memory. An instruction on 32 bits ignores the higher bits of its operands, one on an item of 64 bits
+   ignores hi, and the unused bits of a value are 0. A Boolean is 0 or 1. */
 typedef struct { uint64_t lo, hi; } wasmi_words;
 
 /* What each call except wasmi_script_run returns. The statuses below 253 are the numbers of traps, and an instruction
@@ -88,10 +98,10 @@ enum {
 uint8_t wasmi_script_run(const uint8_t *script, size_t script_len, uint8_t *text, size_t text_len, size_t *needed)
     WASMI_CHECKED WASMI_NOT_NULL(5);
 
-/* Executes the instruction that has a number in the table below. Of these instructions only those of two operands trap. A shift of a vector takes its amount
-   from the low 32 bits of b. Of the relaxed instructions a swizzle gives 0 for an index above 15, a selection of lanes
-   takes each bit by the mask's, the one product of q15 that doesn't fit is the greatest number, and a dot reads both
-   operands with sign and its sums of 16 bits wrap. */
+/* Executes the instruction that has a number in the table below. Of these instructions only those of two operands trap.
+   A shift of a vector takes its amount from the low 32 bits of b. Of the relaxed instructions a swizzle gives 0 for an
+   index above 15, a selection of lanes takes each bit by the mask's, the one product of q15 that doesn't fit is the
+   greatest number, and a dot reads both operands with sign and its sums of 16 bits wrap. */
 uint8_t wasmi_unary(uint16_t number, wasmi_words a, wasmi_words *value) WASMI_CHECKED WASMI_NOT_NULL(3);
 uint8_t wasmi_binary(uint16_t number, wasmi_words a, wasmi_words b, wasmi_words *value) WASMI_CHECKED WASMI_NOT_NULL(4);
 uint8_t wasmi_ternary(uint16_t number, wasmi_words a, wasmi_words b, wasmi_words c, wasmi_words *value)
