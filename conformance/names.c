@@ -1,6 +1,6 @@
 /* Compares the instruction of each number of wasmi_core.h with what its name means elsewhere: the scalar ones with a
    list of answers, which is the argument, the others with what scripts print. Then it tries each number for each other
-   list of answers, which is the argument, the others with what scripts print. Then it tries each number for each other
+   name of its kind: none passes, except those of one meaning. It compares each call on arrays with the call on values,
    for each element. At the end it sees each status, and compares the version with that of the headers. */
 #include "wasmi_oracle.h"
 #include <inttypes.h>

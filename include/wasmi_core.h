@@ -7,8 +7,13 @@
 
    State: there is none. Instructions work on values and bytes of the caller's, and a script is run as a whole
    (wasmi_script_run). A machine with memories, fuel and limits that lives across calls is in wasmi_machine.h.
-   wasmi_instructions.h has a function for each scalar instruction, load and store, which takes less time than a call
-   by its number.
+   Who takes which call:
+   - An engine with values of its own: wasmi_instructions.h, or wasmi_inline.h; for vectors, the numbers below.
+   - An engine with memories, tables and fuel of its own: wasmi_memory.h besides.
+   - A host that leaves these to the library: wasmi_machine.h; plain arguments where there are, else a wasmi_call.
+   - A host that has calls as text: wasmi_script_run, or on a machine wasmi_machine_run_lines.
+   - Who compares another implementation with this one: wasmi_oracle.h.
+   All of these are in the bitcode too, which clang 22 inlines.
 
    Pointers: no pointer is NULL, except one of an array. An array is a pointer and a number of elements, of at most
    PTRDIFF_MAX bytes; the pointer may be NULL only if that number is 0. What a call writes must not overlap with anything
@@ -86,7 +91,7 @@ enum {
 };
 
 /* Runs a script of at most 1,048,576 bytes (docs/SCRIPT.md) and writes what it prints to the front of text; *needed is
-   the length of that in bytes. The status is that of the program:
+   the length of that in bytes. It returns the exit status of the program, another list than that above:
    0: every call has a reply, refusals included;
    2: a line is no command, or the script is too long; the text says which;
    3: out of memory while reading, parsing, or for the replies; the text says so;

@@ -95,7 +95,8 @@ enum {
     /* Grows a memory by pages of zeros: index, count -> number: its old size in pages; MEMORY_GROWTH (beyond its type,
        or denied), MEMORY_OUT_OF_FUEL (number: what is needed), MEMORY_OUT_OF_MEMORY, after which the fuel is spent.
        A growth by 0 returns the size, and takes no fuel. Each other growth costs as much as a copy of the added
-       bytes: 1,024 for a page of 64 KiB at 64 bytes for a unit. */
+       bytes: 1,024 for a page of 64 KiB at 64 bytes for a unit. A copy of n bytes costs n / bytes_copied_per_fuel,
+       rounded down. */
     WASMI_CALL_GROW_MEMORY = 3,
     WASMI_CALL_DROP_MEMORY = 4, /* index; its size still counts */
     /* Accesses at ptr + offset (2^64 or more is past the end); op is a number of wasmi_load, wasmi_store, wasmi_load_lane
@@ -112,7 +113,7 @@ enum {
     /* Grows a table by elements of one reference: index, count, type, reference -> number: its old size;
        TABLE_TYPE, TABLE_GROWTH (beyond its type, or denied), TABLE_OUT_OF_FUEL, TABLE_OUT_OF_MEMORY, after which the
        fuel is spent. A growth by 0 returns the size, and takes no fuel. Each other growth, and each write below, costs
-       as much as a copy of 4 bytes an element. */
+       as much as a copy of 4 bytes an element, or of UINT64_MAX bytes where that is more. */
     WASMI_CALL_GROW_TABLE = 10,
     WASMI_CALL_DROP_TABLE = 11,  /* index; its size still counts */
     WASMI_CALL_GET_ELEMENT = 12, /* index, to -> type, reference; NO_ELEMENT */

@@ -291,7 +291,7 @@ uint8_t wasmi_table_copy_within(const wasmi_table *table, uint32_t *elements, si
                                 const wasmi_range *range, wasmi_meter *meter, uint64_t *number)
     WASMI_CHECKED WASMI_NOT_NULL(1, 4, 5, 6);
 
-/* Its former name. */
+/* Deprecated: its former name. */
 uint8_t wasmi_table_copy(const wasmi_table *table, uint32_t *elements, size_t elements_len, const wasmi_range *range,
                          wasmi_meter *meter, uint64_t *number)
     WASMI_CHECKED WASMI_NOT_NULL(1, 4, 5, 6) WASMI_DEPRECATED("wasmi_table_copy_within");

@@ -1,6 +1,6 @@
 /* A host of long life: 100,000 guests, ten at a time, in a pool of ten pages, and 100,000 memories, ten at a time, under
-   a quota of ten pages. No guest and no memory is denied, and the process takes no more memory for all than for the first
-   thousand. It is C and C++. */
+   a quota of ten pages. No guest and no memory is denied, and the process takes no more memory for all guests than for
+   the first ten thousand. It is C and C++. */
 #define _DEFAULT_SOURCE
 #include "wasmi_status.h"
 #include <inttypes.h>
