@@ -112,12 +112,13 @@ pub fn machines_do_alike<L: ResourceLimiter>()
 
 /// The reply to a call that needs no memory but what was reserved doesn't say out of memory
 /// (`NeedsNoMemory`): it makes nothing, or a memory in the spare region, a global or a segment of
-/// nothing in a slot that is reserved; it grows no memory but one in a lent region, and no table;
-/// and it reads no byte.
+/// nothing in a slot that is reserved; a memory that it grows lies in a lent region, and a table
+/// that it grows has the elements reserved; and it reads no byte.
 ///
-/// Nor does any reply to a list of such calls, if every memory lies in a lent region at first, and
-/// as many slots of each kind are reserved and free as the list takes (`IsReservedFor`): what is
-/// asked is known before the first call.
+/// Nor does any reply to a list of such calls, if each memory that they grow lies in a lent region
+/// at first, each table that they grow is reserved up to its maximum, and as many slots of each kind
+/// are reserved and free as the list takes (`IsReservedFor`): what is asked is known before the
+/// first call.
 pub fn reserved_suffices<L: ResourceLimiter>()
     ensures turn { ReservedCallsSucceed (optional_rules L.rules) }
     ensures run { ReservedRunsSucceed (optional_rules L.rules) }
