@@ -34,8 +34,8 @@ What a program reaches beside its standard streams:
   --seed N               where its random numbers begin; 0 if it isn't given
 
 The exit status is that which a program gives, or 0, or 1 if the guest stops (`trap: ` and why, on the standard error),
-2 if the arguments make no sense, 3 if the file is no module that can be run (`FILE: ` and why), 141 if nobody reads the
-output any more.";
+2 if the arguments make no sense or results can't be written, 3 if the file is no module that can be run (`FILE: ` and
+why), 141 if nobody reads the output any more.";
 
 /// What the arguments say.
 #[derive(Default)]

@@ -23,6 +23,9 @@ pub(crate) struct Instruction {
     pub imm: u32,
 }
 
+/// That of a machine whose pointers have 8 bytes; others have smaller ones.
+const _: () = assert!(size_of::<Instruction>() <= 16);
+
 impl Instruction {
     #[inline(always)]
     pub fn low(&self) -> u16 {
