@@ -142,11 +142,7 @@ pub fn between_spaces(line: &str) -> impl Iterator<Item = &str> {
     })
 }
 
-/// The first items of a slice, up to an end. The panic names no numbers, so that none is kept in a register for it.
-///
-/// # Panics
-///
-/// Panics if the slice is shorter.
+/// The first items of a slice, up to an end. It panics if the slice is shorter, without numbers: none is kept for it.
 #[must_use]
 #[inline(always)]
 pub fn front<T>(items: &[T], end: usize) -> &[T] {
@@ -157,10 +153,6 @@ pub fn front<T>(items: &[T], end: usize) -> &[T] {
 }
 
 /// As `front`, of items which may be overwritten.
-///
-/// # Panics
-///
-/// Panics if the slice is shorter.
 #[inline(always)]
 pub fn front_mut<T>(items: &mut [T], end: usize) -> &mut [T] {
     match items.get_mut(..end) {
