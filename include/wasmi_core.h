@@ -1,8 +1,8 @@
 /* The calls of wasmi_core for C and C++, in libwasmi_core.a.
 
    Processors: the archive that is proved is for Linux on x86-64, and takes a processor of x86-64-v2 (SSE4.2 and popcnt,
-   since 2009); on an older one an instruction such as wasmi_i32_popcnt ends the program. Its files for pkg-config and
-   CMake define WASMI_CORE_PROVED, so that a program for another target isn't compiled. The library that is built from
+   since 2009); on an older one an instruction such as wasmi_i32_popcnt ends the program. Installed with it, this
+   header defines WASMI_CORE_PROVED, so that a program for another target isn't compiled. The library that is built from
    source (rust/c) has the same calls for any target of Rust, and is tested, not proved.
 
    State: there is none. Instructions work on values and bytes of the caller's, and a script is run as a whole
