@@ -6,7 +6,7 @@ import xml.etree.ElementTree
 
 sys.dont_write_bytecode = True
 sys.path.insert(0, str(pathlib.Path(__file__).resolve().parent.parent / "tools"))
-from prototypes import prototypes, spaced
+from prototypes import listed, prototypes, spaced
 
 
 def text(element):
@@ -17,7 +17,7 @@ def told(folder):
     """The calls of the reference: by name, what they return and their parameters."""
     for path in sorted(folder.glob("*.xml")):
         for it in xml.etree.ElementTree.parse(path).iterfind(".//memberdef[@kind='function']"):
-            yield it.findtext("name"), [text(it.find("type")), *map(spaced, text(it.find("argsstring")).strip("() ").split(","))]
+            yield it.findtext("name"), [text(it.find("type")), *listed(text(it.find("argsstring")).strip("() "))]
 
 
 def main(folder, *headers):

@@ -48,10 +48,15 @@ PROTOTYPE = re.compile(r"^(\w[\w ]*?) (wasmi_\w+)\(([^)]*)\)(\s+WASMI_[A-Z_]+(?:
 DEPRECATED = {"wasmi_table_copy": "wasmi_table_copy_within"}    # former names of calls
 
 
+def listed(parameters):
+    """The parameters of a prototype, which are none where C writes `void`."""
+    return [] if parameters.strip() == "void" else list(map(spaced, parameters.split(",")))
+
+
 def prototypes(header):
     """The calls of a header: by name, what they return and their parameters."""
     found = PROTOTYPE.findall(without_comments(header))
-    return {name: [given, *map(spaced, parameters.split(",") if parameters != "void" else [])] for given, name, parameters, _ in found}
+    return {name: [given, *listed(parameters)] for given, name, parameters, _ in found}
 
 
 def attributes(given, parameters):
@@ -68,7 +73,7 @@ def with_attributes(header):
     def written(found):
         given, name, parameters, _ = found.groups()
         bare = f"{given} {name}({parameters})"
-        made = attributes(given, list(map(spaced, parameters.split(","))))
+        made = attributes(given, listed(parameters))
         if name in DEPRECATED:
             made.append(f'WASMI_DEPRECATED("{DEPRECATED[name]}")')
         added = " ".join(made)
