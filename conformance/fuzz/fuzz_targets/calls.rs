@@ -1,4 +1,5 @@
-//! Calls on a memory and a table, and on a machine, as bytes, with each meter and under a limiter, beside the plain models of the crate's tests.
+//! Calls on a memory and a table, and then on those of a machine, as bytes, with each meter and under a limiter, beside the plain
+//! models of the crate's tests.
 #![cfg_attr(not(kept), no_main)]
 // Of the files of tests only the models are taken.
 #![allow(dead_code, unused_imports, unused_macros)]
