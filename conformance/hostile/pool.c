@@ -480,6 +480,22 @@ static char *plain(char *at, size_t tenant) {
     return at;
 }
 
+/* Reserves slots for the last tenant, for which no memory is asked again; the script prints the same without them. */
+static void reserved(size_t tenant) {
+    const wasmi_room room = {.globals = 1 + (size_t)below(8)}, too_much = {.globals = SIZE_MAX};
+    if (wasmi_pool_reserve(&none, tenant, &room) != WASMI_NO_POOL
+        || wasmi_pool_reserve(&pool, tenant + 1, &room) != WASMI_NO_TENANT
+        || wasmi_pool_reserve(&pool, tenant, &too_much) != WASMI_NO_ROOM
+        || wasmi_pool_reserve(&pool, tenant, &room) != WASMI_DONE) {
+        differs("reserved", script);
+    }
+    requests = 0, refused = 1;
+    if (wasmi_pool_reserve(&pool, tenant, &room) != WASMI_DONE || requests != 0) {
+        differs("memory was asked for where it is there", script);
+    }
+    refused = 0;
+}
+
 /* A pool with random caps and tenants, and the header lines of the same. */
 static char *begin(void) {
     wasmi_limits limits;
@@ -513,6 +529,7 @@ static char *begin(void) {
         if (reply.status != WASMI_DONE || reply.number != i) {
             differs("no tenant was added", script);
         }
+        reserved(i);
     }
     return at;
 }
