@@ -1,7 +1,7 @@
 //! The machines of a pool at their indices.
 ghost use Rattle.std.specs.Prelude.{◌≡◌, ◌∷◌, ◌++◌, ◌↔◌, ◌<◌, ◌≤◌, [], length, slice_index_or, slice_set, None, Some, MatchOption, IfOk, IfErr, OnErr, OnOk, IsErrOf};
 ghost use Rattle.std.specs.Option.{option_copied};
-ghost use Rattle.wasmi_budget.specs.Pool.{pool_of, IsKept, IsUnasked, ReservesAt, RunsTenant, RunsUnasked};
+ghost use Rattle.wasmi_budget.specs.Pool.{pool_of, IsKept, IsUnasked, ReservesAt, ReservesElementsIn, RunsTenant, RunsUnasked};
 ghost use Rattle.wasmi_budget.specs.Tenants.{IsPlace, Rises};
 
 use crate::error::{PoolError, ReserveError, RunIntoError};
@@ -119,6 +119,22 @@ impl<'r> Tenants<'r> {
         let counted = &mut self.machines[place];
         counted.reserve(slots)?;
         Ok(())
+    }
+
+    /// Reserves memory for so many elements in all of a table of the machine at an index, if there is
+    /// one.
+    pub(crate) fn reserve_elements(
+        &mut self,
+        index: usize,
+        table: usize,
+        elements: u64,
+    ) -> Option<Reply>
+        ensures reserved { MatchOption result
+            ((slice_index_or self.old index None ≡ None) × (self.new ≡ self.old))
+            (λ reply. ReservesElementsIn self.old index table elements reply self.new) }
+    {
+        let place = place_of(&self.indices, index)?;
+        Some(self.machines[place].reserve_elements(table, elements))
     }
 
     /// Executes calls on the machine at an index, under its limiter in a pool with these caps, whose
