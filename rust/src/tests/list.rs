@@ -73,3 +73,16 @@ fn room_that_is_refused_is_an_error() {
     let many = std::iter::repeat_n(1, usize::MAX);
     assert!(Vec::<u64>::new().read_all(many, usize::MAX).is_err());
 }
+
+#[test]
+fn room_for_exactly_so_many_more_items_is_made() {
+    let mut list = Vec::new();
+    assert!(list.push(0_u64).is_ok() && list.try_reserve_exact(99).is_ok());
+    assert!(list.capacity() >= 100 && list.as_slice() == [0]);
+    let (room, first) = (list.capacity(), list.as_slice().as_ptr());
+    for item in 1..100 {
+        list.push_reserved(item);
+    }
+    assert_eq!((list.capacity(), list.as_slice().as_ptr()), (room, first));
+    assert!(list.try_reserve_exact(usize::MAX).is_err());
+}
