@@ -217,11 +217,18 @@ memory_as_long x x' same long valid = record {
 }
 
 -- a write, and a store
-pub write_valid : (x x' : MemoryValue) (offset : ℕ) (source : List ℕ) (result : Result (Unit {0}) MemoryError)
+write_valid : (x x' : MemoryValue) (offset : ℕ) (source : List ℕ) (result : Result (Unit {0}) MemoryError)
     → IsValidMemory x → WritesMemory x offset source result x' → IsValidMemory x'
 write_valid x x' offset source (Ok done) valid writes =
     memory_as_long x x' writes.1 (written_count x x' offset source (Ok done) writes) valid
 write_valid x x' offset source (Err error) valid writes = subst IsValidMemory (sym writes.2) valid
+
+-- a write to the memory of an index keeps the validity of all
+pub writes_valid : (k offset : ℕ) (source : List ℕ) (slots : List (Slot MemoryValue)) (reply : Reply)
+    (slots' : List (Slot MemoryValue)) → WritesMemoryAt k offset source slots reply slots' → AllValid IsValidMemory slots
+    → AllValid IsValidMemory slots'
+writes_valid k offset source slots reply slots' writes valid = changes_valid IsValidMemory k slots reply slots'
+    _ (λ x x' h change. write_valid x x' offset source change.0 h change.1) writes valid
 
 -- a store keeps validity
 stored_valid : (x x' : MemoryValue) (a : ℕ) (stored : List ℕ) (result : Result (Unit {0}) TrapCode) → IsValidMemory x

@@ -1,23 +1,56 @@
 -- What holds of each change of one part of the state.
-use Rattle.std.proofs.Common.{List, [], ap, arith, length, map, refl, subst, sym, ℕ, ◌∙◌, ◌≡◌}
-use Rattle.std.specs.Prelude.{All, slice_get}
-use Rattle.wasmi_machine.proofs.MemoryEffectsLemmas.{vector_store_back, vector_store_kept, vector_store_valid, vector_stores_same, write_refused, write_valid, writes_same, written_kept}
+use Rattle.std.proofs.Common.{List, [], ap, arith, length, map, refl, subst, sym, ℕ, ◌<◌, ◌^◌, ◌∙◌, ◌≡◌}
+use Rattle.std.specs.Global.{Global}
+use Rattle.std.specs.Prelude.{All, Vec, slice_get}
+use denote.RawPtr.{null_ptr}
+use Rattle.wasmi_machine.proofs.MemoryEffectsLemmas.{vector_store_back, vector_store_kept, vector_store_valid, vector_stores_same, write_refused, writes_same, writes_valid, written_kept}
 use Rattle.wasmi_machine.proofs.ValueEffectsLemmas.{takes_back, takes_count, takes_same, creates_segment_valid, global_refused, global_sets_same, segment_back, segments_same}
-use Rattle.wasmi_machine.proofs.EffectLemmas.{AllValid, adds_back, adds_same, changes_valid, contents_back, contents_same, drops_back, drops_kept, drops_same, drops_valid, item_valid}
+use Rattle.wasmi_machine.proofs.EffectLemmas.{AllValid, adds_back, adds_same, contents_back, contents_same, drops_back, drops_kept, drops_same, drops_valid, item_valid}
 use Rattle.wasmi_machine.proofs.TableEffectsLemmas.{set_kept, set_refused, set_valid, sets_same}
 use Rattle.wasmi_machine.proofs.TotalLemmas.{each_kind}
 use Rattle.wasmi_machine.specs.Determinism.{IsNotOutOfMemory}
 use Rattle.wasmi_machine.specs.Exchange.{NothingGrows}
 use Rattle.wasmi_machine.specs.Laws.{IsRefusal}
 use Rattle.wasmi_machine.specs.Effects.{AddsItem, ChangesPart, DropsAt, DropsContents}
+use Rattle.wasmi_machine.specs.MemoryEffects.{WritesMemoryAt}
+use Rattle.wasmi_meter.specs.Limiter.{Rules}
 use Rattle.wasmi_machine.specs.State.{State, with_data_segments, with_globals, with_memories, with_registers, with_segments, with_tables, byte_count, sizes, slot_count, IsValid, IsValidSegment}
-use Rattle.wasmi_machine.specs.Steps.{BytesStored, BytesWritten, Change, DataDropped, DataMade, ElementSet, GlobalMade, GlobalSet, ItemsDropped, MemoryDropped, RegisterSet, SegmentMade, TableDropped, HasChange}
+use Rattle.wasmi_machine.specs.Steps.{BytesStored, BytesWritten, Change, DataDropped, DataMade, ElementSet, GlobalMade, GlobalSet, ItemsDropped, MemoryDropped, RegisterSet, SegmentMade, TableDropped, HasChange, RepliesWithoutLimiter, SomeCopy}
+use Rattle.wasmi_machine.specs.declared.calls.Call.TheVariants.{Write}
 use Rattle.wasmi_machine.specs.declared.calls.Reply.{Reply}
 use Rattle.wasmi_machine.specs.declared.slots.Slot.{Slot}
 use Rattle.wasmi_raw.specs.declared.raw.RawVal.{RawVal}
 use Rattle.wasmi_store.specs.Memory.{IsValidMemory, MemoryValue}
 use Rattle.wasmi_store.specs.Segment.{SegmentValue, dropped}
 use Rattle.wasmi_store.specs.Table.{IsValidTable, TableValue, size_of}
+
+-- a `Vec` with these items
+abbrev pub vec_of : (items : List ℕ) → length items < 2 ^ 63 → Vec ℕ Global
+vec_of items short = record {
+  ptr = null_ptr;
+  len = length items;
+  cap = length items;
+  alloc = record { memory = record { seal = tt } };
+  items = items;
+  ok = (refl, omega arith);
+  small = short;
+}
+
+-- a write of bytes is a step by the call `Write` with a copy of them, whatever the limiter is
+pub write_replies : {S : Type 0} (rules : Rules S) (memory offset : ℕ) (bytes : List ℕ) → length bytes < 2 ^ 63
+    → (s : State) (reply : Reply) (s' : State) → WritesMemoryAt memory offset bytes s.memories reply s'.memories
+    → s' ≡ with_memories s s'.memories
+    → SomeCopy bytes (λ copy. RepliesWithoutLimiter rules (Write memory offset copy) s reply s')
+write_replies rules memory offset bytes short s reply s' writes rest = (
+  vec_of bytes short,
+  refl,
+  λ limiter. record {
+    free = (refl, refl);
+    machine = s';
+    effect = record { part = s'.memories; effect = writes; after = rest };
+    after = refl;
+  },
+)
 
 -- what holds of an effect on a part: a refusal leaves it, it is decided where memory isn't wanting, and it keeps a fact
 pub record EffectFacts {A : Type 0} (Effect : Reply → A → Type 0) (old : A) (Keeps : A → Type 0) : Type 0 where
@@ -182,8 +215,7 @@ change_facts s (BytesWritten k offset bytes) = change_of (the_memories s) (recor
   same = λ reply reply' part part' has has'. writes_same k offset bytes s.memories reply reply' part part';
   keeps = λ reply part effect. (
     written_kept k s.memories reply part offset bytes effect,
-    changes_valid IsValidMemory k s.memories reply part
-        _ (λ x x' valid change. write_valid x x' offset bytes change.0 valid change.1) effect,
+    writes_valid k offset bytes s.memories reply part effect,
   );
 })
 change_facts s (BytesStored k a stored) = change_of (the_memories s) (record {

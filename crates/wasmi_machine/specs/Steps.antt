@@ -1,5 +1,6 @@
 -- One step of the machine: what each call does, and what that changes in a world; and whole runs.
-use Rattle.std.specs.Prelude.{◌≡◌, ◌⊎◌, ◌+◌, ◌<◌, ◌≤◌, ℕ, Bool, true, false, List, Option, Some, None, Result, Ok, slice_get, [], ◌∷◌, length, map}
+use Rattle.std.specs.Prelude.{◌≡◌, ◌⊎◌, ◌+◌, ◌<◌, ◌≤◌, ℕ, Bool, true, false, List, Option, Some, None, Result, Ok, Vec, slice_get, [], ◌∷◌, length, map}
+use Rattle.std.specs.Global.{Global}
 use Rattle.std.specs.Option.{option_map, option_and_then}
 use Rattle.wasmi_types.specs.Numbers.{le_bytes}
 use Rattle.wasmi_types.specs.declared.trap.TrapCode.{TrapCode}
@@ -266,6 +267,10 @@ RepliesWith rules call w reply w' = (charge : ℕ) × (written : ℕ)
 abbrev pub RepliesWithoutLimiter : {S : Type 0} → Rules S → Call → State → Reply → State → Type 0
 RepliesWithoutLimiter {S} rules call s reply s' = (limiter : S)
     → Step rules (world s limiter) (record { call = call; reply = reply; charge = 0; written = 0 }) (world s' limiter)
+
+-- a fact of a `Vec` that has these items, as a copy of them has: what a call that takes it does can be done with a slice
+abbrev pub SomeCopy : List ℕ → (Vec ℕ Global → Type 0) → Type 0
+SomeCopy items Fact = (copy : Vec ℕ Global) × (copy.items ≡ items) × Fact copy
 
 -- turns one after another from one world to another, each of which relates the worlds before and after it
 abbrev pub Sequence : {S : Type 0} → (World S → Turn → World S → Type 0) → World S → List Turn → World S → Type 0

@@ -47,7 +47,7 @@ impl<'r> Model for Machine<'r> {
 }
 
 impl<'r> Machine<'r> {
-    ghost use Rattle.wasmi_machine.specs.MemoryEffects.{StoresMemoryAt};
+    ghost use Rattle.wasmi_machine.specs.MemoryEffects.{StoresMemoryAt, WritesMemoryAt};
     ghost use Rattle.wasmi_machine.specs.TableEffects.{ReservesElementsAt};
     ghost use Rattle.wasmi_machine.specs.State.{new_state, with_memories, with_reserved, with_spare, with_tables, live_at, IsValid, total};
     ghost use Rattle.wasmi_meter.specs.declared.limiter.Kind.TheVariants.{Bytes, Elements};
@@ -174,6 +174,21 @@ impl<'r> Machine<'r> {
     {
         let stored = Stored::Number(op, value);
         let reply = self.store.memories.store(memory, ptr, offset, stored);
+        reply.unwrap_or(Reply::NoSuch)
+    }
+
+    /// Writes bytes over those of a memory from an offset on, as the call `Write` does, but those of
+    /// a slice and not of a list. It takes no memory.
+    ///
+    /// It isn't a call, so a run has no turn for it. The reply is `Done`, `NoSuch` if there is no
+    /// such memory, or `Memory` with `OutOfBoundsAccess` if the bytes would end past it; after the
+    /// last two nothing has changed.
+    pub fn write(&mut self, memory: usize, offset: usize, bytes: &[u8]) -> Reply
+        ensures memories { WritesMemoryAt memory offset bytes.now self.old.memories result
+            self.new.memories }
+        ensures rest { self.new ≡ with_memories self.old self.new.memories }
+    {
+        let reply = self.store.memories.write(memory, offset, bytes);
         reply.unwrap_or(Reply::NoSuch)
     }
 
