@@ -8,10 +8,12 @@ use Rattle.wasmi_meter.specs.Capped.{amount_of, amounts_of, nothing, IsWithin, A
 use Rattle.wasmi_meter.specs.Attempt.{MeteredValue}
 use Rattle.wasmi_meter.specs.Limiter.{Question, Answer, Failure, NoticeAnswer, optional_rules}
 use Rattle.wasmi_meter.proofs.CappedLemmas.{KeepsCaps, caps_kept, others_kept, asked_is_within, noticed_is_within}
-use Rattle.wasmi_machine.specs.State.{World, Turn, world, State, total, sizes, HoldsTotals, IsRefusal}
+use Rattle.wasmi_machine.specs.MemoryEffects.{WritesMemoryAt}
+use Rattle.wasmi_machine.specs.State.{World, Turn, world, with_memories, State, total, sizes, HoldsTotals, IsRefusal}
 use Rattle.wasmi_machine.specs.Exchange.{Exchange, Nothing, Denial, Permission, Notice, GrowsBy, RepliesTo, place_of}
 use Rattle.wasmi_machine.specs.Effects.{ActsMeteredUnasked, Changes}
-use Rattle.wasmi_machine.specs.Steps.{Run, IsRunOf, RepliesWith}
+use Rattle.wasmi_machine.specs.Steps.{Run, IsRunOf, RepliesWith, SomeCopy}
+use Rattle.wasmi_machine.proofs.StepsLemmas.{write_replies}
 use Rattle.wasmi_machine.specs.Determinism.{IsDeterministic, AcceptsNotices}
 use Rattle.wasmi_machine.proofs.DeterminismLemmas.{capped_unique}
 use Rattle.wasmi_machine.proofs.ExchangeLemmas.{growths_are_permitted}
@@ -24,7 +26,7 @@ use Rattle.wasmi_meter.specs.declared.limiter.Kind.TheVariants.{Bytes, Elements}
 use Rattle.wasmi_meter.specs.declared.amounts.Amounts.{Amounts}
 use Rattle.wasmi_meter.specs.CappedProofs.{asked_reserves, noticed_gives_back}
 use Rattle.wasmi_machine.specs.declared.calls.Call.{Call}
-use Rattle.wasmi_machine.specs.declared.calls.Call.TheVariants.{Binary, CopyMemory, FillMemory, InitMemory, SetFuel, Store}
+use Rattle.wasmi_machine.specs.declared.calls.Call.TheVariants.{Binary, CopyMemory, FillMemory, InitMemory, SetFuel, Store, Write}
 use Rattle.wasmi_machine.specs.declared.calls.Reply.{Reply}
 use Rattle.wasmi_budget.specs.Laws.{PoolTurn, Added, Ran, Removed, Refused, PoolStep, PoolRun, RemovalsGiveBack, RemovedStayRemoved}
 
@@ -393,6 +395,14 @@ pub counted_unasked : (s s' : State) (call : Call) (reply : Reply) (held : Amoun
     → held ≡ amounts_of (total s) → held ≡ amounts_of (total s')
 counted_unasked s s' call reply held unasked is =
     is ∙ amounts_same (total s) (total s') (λ kind. sym (total_unasked s s' call reply unasked kind))
+
+-- a write of bytes is the reply to the call `Write` with a copy of them, the same under each tenant
+pub write_unasked : (memory offset : ℕ) (bytes : List ℕ) → length bytes < 2 ^ 63 → (s : State) (reply : Reply)
+    (s' : State) → WritesMemoryAt memory offset bytes s.memories reply s'.memories
+    → s' ≡ with_memories s s'.memories → SomeCopy bytes (λ copy. RepliesUnasked (Write memory offset copy) s reply s')
+write_unasked memory offset bytes short s reply s' writes rest =
+    let written = write_replies (optional_rules tenant_rules) memory offset bytes short s reply s' writes rest in
+    (written.0, written.1, λ tenant. (0, 0, written.2 (Some tenant)))
 
 -- a change without the limiter is the same under each tenant
 changes_under_each : (s s' : State) (turn : Turn) (Effect : Reply → State → Type 0) (limiter limiter' : Option Tenant)

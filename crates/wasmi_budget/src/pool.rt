@@ -4,6 +4,8 @@ ghost use Rattle.std.specs.Option.{option_map, option_copied};
 ghost use Rattle.wasmi_meter.specs.declared.limiter.Kind.TheVariants.{Bytes, Elements};
 ghost use Rattle.wasmi_meter.specs.Capped.{amounts_of};
 ghost use Rattle.wasmi_machine.specs.State.{total};
+ghost use Rattle.wasmi_machine.specs.Steps.{SomeCopy};
+ghost use Rattle.wasmi_machine.specs.declared.calls.Call.TheVariants.{Write};
 ghost use Rattle.wasmi_budget.specs.Pool.{IsUnasked, IsWithinCaps, machine_of, total_of, AddsTenant, IsAddRefusal, RemovesTenant, ReservesForTenant, RunsTenant};
 
 use crate::error::{AddError, PoolError, ReserveError, RunIntoError};
@@ -221,6 +223,33 @@ impl<'r> Pool<'r> {
         ensures within { IsWithinCaps self.new }
     {
         let Some(reply) = self.tenants.step_unasked(index, call) else {
+            return Err(PoolError::NoTenant);
+        };
+        Ok(reply)
+    }
+
+    /// Writes bytes over those of a memory of a tenant from an offset on, as the call `Write` does,
+    /// but those of a slice and not of a list. It takes no memory, and costs what `step` costs.
+    ///
+    /// # Errors
+    ///
+    /// `NoTenant` if no tenant has the index, and no other. Then nothing was written.
+    #[inline(always)]
+    pub fn write(
+        &mut self,
+        index: usize,
+        memory: usize,
+        offset: usize,
+        bytes: &[u8],
+    ) -> Result<Reply, PoolError>
+        ensures ran { IfOk result (λ reply. SomeCopy bytes.now
+            (λ copy. RunsTenant self.old index (Write memory offset copy ∷ []) (reply ∷ [])
+            self.new)) }
+        ensures refused { IfErr result (λ error. (error ≡ PoolError.NoTenant)
+            × (machine_of self.old index ≡ None) × (self.new ≡ self.old)) }
+        ensures within { IsWithinCaps self.new }
+    {
+        let Some(reply) = self.tenants.write(index, memory, offset, bytes) else {
             return Err(PoolError::NoTenant);
         };
         Ok(reply)

@@ -3,9 +3,10 @@ ghost use Rattle.std.specs.Prelude.{◌≡◌, ◌≤◌, ◌<◌, ◌^◌, ◌�
 ghost use Rattle.wasmi_meter.specs.declared.limiter.Kind.{Kind};
 ghost use Rattle.wasmi_meter.specs.Capped.{amounts_of, held_together};
 ghost use Rattle.wasmi_meter.specs.Limiter.{optional_rules};
-ghost use Rattle.wasmi_machine.specs.Steps.{RepliesWith};
+ghost use Rattle.wasmi_machine.specs.Steps.{RepliesWith, SomeCopy};
 ghost use Rattle.wasmi_machine.specs.State.{total, with_reserved, world, IsRefusal};
 ghost use Rattle.wasmi_budget.specs.Pool.{holdings, capped_tenant, tenant_rules, tenant_of, held_before, IsPart, RunsAsPart, IsUnasked, RepliesUnasked};
+ghost use Rattle.wasmi_machine.specs.declared.calls.Call.TheVariants.{Write};
 
 use std::alloc::AllocError;
 use std::marker::Model;
@@ -172,6 +173,16 @@ impl<'r> CountedMachine<'r> {
             tenant.leave(&mut self.held, all);
         }
         reply
+    }
+
+    /// Writes bytes over those of a memory, which asks no limiter. What the machine has stays, so no
+    /// tenant holds it.
+    #[inline(always)]
+    pub(crate) fn write(&mut self, memory: usize, offset: usize, bytes: &[u8]) -> Reply
+        ensures replied { SomeCopy bytes.now
+            (λ copy. RepliesUnasked (Write memory offset copy) self.old result self.new) }
+    {
+        self.machine.write(memory, offset, bytes)
     }
 
     /// Executes one call that asks no limiter. What the machine has stays, so no tenant holds it.

@@ -1,6 +1,8 @@
 //! The machines of a pool at their indices.
 ghost use Rattle.std.specs.Prelude.{◌≡◌, ◌∷◌, ◌++◌, ◌↔◌, ◌<◌, ◌≤◌, [], length, slice_index_or, slice_set, None, Some, MatchOption, IfOk, IfErr, OnErr, OnOk, IsErrOf};
 ghost use Rattle.std.specs.Option.{option_copied};
+ghost use Rattle.wasmi_machine.specs.Steps.{SomeCopy};
+ghost use Rattle.wasmi_machine.specs.declared.calls.Call.TheVariants.{Write};
 ghost use Rattle.wasmi_budget.specs.Pool.{pool_of, IsKept, IsUnasked, ReservesAt, RunsTenant, RunsUnasked};
 ghost use Rattle.wasmi_budget.specs.Tenants.{IsPlace, Rises};
 
@@ -194,6 +196,24 @@ impl<'r> Tenants<'r> {
     {
         let place = place_of(&self.indices, index)?;
         Some(self.machines[place].step(call, caps, all))
+    }
+
+    /// Writes bytes over those of a memory of the machine at an index, if there is one.
+    #[inline(always)]
+    pub(crate) fn write(
+        &mut self,
+        index: usize,
+        memory: usize,
+        offset: usize,
+        bytes: &[u8],
+    ) -> Option<Reply>
+        ensures stepped { MatchOption result
+            ((slice_index_or self.old index None ≡ None) × (self.new ≡ self.old))
+            (λ reply. SomeCopy bytes.now
+            (λ copy. RunsUnasked self.old index (Write memory offset copy) reply self.new)) }
+    {
+        let place = place_of(&self.indices, index)?;
+        Some(self.machines[place].write(memory, offset, bytes))
     }
 
     /// Executes one call that asks no limiter on the machine at an index, if there is one.

@@ -543,6 +543,39 @@ mod pool {
             Ok(reply)
         }
 
+        /// Writes bytes over those of a memory of a tenant from an offset on, as the call `Write` does,
+        /// but those of a slice and not of a list. It takes no memory, and costs what `step` costs.
+        ///
+        /// # Errors
+        ///
+        /// [`NoTenant`](crate::pool::PoolError::NoTenant) if no tenant has the index, and no other. Then nothing was written.
+        ///
+        /// # Contract
+        ///
+        /// ```text
+        /// ensures ran: IfOk result (λ reply. SomeCopy bytes.now
+        ///     (λ copy. RunsTenant self.old index (Write memory offset copy ∷ []) (reply ∷ [])
+        ///     self.new))
+        /// ensures refused: IfErr result (λ error. (error ≡ PoolError.NoTenant)
+        ///     × (machine_of self.old index ≡ None) × (self.new ≡ self.old))
+        /// ensures within: IsWithinCaps self.new
+        /// ```
+        ///
+        /// Definitions: [`SomeCopy`](crate::specs::machine::StepsSpecs#SomeCopy), [`RunsTenant`](crate::specs::budget::PoolSpecs#RunsTenant), [`machine_of`](crate::specs::budget::PoolSpecs#machine_of), [`IsWithinCaps`](crate::specs::budget::PoolSpecs#IsWithinCaps).
+        #[inline(always)]
+        pub fn write(
+            &mut self,
+            index: usize,
+            memory: usize,
+            offset: usize,
+            bytes: &[u8],
+        ) -> Result<Reply, PoolError> {
+            let Some(reply) = self.tenants.write(index, memory, offset, bytes) else {
+                return Err(PoolError::NoTenant);
+            };
+            Ok(reply)
+        }
+
         /// The machine of a tenant, if one has the index.
         ///
         /// # Contract
@@ -842,6 +875,22 @@ mod tenant {
                 tenant.leave(&mut self.held, all);
             }
             reply
+        }
+
+        /// Writes bytes over those of a memory, which asks no limiter. What the machine has stays, so no
+        /// tenant holds it.
+        ///
+        /// # Contract
+        ///
+        /// ```text
+        /// ensures replied: SomeCopy bytes.now
+        ///     (λ copy. RepliesUnasked (Write memory offset copy) self.old result self.new)
+        /// ```
+        ///
+        /// Definitions: [`SomeCopy`](crate::specs::machine::StepsSpecs#SomeCopy), [`RepliesUnasked`](crate::specs::budget::PoolSpecs#RepliesUnasked).
+        #[inline(always)]
+        pub(crate) fn write(&mut self, memory: usize, offset: usize, bytes: &[u8]) -> Reply {
+            self.machine.write(memory, offset, bytes)
         }
 
         /// Executes one call that asks no limiter. What the machine has stays, so no tenant holds it.
@@ -1174,6 +1223,30 @@ mod tenants {
         ) -> Option<Reply> {
             let place = place_of(&self.indices, index)?;
             Some(self.machines[place].step(call, caps, all))
+        }
+
+        /// Writes bytes over those of a memory of the machine at an index, if there is one.
+        ///
+        /// # Contract
+        ///
+        /// ```text
+        /// ensures stepped: MatchOption result
+        ///     ((slice_index_or self.old index None ≡ None) × (self.new ≡ self.old))
+        ///     (λ reply. SomeCopy bytes.now
+        ///     (λ copy. RunsUnasked self.old index (Write memory offset copy) reply self.new))
+        /// ```
+        ///
+        /// Definitions: [`SomeCopy`](crate::specs::machine::StepsSpecs#SomeCopy), [`RunsUnasked`](crate::specs::budget::PoolSpecs#RunsUnasked).
+        #[inline(always)]
+        pub(crate) fn write(
+            &mut self,
+            index: usize,
+            memory: usize,
+            offset: usize,
+            bytes: &[u8],
+        ) -> Option<Reply> {
+            let place = place_of(&self.indices, index)?;
+            Some(self.machines[place].write(memory, offset, bytes))
         }
 
         /// Executes one call that asks no limiter on the machine at an index, if there is one.

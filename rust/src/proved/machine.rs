@@ -1060,6 +1060,28 @@ mod machine {
             reply.unwrap_or(Reply::NoSuch)
         }
 
+        /// Writes bytes over those of a memory from an offset on, as the call `Write` does, but those of
+        /// a slice and not of a list. It takes no memory.
+        ///
+        /// It isn't a call, so a run has no turn for it. The reply is `Done`, `NoSuch` if there is no
+        /// such memory, or `Memory` with `OutOfBoundsAccess` if the bytes would end past it; after the
+        /// last two nothing has changed.
+        ///
+        /// # Contract
+        ///
+        /// ```text
+        /// ensures memories: WritesMemoryAt memory offset bytes.now self.old.memories result
+        ///     self.new.memories
+        /// ensures rest: self.new ≡ with_memories self.old self.new.memories
+        /// ```
+        ///
+        /// Definitions: [`WritesMemoryAt`](crate::specs::machine::MemoryEffectsSpecs#WritesMemoryAt), [`with_memories`](crate::specs::machine::StateSpecs#with_memories).
+        #[inline(always)]
+        pub fn write(&mut self, memory: usize, offset: usize, bytes: &[u8]) -> Reply {
+            let reply = self.store.memories.write(memory, offset, bytes);
+            reply.unwrap_or(Reply::NoSuch)
+        }
+
         /// The table of an index, if there is one that wasn't dropped.
         ///
         /// # Contract

@@ -4751,7 +4751,8 @@ abbrev pub <b id="IsValidCall">IsValidCall</b> : Call → Type 0
     pub mod StateSpecs {}
     #[doc = r####"One step of the machine: what each call does, and what that changes in a world; and whole runs.
 
-<pre><code>use Rattle.std.specs.Prelude.{◌≡◌, ◌⊎◌, ◌+◌, ◌&lt;◌, ◌≤◌, ℕ, Bool, true, false, List, Option, Some, None, Result, Ok, slice_get, [], ◌∷◌, length, map}
+<pre><code>use Rattle.std.specs.Prelude.{◌≡◌, ◌⊎◌, ◌+◌, ◌&lt;◌, ◌≤◌, ℕ, Bool, true, false, List, Option, Some, None, Result, Ok, Vec, slice_get, [], ◌∷◌, length, map}
+use Rattle.std.specs.Global.{Global}
 use Rattle.std.specs.Option.{option_map, option_and_then}
 use Rattle.wasmi_types.specs.Numbers.{<a href="../../types/NumbersSpecs/index.html#le_bytes">le_bytes</a>}
 use Rattle.wasmi_types.specs.declared.trap.TrapCode.{TrapCode}
@@ -5018,6 +5019,10 @@ abbrev pub <b id="RepliesWith">RepliesWith</b> : {S : Type 0} → <a href="../..
 abbrev pub <b id="RepliesWithoutLimiter">RepliesWithoutLimiter</b> : {S : Type 0} → <a href="../../meter/LimiterSpecs/index.html#Rules">Rules</a> S → Call → <a href="../../machine/StateSpecs/index.html#State">State</a> → Reply → <a href="../../machine/StateSpecs/index.html#State">State</a> → Type 0
 <a href="../../machine/StepsSpecs/index.html#RepliesWithoutLimiter">RepliesWithoutLimiter</a> {S} rules call s reply s&#x27; = (limiter : S)
     → <a href="../../machine/StepsSpecs/index.html#Step">Step</a> rules (<a href="../../machine/StateSpecs/index.html#world">world</a> s limiter) (record { call = call; reply = reply; charge = 0; written = 0 }) (<a href="../../machine/StateSpecs/index.html#world">world</a> s&#x27; limiter)
+
+-- a fact of a `Vec` that has these items, as a copy of them has: what a call that takes it does can be done with a slice
+abbrev pub <b id="SomeCopy">SomeCopy</b> : List ℕ → (Vec ℕ Global → Type 0) → Type 0
+<a href="../../machine/StepsSpecs/index.html#SomeCopy">SomeCopy</a> items Fact = (copy : Vec ℕ Global) × (copy.items ≡ items) × Fact copy
 
 -- turns one after another from one world to another, each of which relates the worlds before and after it
 abbrev pub <b id="Sequence">Sequence</b> : {S : Type 0} → (<a href="../../machine/StateSpecs/index.html#World">World</a> S → <a href="../../machine/StateSpecs/index.html#Turn">Turn</a> → <a href="../../machine/StateSpecs/index.html#World">World</a> S → Type 0) → <a href="../../machine/StateSpecs/index.html#World">World</a> S → List <a href="../../machine/StateSpecs/index.html#Turn">Turn</a> → <a href="../../machine/StateSpecs/index.html#World">World</a> S → Type 0

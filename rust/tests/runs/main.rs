@@ -2,6 +2,7 @@
 mod pools;
 mod random;
 mod runs;
+mod writes;
 
 use wasmi_core_proved::machine::{
     AllocError, ByteList, Call, CustomFuelCosts, Fuel, FuelCostsProvider, FuelError, GlobalType,
