@@ -243,10 +243,10 @@ typedef struct { size_t memories, tables, segments, data_segments, globals; } wa
 
 /* Reserves so many more slots at once, beside those of what was made. What is made in them later takes no memory for
    its slot: a global then takes none, and is never refused by NO_ROOM; a memory takes its bytes, a table its elements,
-   and a segment the copies of what it has. All other calls on what is there take none, except a growth,
-   wasmi_machine_write and wasmi_machine_run_lines. So a host that reserves, and makes what it needs, runs any number of
-   these without asking for memory again. What was reserved already stays so, and doesn't add up: to reserve 4 twice,
-   with nothing made between, reserves 4. It counts within no cap.
+   and a segment the copies of what it has. All other calls on what is there take none, except a growth and
+   wasmi_machine_run_lines. So a host that reserves, and makes what it needs, runs any number of these without asking for
+   memory again. What was reserved already stays so, and doesn't add up: to reserve 4 twice, with nothing made between,
+   reserves 4. It counts within no cap.
    DONE; NO_MACHINE; then NO_ROOM if the system refuses memory for some of them. Then none more is reserved. */
 uint8_t wasmi_machine_reserve(wasmi_machine *machine, const wasmi_room *room) WASMI_CHECKED WASMI_NOT_NULL(1, 2);
 
@@ -289,7 +289,8 @@ uint8_t wasmi_machine_fuel_left(wasmi_machine *machine, uint64_t *left) WASMI_CH
 wasmi_reply wasmi_machine_read(wasmi_machine *machine, size_t memory, size_t offset, uint8_t *bytes, size_t len)
     WASMI_CHECKED WASMI_NOT_NULL(1);
 
-/* Writes a copy of len bytes over those of a memory from offset on: NO_MACHINE, NO_ROOM, NO_SUCH, MEMORY_ACCESS. */
+/* Writes len bytes over those of a memory from offset on: NO_MACHINE, NO_SUCH, or MEMORY_ACCESS if they end past it;
+   then the memory is unchanged. It takes no memory of its own. */
 wasmi_reply wasmi_machine_write(wasmi_machine *machine, size_t memory, size_t offset, const uint8_t *bytes, size_t len)
     WASMI_CHECKED WASMI_NOT_NULL(1);
 
@@ -385,7 +386,7 @@ uint8_t wasmi_pool_fuel_left(wasmi_pool *pool, size_t tenant, uint64_t *left) WA
 wasmi_reply wasmi_pool_read(wasmi_pool *pool, size_t tenant, size_t memory, size_t offset, uint8_t *bytes, size_t len)
     WASMI_CHECKED WASMI_NOT_NULL(1);
 
-/* As wasmi_machine_write on a tenant's machine; before all else: NO_POOL, NO_ROOM, NO_TENANT. */
+/* As wasmi_machine_write on a tenant's machine; before all else: NO_POOL, NO_TENANT. */
 wasmi_reply wasmi_pool_write(wasmi_pool *pool, size_t tenant, size_t memory, size_t offset, const uint8_t *bytes,
                              size_t len) WASMI_CHECKED WASMI_NOT_NULL(1);
 

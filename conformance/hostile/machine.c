@@ -910,7 +910,7 @@ static void refuse(size_t answers) {
     printf("refused: %ld requests, each in turn\n", request - 1);
 }
 
-/* What was reserved takes no memory: each global of a list is made with the first request refused. */
+/* What was reserved takes no memory: each global of a list is made with the first request refused. Nor do writes. */
 static void reserved(void) {
     enum { MADE = 100 };
     wasmi_call list[MADE];
@@ -931,6 +931,10 @@ static void reserved(void) {
     uint8_t status = wasmi_machine_run_into(&machine, list, MADE, replies, MADE);
     if (status != WASMI_DONE || wasmi_machine_reserve(&machine, &room) != WASMI_NO_ROOM || requests != 1) {
         differs("reserved", "memory was asked for where it is there, or not where it isn't");
+    }
+    requests = 0;
+    if (wasmi_machine_write(&machine, 0, 0, (const uint8_t *)"written", 7).status != WASMI_NO_SUCH || requests != 0) {
+        differs("reserved", "a write asked for memory");
     }
     refused = 0;
     for (int i = 0; i < MADE; i++) {

@@ -125,7 +125,7 @@ static char *lines_of(char *at, size_t tenant) {
     return at;
 }
 
-/* A write by its own call, and what a read finds after it. */
+/* A write by its own call, with the first request for memory refused, and what a read finds after it. */
 static char *written(char *at, size_t tenant) {
     uint8_t bytes[WRITTEN], found[WRITTEN];
     size_t len = (size_t)below(WRITTEN), memory = (size_t)below(3), offset = (size_t)number();
@@ -134,8 +134,13 @@ static char *written(char *at, size_t tenant) {
         bytes[i] = (uint8_t)below(256);
         at += sprintf(at, " %u", bytes[i]);
     }
+    requests = 0, refused = 1;
     wasmi_reply reply = wasmi_pool_write(&pool, tenant, memory, offset, at_edge(0, bytes, len), len);
     prints_status(reply.status);
+    if (requests != 0) {
+        differs("a write asks for memory", script);
+    }
+    refused = 0;
     memset(found, '.', sizeof found);
     wasmi_reply same = wasmi_pool_read(&pool, tenant, memory, offset, found, len);
     if (same.status != reply.status || memcmp(found, reply.status == WASMI_DONE ? (char *)bytes : dots, len) != 0) {

@@ -1,5 +1,5 @@
 -- What calls and lines do to a machine with its limiter.
-use Rattle.std.proofs.Common.{◌≡◌, ◌+◌, ◌<◌, ◌≤◌, ◌++◌, drop, set, take, length, get_or, All, Option, Some, None, false, is_some, map, Ok, Err, List, Result, arith, IfOk, OnErr, [], ◌∷◌, refl, sym, subst, ap, ℕ, ◌∙◌, sum, inl, inr}
+use Rattle.std.proofs.Common.{◌≡◌, ◌+◌, ◌<◌, ◌≤◌, ◌++◌, drop, set, take, length, get_or, All, Option, Some, None, false, is_some, map, Ok, Err, List, Result, arith, IfOk, OnErr, [], ◌∷◌, refl, sym, subst, ap, ℕ, ◌∙◌, ◌^◌, sum, inl, inr}
 use Rattle.std.proofs.lemmas.List.{take_all, take_more, take_more_set}
 use Rattle.std.proofs.lemmas.Option.{same_Some}
 use Rattle.std.specs.Global.{Global}
@@ -13,9 +13,11 @@ use Rattle.wasmi_meter.specs.declared.limiter.Kind.TheVariants.{Bytes, Elements}
 use Rattle.wasmi_meter.specs.declared.quota.Quota.{Quota}
 use Rattle.wasmi_machine.specs.Determinism.{RelatesByKind, RunsKeepKind}
 use Rattle.wasmi_machine.specs.Laws.{HoldsTotalsAlways, QuotasStayWithin}
-use Rattle.wasmi_machine.specs.Steps.{IsRunOf, Run, RepliesWith}
-use Rattle.wasmi_machine.specs.State.{State, with_memories, with_reserved, HoldsTotals, total, Turn, world}
+use Rattle.wasmi_machine.proofs.StepsLemmas.{write_replies}
+use Rattle.wasmi_machine.specs.Steps.{IsRunOf, Run, RepliesWith, SomeCopy}
+use Rattle.wasmi_machine.specs.State.{State, with_memories, with_reserved, HoldsTotals, total, Turn, byte_count, slot_count, world}
 use Rattle.wasmi_machine.specs.declared.calls.Call.{Call}
+use Rattle.wasmi_machine.specs.declared.calls.Call.TheVariants.{Write}
 use Rattle.wasmi_machine.specs.declared.calls.Reply.{Reply}
 use Rattle.wasmi_machine.specs.declared.slots.SlotCounts.{SlotCounts}
 use Rattle.wasmi_c.specs.Machine.Caps.{IsKept, Keeps, MachineValue}
@@ -28,8 +30,8 @@ use Rattle.wasmi_c.specs.Machine.NewMachines.{IsAnswer, IsNewWithAnswers, MakesM
 use Rattle.wasmi_c.specs.declared.machine.call_struct.CallStruct.{CallStruct}
 use Rattle.wasmi_c.specs.declared.machine.limits.Limits.{Limits}
 use Rattle.wasmi_c.specs.declared.machine.reply_struct.ReplyStruct.{ReplyStruct}
-use Rattle.wasmi_machine.proofs.MemoryEffectsLemmas.{vector_store_kept}
-use Rattle.wasmi_machine.specs.MemoryEffects.{StoresMemoryAt}
+use Rattle.wasmi_machine.proofs.MemoryEffectsLemmas.{vector_store_kept, written_kept}
+use Rattle.wasmi_machine.specs.MemoryEffects.{StoresMemoryAt, WritesMemoryAt}
 use Rattle.wasmi_meter.specs.declared.any_limiter.AnyLimiter.TheVariants as limiter
 
 -- what a limiter holds after a run: what the machine has, within the caps of the one before
@@ -113,20 +115,47 @@ calls_run call machine reply machine' (charge, written, step) = (
   (world machine'.state (Some machine'.limiter), step, refl),
 )
 
--- a store keeps the sizes of the memories, so a quota holds what the machine has
-pub kept_by_store : (s : State) (l : AnyLimiter) (index a : ℕ) (stored : List ℕ) (full : Reply) (s' : State)
-    → StoresMemoryAt index a stored s.memories full s'.memories → s' ≡ with_memories s s'.memories → Keeps s l
-    → Keeps s' l
-kept_by_store s limiter.Unlimited index a stored full s' stores rest kept = tt
-kept_by_store s (limiter.Quota quota) index a stored full s' stores rest kept = record {
+-- memories that keep their sizes count as much, so a quota holds what the machine has
+kept_by_sizes : (s : State) (l : AnyLimiter) (s' : State)
+    → map (slot_count byte_count) s'.memories ≡ map (slot_count byte_count) s.memories
+    → s' ≡ with_memories s s'.memories → Keeps s l → Keeps s' l
+kept_by_sizes s limiter.Unlimited s' same rest kept = tt
+kept_by_sizes s (limiter.Quota quota) s' same rest kept = record {
   totals = record {
-    bytes = kept.totals.bytes
-        ∙ sym (ap sum (vector_store_kept index s.memories full s'.memories a (Some stored) stores));
+    bytes = kept.totals.bytes ∙ sym (ap sum same);
     elements = kept.totals.elements ∙ sym (ap (λ state. total state Elements) rest);
   };
   within = kept.within;
 }
-kept_by_store s (limiter.Answers list) index a stored full s' stores rest kept = tt
+kept_by_sizes s (limiter.Answers list) s' same rest kept = tt
+
+-- a store keeps the sizes of the memories
+pub kept_by_store : (s : State) (l : AnyLimiter) (index a : ℕ) (stored : List ℕ) (full : Reply) (s' : State)
+    → StoresMemoryAt index a stored s.memories full s'.memories → s' ≡ with_memories s s'.memories → Keeps s l
+    → Keeps s' l
+kept_by_store s l index a stored full s' stores rest kept =
+    kept_by_sizes s l s' (vector_store_kept index s.memories full s'.memories a (Some stored) stores) rest kept
+
+-- a write keeps them
+pub kept_by_write : (s : State) (l : AnyLimiter) (index offset : ℕ) (bytes : List ℕ) (full : Reply) (s' : State)
+    → WritesMemoryAt index offset bytes s.memories full s'.memories → s' ≡ with_memories s s'.memories → Keeps s l
+    → Keeps s' l
+kept_by_write s l index offset bytes full s' writes rest kept =
+    kept_by_sizes s l s' (written_kept index s.memories full s'.memories offset bytes writes) rest kept
+
+-- a write of bytes is a step of a machine by the call `Write` with a copy of them
+pub machine_writes : (machine : MachineValue) (s : State) (l : AnyLimiter) → record { state = s; limiter = l } ≡ machine
+    → (memory offset : ℕ) (bytes : List ℕ) → length bytes < 2 ^ 63 → (full : Reply) (s' : State)
+    → WritesMemoryAt memory offset bytes s.memories full s'.memories → s' ≡ with_memories s s'.memories
+    → SomeCopy bytes
+    (λ copy. MachineReplies (Write memory offset copy) machine full (record { state = s'; limiter = l }))
+machine_writes machine s l seen memory offset bytes short full s' writes rest =
+    let written = write_replies (optional_rules any_limiter_rules) memory offset bytes short s full s' writes rest in (
+      written.0,
+      written.1,
+      machine_replies machine s l (Write memory offset written.0) full s' l seen
+          (0, 0, written.2 (Some l)),
+    )
 
 -- what is reserved counts nowhere, so a quota holds what the machine has
 pub kept_by_reserve : (s : State) (l : AnyLimiter) (more : SlotCounts) (s' : State) → s' ≡ with_reserved s more

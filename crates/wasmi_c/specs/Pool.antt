@@ -3,6 +3,7 @@ use Rattle.std.specs.Prelude.{◌≡◌, ◌⊎◌, ◌∷◌, [], ⊤, ℕ, Lis
 use Rattle.std.specs.Global.{Global}
 use Rattle.wasmi_meter.specs.declared.limiter.Kind.TheVariants.{Bytes, Elements}
 use Rattle.wasmi_machine.specs.State.{State, new_state, total}
+use Rattle.wasmi_machine.specs.Steps.{SomeCopy}
 use Rattle.wasmi_machine.specs.declared.calls.Call.{Call}
 use Rattle.wasmi_machine.specs.declared.calls.Call.TheVariants.{NewSegment}
 use Rattle.wasmi_machine.specs.declared.calls.Reply.{Reply}
@@ -85,11 +86,17 @@ TenantRepliesToStruct tenant numbers reply pool pool' = MatchOption (call_of num
     ((reply ≡ only NO_CALL) × (pool' ≡ pool))
     (λ call. TenantReplies tenant call reply pool pool')
 
--- so a call that takes a copy of the caller's list; or memory for that is refused, and the pool is the same
+-- so a call that takes the caller's list
+unfoldable pub TenantRepliesToItems
+    : ℕ → (Vec ℕ Global → Call) → List ℕ → ReplyStruct → PoolValue → PoolValue → Type 0
+TenantRepliesToItems tenant call items reply pool pool' =
+    SomeCopy items (λ copy. TenantReplies tenant (call copy) reply pool pool')
+
+-- so one that takes a copy of it; or memory for that is refused, and the pool is the same
 unfoldable pub TenantRepliesToCopy
     : ℕ → (Vec ℕ Global → Call) → List ℕ → ReplyStruct → PoolValue → PoolValue → Type 0
 TenantRepliesToCopy tenant call items reply pool pool' = ((reply ≡ only NO_ROOM) × (pool' ≡ pool))
-    ⊎ ((copy : Vec ℕ Global) × (copy.items ≡ items) × TenantReplies tenant (call copy) reply pool pool')
+    ⊎ TenantRepliesToItems tenant call items reply pool pool'
 
 -- so the making of an element segment; where the number is none of a reference type, the pool is the same
 abbrev pub TenantRepliesToSegment : ℕ → ℕ → List ℕ → ReplyStruct → PoolValue → PoolValue → Type 0

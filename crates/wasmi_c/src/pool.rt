@@ -156,7 +156,7 @@ impl Model for TenantPool {
 
 impl TenantPool {
     ghost use Rattle.wasmi_budget.specs.Pool.{IsWithinCaps, RunsTenant};
-    ghost use Rattle.wasmi_c.specs.Pool.{AddsNewTenant, RefusesTenant, RemovesByStatus, RunsTenantLines, TenantPaysFuel, TenantReadsOut, TenantReplies, TenantRepliesInStatus, TenantRepliesInWord, TenantRepliesToCopy, TenantRepliesToList, TenantRepliesToSegment, TenantReserves, pool_totals, tenant_totals};
+    ghost use Rattle.wasmi_c.specs.Pool.{AddsNewTenant, RefusesTenant, RemovesByStatus, RunsTenantLines, TenantPaysFuel, TenantReadsOut, TenantReplies, TenantRepliesInStatus, TenantRepliesInWord, TenantRepliesToCopy, TenantRepliesToItems, TenantRepliesToList, TenantRepliesToSegment, TenantReserves, pool_totals, tenant_totals};
 
     /// Does nothing: its contract says that the pool is within its caps.
     pub fn show_within(&self)
@@ -542,29 +542,22 @@ impl TenantPool {
         read_out(machine, memory, offset, bytes)
     }
 
-    /// Writes a copy of the caller's bytes over those of a memory of a tenant from an offset on.
-    #[tactic(auto, unfolding(crate::specs::Pool::TenantRepliesToCopy))]
+    /// Writes the caller's bytes over those of a memory of a tenant from an offset on.
     pub fn write(
         &mut self,
-        alloc: Global,
         tenant: usize,
         memory: usize,
         offset: usize,
         bytes: &[u8],
     ) -> ReplyStruct
-        ensures step { TenantRepliesToCopy tenant (Write memory offset) bytes.now result self.old
+        ensures step { TenantRepliesToItems tenant (Write memory offset) bytes.now result self.old
             self.new }
         ensures caps { self.new.caps ≡ self.old.caps }
     {
-        let Ok(bytes) = Vec::from_slice(alloc, bytes) else {
-            return ReplyStruct::only(NO_ROOM);
-        };
-        let call = Call::Write {
-            memory,
-            offset,
-            bytes,
-        };
-        self.reply(tenant, &call)
+        match self.pool.write(tenant, memory, offset, bytes) {
+            Ok(reply) => ReplyStruct::from_common(reply),
+            Err(_) => ReplyStruct::only(NO_TENANT),
+        }
     }
 
     /// Makes an element segment of a copy of the caller's references on the machine of a tenant, if

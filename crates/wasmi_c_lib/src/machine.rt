@@ -1,10 +1,10 @@
 //! A machine by a handle, and a pool of machines. `include/wasmi_machine.h` describes each call.
 ghost use Rattle.std.specs.Prelude.{◌≡◌, ℕ, List, None, Some};
 ghost use Rattle.wasmi_machine.specs.declared.calls.Call.TheVariants.{CopyMemory, FillMemory, GetFuel, GrowMemory, InitMemory, NewData, Write};
-ghost use Rattle.wasmi_c.specs.Machine.Calls.{RepliesInStatus, RepliesInWord, item_load, item_store, vector_binary, ActsOnHeld, OnHeld, ReadsOut, RepliesToCopy, RepliesToList, RepliesToSegment, RepliesToStruct, Reserves, PaysFuel, no_totals, totals_of, RunsLines};
+ghost use Rattle.wasmi_c.specs.Machine.Calls.{RepliesInStatus, RepliesInWord, item_load, item_store, vector_binary, ActsOnHeld, OnHeld, ReadsOut, RepliesToCopy, RepliesToItems, RepliesToList, RepliesToSegment, RepliesToStruct, Reserves, PaysFuel, no_totals, totals_of, RunsLines};
 ghost use Rattle.wasmi_c.specs.Machine.NewMachines.{IsNewMachine, MakesMachine, MakesWithAnswers};
 ghost use Rattle.wasmi_c.specs.Machine.Replies.{only};
-ghost use Rattle.wasmi_c.specs.Pool.{AddsNewTenant, KeepsCaps, MakesPool, RemovesByStatus, RunsTenantLines, TenantPaysFuel, TenantReadsOut, TenantRepliesInStatus, TenantRepliesInWord, TenantRepliesToCopy, TenantRepliesToList, TenantRepliesToSegment, TenantRepliesToStruct, TenantReserves, no_pool_totals, pool_totals, tenant_totals};
+ghost use Rattle.wasmi_c.specs.Pool.{AddsNewTenant, KeepsCaps, MakesPool, RemovesByStatus, RunsTenantLines, TenantPaysFuel, TenantReadsOut, TenantRepliesInStatus, TenantRepliesInWord, TenantRepliesToCopy, TenantRepliesToItems, TenantRepliesToList, TenantRepliesToSegment, TenantRepliesToStruct, TenantReserves, no_pool_totals, pool_totals, tenant_totals};
 ghost use Rattle.wasmi_c.specs.declared.status.TheConstants.{NO_MACHINE, NO_POOL};
 ghost use Rattle.wasmi_c.specs.declared.machine.reply_struct.ReplyStruct.{ReplyStruct};
 
@@ -91,16 +91,15 @@ pub extern "C" fn wasmi_machine_read(
 
 #[unsafe(no_mangle)]
 pub extern "C" fn wasmi_machine_write(
-    alloc: Global,
     handle: &mut Handle,
     memory: usize,
     offset: usize,
     bytes: &[u8],
 ) -> ReplyStruct
-    ensures { OnHeld (RepliesToCopy (Write memory offset) bytes.now) (only NO_MACHINE)
+    ensures { OnHeld (RepliesToItems (Write memory offset) bytes.now) (only NO_MACHINE)
         handle.old.machine.held result handle.new.machine.held }
 {
-    on_machine!(handle, machine => machine.write(alloc, memory, offset, bytes))
+    on_machine!(handle, machine => machine.write(memory, offset, bytes))
 }
 
 #[unsafe(no_mangle)]
@@ -505,7 +504,6 @@ pub extern "C" fn wasmi_pool_read(
 
 #[unsafe(no_mangle)]
 pub extern "C" fn wasmi_pool_write(
-    alloc: Global,
     handle: &mut PoolHandle,
     tenant: usize,
     memory: usize,
@@ -513,10 +511,10 @@ pub extern "C" fn wasmi_pool_write(
     bytes: &[u8],
 ) -> ReplyStruct
     ensures step { ActsOnHeld (only NO_POOL) handle.old.pool.held result handle.new.pool.held
-        (TenantRepliesToCopy tenant (Write memory offset) bytes.now result) }
+        (TenantRepliesToItems tenant (Write memory offset) bytes.now result) }
     ensures caps { KeepsCaps handle.old.pool.held handle.new.pool.held }
 {
-    on_pool!(handle, pool => pool.write(alloc, tenant, memory, offset, bytes))
+    on_pool!(handle, pool => pool.write(tenant, memory, offset, bytes))
 }
 
 #[unsafe(no_mangle)]

@@ -12,7 +12,7 @@ use Rattle.wasmi_meter.specs.declared.error.MemoryError.TheVariants.{OutOfBounds
 use Rattle.wasmi_meter.specs.declared.fuel.FuelError.TheVariants.{FuelMeteringDisabled, OutOfFuel}
 use Rattle.wasmi_meter.specs.declared.limiter.Kind.TheVariants.{Bytes, Elements}
 use Rattle.wasmi_machine.specs.State.{State, live_at, total, with_reserved, World, world, Turn}
-use Rattle.wasmi_machine.specs.Steps.{RepliesWith, IsRunOf, Run}
+use Rattle.wasmi_machine.specs.Steps.{RepliesWith, SomeCopy, IsRunOf, Run}
 use Rattle.wasmi_machine.specs.declared.calls.Call.{Call}
 use Rattle.wasmi_machine.specs.declared.calls.Call.TheVariants.{NewSegment}
 use Rattle.wasmi_machine.specs.declared.calls.Reply.{Reply}
@@ -125,11 +125,17 @@ ReadsOut memory offset machine old reply new = MatchOption (live_at machine.memo
     ((reply ≡ memory_refusal OutOfBoundsAccess) × (new ≡ old))
     (λ bytes. (reply ≡ only DONE) × (new ≡ bytes)))
 
--- a machine replies to a call that takes a copy of the caller's list; or memory for that is refused, and it is the same
+-- a machine replies to a call that takes the caller's list
+unfoldable pub RepliesToItems
+    : (Vec ℕ Global → Call) → List ℕ → MachineValue → ReplyStruct → MachineValue → Type 0
+RepliesToItems call items machine reply machine' =
+    SomeCopy items (λ copy. RepliesInStruct (call copy) machine reply machine')
+
+-- so to one that takes a copy of it; or memory for that is refused, and the machine is the same
 unfoldable pub RepliesToCopy
     : (Vec ℕ Global → Call) → List ℕ → MachineValue → ReplyStruct → MachineValue → Type 0
 RepliesToCopy call items machine reply machine' = ((reply ≡ only NO_ROOM) × (machine' ≡ machine))
-    ⊎ ((copy : Vec ℕ Global) × (copy.items ≡ items) × RepliesInStruct (call copy) machine reply machine')
+    ⊎ RepliesToItems call items machine reply machine'
 
 -- a machine replies to the making of an element segment; where the number is none of a reference type, it is the same
 abbrev pub RepliesToSegment : ℕ → List ℕ → MachineValue → ReplyStruct → MachineValue → Type 0

@@ -46,7 +46,7 @@ impl Model for LimitedMachine {
 }
 
 impl LimitedMachine {
-    ghost use Rattle.wasmi_c.specs.Machine.Calls.{MachineReplies, RepliesInStatus, RepliesInStruct, RepliesInWord, RepliesToCopy, RepliesToSegment, RepliesToList, RepliesToStruct, Reserves, PaysFuel, totals_of};
+    ghost use Rattle.wasmi_c.specs.Machine.Calls.{MachineReplies, RepliesInStatus, RepliesInStruct, RepliesInWord, RepliesToCopy, RepliesToItems, RepliesToSegment, RepliesToList, RepliesToStruct, Reserves, PaysFuel, totals_of};
     ghost use Rattle.wasmi_c.specs.Machine.Caps.{IsCapped};
     ghost use Rattle.wasmi_c.specs.Machine.NewMachines.{IsNewMachine, IsNewWithAnswers};
 
@@ -342,26 +342,13 @@ impl LimitedMachine {
         read_out(&self.machine, memory, offset, bytes)
     }
 
-    /// Writes a copy of the caller's bytes over those of a memory from an offset on.
-    #[tactic(auto, unfolding(crate::specs::Machine::Calls::RepliesToCopy))]
-    pub fn write(
-        &mut self,
-        alloc: Global,
-        memory: usize,
-        offset: usize,
-        bytes: &[u8],
-    ) -> ReplyStruct
-        ensures step { RepliesToCopy (Write memory offset) bytes.now self.old result self.new }
+    /// Writes the caller's bytes over those of a memory from an offset on, which asks no limiter.
+    #[tactic(auto, using(crate::proofs::MachineLemmas::kept_by_write))]
+    pub fn write(&mut self, memory: usize, offset: usize, bytes: &[u8]) -> ReplyStruct
+        ensures step { RepliesToItems (Write memory offset) bytes.now self.old result self.new }
         ensures caps { caps_of self.new.limiter ≡ caps_of self.old.limiter }
     {
-        let Ok(bytes) = Vec::from_slice(alloc, bytes) else {
-            return ReplyStruct::only(NO_ROOM);
-        };
-        self.reply_in_struct(&Call::Write {
-            memory,
-            offset,
-            bytes,
-        })
+        ReplyStruct::from_common(self.machine.write(memory, offset, bytes))
     }
 
     /// Makes an element segment of a copy of the caller's references, if there is such a type.

@@ -2630,26 +2630,19 @@ pub mod machine {
                 read_out(&self.machine, memory, offset, bytes)
             }
 
-            /// Writes a copy of the caller's bytes over those of a memory from an offset on.
+            /// Writes the caller's bytes over those of a memory from an offset on, which asks no limiter.
             ///
             /// # Contract
             ///
             /// ```text
-            /// ensures step: RepliesToCopy (Write memory offset) bytes.now self.old result self.new
+            /// ensures step: RepliesToItems (Write memory offset) bytes.now self.old result self.new
             /// ensures caps: caps_of self.new.limiter ≡ caps_of self.old.limiter
             /// ```
             ///
             /// Definitions: [`caps_of`](crate::specs::meter::AnyLimiterSpecs#caps_of).
             #[inline]
             pub fn write(&mut self, memory: usize, offset: usize, bytes: &[u8]) -> ReplyStruct {
-                let Ok(bytes) = Vec::from_slice(bytes) else {
-                    return ReplyStruct::only(NO_ROOM);
-                };
-                self.reply_in_struct(&Call::Write {
-                    memory,
-                    offset,
-                    bytes,
-                })
+                ReplyStruct::from_common(self.machine.write(memory, offset, bytes))
             }
 
             /// Makes an element segment of a copy of the caller's references, if there is such a type.
@@ -4796,12 +4789,12 @@ pub mod pool {
             read_out(machine, memory, offset, bytes)
         }
 
-        /// Writes a copy of the caller's bytes over those of a memory of a tenant from an offset on.
+        /// Writes the caller's bytes over those of a memory of a tenant from an offset on.
         ///
         /// # Contract
         ///
         /// ```text
-        /// ensures step: TenantRepliesToCopy tenant (Write memory offset) bytes.now result self.old
+        /// ensures step: TenantRepliesToItems tenant (Write memory offset) bytes.now result self.old
         ///     self.new
         /// ensures caps: self.new.caps ≡ self.old.caps
         /// ```
@@ -4813,15 +4806,10 @@ pub mod pool {
             offset: usize,
             bytes: &[u8],
         ) -> ReplyStruct {
-            let Ok(bytes) = Vec::from_slice(bytes) else {
-                return ReplyStruct::only(NO_ROOM);
-            };
-            let call = Call::Write {
-                memory,
-                offset,
-                bytes,
-            };
-            self.reply(tenant, &call)
+            match self.pool.write(tenant, memory, offset, bytes) {
+                Ok(reply) => ReplyStruct::from_common(reply),
+                Err(_) => ReplyStruct::only(NO_TENANT),
+            }
         }
 
         /// Makes an element segment of a copy of the caller's references on the machine of a tenant, if

@@ -734,7 +734,7 @@ mod machine {
     /// # Contract
     ///
     /// ```text
-    /// ensures: OnHeld (RepliesToCopy (Write memory offset) bytes.now) (only NO_MACHINE)
+    /// ensures: OnHeld (RepliesToItems (Write memory offset) bytes.now) (only NO_MACHINE)
     ///     handle.old.machine.held result handle.new.machine.held
     /// ```
     #[unsafe(no_mangle)]
@@ -1262,7 +1262,7 @@ mod machine {
     ///
     /// ```text
     /// ensures step: ActsOnHeld (only NO_POOL) handle.old.pool.held result handle.new.pool.held
-    ///     (TenantRepliesToCopy tenant (Write memory offset) bytes.now result)
+    ///     (TenantRepliesToItems tenant (Write memory offset) bytes.now result)
     /// ensures caps: KeepsCaps handle.old.pool.held handle.new.pool.held
     /// ```
     #[unsafe(no_mangle)]
