@@ -947,6 +947,36 @@ static void reserved(void) {
     nothing_left("reserved");
 }
 
+/* A table whose elements are reserved grows up to its maximum with the first request refused. */
+static void reserved_elements(void) {
+    enum { MOST = 1000 };
+    const wasmi_limits limits = {.is_unlimited = 1};
+    wasmi_call table = of_kind(WASMI_CALL_NEW_TABLE), growth = of_kind(WASMI_CALL_GROW_TABLE);
+    wasmi_machine machine;
+    memset(&machine, 0, sizeof machine);
+    table.maximum = MOST, table.has_maximum = 1, growth.count = MOST / 2;
+    if (wasmi_machine_reserve_elements(&machine, 0, MOST) != WASMI_NO_MACHINE
+        || wasmi_machine_new(&machine, &limits) != WASMI_DONE
+        || wasmi_machine_reserve_elements(&machine, 0, MOST) != WASMI_NO_SUCH
+        || wasmi_machine_call(&machine, &table).status != WASMI_DONE
+        || wasmi_machine_reserve_elements(&machine, 0, UINT64_MAX) != WASMI_NO_ROOM
+        || wasmi_machine_reserve_elements(&machine, 0, MOST) != WASMI_DONE) {
+        differs("reserved elements", "another status");
+    }
+    requests = 0, refused = 1;
+    wasmi_reply first = wasmi_machine_call(&machine, &growth);
+    growth.count = MOST - MOST / 2 - 1;
+    wasmi_reply second = wasmi_machine_call(&machine, &growth);
+    if (first.status != WASMI_DONE || first.number != 1 || second.status != WASMI_DONE || second.number != MOST / 2 + 1
+        || wasmi_machine_reserve_elements(&machine, 0, MOST) != WASMI_DONE || requests != 0) {
+        differs("reserved elements", "memory was asked for where it is there");
+    }
+    refused = 0;
+    calls += 3;
+    wasmi_machine_drop(&machine);
+    nothing_left("reserved elements");
+}
+
 int main(int count, char **words) {
     long wanted = (long)argument(count, words, 1, 10000);
     uint64_t seed = argument(count, words, 2, 1);
@@ -960,6 +990,7 @@ int main(int count, char **words) {
     nothing_left("random");
     printf("random: %ld calls beside %ld scripts\n", calls - before, sequences);
     reserved();
+    reserved_elements();
     run_threads(seed, sequences / 40 + 1);
     nothing_left("threads");
     pass_on();

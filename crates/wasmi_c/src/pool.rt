@@ -156,7 +156,7 @@ impl Model for TenantPool {
 
 impl TenantPool {
     ghost use Rattle.wasmi_budget.specs.Pool.{IsWithinCaps, RunsTenant};
-    ghost use Rattle.wasmi_c.specs.Pool.{AddsNewTenant, RefusesTenant, RemovesByStatus, RunsTenantLines, TenantPaysFuel, TenantReadsOut, TenantReplies, TenantRepliesInStatus, TenantRepliesInWord, TenantRepliesToCopy, TenantRepliesToItems, TenantRepliesToList, TenantRepliesToSegment, TenantReserves, pool_totals, tenant_totals};
+    ghost use Rattle.wasmi_c.specs.Pool.{AddsNewTenant, RefusesTenant, RemovesByStatus, RunsTenantLines, TenantPaysFuel, TenantReadsOut, TenantReplies, TenantRepliesInStatus, TenantRepliesInWord, TenantRepliesToCopy, TenantRepliesToItems, TenantRepliesToList, TenantRepliesToSegment, TenantReserves, pool_totals, tenant_totals, TenantReservesElements};
 
     /// Does nothing: its contract says that the pool is within its caps.
     pub fn show_within(&self)
@@ -254,6 +254,18 @@ impl TenantPool {
             Ok(()) => DONE,
             Err(ReserveError::NoTenant) => NO_TENANT,
             Err(ReserveError::OutOfMemory) => NO_ROOM,
+        }
+    }
+
+    /// Reserves memory for so many elements in all of a table of a tenant. If the memory is refused,
+    /// nothing has changed.
+    pub fn reserve_elements(&mut self, tenant: usize, table: usize, elements: u64) -> u8
+        ensures step { TenantReservesElements tenant table elements result self.old self.new }
+        ensures caps { self.new.caps ≡ self.old.caps }
+    {
+        match self.pool.reserve_elements(tenant, table, elements) {
+            Ok(reply) => ReplyStruct::from_reply(&reply).status,
+            Err(_) => NO_TENANT,
         }
     }
 
