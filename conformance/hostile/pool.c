@@ -590,7 +590,7 @@ static void removals(void) {
 }
 
 /* On a tenant whose slots and elements are reserved a global is made, and a table grows, with the first request refused. */
-static void reserved(void) {
+static void reserved_elements(void) {
     enum { MOST = 9 };
     const wasmi_call global = {.kind = WASMI_CALL_NEW_GLOBAL, .type = WASMI_TYPE_I32};
     const wasmi_call table = {.kind = WASMI_CALL_NEW_TABLE, .count = 1, .maximum = MOST, .has_maximum = 1,
@@ -636,7 +636,7 @@ static void one_script(void) {
     }
     totals();
     removals();
-    reserved();
+    reserved_elements();
     wasmi_pool_drop(&pool);
     wasmi_pool_drop(&none);
     same_whole(at, printed_len);
