@@ -258,6 +258,12 @@ fn lengthened(text: &[u8], random: &mut Random) -> Vec<u8> {
     lines.join(&b'\n')
 }
 
+/// False for a script that was spoiled such that it asks for much memory, or for more than there is.
+fn is_small(name: &str, script: &Script, text: &[u8]) -> bool {
+    let region = script.header.region.map_or(0, |region| region.len);
+    name != "bad" || (region < 1 << 22 && !Generator::asks_too_much(text))
+}
+
 #[derive(Default)]
 struct Tally {
     scripts: u64,
@@ -316,11 +322,7 @@ fn main() {
             let mut generator = Generator::new(seed.wrapping_mul(37).wrapping_add(number * 8 + index as u64));
             generator.write_script(name, number as usize);
             let text = lengthened(&generator.text, &mut random);
-            // A spoiled script may ask for more memory than there is.
-            if *name == "bad" && Generator::asks_too_much(&text) {
-                continue;
-            }
-            if let Ok(script) = parse(&text) {
+            if let Some(script) = parse(&text).ok().filter(|script| is_small(name, script, &text)) {
                 tally.try_script(&script, &text);
             }
         }
