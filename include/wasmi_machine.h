@@ -245,8 +245,8 @@ typedef struct { size_t memories, tables, segments, data_segments, globals; } wa
    its slot: a global then takes none, and is never refused by NO_ROOM; a memory takes its bytes, a table its elements,
    and a segment the copies of what it has. All other calls on what is there take none, except a growth, unless it is one
    of a table for whose elements memory is reserved, and wasmi_machine_run_lines. So a host that reserves, and makes what
-   it needs, runs any number of these without asking for memory again. What was reserved already stays so, and doesn't add up: to reserve 4 twice, with nothing made between,
-   reserves 4. It counts within no cap.
+   it needs, runs any number of these without asking for memory again. What was reserved already stays so, and doesn't
+   add up: to reserve 4 twice, with nothing made between, reserves 4. It counts within no cap.
    DONE; NO_MACHINE; then NO_ROOM if the system refuses memory for some of them. Then none more is reserved. */
 uint8_t wasmi_machine_reserve(wasmi_machine *machine, const wasmi_room *room) WASMI_CHECKED WASMI_NOT_NULL(1, 2);
 
