@@ -1,5 +1,5 @@
 //! Which calls of guests ask for memory, once their instance is made and the engine has a stack: those that grow a memory
-//! or a table, and those that end by an error.
+//! or a table, that go on in another instance, and that end by an error.
 
 use engine::{Config, Engine, Func, Instance, Linker, Module, Store, Val};
 use std::alloc::{GlobalAlloc, Layout, System};
@@ -130,4 +130,36 @@ fn a_thousand_calls() {
         assert!(run.call(&mut store, 7).is_ok_and(|result| result == first));
     }
     assert_eq!(REQUESTS.get(), before);
+}
+
+/// Of a function, how many requests a hundred calls make after the first one.
+fn of_a_hundred(store: &mut Store<()>, instance: &Instance, name: &str) -> u64 {
+    let function = instance.get_typed_func::<i32, i32>(&*store, name).unwrap();
+    function.call(&mut *store, 3).unwrap();
+    let before = REQUESTS.get();
+    assert!((0..100).all(|_| function.call(&mut *store, 3).is_ok()));
+    REQUESTS.get() - before
+}
+
+/// A function of the host, by a closure, asks for nothing.
+#[test]
+fn functions_of_the_host() {
+    let engine = Engine::default();
+    let (mut linker, mut store) = (Linker::new(&engine), Store::new(&engine, ()));
+    linker.func_wrap("host", "shout", |_: i32, len: i32| len).unwrap();
+    linker.func_wrap("host", "again", |count: i32| count).unwrap();
+    let instance = linker.instantiate(&mut store, &module(&engine, "../tests/hosts/caller")).unwrap();
+    assert_eq!(of_a_hundred(&mut store, &instance, "count"), 0);
+}
+
+/// A call that goes on in another instance asks for the list of those that wait.
+#[test]
+fn calls_between_instances() {
+    let engine = Engine::default();
+    let (mut linker, mut store) = (Linker::new(&engine), Store::new(&engine, ()));
+    let provider = linker.instantiate(&mut store, &module(&engine, "../tests/hosts/provider")).unwrap();
+    linker.instance(&mut store, "provider", &provider).unwrap();
+    let user = linker.instantiate(&mut store, &module(&engine, "../tests/hosts/user")).unwrap();
+    assert_eq!(of_a_hundred(&mut store, &provider, "add_own"), 0);
+    assert_eq!(of_a_hundred(&mut store, &user, "direct"), 100);
 }
