@@ -213,6 +213,16 @@ impl TenantPool {
             let (dst, a, b) = (numbers.dst, numbers.a, numbers.b);
             return self.reply(tenant, &Call::Binary { op, dst, a, b });
         }
+        self.reply_to_any_struct(tenant, numbers)
+    }
+
+    /// Replies to the call that numbers stand for by a `Call` of all of them. It is no part of
+    /// `reply_to_struct`, which would be too large to be inlined with it.
+    #[tactic(auto, unfolding(crate::specs::Machine::CallStructs::call_of))]
+    fn reply_to_any_struct(&mut self, tenant: usize, numbers: &CallStruct) -> ReplyStruct
+        ensures step { TenantRepliesToStruct tenant numbers.now result self.old self.new }
+        ensures caps { self.new.caps ≡ self.old.caps }
+    {
         match &numbers.call() {
             Some(call) => self.reply(tenant, call).by_fields(),
             None => ReplyStruct::only(NO_CALL),

@@ -4407,6 +4407,20 @@ pub mod pool {
                 let (dst, a, b) = (numbers.dst, numbers.a, numbers.b);
                 return self.reply(tenant, &Call::Binary { op, dst, a, b });
             }
+            self.reply_to_any_struct(tenant, numbers)
+        }
+
+        /// Replies to the call that numbers stand for by a `Call` of all of them. It is no part of
+        /// `reply_to_struct`, which would be too large to be inlined with it.
+        ///
+        /// # Contract
+        ///
+        /// ```text
+        /// ensures step: TenantRepliesToStruct tenant numbers.now result self.old self.new
+        /// ensures caps: self.new.caps ≡ self.old.caps
+        /// ```
+        #[inline]
+        fn reply_to_any_struct(&mut self, tenant: usize, numbers: &CallStruct) -> ReplyStruct {
             match &numbers.call() {
                 Some(call) => self.reply(tenant, call).by_fields(),
                 None => ReplyStruct::only(NO_CALL),
