@@ -44,8 +44,8 @@ extern "C" {
    machine's memory, data segments, wasmi_pool_remove, wasmi_quota_release_memory and _table, wasmi_memory_new_zeroed
    and wasmi_memory_grow_zeroed. Since 2.0.0 the functions of wasmi_instructions.h have the prefix wasmi_, in place of
    wasm_; it came with wasmi_core_version, wasmi_table_copy_within, with wasmi_pool_fill, _copy, _init, _new_segment,
-   _new_data and _consume_fuel, and with wasmi_machine_reserve, wasmi_machine_run_into, wasmi_pool_reserve and
-   wasmi_pool_run_into. */
+   _new_data and _consume_fuel, and with wasmi_machine_reserve, _reserve_elements and _run_into, and
+   wasmi_pool_reserve, _reserve_elements and _run_into. */
 #define WASMI_CORE_VERSION "2.0.0"
 #define WASMI_CORE_VERSION_MAJOR 2
 #define WASMI_CORE_VERSION_MINOR 0

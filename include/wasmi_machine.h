@@ -243,12 +243,18 @@ typedef struct { size_t memories, tables, segments, data_segments, globals; } wa
 
 /* Reserves so many more slots at once, beside those of what was made. What is made in them later takes no memory for
    its slot: a global then takes none, and is never refused by NO_ROOM; a memory takes its bytes, a table its elements,
-   and a segment the copies of what it has. All other calls on what is there take none, except a growth and
-   wasmi_machine_run_lines. So a host that reserves, and makes what it needs, runs any number of these without asking for
-   memory again. What was reserved already stays so, and doesn't add up: to reserve 4 twice, with nothing made between,
-   reserves 4. It counts within no cap.
+   and a segment the copies of what it has. All other calls on what is there take none, except a growth, unless it is one
+   of a table for whose elements memory is reserved, and wasmi_machine_run_lines. So a host that reserves, and makes what
+   it needs, runs any number of these without asking for memory again. What was reserved already stays so, and doesn't
+   add up: to reserve 4 twice, with nothing made between, reserves 4. It counts within no cap.
    DONE; NO_MACHINE; then NO_ROOM if the system refuses memory for some of them. Then none more is reserved. */
 uint8_t wasmi_machine_reserve(wasmi_machine *machine, const wasmi_room *room) WASMI_CHECKED WASMI_NOT_NULL(1, 2);
+
+/* Reserves memory for so many elements of a table, those that are there included: until it has more, no growth of it is
+   refused with TABLE_OUT_OF_MEMORY. What was reserved already stays so, and it counts within no cap.
+   DONE; NO_MACHINE; then NO_SUCH, NO_ROOM if the system refuses the memory. Then no more is reserved. */
+uint8_t wasmi_machine_reserve_elements(wasmi_machine *machine, size_t table, uint64_t elements)
+    WASMI_CHECKED WASMI_NOT_NULL(1);
 
 /* The calls that engines make most, with plain arguments; each does what wasmi_machine_call does with the same operands,
    and returns the status. Before all else: NO_MACHINE, then NO_CALL if op is no number of such an
@@ -362,6 +368,10 @@ uint8_t wasmi_pool_run_into(wasmi_pool *pool, size_t tenant, const wasmi_call *c
 
 /* As wasmi_machine_reserve on a tenant's machine: DONE; NO_POOL, NO_TENANT, NO_ROOM. */
 uint8_t wasmi_pool_reserve(wasmi_pool *pool, size_t tenant, const wasmi_room *room) WASMI_CHECKED WASMI_NOT_NULL(1, 3);
+
+/* As wasmi_machine_reserve_elements for a table of a tenant: DONE; NO_POOL, NO_TENANT, NO_SUCH, NO_ROOM. */
+uint8_t wasmi_pool_reserve_elements(wasmi_pool *pool, size_t tenant, size_t table, uint64_t elements)
+    WASMI_CHECKED WASMI_NOT_NULL(1);
 
 /* The calls that engines make most, with plain arguments: each does what wasmi_pool_call does with the same operands, in
    less time, and returns and sets what the call of a machine by the same name does. Before all else: NO_POOL, then

@@ -2,6 +2,7 @@
    function takes the place of the library's by --wrap, and passes on everything but what its fault changes. */
 #include "wasmi_oracle.h"
 #include "wasmi_memory.h"
+#include <stdlib.h>
 
 uint8_t __real_wasmi_binary(uint16_t number, wasmi_words a, wasmi_words b, wasmi_words *value);
 uint8_t __real_wasmi_binary_each(uint16_t number, const wasmi_words *a, size_t a_len, const wasmi_words *b, size_t b_len,
@@ -123,5 +124,15 @@ uint8_t __wrap_wasmi_table_copy_within(const wasmi_table *table, uint32_t *eleme
                                        const wasmi_range *range, wasmi_meter *meter, uint64_t *number) {
     const wasmi_range exchanged = {range->from, range->to, range->count};
     return __real_wasmi_table_copy_within(table, elements, elements_len, &exchanged, meter, number);
+}
+#endif
+
+#if FAULT == 14
+wasmi_reply __real_wasmi_pool_call(wasmi_pool *pool, size_t tenant, const wasmi_call *call);
+
+wasmi_reply __wrap_wasmi_pool_call(wasmi_pool *pool, size_t tenant, const wasmi_call *call) {
+    void *volatile block = malloc(sizeof *call);
+    free(block);
+    return __real_wasmi_pool_call(pool, tenant, call);
 }
 #endif

@@ -947,6 +947,178 @@ static void reserved(void) {
     nothing_left("reserved");
 }
 
+/* A table whose elements are reserved grows up to its maximum with the first request refused. */
+static void reserved_elements(void) {
+    enum { MOST = 1000 };
+    const wasmi_limits limits = {.is_unlimited = 1};
+    wasmi_call table = of_kind(WASMI_CALL_NEW_TABLE), growth = of_kind(WASMI_CALL_GROW_TABLE);
+    wasmi_machine machine;
+    memset(&machine, 0, sizeof machine);
+    table.maximum = MOST, table.has_maximum = 1, growth.count = MOST / 2;
+    if (wasmi_machine_reserve_elements(&machine, 0, MOST) != WASMI_NO_MACHINE
+        || wasmi_machine_new(&machine, &limits) != WASMI_DONE
+        || wasmi_machine_reserve_elements(&machine, 0, MOST) != WASMI_NO_SUCH
+        || wasmi_machine_call(&machine, &table).status != WASMI_DONE
+        || wasmi_machine_reserve_elements(&machine, 0, UINT64_MAX) != WASMI_NO_ROOM
+        || wasmi_machine_reserve_elements(&machine, 0, MOST) != WASMI_DONE) {
+        differs("reserved elements", "another status");
+    }
+    requests = 0, refused = 1;
+    wasmi_reply first = wasmi_machine_call(&machine, &growth);
+    growth.count = MOST - MOST / 2 - 1;
+    wasmi_reply second = wasmi_machine_call(&machine, &growth);
+    if (first.status != WASMI_DONE || first.number != 1 || second.status != WASMI_DONE || second.number != MOST / 2 + 1
+        || wasmi_machine_reserve_elements(&machine, 0, MOST) != WASMI_DONE || requests != 0) {
+        differs("reserved elements", "memory was asked for where it is there");
+    }
+    refused = 0;
+    calls += 3;
+    wasmi_machine_drop(&machine);
+    nothing_left("reserved elements");
+}
+
+/* What is set up once: a machine and a tenant of a pool that have reserved what their calls need, and a machine that has
+   reserved nothing. */
+struct once {
+    wasmi_machine machine, plain;
+    wasmi_pool pool;
+};
+
+/* How many slots of each kind are reserved, and the elements of each table. */
+enum { SLOTS = 40, MOST_ELEMENTS = 12 };
+
+/* The same reply of all three, for which none of the first two asked for memory. */
+static void same_of_each(const wasmi_call *call, wasmi_reply own, wasmi_reply tenants, wasmi_reply plain) {
+    char texts[3][MOST_LINE], line[2 * MOST_LINE];
+    *text_of(texts[0], call, own) = *text_of(texts[1], call, tenants) = *text_of(texts[2], call, plain) = 0;
+    calls++;
+    if (requests != 0 || strcmp(texts[0], texts[2]) != 0 || strcmp(texts[1], texts[2]) != 0) {
+        *line_of(line, call) = 0;
+        differs(requests != 0 ? "set up once: memory is asked for" : "set up once: another reply", line);
+    }
+}
+
+/* A call of the set-up, which is done on each. */
+static void made_on_each(struct once *o, wasmi_call call) {
+    if (wasmi_machine_call(&o->machine, &call).status != WASMI_DONE
+        || wasmi_machine_call(&o->plain, &call).status != WASMI_DONE
+        || wasmi_pool_call(&o->pool, 0, &call).status != WASMI_DONE) {
+        differs("set up once", "a call of the set-up isn't done");
+    }
+}
+
+/* Segments with items, which take memory, on each. */
+static void segments_on_each(struct once *o) {
+    const uint32_t items[3] = {1, 2, 3};
+    const uint8_t *bytes = (const uint8_t *)"bytes";
+    if (wasmi_machine_new_segment(&o->machine, WASMI_TYPE_FUNCREF, items, 3).status != WASMI_DONE
+        || wasmi_machine_new_segment(&o->plain, WASMI_TYPE_FUNCREF, items, 3).status != WASMI_DONE
+        || wasmi_pool_new_segment(&o->pool, 0, WASMI_TYPE_FUNCREF, items, 3).status != WASMI_DONE
+        || wasmi_machine_new_data(&o->machine, bytes, 5).status != WASMI_DONE
+        || wasmi_machine_new_data(&o->plain, bytes, 5).status != WASMI_DONE
+        || wasmi_pool_new_data(&o->pool, 0, bytes, 5).status != WASMI_DONE) {
+        differs("set up once", "a segment isn't made");
+    }
+}
+
+/* A memory, two tables, segments and fuel on each, and slots and elements that are reserved on the first two. */
+static void set_up(struct once *o) {
+    const wasmi_room room = {.segments = SLOTS, .data_segments = SLOTS, .globals = SLOTS};
+    wasmi_call table = of_kind(WASMI_CALL_NEW_TABLE), fuel = of_kind(WASMI_CALL_SET_FUEL);
+    table.count = 3, table.maximum = MOST_ELEMENTS, table.has_maximum = 1, fuel.count = below(100000);
+    memset(o, 0, sizeof *o);
+    if (wasmi_machine_new(&o->machine, &LIMITS) != WASMI_DONE || wasmi_machine_new(&o->plain, &LIMITS) != WASMI_DONE
+        || wasmi_pool_new(&o->pool, LIMITS.bytes, LIMITS.elements) != WASMI_DONE
+        || wasmi_pool_add(&o->pool, &LIMITS).status != WASMI_DONE) {
+        exit(2);
+    }
+    made_on_each(o, of_kind(WASMI_CALL_NEW_MEMORY));
+    made_on_each(o, table);
+    made_on_each(o, table);
+    made_on_each(o, fuel);
+    segments_on_each(o);
+    uint8_t status = wasmi_machine_reserve(&o->machine, &room) | wasmi_pool_reserve(&o->pool, 0, &room);
+    for (size_t index = 0; index < 2; index++) {
+        status |= wasmi_machine_reserve_elements(&o->machine, index, MOST_ELEMENTS);
+        status |= wasmi_pool_reserve_elements(&o->pool, 0, index, MOST_ELEMENTS);
+    }
+    if (status != WASMI_DONE) {
+        differs("set up once", "a reservation is refused");
+    }
+}
+
+/* Whether a call needs no memory but what is reserved, after so many globals. */
+static int is_reserved(const wasmi_call *call, int *globals) {
+    switch (call->kind) {
+        case WASMI_CALL_NEW_MEMORY:
+        case WASMI_CALL_NEW_TABLE:
+        case WASMI_CALL_GROW_MEMORY: return 0;
+        case WASMI_CALL_NEW_GLOBAL: return ++*globals <= SLOTS;
+        default: return 1;
+    }
+}
+
+/* A random call on each, on the first two with the first request for memory refused. */
+static void call_on_each(struct once *o, wasmi_call call) {
+    requests = 0, refused = 1;
+    wasmi_reply own = called(&o->machine, call);
+    wasmi_reply tenants = wasmi_pool_call(&o->pool, 0, at_edge(OF_CALL, &call, sizeof call));
+    long asked = requests;
+    refused = 0;
+    wasmi_reply plain = called(&o->plain, call);
+    requests = asked;
+    same_of_each(&call, own, tenants, plain);
+}
+
+/* What has arrays of the caller's: segments without items, a read and a write. */
+static void arrays_on_each(struct once *o) {
+    const wasmi_call none = of_kind(WASMI_CALL_SET_FUEL);
+    uint8_t bytes[3][8] = {{0}, {1}, {2}};
+    size_t offset = (size_t)number(), len = (size_t)below(8);
+    requests = 0, refused = 1;
+    wasmi_reply own[4] = {wasmi_machine_new_segment(&o->machine, WASMI_TYPE_FUNCREF, NULL, 0),
+                          wasmi_machine_new_data(&o->machine, NULL, 0),
+                          wasmi_machine_write(&o->machine, 0, offset, bytes[2], len),
+                          wasmi_machine_read(&o->machine, 0, offset, bytes[0], len)};
+    wasmi_reply tenants[4] = {wasmi_pool_new_segment(&o->pool, 0, WASMI_TYPE_FUNCREF, NULL, 0),
+                              wasmi_pool_new_data(&o->pool, 0, NULL, 0),
+                              wasmi_pool_write(&o->pool, 0, 0, offset, bytes[2], len),
+                              wasmi_pool_read(&o->pool, 0, 0, offset, bytes[1], len)};
+    long asked = requests;
+    refused = 0;
+    wasmi_reply plain[4] = {wasmi_machine_new_segment(&o->plain, WASMI_TYPE_FUNCREF, NULL, 0),
+                            wasmi_machine_new_data(&o->plain, NULL, 0),
+                            wasmi_machine_write(&o->plain, 0, offset, bytes[2], len),
+                            wasmi_machine_read(&o->plain, 0, offset, bytes[2], len)};
+    requests = asked;
+    for (int i = 0; i < 4; i++) {
+        same_of_each(&none, own[i], tenants[i], plain[i]);
+    }
+    if (own[3].status == WASMI_DONE && (memcmp(bytes[0], bytes[2], len) != 0 || memcmp(bytes[1], bytes[2], len) != 0)) {
+        differs("set up once", "other bytes");
+    }
+}
+
+/* A hostile guest on what is set up once: no call asks for memory, and each does what it does where nothing is reserved. */
+static void run_once(uint64_t seed) {
+    struct once o;
+    int globals = 0;
+    random_state = seed;
+    set_up(&o);
+    for (int i = 0; i < 5 * SEQUENCE; i++) {
+        wasmi_call call = random_call();
+        if (is_reserved(&call, &globals)) {
+            call_on_each(&o, call);
+        }
+        if (i % SLOTS == 0) {
+            arrays_on_each(&o);
+        }
+    }
+    wasmi_machine_drop(&o.machine);
+    wasmi_machine_drop(&o.plain);
+    wasmi_pool_drop(&o.pool);
+}
+
 int main(int count, char **words) {
     long wanted = (long)argument(count, words, 1, 10000);
     uint64_t seed = argument(count, words, 2, 1);
@@ -960,6 +1132,13 @@ int main(int count, char **words) {
     nothing_left("random");
     printf("random: %ld calls beside %ld scripts\n", calls - before, sequences);
     reserved();
+    reserved_elements();
+    before = calls;
+    for (long i = 0; i < sequences; i++) {
+        run_once(seed + (uint64_t)i);
+    }
+    nothing_left("set up once");
+    printf("set up once: %ld calls, with the first request for memory refused\n", calls - before);
     run_threads(seed, sequences / 40 + 1);
     nothing_left("threads");
     pass_on();

@@ -589,6 +589,38 @@ static void removals(void) {
     }
 }
 
+/* On a tenant whose slots and elements are reserved a global is made, and a table grows, with the first request refused. */
+static void reserved_elements(void) {
+    enum { MOST = 9 };
+    const wasmi_call global = {.kind = WASMI_CALL_NEW_GLOBAL, .type = WASMI_TYPE_I32};
+    const wasmi_call table = {.kind = WASMI_CALL_NEW_TABLE, .count = 1, .maximum = MOST, .has_maximum = 1,
+                              .type = WASMI_TYPE_FUNCREF};
+    const wasmi_call growth = {.kind = WASMI_CALL_GROW_TABLE, .count = MOST - 1, .type = WASMI_TYPE_FUNCREF};
+    const wasmi_room room = {.globals = 1}, too_much = {.globals = SIZE_MAX};
+    const wasmi_limits limits = {.is_unlimited = 1};
+    wasmi_pool own;
+    memset(&own, 0, sizeof own);
+    if (wasmi_pool_reserve(&own, 0, &room) != WASMI_NO_POOL
+        || wasmi_pool_reserve_elements(&own, 0, 0, MOST) != WASMI_NO_POOL
+        || wasmi_pool_new(&own, 0, MOST) != WASMI_DONE || wasmi_pool_add(&own, &limits).status != WASMI_DONE
+        || wasmi_pool_reserve(&own, 1, &room) != WASMI_NO_TENANT
+        || wasmi_pool_reserve_elements(&own, 1, 0, MOST) != WASMI_NO_TENANT
+        || wasmi_pool_reserve(&own, 0, &too_much) != WASMI_NO_ROOM || wasmi_pool_reserve(&own, 0, &room) != WASMI_DONE
+        || wasmi_pool_reserve_elements(&own, 0, 0, MOST) != WASMI_NO_SUCH
+        || wasmi_pool_call(&own, 0, &table).status != WASMI_DONE
+        || wasmi_pool_reserve_elements(&own, 0, 0, UINT64_MAX) != WASMI_NO_ROOM
+        || wasmi_pool_reserve_elements(&own, 0, 0, MOST) != WASMI_DONE) {
+        differs("a reservation for a tenant", script);
+    }
+    requests = 0, refused = 1;
+    if (wasmi_pool_call(&own, 0, &global).status != WASMI_DONE || wasmi_pool_call(&own, 0, &growth).status != WASMI_DONE
+        || requests != 0) {
+        differs("memory was asked for where it is reserved", script);
+    }
+    refused = 0;
+    wasmi_pool_drop(&own);
+}
+
 static void one_script(void) {
     printed_len = 0;
     char *at = begin();
@@ -604,6 +636,7 @@ static void one_script(void) {
     }
     totals();
     removals();
+    reserved_elements();
     wasmi_pool_drop(&pool);
     wasmi_pool_drop(&none);
     same_whole(at, printed_len);

@@ -10,7 +10,7 @@ use std::panic::{AssertUnwindSafe, catch_unwind};
 use wasmi_core_proved::machine::{
     self, Call, Machine, MemoryError, NoLimits, Quota, Replies, Reply, SlotCounts, TooManyCalls,
 };
-use wasmi_core_proved::pool::Pool;
+use wasmi_core_proved::pool::{Pool, PoolError};
 use wasmi_core_proved::script::{Status, replay};
 use wasmi_core_proved::{
     Fuel, FuelCostsProvider, FuncType, GlobalType, Memory, MemoryType, Mutability, RawRef, RawVal,
@@ -370,6 +370,35 @@ fn reserved_tenants() {
     let ran = pool.run_into(0, &[global(), global()], &mut replies);
     assert_eq!((GRANTED.take(), ran), (Some(0), Ok(())));
     assert_eq!(replies.as_slice(), [Reply::Made(0), Reply::Made(1)]);
+}
+
+/// A table whose elements are reserved, also a tenant's, grows without asking for memory.
+#[test]
+fn reserved_elements() {
+    let mut machine = Machine::new(off());
+    assert_eq!(machine.reserve_elements(0, 9), Reply::NoSuch);
+    let mut pool = Pool::new(0, 9);
+    assert_eq!(pool.add(machine).ok(), Some(0));
+    let ty = TableType::new(RefType::Func, 1, Some(9));
+    let made = pool.step(0, &Call::NewTable { ty, init: func(1) });
+    assert_eq!(made, Ok(Reply::Made(0)));
+    GRANTED.set(Some(0));
+    assert_eq!(pool.reserve_elements(0, 0, 9), Ok(Reply::NoRoom));
+    assert_eq!(GRANTED.take(), None);
+    assert_eq!(pool.reserve_elements(0, 0, 9), Ok(Reply::Done));
+    assert_eq!(pool.reserve_elements(0, 1, 9), Ok(Reply::NoSuch));
+    assert_eq!(pool.reserve_elements(1, 0, 9), Err(PoolError::NoTenant));
+
+    let growth = |delta| Call::GrowTable {
+        table: 0,
+        delta,
+        init: func(2),
+    };
+    GRANTED.set(Some(0));
+    let grown = [3, 5].map(|delta| pool.step(0, &growth(delta)));
+    assert_eq!(pool.reserve_elements(0, 0, 9), Ok(Reply::Done));
+    assert_eq!(GRANTED.take(), Some(0));
+    assert_eq!(grown, [Ok(Reply::Number(1)), Ok(Reply::Number(4))]);
 }
 
 #[test]

@@ -18,8 +18,8 @@ use Rattle.wasmi_machine.specs.State.{State}
 use Rattle.wasmi_machine.proofs.CarryingLemmas.{Carries, runs_too}
 use Rattle.wasmi_budget.specs.declared.tenant.Tenant.{Tenant}
 use Rattle.wasmi_budget.specs.Pool.{capped_tenant, tenant_rules, without_others, PoolValue, machine_of, tenant_at, RunsTenantBy, RunsTenant}
-use Rattle.wasmi_budget.proofs.PoolLemmas.{tenant_inside}
-use Rattle.wasmi_budget.specs.Laws.{PoolTurn, Added, Ran, Removed, Refused, PoolRun, PermittingRun, own_turns, OthersDontShow, RunsAsAlone, RepliesPermit}
+use Rattle.wasmi_budget.proofs.PoolLemmas.{BecomesAlike, elements_reserved, slots_reserved, tenant_inside}
+use Rattle.wasmi_budget.specs.Laws.{PoolTurn, Added, Ran, Removed, Refused, Reserved, ReservedElements, PoolRun, PoolStep, PermittingRun, own_turns, OthersDontShow, RunsAsAlone, RepliesPermit}
 use Rattle.wasmi_machine.specs.Determinism.{permitting, TellsNoDenial}
 use Rattle.wasmi_machine.proofs.RevealingLemmas.{permitted_run}
 
@@ -87,18 +87,18 @@ true_not_false : false ≡ true → ⊥
 true_not_false same = cc
 
 -- a machine is at its index after another one was added
-kept_added : (machines : List (Option State)) (index : ℕ) (s : State) (added : Option State)
+pub kept_added : (machines : List (Option State)) (index : ℕ) (s : State) (added : Option State)
     → get_or machines index None ≡ Some s → get_or (machines ++ added ∷ []) index None ≡ Some s
 kept_added machines index s added found =
     get_or_append_left machines (added ∷ []) None index (tenant_inside machines index s found) ∙ found
 
 -- a machine is at its index after the one at another index has become another, or was removed
-kept_set : (machines : List (Option State)) (index i : ℕ) (s : State) (t : Option State) → index ≢ i
+pub kept_set : (machines : List (Option State)) (index i : ℕ) (s : State) (t : Option State) → index ≢ i
     → get_or machines index None ≡ Some s → get_or (slice_set machines i t) index None ≡ Some s
 kept_set machines index i s t other found = get_or-set_other machines i index t None other ∙ found
 
 -- the machine that was set at an index
-set_at : (machines : List (Option State)) (index : ℕ) (s t : State) → get_or machines index None ≡ Some s
+pub set_at : (machines : List (Option State)) (index : ℕ) (s t : State) → get_or machines index None ≡ Some s
     → get_or (slice_set machines index (Some t)) index None ≡ Some t
 set_at machines index s t found =
     get_or-set_same machines index (Some t) None (tenant_inside machines index s found)
@@ -166,6 +166,26 @@ module _ (caps : Amounts) (index : ℕ) (pool' : PoolValue) where
         there_among pool s s next (slice_set pool.machines i (Some runs.machine')) there runs.after
         (kept_set pool.machines index i s (Some runs.machine') other there.found)
 
+  module _ (pool : PoolValue) (s : State) (there : IsThere pool s) (next : PoolValue) (i : ℕ)
+      (becomes : BecomesAlike pool i next) (turn : PoolTurn)
+      (step : PoolStep (only caps becomes.machine) turn (only caps becomes.machine')) (turns : List PoolTurn)
+      (rest : (t : State) → IsThere next t → EndsAlone t turns) where
+    -- a turn by which a machine became another that has as much is one of the only tenant if the machine is that of the
+    -- index, and leaves that otherwise
+    by_alike : (same : Bool) → Decides same (i ≡ index) → EndsAlone s (if same then turn ∷ turns else turns)
+    by_alike true decides =
+        let t = becomes.machine' in
+        let is = decides.0 refl in
+        let own = same_Some becomes.machine s (sym becomes.found ∙ ap (machine_of pool) is ∙ there.found) in
+        let tail = rest t (there_among pool s t next (slice_set pool.machines i (Some t)) there becomes.after
+        (ap (λ k. get_or (slice_set pool.machines i (Some t)) k None) (sym is)
+        ∙ set_at pool.machines i becomes.machine t becomes.found)) in
+        (tail.0, tail.1, (only caps t, subst (λ u. PoolStep (only caps u) turn (only caps t)) own step, tail.2))
+    by_alike false decides =
+        rest s (there_among pool s s next (slice_set pool.machines i (Some becomes.machine')) there becomes.after
+        (kept_set pool.machines index i s (Some becomes.machine')
+        (λ same. absurd (true_not_false (decides.1 (sym same)))) there.found))
+
   -- calls by which the tenant of the index is never denied end for its machine as its own turns alone do
   ends_alone : (pool : PoolValue) (s : State) → IsThere pool s → (turns : List PoolTurn)
       → PermittingRun index pool turns pool' → EndsAlone s (own_turns index turns)
@@ -176,6 +196,24 @@ module _ (caps : Amounts) (index : ℕ) (pool' : PoolValue) where
   ends_alone pool s there (Removed i a ∷ turns) (next, (other, removes), ran) =
       ends_alone next s (there_among pool s s next (slice_set pool.machines i None) there removes.removed
       (kept_set pool.machines index i s None (λ same. other (sym same)) there.found)) turns ran
+  ends_alone pool s there (Reserved i more ∷ turns) (next, reserves, ran) =
+      let becomes = slots_reserved pool i more next reserves in
+      by_alike pool s there next i becomes (Reserved 0 more)
+      (refl, record { machine = becomes.machine; found = refl; after = refl }) (own_turns index turns)
+      (λ t at. ends_alone next t at turns ran) (nat_eq i index) (Decides-eqb i index)
+  ends_alone pool s there (ReservedElements i table elements reply ∷ turns) (next, reserves, ran) =
+      let becomes = elements_reserved pool i table elements reply next reserves in
+      by_alike pool s there next i becomes (ReservedElements 0 table elements reply) (
+        refl,
+        record {
+          machine = becomes.machine;
+          found = refl;
+          machine' = becomes.machine';
+          reserved = reserves.1.reserved;
+          after = refl;
+        },
+      ) (own_turns index turns)
+      (λ t at. ends_alone next t at turns ran) (nat_eq i index) (Decides-eqb i index)
   ends_alone pool s there (Refused ∷ turns) (next, same, ran) =
       ends_alone next s (there_among pool s s next pool.machines there same there.found) turns ran
   ends_alone pool s there (Ran i calls replies ∷ turns) (next, runs, ran) =

@@ -1,3 +1,3 @@
 mod TenantsLemmas
-mod PoolLemmas
-mod IsolationLemmas
+pub mod PoolLemmas
+pub mod IsolationLemmas

@@ -1,5 +1,5 @@
 -- What stays of a tenant while its machine runs, and what the machines of a pool have together.
-use Rattle.std.proofs.Common.{◌≡◌, Option, Some, List, refl, sym, ◌∙◌, subst, ℕ, ◌+◌, ◌-◌, ◌≤◌, ◌<◌, ◌^◌, None, length, get_or, [], ◌∷◌, ◌++◌, sum, ap, arith, inl, inr}
+use Rattle.std.proofs.Common.{◌≡◌, Option, Some, List, refl, sym, ◌∙◌, subst, ℕ, ◌+◌, ◌-◌, ◌≤◌, ◌<◌, ◌^◌, None, length, get_or, [], ◌∷◌, ◌++◌, sum, ap, arith, inl, inr, ⊎_elim}
 use Rattle.std.proofs.lemmas.Bool.{cases_lt}
 use Rattle.std.proofs.lemmas.List.{get_or_append_left, get_or_past, get_or-set_other, get_or-set_same, length-append, length-set}
 use Rattle.std.proofs.lemmas.Option.{same_Some, none-some}
@@ -9,17 +9,18 @@ use Rattle.wasmi_meter.specs.Attempt.{MeteredValue}
 use Rattle.wasmi_meter.specs.Limiter.{Question, Answer, Failure, NoticeAnswer, optional_rules}
 use Rattle.wasmi_meter.proofs.CappedLemmas.{KeepsCaps, caps_kept, others_kept, asked_is_within, noticed_is_within}
 use Rattle.wasmi_machine.specs.MemoryEffects.{WritesMemoryAt}
-use Rattle.wasmi_machine.specs.State.{World, Turn, world, with_memories, State, total, sizes, HoldsTotals, IsRefusal}
+use Rattle.wasmi_machine.specs.State.{World, Turn, world, with_memories, State, total, sizes, HoldsTotals, IsRefusal, with_reserved}
 use Rattle.wasmi_machine.specs.Exchange.{Exchange, Nothing, Denial, Permission, Notice, GrowsBy, RepliesTo, place_of}
 use Rattle.wasmi_machine.specs.Effects.{ActsMeteredUnasked, Changes}
 use Rattle.wasmi_machine.specs.Steps.{Run, IsRunOf, RepliesWith, SomeCopy}
 use Rattle.wasmi_machine.proofs.StepsLemmas.{write_replies}
 use Rattle.wasmi_machine.specs.Determinism.{IsDeterministic, AcceptsNotices}
 use Rattle.wasmi_machine.proofs.DeterminismLemmas.{capped_unique}
+use Rattle.wasmi_machine.proofs.EffectLemmas.{changes_kept}
 use Rattle.wasmi_machine.proofs.ExchangeLemmas.{growths_are_permitted}
 use Rattle.wasmi_machine.proofs.HoldingLemmas.{run_keeps, totals_are_held}
 use Rattle.wasmi_budget.specs.declared.tenant.Tenant.{Tenant}
-use Rattle.wasmi_budget.specs.Pool.{capped_tenant, tenant_rules, holdings, PoolValue, total_of, IsWithinCaps, IsKept, HasNothing, tenant_at, machine_of, total_at, AddsTenant, RemovesTenant, IsUnasked, RepliesUnasked, RunsTenant, RunsUnasked, tenant_of, held_before, IsPart, RunsAsPart}
+use Rattle.wasmi_budget.specs.Pool.{capped_tenant, tenant_rules, holdings, PoolValue, total_of, IsWithinCaps, IsKept, HasNothing, tenant_at, machine_of, total_at, AddsTenant, RemovesTenant, ReservesElements, ReservesElementsForTenant, ReservesForTenant, IsUnasked, RepliesUnasked, RunsTenant, RunsUnasked, tenant_of, held_before, IsPart, RunsAsPart}
 use Rattle.std.proofs.lemmas.List.Sums.{sum_by-remove, sum_by-set, sum_by_push}
 use Rattle.std.specs.Prelude.{slice_set, remove}
 use Rattle.wasmi_meter.specs.declared.limiter.Kind.TheVariants.{Bytes, Elements}
@@ -28,7 +29,8 @@ use Rattle.wasmi_meter.specs.CappedProofs.{asked_reserves, noticed_gives_back}
 use Rattle.wasmi_machine.specs.declared.calls.Call.{Call}
 use Rattle.wasmi_machine.specs.declared.calls.Call.TheVariants.{Binary, CopyMemory, FillMemory, InitMemory, SetFuel, Store, Write}
 use Rattle.wasmi_machine.specs.declared.calls.Reply.{Reply}
-use Rattle.wasmi_budget.specs.Laws.{PoolTurn, Added, Ran, Removed, Refused, PoolStep, PoolRun, RemovalsGiveBack, RemovedStayRemoved}
+use Rattle.wasmi_machine.specs.declared.slots.SlotCounts.{SlotCounts}
+use Rattle.wasmi_budget.specs.Laws.{PoolTurn, Added, Ran, Removed, Refused, Reserved, ReservedElements, PoolStep, PoolRun, RemovalsGiveBack, RemovedStayRemoved}
 
 -- the caps, and what the others hold, are the same with other holdings
 tenant_keeps : KeepsCaps capped_tenant
@@ -565,10 +567,91 @@ kept_removed pool all index s pool' held kept removes is = record {
         let less = removals_give_back pool index s pool' removes kind in
         omega (arith, sum, own, less)
 
+-- the machine of an index has become another that has as much, and all else is the same
+pub record BecomesAlike (pool : PoolValue) (index : ℕ) (pool' : PoolValue) : Type 0 where
+  pub machine : State
+  pub found : machine_of pool index ≡ Some machine
+  pub machine' : State
+  pub alike : (kind : Kind) → total machine' kind ≡ total machine kind
+  pub after : pool' ≡ record pool { machines = slice_set pool.machines index (Some machine') }
+
+-- a machine has what it had where slots are reserved
+pub slots_alike : (s : State) (more : SlotCounts) (kind : Kind) → total (with_reserved s more) kind ≡ total s kind
+slots_alike s more Bytes = refl
+slots_alike s more Elements = refl
+
+-- so the machine of the index has become such a one
+abbrev pub slots_reserved : (pool : PoolValue) (index : ℕ) (more : SlotCounts) (pool' : PoolValue)
+    → ReservesForTenant pool index more pool' → BecomesAlike pool index pool'
+slots_reserved pool index more pool' reserves = record {
+  machine = reserves.1.machine;
+  found = reserves.1.found;
+  machine' = with_reserved reserves.1.machine more;
+  alike = slots_alike reserves.1.machine more;
+  after = λ i. record { caps = reserves.0 i; machines = reserves.1.after i };
+}
+
+-- a machine has what it had where elements of a table are reserved
+pub elements_alike : (s : State) (table elements : ℕ) (reply : Reply) (s' : State)
+    → ReservesElements s table elements reply s' → (kind : Kind) → total s' kind ≡ total s kind
+elements_alike s table elements reply s' (tables, rest) Bytes = ap (λ (t : State). total t Bytes) rest
+elements_alike s table elements reply s' (tables, rest) Elements =
+    ap sum (changes_kept _ table s.tables reply s'.tables _
+    (λ x x' changed. ⊎_elim (λ done. rw done.1 refl) (λ refused. rw refused.2 refl) changed) tables)
+
+-- so amounts that were those of the machine are so then
+pub counted_reserved : (s : State) (table elements : ℕ) (reply : Reply) (s' : State) (held : Amounts)
+    → ReservesElements s table elements reply s' → held ≡ amounts_of (total s) → held ≡ amounts_of (total s')
+counted_reserved s table elements reply s' held reserves is =
+    is ∙ amounts_same (total s) (total s') (λ kind. sym (elements_alike s table elements reply s' reserves kind))
+
+-- so the machine of the index has become such a one
+abbrev pub elements_reserved : (pool : PoolValue) (index table elements : ℕ) (reply : Reply) (pool' : PoolValue)
+    → ReservesElementsForTenant pool index table elements reply pool' → BecomesAlike pool index pool'
+elements_reserved pool index table elements reply pool' reserves = record {
+  machine = reserves.1.machine;
+  found = reserves.1.found;
+  machine' = reserves.1.machine';
+  alike = elements_alike reserves.1.machine table elements reply reserves.1.machine' reserves.1.reserved;
+  after = λ i. record { caps = reserves.0 i; machines = reserves.1.after i };
+}
+
+module _ (pool : PoolValue) (index : ℕ) (pool' : PoolValue) (becomes : BecomesAlike pool index pool') where
+  -- all machines together have what they had
+  total_alike : (kind : Kind) → total_of pool'.machines kind ≡ total_of pool.machines kind
+  total_alike kind =
+      let set = total_replaced pool.machines index becomes.machine becomes.found kind (Some becomes.machine') in
+      let split = total_split pool.machines index becomes.machine becomes.found kind in
+      let own = becomes.alike kind in
+      let all = ap (λ (p : PoolValue). total_of p.machines kind) becomes.after in
+      omega (arith, set, split, own, all)
+
+  -- so the pool is within its caps
+  alike_within : IsWithinCaps pool → IsWithinCaps pool'
+  alike_within within kind =
+      let all = total_alike kind in
+      let bound = within kind in
+      let caps = ap (λ (p : PoolValue). amount_of p.caps kind) becomes.after in
+      omega (arith, all, bound, caps)
+
+  -- and kept with the same amounts
+  pub alike_kept : (all : Amounts) → IsKept pool all → IsKept pool' all
+  alike_kept all kept = record {
+    within = alike_within kept.within;
+    fits = λ kind.
+        let caps = ap (λ (p : PoolValue). amount_of p.caps kind) becomes.after in
+        let fits = kept.fits kind in
+        omega (arith, caps, fits);
+    counted = kept.counted
+        ∙ amounts_same (total_of pool.machines) (total_of pool'.machines) (λ kind. sym (total_alike kind));
+  }
+
 -- one call keeps the caps
 caps_stay : (pool : PoolValue) (turn : PoolTurn) (pool' : PoolValue) → PoolStep pool turn pool' → pool'.caps ≡ pool.caps
 caps_stay pool (Added s) pool' adds = ap PoolValue.caps adds.added
 caps_stay pool (Ran index calls replies) pool' runs = ap PoolValue.caps runs.after
+caps_stay pool (Reserved index more) pool' reserves = reserves.0
+caps_stay pool (ReservedElements index table elements reply) pool' reserves = reserves.0
 caps_stay pool (Removed index s) pool' removes = ap PoolValue.caps removes.removed
 caps_stay pool Refused pool' same = ap PoolValue.caps same
 
@@ -577,6 +660,10 @@ step_within : (pool : PoolValue) (turn : PoolTurn) (pool' : PoolValue) → IsWit
     → IsWithinCaps pool'
 step_within pool (Added s) pool' within adds = adds_within pool s pool' within adds
 step_within pool (Ran index calls replies) pool' within runs = runs_within pool index calls replies pool' within runs
+step_within pool (Reserved index more) pool' within reserves =
+    alike_within pool index pool' (slots_reserved pool index more pool' reserves) within
+step_within pool (ReservedElements index table elements reply) pool' within reserves =
+    alike_within pool index pool' (elements_reserved pool index table elements reply pool' reserves) within
 step_within pool (Removed index s) pool' within removes = removes_within pool index s pool' within removes
 step_within pool Refused pool' within same = rw same within
 
@@ -589,9 +676,9 @@ caps_hold pool within (turn ∷ turns) pool' (next, step, ran) =
     (rest.0 ∙ caps_stay pool turn next step, rest.1)
 
 -- an index that was given, and has no tenant
-record IsVacant (pool : PoolValue) (index : ℕ) : Type 0 where
-  given : index < length pool.machines
-  vacant : machine_of pool index ≡ None
+pub record IsVacant (pool : PoolValue) (index : ℕ) : Type 0 where
+  pub given : index < length pool.machines
+  pub vacant : machine_of pool index ≡ None
 
 module _ (pool : PoolValue) (index : ℕ) (vacant : IsVacant pool index) where
   -- it stays so where other machines lie behind those that are there
@@ -611,11 +698,20 @@ module _ (pool : PoolValue) (index : ℕ) (vacant : IsVacant pool index) where
         (λ same. absurd (none-some s (sym vacant.vacant ∙ ap (machine_of pool) same ∙ found))) ∙ vacant.vacant;
   })
 
+  -- and where another machine has become another that has as much
+  vacant_alike : (i : ℕ) (pool' : PoolValue) → BecomesAlike pool i pool' → IsVacant pool' index
+  vacant_alike i pool' becomes =
+      vacant_set i becomes.machine (Some becomes.machine') pool' becomes.found becomes.after
+
   -- so after one call
-  vacant_stays : (turn : PoolTurn) (pool' : PoolValue) → PoolStep pool turn pool' → IsVacant pool' index
+  pub vacant_stays : (turn : PoolTurn) (pool' : PoolValue) → PoolStep pool turn pool' → IsVacant pool' index
   vacant_stays (Added s) pool' adds = vacant_added (Some s) pool' adds.added
   vacant_stays (Ran i calls replies) pool' runs =
       vacant_set i runs.machine (Some runs.machine') pool' runs.found runs.after
+  vacant_stays (Reserved i more) pool' reserves =
+      vacant_alike i pool' (slots_reserved pool i more pool' reserves)
+  vacant_stays (ReservedElements i table elements reply) pool' reserves =
+      vacant_alike i pool' (elements_reserved pool i table elements reply pool' reserves)
   vacant_stays (Removed i s) pool' removes = vacant_set i s None pool' removes.found removes.removed
   vacant_stays Refused pool' same = rw same vacant
 
@@ -626,16 +722,18 @@ vacant_for_ever pool index vacant [] pool' ran = rw ran vacant
 vacant_for_ever pool index vacant (turn ∷ turns) pool' (next, step, ran) =
     vacant_for_ever next index (vacant_stays pool index vacant turn next step) turns pool' ran
 
--- so no tenant has the index of one that was removed
-pub removed_stay_removed : RemovedStayRemoved
-removed_stay_removed pool index s pool' removes turns later ran =
-    (vacant_for_ever pool' index left turns later ran).vacant
+-- the index of a removed tenant has none
+pub removal_vacates : (pool : PoolValue) (index : ℕ) (s : State) (pool' : PoolValue) → RemovesTenant pool index s pool'
+    → IsVacant pool' index
+removal_vacates pool index s pool' removes = rw removes.removed (record {
+  given = omega (arith, inside, length-set pool.machines index None);
+  vacant = get_or-set_same pool.machines index None None inside;
+})
   where
     inside : index < length pool.machines
     inside = tenant_inside pool.machines index s removes.found
 
-    left : IsVacant pool' index
-    left = rw removes.removed (record {
-      given = omega (arith, inside, length-set pool.machines index None);
-      vacant = get_or-set_same pool.machines index None None inside;
-    })
+-- so no tenant has it
+pub removed_stay_removed : RemovedStayRemoved
+removed_stay_removed pool index s pool' removes turns later ran =
+    (vacant_for_ever pool' index (removal_vacates pool index s pool' removes) turns later ran).vacant

@@ -2,19 +2,23 @@
 use Rattle.std.specs.Prelude.{◌≡◌, ◌≢◌, ◌+◌, ℕ, List, [], ◌∷◌, nat_eq, if◌then◌else◌, MatchBool, Some, None, All}
 use Rattle.wasmi_machine.specs.declared.calls.Call.{Call}
 use Rattle.wasmi_machine.specs.declared.calls.Reply.{Reply}
+use Rattle.wasmi_machine.specs.declared.slots.SlotCounts.{SlotCounts}
 use Rattle.wasmi_machine.specs.State.{State, Turn, total}
-use Rattle.wasmi_budget.specs.Pool.{PoolValue, AddsTenant, RunsTenant, RemovesTenant, machine_of, tenant_rules, total_of, without_others, RunsTenantBy, IsWithinCaps}
+use Rattle.wasmi_budget.specs.Pool.{PoolValue, AddsTenant, RunsTenant, RemovesTenant, ReservesForTenant, ReservesElementsForTenant, machine_of, tenant_rules, total_of, without_others, RunsTenantBy, IsWithinCaps}
 use Rattle.wasmi_meter.specs.declared.limiter.Kind.{Kind}
 use Rattle.wasmi_meter.specs.Limiter.{optional_rules}
 use Rattle.wasmi_machine.specs.Determinism.{permitting, TellsNoDenial}
 use Rattle.wasmi_machine.specs.Steps.{Run}
 use Rattle.wasmi_budget.specs.declared.tenant.Tenant.{Tenant}
 
--- one call on a pool: a machine was added, a tenant's machine has run, a tenant was removed, whose machine is this one,
--- or the call was refused
+-- one call on a pool: a machine was added, a tenant's machine has run, so many slots were reserved on it, or it has
+-- replied to a reservation of elements of one of its tables, a tenant was removed, whose machine is this one, or the call
+-- was refused
 pub data PoolTurn : Type 0 where
   Added : State → PoolTurn
   Ran : ℕ → List Call → List Reply → PoolTurn
+  Reserved : ℕ → SlotCounts → PoolTurn
+  ReservedElements : ℕ → ℕ → ℕ → Reply → PoolTurn
   Removed : ℕ → State → PoolTurn
   Refused : PoolTurn
 
@@ -22,6 +26,9 @@ pub data PoolTurn : Type 0 where
 abbrev pub PoolStep : PoolValue → PoolTurn → PoolValue → Type 0
 PoolStep pool (Added s) pool' = AddsTenant pool s pool'
 PoolStep pool (Ran index calls replies) pool' = RunsTenant pool index calls replies pool'
+PoolStep pool (Reserved index more) pool' = ReservesForTenant pool index more pool'
+PoolStep pool (ReservedElements index table elements reply) pool' =
+    ReservesElementsForTenant pool index table elements reply pool'
 PoolStep pool (Removed index s) pool' = RemovesTenant pool index s pool'
 PoolStep pool Refused pool' = pool' ≡ pool
 
@@ -46,12 +53,16 @@ PermittingStep index pool turn pool' = PoolStep pool turn pool'
 abbrev pub PermittingRun : ℕ → PoolValue → List PoolTurn → PoolValue → Type 0
 PermittingRun index = RunBy (PermittingStep index)
 
--- the runs of the tenant of an index, as those of the only tenant
+-- the runs and reservations of the tenant of an index, as those of the only tenant
 abbrev pub own_turns : ℕ → List PoolTurn → List PoolTurn
 own_turns index [] = []
 own_turns index (Added s ∷ turns) = own_turns index turns
 own_turns index (Ran i calls replies ∷ turns) =
     if nat_eq i index then Ran 0 calls replies ∷ own_turns index turns else own_turns index turns
+own_turns index (Reserved i more ∷ turns) =
+    if nat_eq i index then Reserved 0 more ∷ own_turns index turns else own_turns index turns
+own_turns index (ReservedElements i table elements reply ∷ turns) =
+    if nat_eq i index then ReservedElements 0 table elements reply ∷ own_turns index turns else own_turns index turns
 own_turns index (Removed i s ∷ turns) = own_turns index turns
 own_turns index (Refused ∷ turns) = own_turns index turns
 

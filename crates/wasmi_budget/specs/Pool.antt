@@ -10,8 +10,9 @@ use Rattle.wasmi_meter.specs.declared.amounts.Amounts.{Amounts}
 use Rattle.wasmi_machine.specs.declared.calls.Call.{Call}
 use Rattle.wasmi_machine.specs.declared.calls.Call.TheVariants.{Binary, CopyMemory, FillMemory, InitMemory, SetFuel, Store}
 use Rattle.wasmi_machine.specs.declared.calls.Reply.{Reply}
-use Rattle.wasmi_machine.specs.State.{State, total, world, with_reserved, HoldsTotals}
+use Rattle.wasmi_machine.specs.State.{State, total, world, with_reserved, with_tables, HoldsTotals}
 use Rattle.wasmi_machine.specs.Steps.{IsRunOf, RepliesWith}
+use Rattle.wasmi_machine.specs.TableEffects.{ReservesElementsAt}
 use Rattle.wasmi_machine.specs.declared.slots.SlotCounts.{SlotCounts}
 use Rattle.wasmi_budget.specs.declared.error.AddError.{AddError}
 use Rattle.wasmi_budget.specs.declared.error.AddError.TheVariants.{NotEmpty, NoRoom}
@@ -182,6 +183,26 @@ pub record ReservesAt (machines : List (Option State)) (index : ℕ) (more : Slo
 abbrev pub ReservesForTenant : PoolValue → ℕ → SlotCounts → PoolValue → Type 0
 ReservesForTenant pool index more pool' =
     (pool'.caps ≡ pool.caps) × ReservesAt pool.machines index more pool'.machines
+
+-- a machine has replied to a reservation of so many elements in all of one of its tables, and all else is the same
+abbrev pub ReservesElements : State → ℕ → ℕ → Reply → State → Type 0
+ReservesElements s table elements reply s' =
+    ReservesElementsAt table elements s.tables reply s'.tables × (s' ≡ with_tables s s'.tables)
+
+-- the machine at an index has replied to a reservation of so many elements in all of one of its tables, and all others
+-- are the same
+pub record ReservesElementsIn (machines : List (Option State)) (index table elements : ℕ) (reply : Reply)
+    (machines' : List (Option State)) : Type 0 where
+  pub machine : State
+  pub found : slice_index_or machines index None ≡ Some machine
+  pub machine' : State
+  pub reserved : ReservesElements machine table elements reply machine'
+  pub after : machines' ≡ slice_set machines index (Some machine')
+
+-- the machine of a tenant has replied to a reservation of elements, and all else is the same
+abbrev pub ReservesElementsForTenant : PoolValue → ℕ → ℕ → ℕ → Reply → PoolValue → Type 0
+ReservesElementsForTenant pool index table elements reply pool' =
+    (pool'.caps ≡ pool.caps) × ReservesElementsIn pool.machines index table elements reply pool'.machines
 
 -- the text of why a machine isn't added to a pool
 abbrev pub add_error_text : AddError → List ℕ

@@ -6,7 +6,7 @@ ghost use Rattle.wasmi_meter.specs.Capped.{amounts_of};
 ghost use Rattle.wasmi_machine.specs.State.{total};
 ghost use Rattle.wasmi_machine.specs.Steps.{SomeCopy};
 ghost use Rattle.wasmi_machine.specs.declared.calls.Call.TheVariants.{Write};
-ghost use Rattle.wasmi_budget.specs.Pool.{IsUnasked, IsWithinCaps, machine_of, total_of, AddsTenant, IsAddRefusal, RemovesTenant, ReservesForTenant, RunsTenant};
+ghost use Rattle.wasmi_budget.specs.Pool.{IsUnasked, IsWithinCaps, machine_of, total_of, AddsTenant, IsAddRefusal, RemovesTenant, ReservesForTenant, RunsTenant, ReservesElementsForTenant};
 
 use crate::error::{AddError, PoolError, ReserveError, RunIntoError};
 use crate::tenant::CountedMachine;
@@ -130,6 +130,31 @@ impl<'r> Pool<'r> {
         ensures within { IsWithinCaps self.new }
     {
         self.tenants.reserve(index, slots)
+    }
+
+    /// Reserves memory for so many elements in all of a table of a tenant, those that are there
+    /// included, as `Machine::reserve_elements` does, with its replies. What is reserved counts within
+    /// no cap.
+    ///
+    /// # Errors
+    ///
+    /// `NoTenant` if no tenant has the index, and no other. Then nothing has changed.
+    pub fn reserve_elements(
+        &mut self,
+        index: usize,
+        table: usize,
+        elements: u64,
+    ) -> Result<Reply, PoolError>
+        ensures reserved { IfOk result (λ reply. ReservesElementsForTenant self.old index table
+            elements reply self.new) }
+        ensures refused { IfErr result (λ error. (error ≡ PoolError.NoTenant)
+            × (machine_of self.old index ≡ None) × (self.new ≡ self.old)) }
+        ensures within { IsWithinCaps self.new }
+    {
+        let Some(reply) = self.tenants.reserve_elements(index, table, elements) else {
+            return Err(PoolError::NoTenant);
+        };
+        Ok(reply)
     }
 
     /// Executes calls on the machine of a tenant, under a limiter that permits what keeps all

@@ -5,7 +5,7 @@ ghost use Rattle.wasmi_meter.specs.Capped.{amounts_of, held_together};
 ghost use Rattle.wasmi_meter.specs.Limiter.{optional_rules};
 ghost use Rattle.wasmi_machine.specs.Steps.{RepliesWith, SomeCopy};
 ghost use Rattle.wasmi_machine.specs.State.{total, with_reserved, world, IsRefusal};
-ghost use Rattle.wasmi_budget.specs.Pool.{holdings, capped_tenant, tenant_rules, tenant_of, held_before, IsPart, RunsAsPart, IsUnasked, RepliesUnasked};
+ghost use Rattle.wasmi_budget.specs.Pool.{holdings, capped_tenant, tenant_rules, tenant_of, held_before, IsPart, RunsAsPart, IsUnasked, RepliesUnasked, ReservesElements};
 ghost use Rattle.wasmi_machine.specs.declared.calls.Call.TheVariants.{Write};
 
 use std::alloc::AllocError;
@@ -117,6 +117,14 @@ impl<'r> CountedMachine<'r> {
         ensures refused { OnErr result (self.new ≡ self.old) }
     {
         self.machine.reserve(slots)
+    }
+
+    /// Reserves memory for so many elements in all of a table. What the machine has stays, so no
+    /// tenant holds it.
+    pub(crate) fn reserve_elements(&mut self, table: usize, elements: u64) -> Reply
+        ensures reserved { ReservesElements self.old table elements result self.new }
+    {
+        self.machine.reserve_elements(table, elements)
     }
 
     /// Executes calls under its limiter in a pool with these caps, whose tenants hold `all`, which

@@ -3,7 +3,7 @@ ghost use Rattle.std.specs.Prelude.{◌≡◌, ◌∷◌, ◌++◌, ◌↔◌, �
 ghost use Rattle.std.specs.Option.{option_copied};
 ghost use Rattle.wasmi_machine.specs.Steps.{SomeCopy};
 ghost use Rattle.wasmi_machine.specs.declared.calls.Call.TheVariants.{Write};
-ghost use Rattle.wasmi_budget.specs.Pool.{pool_of, IsKept, IsUnasked, ReservesAt, RunsTenant, RunsUnasked};
+ghost use Rattle.wasmi_budget.specs.Pool.{pool_of, IsKept, IsUnasked, ReservesAt, RunsTenant, RunsUnasked, ReservesElementsIn};
 ghost use Rattle.wasmi_budget.specs.Tenants.{IsPlace, Rises};
 
 use crate::error::{PoolError, ReserveError, RunIntoError};
@@ -121,6 +121,22 @@ impl<'r> Tenants<'r> {
         let counted = &mut self.machines[place];
         counted.reserve(slots)?;
         Ok(())
+    }
+
+    /// Reserves memory for so many elements in all of a table of the machine at an index, if there is
+    /// one.
+    pub(crate) fn reserve_elements(
+        &mut self,
+        index: usize,
+        table: usize,
+        elements: u64,
+    ) -> Option<Reply>
+        ensures reserved { MatchOption result
+            ((slice_index_or self.old index None ≡ None) × (self.new ≡ self.old))
+            (λ reply. ReservesElementsIn self.old index table elements reply self.new) }
+    {
+        let place = place_of(&self.indices, index)?;
+        Some(self.machines[place].reserve_elements(table, elements))
     }
 
     /// Executes calls on the machine at an index, under its limiter in a pool with these caps, whose

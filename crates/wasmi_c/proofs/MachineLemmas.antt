@@ -15,7 +15,9 @@ use Rattle.wasmi_machine.specs.Determinism.{RelatesByKind, RunsKeepKind}
 use Rattle.wasmi_machine.specs.Laws.{HoldsTotalsAlways, QuotasStayWithin}
 use Rattle.wasmi_machine.proofs.StepsLemmas.{write_replies}
 use Rattle.wasmi_machine.specs.Steps.{IsRunOf, Run, RepliesWith, SomeCopy}
-use Rattle.wasmi_machine.specs.State.{State, with_memories, with_reserved, HoldsTotals, total, Turn, byte_count, slot_count, world}
+use Rattle.wasmi_machine.specs.State.{State, with_memories, with_reserved, HoldsTotals, total, Turn, byte_count, slot_count, world, with_tables}
+use Rattle.wasmi_machine.specs.TableEffects.{ReservesElementsAt}
+use Rattle.wasmi_budget.proofs.PoolLemmas.{elements_alike}
 use Rattle.wasmi_machine.specs.declared.calls.Call.{Call}
 use Rattle.wasmi_machine.specs.declared.calls.Call.TheVariants.{Write}
 use Rattle.wasmi_machine.specs.declared.calls.Reply.{Reply}
@@ -169,6 +171,19 @@ kept_by_reserve s (limiter.Quota quota) more s' reserved kept = record {
   within = kept.within;
 }
 kept_by_reserve s (limiter.Answers list) more s' reserved kept = tt
+
+-- nor do elements that are reserved
+pub kept_by_elements : (s : State) (l : AnyLimiter) (table elements : ℕ) (reply : Reply) (s' : State)
+    → ReservesElementsAt table elements s.tables reply s'.tables → s' ≡ with_tables s s'.tables → Keeps s l → Keeps s' l
+kept_by_elements s limiter.Unlimited table elements reply s' tables rest kept = tt
+kept_by_elements s (limiter.Quota quota) table elements reply s' tables rest kept = record {
+  totals = record {
+    bytes = kept.totals.bytes ∙ sym (elements_alike s table elements reply s' (tables, rest) Bytes);
+    elements = kept.totals.elements ∙ sym (elements_alike s table elements reply s' (tables, rest) Elements);
+  };
+  within = kept.within;
+}
+kept_by_elements s (limiter.Answers list) table elements reply s' tables rest kept = tt
 
 -- what is made as one machine is made as one of which a fact holds
 pub made_so : (IsNew : MachineValue → Type 0) (machine : MachineValue) (held : Option MachineValue) (status : ℕ)

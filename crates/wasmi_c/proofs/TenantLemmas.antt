@@ -60,7 +60,7 @@ module _ (pool : PoolValue) (tenant : ℕ) (s : State) (found : machine_of pool 
   struct_in_place told is = inr (full, runs_in_place, is)
 
 -- the status of a reply is that of its struct
-status_is : (full : Reply) → (reply_struct full).status ≡ status_of full
+pub status_is : (full : Reply) → (reply_struct full).status ≡ status_of full
 status_is reply.Done = refl
 status_is (reply.Made index) = refl
 status_is (reply.Value value) = refl

@@ -10,7 +10,7 @@ use Rattle.wasmi_machine.specs.declared.calls.Reply.{Reply}
 use Rattle.wasmi_budget.specs.Pool.{PoolValue, AddsTenant, IsWithinCaps, RemovesTenant, RunsTenant, machine_of, total_of}
 use Rattle.wasmi_grammar.specs.Lines.{WritesScript}
 use Rattle.wasmi_grammar.specs.declared.script.Script.{Script}
-use Rattle.wasmi_c.specs.Machine.Calls.{PaysFuelIn, ReadsOut, RepliesInTurn, ReservesIn, totals_in, RefusesLines, RunsScriptBy, no_header, word_after}
+use Rattle.wasmi_c.specs.Machine.Calls.{PaysFuelIn, ReadsOut, RepliesInTurn, ReservesElementsIn, ReservesIn, totals_in, RefusesLines, RunsScriptBy, no_header, word_after}
 use Rattle.wasmi_c.specs.Machine.CallStructs.{call_of}
 use Rattle.wasmi_c.specs.Machine.NewMachines.{meter_with}
 use Rattle.wasmi_c.specs.Machine.Replies.{only, with_number, reply_struct, status_of}
@@ -119,6 +119,13 @@ abbrev pub TenantReserves : ℕ → Room → ℕ → PoolValue → PoolValue →
 TenantReserves tenant room status pool pool' = MatchOption (machine_of pool tenant)
     ((status ≡ NO_TENANT) × (pool' ≡ pool))
     (λ machine. ReservesIn pool (with_machine_at pool tenant) room machine status pool')
+
+-- memory is reserved for elements of a table of a tenant, or it is refused, and all else is the same; where there is no
+-- such tenant, the pool is
+abbrev pub TenantReservesElements : ℕ → ℕ → ℕ → ℕ → PoolValue → PoolValue → Type 0
+TenantReservesElements tenant table elements status pool pool' = MatchOption (machine_of pool tenant)
+    ((status ≡ NO_TENANT) × (pool' ≡ pool))
+    (λ machine. ReservesElementsIn pool (with_machine_at pool tenant) table elements machine status pool')
 
 -- a tenant's machine replies to the calls of a list in turn; where there is no such tenant, nothing has changed
 abbrev pub TenantRepliesToList

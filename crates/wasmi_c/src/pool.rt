@@ -156,7 +156,7 @@ impl Model for TenantPool {
 
 impl TenantPool {
     ghost use Rattle.wasmi_budget.specs.Pool.{IsWithinCaps, RunsTenant};
-    ghost use Rattle.wasmi_c.specs.Pool.{AddsNewTenant, RefusesTenant, RemovesByStatus, RunsTenantLines, TenantPaysFuel, TenantReadsOut, TenantReplies, TenantRepliesInStatus, TenantRepliesInWord, TenantRepliesToCopy, TenantRepliesToItems, TenantRepliesToList, TenantRepliesToSegment, TenantReserves, pool_totals, tenant_totals};
+    ghost use Rattle.wasmi_c.specs.Pool.{AddsNewTenant, RefusesTenant, RemovesByStatus, RunsTenantLines, TenantPaysFuel, TenantReadsOut, TenantReplies, TenantRepliesInStatus, TenantRepliesInWord, TenantRepliesToCopy, TenantRepliesToItems, TenantRepliesToList, TenantRepliesToSegment, TenantReserves, pool_totals, tenant_totals, TenantReservesElements};
 
     /// Does nothing: its contract says that the pool is within its caps.
     pub fn show_within(&self)
@@ -213,6 +213,16 @@ impl TenantPool {
             let (dst, a, b) = (numbers.dst, numbers.a, numbers.b);
             return self.reply(tenant, &Call::Binary { op, dst, a, b });
         }
+        self.reply_to_any_struct(tenant, numbers)
+    }
+
+    /// Replies to the call that numbers stand for by a `Call` of all of them. It is no part of
+    /// `reply_to_struct`, which would be too large to be inlined with it.
+    #[tactic(auto, unfolding(crate::specs::Machine::CallStructs::call_of))]
+    fn reply_to_any_struct(&mut self, tenant: usize, numbers: &CallStruct) -> ReplyStruct
+        ensures step { TenantRepliesToStruct tenant numbers.now result self.old self.new }
+        ensures caps { self.new.caps ≡ self.old.caps }
+    {
         match &numbers.call() {
             Some(call) => self.reply(tenant, call).by_fields(),
             None => ReplyStruct::only(NO_CALL),
@@ -254,6 +264,18 @@ impl TenantPool {
             Ok(()) => DONE,
             Err(ReserveError::NoTenant) => NO_TENANT,
             Err(ReserveError::OutOfMemory) => NO_ROOM,
+        }
+    }
+
+    /// Reserves memory for so many elements in all of a table of a tenant. If the memory is refused,
+    /// nothing has changed.
+    pub fn reserve_elements(&mut self, tenant: usize, table: usize, elements: u64) -> u8
+        ensures step { TenantReservesElements tenant table elements result self.old self.new }
+        ensures caps { self.new.caps ≡ self.old.caps }
+    {
+        match self.pool.reserve_elements(tenant, table, elements) {
+            Ok(reply) => ReplyStruct::from_reply(&reply).status,
+            Err(_) => NO_TENANT,
         }
     }
 

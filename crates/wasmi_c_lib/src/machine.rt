@@ -1,10 +1,10 @@
 //! A machine by a handle, and a pool of machines. `include/wasmi_machine.h` describes each call.
 ghost use Rattle.std.specs.Prelude.{◌≡◌, ℕ, List, None, Some};
 ghost use Rattle.wasmi_machine.specs.declared.calls.Call.TheVariants.{CopyMemory, FillMemory, GetFuel, GrowMemory, InitMemory, NewData, Write};
-ghost use Rattle.wasmi_c.specs.Machine.Calls.{RepliesInStatus, RepliesInWord, item_load, item_store, vector_binary, ActsOnHeld, OnHeld, ReadsOut, RepliesToCopy, RepliesToItems, RepliesToList, RepliesToSegment, RepliesToStruct, Reserves, PaysFuel, no_totals, totals_of, RunsLines};
+ghost use Rattle.wasmi_c.specs.Machine.Calls.{RepliesInStatus, RepliesInWord, item_load, item_store, vector_binary, ActsOnHeld, OnHeld, ReadsOut, RepliesToCopy, RepliesToItems, RepliesToList, RepliesToSegment, RepliesToStruct, Reserves, PaysFuel, no_totals, totals_of, RunsLines, ReservesElementsByStatus};
 ghost use Rattle.wasmi_c.specs.Machine.NewMachines.{IsNewMachine, MakesMachine, MakesWithAnswers};
 ghost use Rattle.wasmi_c.specs.Machine.Replies.{only};
-ghost use Rattle.wasmi_c.specs.Pool.{AddsNewTenant, KeepsCaps, MakesPool, RemovesByStatus, RunsTenantLines, TenantPaysFuel, TenantReadsOut, TenantRepliesInStatus, TenantRepliesInWord, TenantRepliesToCopy, TenantRepliesToItems, TenantRepliesToList, TenantRepliesToSegment, TenantRepliesToStruct, TenantReserves, no_pool_totals, pool_totals, tenant_totals};
+ghost use Rattle.wasmi_c.specs.Pool.{AddsNewTenant, KeepsCaps, MakesPool, RemovesByStatus, RunsTenantLines, TenantPaysFuel, TenantReadsOut, TenantRepliesInStatus, TenantRepliesInWord, TenantRepliesToCopy, TenantRepliesToItems, TenantRepliesToList, TenantRepliesToSegment, TenantRepliesToStruct, TenantReserves, no_pool_totals, pool_totals, tenant_totals, TenantReservesElements};
 ghost use Rattle.wasmi_c.specs.declared.status.TheConstants.{NO_MACHINE, NO_POOL};
 ghost use Rattle.wasmi_c.specs.declared.machine.reply_struct.ReplyStruct.{ReplyStruct};
 
@@ -59,6 +59,18 @@ pub extern "C" fn wasmi_machine_reserve(handle: &mut Handle, room: &Room) -> u8
         handle.old.machine.held result handle.new.machine.held }
 {
     on_machine!(handle, NO_MACHINE, machine => machine.reserve(room))
+}
+
+#[unsafe(no_mangle)]
+pub extern "C" fn wasmi_machine_reserve_elements(
+    handle: &mut Handle,
+    table: usize,
+    elements: u64,
+) -> u8
+    ensures { OnHeld (ReservesElementsByStatus table elements) NO_MACHINE
+        handle.old.machine.held result handle.new.machine.held }
+{
+    on_machine!(handle, NO_MACHINE, machine => machine.reserve_elements(table, elements))
 }
 
 #[unsafe(no_mangle)]
@@ -331,6 +343,20 @@ pub extern "C" fn wasmi_pool_reserve(handle: &mut PoolHandle, tenant: usize, roo
     ensures caps { KeepsCaps handle.old.pool.held handle.new.pool.held }
 {
     on_pool!(handle, NO_POOL, pool => pool.reserve(tenant, room))
+}
+
+#[unsafe(no_mangle)]
+pub extern "C" fn wasmi_pool_reserve_elements(
+    handle: &mut PoolHandle,
+    tenant: usize,
+    table: usize,
+    elements: u64,
+) -> u8
+    ensures step { ActsOnHeld NO_POOL handle.old.pool.held result handle.new.pool.held
+        (TenantReservesElements tenant table elements result) }
+    ensures caps { KeepsCaps handle.old.pool.held handle.new.pool.held }
+{
+    on_pool!(handle, NO_POOL, pool => pool.reserve_elements(tenant, table, elements))
 }
 
 #[unsafe(no_mangle)]

@@ -7,6 +7,7 @@ mod limiter;
 mod memory;
 mod pool;
 mod quota;
+mod set_up;
 
 fn main(rt: HostRuntime) -> anyhow::Result<()> {
     memory::main(rt)?;
@@ -14,5 +15,6 @@ fn main(rt: HostRuntime) -> anyhow::Result<()> {
     pool::main(rt)?;
     bill::main(rt)?;
     limiter::main(rt)?;
-    growth::main(rt)
+    growth::main(rt)?;
+    set_up::main(rt)
 }

@@ -1,11 +1,13 @@
 //! Callers that set up once, and make calls for which enough was reserved then: none of them runs
 //! out of memory, and what they do is decided by the calls, the machine and the quota alone.
-ghost use Rattle.std.specs.Prelude.{◌≡◌, ◌≤◌, All, length, OnErr, OnOk, Some, Ok};
+ghost use Rattle.std.specs.Prelude.{◌≡◌, ◌≢◌, ◌≤◌, All, length, IfSome, IsTrue, OnErr, OnOk, Some, Ok};
 ghost use Rattle.wasmi_meter.specs.Limiter.{optional_rules};
 ghost use Rattle.wasmi_machine.specs.Determinism.{IsNotOutOfMemory};
-ghost use Rattle.wasmi_machine.specs.State.{State, with_reserved, world};
+ghost use Rattle.wasmi_machine.specs.declared.calls.Reply.TheVariants.{Done};
+ghost use Rattle.wasmi_machine.specs.Effects.{OnLive};
+ghost use Rattle.wasmi_machine.specs.State.{State, live_at, with_reserved, world};
 ghost use Rattle.wasmi_machine.specs.Steps.{IsRunOf};
-ghost use Rattle.wasmi_laws.specs.Reserved.{IsReservedFor, NeedsNoMemory};
+ghost use Rattle.wasmi_laws.specs.Reserved.{FitsSlots, IsReservedFor, IsReservedTable, NeedsNoMemory};
 ghost use Rattle.wasmi_budget.specs.Pool as pools;
 
 use std::alloc::AllocError;
@@ -14,6 +16,7 @@ use wasmi_machine::{
     Call, Machine, Replies, Reply, SlotCounts, TooManyCalls, laws, run_into_lending,
 };
 use wasmi_meter::{Quota, ResourceLimiter};
+use wasmi_typed::TypedRawRef;
 
 /// Reserves slots for so many globals, and for nothing else.
 pub fn reserve_globals(machine: &mut Machine, globals: usize) -> Result<(), AllocError>
@@ -25,6 +28,59 @@ pub fn reserve_globals(machine: &mut Machine, globals: usize) -> Result<(), Allo
         globals,
         ..SlotCounts::default()
     })
+}
+
+/// Reserves memory for all elements of a table up to its type's maximum.
+pub fn reserve_table(machine: &mut Machine, table: usize, maximum: u64) -> Reply
+    requires most { OnLive (live_at machine.old.tables table) (Unit {0})
+        (λ x. x.ty.maximum ≡ Some maximum) }
+    ensures reserved { result ≡ Done → IsReservedTable machine.new.tables table }
+{
+    machine.reserve_elements(table, maximum)
+}
+
+/// Reserves memory for all elements of a table up to its type's maximum, and then grows it: by
+/// however many elements, the growth doesn't run out of memory. Where the memory is refused, or
+/// there is no such table, nothing is returned.
+pub fn grow_reserved_table<L: ResourceLimiter>(
+    machine: &mut Machine,
+    table: usize,
+    maximum: u64,
+    delta: u64,
+    init: TypedRawRef,
+    limiter: &mut L,
+) -> Option<Reply>
+    requires most { OnLive (live_at machine.old.tables table) (Unit {0})
+        (λ x. x.ty.maximum ≡ Some maximum) }
+    ensures has { IfSome result (λ reply. IsNotOutOfMemory reply) }
+{
+    wasmi_laws::reserved_suffices::<L>();
+    let Reply::Done = reserve_table(machine, table, maximum) else {
+        return None;
+    };
+    let growth = Call::GrowTable { table, delta, init };
+    Some(machine.step_lending(&growth, limiter))
+}
+
+/// Reserves slots, and then makes calls for which they are enough: none of them runs out of memory.
+pub fn run_with_slots<L: ResourceLimiter>(
+    machine: &mut Machine,
+    slots: SlotCounts,
+    calls: &[Call],
+    limiter: &mut L,
+    replies: &mut Replies,
+) -> bool
+    requires fits { FitsSlots machine.old slots calls.now }
+    ensures has { IsTrue result → All IsNotOutOfMemory replies.new.items }
+{
+    wasmi_laws::reserved_suffices::<L>();
+    let Ok(()) = machine.reserve(slots) else {
+        return false;
+    };
+    let Ok(()) = run_into_lending(machine, calls, limiter, replies) else {
+        return false;
+    };
+    true
 }
 
 /// Makes one call, which needs no memory but what was reserved: it doesn't run out of memory.
@@ -99,4 +155,33 @@ pub fn run_tenant_reserved(
 {
     wasmi_laws::reserved_suffices::<Tenant>();
     pool.run_into(index, calls, replies)
+}
+
+/// Reserves slots on a tenant's machine, makes calls of another tenant, and then those of the first,
+/// for which the slots are enough: none of these runs out of memory, whatever the other one did.
+pub fn run_tenant_beside(
+    pool: &mut Pool,
+    index: usize,
+    slots: SlotCounts,
+    other: usize,
+    between: &[Call],
+    calls: &[Call],
+    replies: &mut Replies,
+) -> bool
+    requires another { other ≢ index }
+    requires fits { (s : State) → pools.machine_of pool.old index ≡ Some s
+        → FitsSlots s slots calls.now }
+    ensures has { IsTrue result → All IsNotOutOfMemory replies.new.items }
+{
+    wasmi_laws::reserved_tenants_suffice();
+    let Ok(()) = pool.reserve(index, slots) else {
+        return false;
+    };
+    let Ok(()) = pool.run_into(other, between, replies) else {
+        return false;
+    };
+    let Ok(()) = pool.run_into(index, calls, replies) else {
+        return false;
+    };
+    true
 }

@@ -6,3 +6,4 @@ pub mod LocationLemmas
 pub mod IndependenceLemmas
 pub mod PlacesLemmas
 pub mod ReservedLemmas
+mod ReservedPoolsLemmas

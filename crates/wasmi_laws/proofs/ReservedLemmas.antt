@@ -3,12 +3,12 @@ use Rattle.wasmi_laws.proofs.ListLemmas.{live_slot, set_other, set_same}
 use Rattle.std.proofs.lemmas.Bool.{cases_eq}
 use Rattle.std.proofs.lemmas.Bool.Decides.{nat_tests}
 use Rattle.std.proofs.Common.{◌++◌, Bool, Err, List, None, Ok, Option, Result, Some, [], ap, arith, cond, drop, false, inl, inr, length, length-set, map, refl, subst, sym, take, true, ℕ, ◌*◌, ◌+◌, ◌^◌, ◌≤◌, ◌∙◌, ◌∷◌, ◌≡◌, ◌⊎◌, ⊎_elim, zero, suc}
-use Rattle.std.proofs.lemmas.List.{length-append}
+use Rattle.std.proofs.lemmas.List.{append-nil, length-append}
 use Rattle.std.proofs.lemmas.List.Elements.{All-cons, All-head, All-nil, All-tail, All-weaker}
 use Rattle.std.proofs.lemmas.List.Sums.{sum_by-cons}
 use Rattle.std.proofs.lemmas.Option.{none-some, same_Some}
 use Rattle.std.specs.Option.{option_map, option_map_or, option_and_then}
-use Rattle.std.specs.Prelude.{All, MatchOption, count_by, if◌then◌else◌, is_some, nat_eq, nat_le, nat_lt, slice_get, slice_set}
+use Rattle.std.specs.Prelude.{All, MatchOption, count_by, if◌then◌else◌, is_some, max, nat_eq, nat_le, nat_lt, slice_get, slice_set}
 use Rattle.wasmi_types.specs.Access.{at, overwrite}
 use Rattle.wasmi_types.specs.declared.trap.TrapCode.{TrapCode}
 use Rattle.wasmi_types.specs.declared.value.RefType.{RefType}
@@ -30,16 +30,16 @@ use Rattle.wasmi_store.specs.Growth.{metered, metered_value}
 use Rattle.wasmi_store.specs.Memory.{GrowsMemoryCharging, MakesMemory, MemoryTypeValue, MemoryValue, MemoryWrite, WritesMemory, bytes_write, in_bounds, minimum_bytes, new_memory, page_bytes, pages_of}
 use Rattle.wasmi_store.specs.Segment.{SegmentValue}
 use Rattle.wasmi_store.specs.declared.table.element.SegmentError.{SegmentError}
-use Rattle.wasmi_store.specs.Table.{GrowsTableCharging, SetsTable, TableValue, TableWrite, elements_write, is_indexable, is_within_maximum, same_type, size_of, with_elements}
+use Rattle.wasmi_store.specs.Table.{GrowsTableCharging, SetsTable, TableValue, TableWrite, elements_write, is_indexable, is_within_maximum, same_type, size_of, with_elements, with_elements_reserved}
 use Rattle.wasmi_store.specs.Write.{EndsBy, IsRefusedFor, MeteredWrite, WritesCharging, copied, filled, write_due}
 use Rattle.wasmi_machine.proofs.EffectLemmas.{both_live, on_live}
 use Rattle.wasmi_machine.specs.Determinism.{IsNotOutOfMemory}
 use Rattle.wasmi_machine.specs.Effects.{ActsAt, AddsEntry, AddsItem, ChangesFound, Creates, DropsAt, IfNoRoom, MeteredSlots, OnLive, WritesRangeAt, reply_of, ChangesAt}
 use Rattle.wasmi_machine.specs.MemoryEffects.{ByteSource, CreatesLent, OfByte, OfBytes, ReadsBytes, byte_write_of}
 use Rattle.wasmi_machine.specs.RegisterEffects.{SetsAt, StoresVectorAt, vector_at}
-use Rattle.wasmi_machine.specs.State.{MemoryPart, State, Turn, World, byte_count, live_at, memory_part, live_value}
-use Rattle.wasmi_machine.specs.Steps.{BytesRead, BytesStored, BytesWritten, Change, Changed, DataDropped, DataMade, Effect, ElementSet, FuelSet, GlobalMade, GlobalSet, HasChange, HasEffect, ItemsDropped, LacksSlot, LentMemoryMade, MemoryDropped, MemoryGrown, MemoryMade, MemoryWritten, RangeWritten, RegisterSet, Run, SegmentMade, Step, TableDropped, TableGrown, TableMade, TableWritten, Told, effect_of}
-use Rattle.wasmi_machine.specs.TableEffects.{OfReference, OfSegment, OfTable, Source, write_of}
+use Rattle.wasmi_machine.specs.State.{MemoryPart, State, Turn, World, byte_count, live_at, memory_part, live_value, reserved_for, with_reserved, with_tables}
+use Rattle.wasmi_machine.specs.Steps.{BytesRead, BytesStored, BytesWritten, Change, Changed, DataDropped, DataMade, Effect, ElementSet, FuelSet, GlobalMade, GlobalSet, HasChange, HasEffect, IsRunOf, ItemsDropped, LacksSlot, LentMemoryMade, MemoryDropped, MemoryGrown, MemoryMade, MemoryWritten, RangeWritten, RegisterSet, Run, SegmentMade, Step, TableDropped, TableGrown, TableMade, TableWritten, Told, effect_of}
+use Rattle.wasmi_machine.specs.TableEffects.{ReservesElementsAt, OfReference, OfSegment, OfTable, Source, write_of}
 use Rattle.wasmi_machine.specs.ValueEffects.{CreatesSegment, IsSegmentOf}
 use Rattle.wasmi_machine.specs.declared.calls.Call.{Call}
 use Rattle.wasmi_machine.specs.declared.calls.Call.TheVariants.{Extract, GetElement, GetFuel, GetGlobal, GetRegister, GrowMemory, GrowTable, Load, NewData, NewGlobal, NewLentMemory, NewMemory, NewSegment, NewTable, Read, Test}
@@ -47,7 +47,7 @@ use Rattle.wasmi_machine.specs.declared.calls.Reply.{Reply}
 use Rattle.wasmi_machine.specs.declared.slots.Slot.{Slot}
 use Rattle.wasmi_machine.specs.declared.slots.Slot.TheVariants.{Gone, Live}
 use Rattle.wasmi_machine.specs.declared.slots.SlotCounts.{SlotCounts}
-use Rattle.wasmi_laws.specs.Reserved.{HasElements, HasElementsAt, HasSlot, HasSlots, IsReservedToMaximum, IsLent, IsLentRoom, IsReservedFor, NeedsNoMemory, NeedsOnlySlot, ReservedCallsSucceed, ReservedRunsSucceed, makes_data, makes_global, makes_lent_memory, makes_segment, IsInRegion}
+use Rattle.wasmi_laws.specs.Reserved.{HasElements, HasElementsAt, HasSlot, HasSlots, IsReservedToMaximum, IsLent, IsLentRoom, IsReservedFor, NeedsNoMemory, NeedsOnlySlot, ReservedCallsSucceed, ReservedRunsSucceed, SlotsSuffice, makes_data, makes_global, makes_lent_memory, makes_segment, IsInRegion}
 use Rattle.wasmi_machine.specs.declared.calls.Reply.TheVariants as replied
 use Rattle.wasmi_store.specs.Memory as memory
 use Rattle.wasmi_store.specs.Table as table
@@ -1173,15 +1173,98 @@ module _ {S : Type 0} (rules : Rules S) where
             (takes_global w.state turn.call) takes.globals_taken r.globals;
       }
 
-  -- each turn of a run
-  run_told : (w : World S) (turns : List Turn) (w' : World S) → IsReservedFor w.state (map Turn.call turns)
-      → Run rules w turns w' → All IsNotOutOfMemory (map Turn.reply turns)
-  run_told w [] w' r ran = All-nil IsNotOutOfMemory
-  run_told w (turn ∷ turns) w' r (v, step, ran) = All-cons IsNotOutOfMemory turn.reply (map Turn.reply turns)
-      (reserved_calls_succeed rules w turn v step (first_needs w.state turn.call (map Turn.call turns) r))
-      (run_told v turns w' (reserved_next w turn v (map Turn.call turns) step r) ran)
+  module _ (rest : List Call) where
+    -- each turn of a run of the first calls
+    run_told : (w : World S) (turns : List Turn) (w' : World S) → IsReservedFor w.state (map Turn.call turns ++ rest)
+        → Run rules w turns w' → All IsNotOutOfMemory (map Turn.reply turns)
+    run_told w [] w' r ran = All-nil IsNotOutOfMemory
+    run_told w (turn ∷ turns) w' r (v, step, ran) = All-cons IsNotOutOfMemory turn.reply (map Turn.reply turns)
+        (reserved_calls_succeed rules w turn v step (first_needs w.state turn.call (map Turn.call turns ++ rest) r))
+        (run_told v turns w' (reserved_next w turn v (map Turn.call turns ++ rest) step r) ran)
+
+    -- and what is left for the others
+    run_left : (w : World S) (turns : List Turn) (w' : World S) → IsReservedFor w.state (map Turn.call turns ++ rest)
+        → Run rules w turns w' → IsReservedFor w'.state rest
+    run_left w [] w' r ran = subst (λ (v : World S). IsReservedFor v.state rest) (sym ran) r
+    run_left w (turn ∷ turns) w' r (v, step, ran) =
+        run_left v turns w' (reserved_next w turn v (map Turn.call turns ++ rest) step r) ran
+
+    module _ (calls : List Call) (w : World S) (replies : List Reply) (w' : World S)
+        (r : IsReservedFor w.state (calls ++ rest)) (ran : IsRunOf rules calls w replies w') where
+      -- each reply to the first of calls for which enough was reserved
+      pub front_told : All IsNotOutOfMemory replies
+      front_told = subst (All IsNotOutOfMemory) ran.2
+          (run_told w ran.0 w' (subst (λ first. IsReservedFor w.state (first ++ rest)) (sym ran.1) r) ran.3)
+
+      -- and what is reserved for the others then
+      pub rest_reserved : IsReservedFor w'.state rest
+      rest_reserved = run_left w ran.0 w' (subst (λ first. IsReservedFor w.state (first ++ rest)) (sym ran.1) r) ran.3
 
   -- each reply to calls for which enough was reserved
   pub reserved_runs_succeed : ReservedRunsSucceed rules
-  reserved_runs_succeed calls w replies w' r (turns, called, told, ran) = subst (All IsNotOutOfMemory) told
-      (run_told w turns w' (subst (IsReservedFor w.state) (sym called) r) ran)
+  reserved_runs_succeed calls w replies w' r ran =
+      front_told [] calls w replies w' (subst (IsReservedFor w.state) (sym (append-nil calls)) r) ran
+
+-- ---- what is reserved beside runs
+
+-- with the same slots and more of them reserved, a machine has reserved as much for calls that need no more
+more_slots : {A : Type 0} (makes : Call → Bool) (calls : List Call) (reserved additional : ℕ) (list : List A)
+    → HasSlots reserved list makes calls → HasSlots (reserved_for reserved list additional) list makes calls
+more_slots makes calls reserved additional list has = grind (arith, has)
+
+-- where more slots are reserved, what was reserved is so
+pub more_reserved : (s : State) (more : SlotCounts) (calls : List Call) → IsReservedFor s calls
+    → IsReservedFor (with_reserved s more) calls
+more_reserved s more calls r = record {
+  needs = All-weaker (NeedsOnlySlot s) (NeedsOnlySlot (with_reserved s more))
+      (needs_later s (with_reserved s more) (λ k holds. holds) (λ k holds. holds)) calls r.needs;
+  memories = more_slots makes_lent_memory calls s.reserved.memories more.memories s.memories r.memories;
+  segments = more_slots makes_segment calls s.reserved.segments more.segments s.segments r.segments;
+  data_segments =
+      more_slots makes_data calls s.reserved.data_segments more.data_segments s.data_segments r.data_segments;
+  globals = more_slots makes_global calls s.reserved.globals more.globals s.globals r.globals;
+}
+
+-- slots for what calls make
+new_slots : {A : Type 0} (makes : Call → Bool) (calls : List Call) (reserved additional : ℕ) (list : List A)
+    → count_by makes calls ≤ additional → HasSlots (reserved_for reserved list additional) list makes calls
+new_slots makes calls reserved additional list fits = grind (arith, fits)
+
+-- with so many more slots a machine has reserved what calls need for which they are enough
+pub slots_suffice : SlotsSuffice
+slots_suffice s more calls fits = record {
+  needs = All-weaker (NeedsOnlySlot s) (NeedsOnlySlot (with_reserved s more))
+      (needs_later s (with_reserved s more) (λ k holds. holds) (λ k holds. holds)) calls fits.needs;
+  memories = new_slots makes_lent_memory calls s.reserved.memories more.memories s.memories fits.memories;
+  segments = new_slots makes_segment calls s.reserved.segments more.segments s.segments fits.segments;
+  data_segments =
+      new_slots makes_data calls s.reserved.data_segments more.data_segments s.data_segments fits.data_segments;
+  globals = new_slots makes_global calls s.reserved.globals more.globals s.globals fits.globals;
+}
+
+-- a table for which so many elements are reserved stays reserved up to its maximum
+more_elements : (n : ℕ) (x x' : TableValue) → x' ≡ with_elements_reserved x n → IsReservedToMaximum x
+    → IsReservedToMaximum x'
+more_elements n x x' is full = subst IsReservedToMaximum (sym is) (up x.ty.maximum full)
+  where
+    up : (most : Option ℕ) → MatchOption most ⊥ (λ m. m ≤ x.reserved)
+        → MatchOption most ⊥ (λ m. m ≤ max x.reserved n)
+    up None full = full
+    up (Some m) full = grind (arith, full)
+
+-- where elements of a table are reserved, what was reserved is so
+pub elements_stay_reserved : (s : State) (table elements : ℕ) (reply : Reply) (s' : State) (calls : List Call)
+    → ReservesElementsAt table elements s.tables reply s'.tables → s' ≡ with_tables s s'.tables
+    → IsReservedFor s calls → IsReservedFor s' calls
+elements_stay_reserved s table elements reply s' calls reserves rest r =
+    subst (λ t. IsReservedFor t calls) (sym rest) (record {
+      needs = All-weaker (NeedsOnlySlot s) (NeedsOnlySlot (with_tables s s'.tables))
+          (needs_later s (with_tables s s'.tables) (λ k holds. holds)
+          (stays_changed IsReservedToMaximum table s.tables reply s'.tables _
+          (λ x x' h full. ⊎_elim (λ done. more_elements elements x x' done.1 full)
+          (λ refused. subst IsReservedToMaximum (sym refused.2) full) h) reserves)) calls r.needs;
+      memories = r.memories;
+      segments = r.segments;
+      data_segments = r.data_segments;
+      globals = r.globals;
+    })

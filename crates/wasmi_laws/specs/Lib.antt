@@ -1,3 +1,4 @@
 pub mod Runs
 pub mod Places
 pub mod Reserved
+pub mod ReservedPools

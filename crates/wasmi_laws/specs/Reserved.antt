@@ -8,7 +8,8 @@ use Rattle.wasmi_machine.specs.declared.calls.Call.{Call}
 use Rattle.wasmi_machine.specs.declared.calls.Call.TheVariants.{NewMemory, NewLentMemory, GrowMemory, Read, NewTable, GrowTable, NewSegment, NewData, NewGlobal}
 use Rattle.wasmi_machine.specs.declared.calls.Reply.{Reply}
 use Rattle.wasmi_machine.specs.declared.slots.Slot.{Slot}
-use Rattle.wasmi_machine.specs.State.{State, live_at, World, Turn}
+use Rattle.wasmi_machine.specs.declared.slots.SlotCounts.{SlotCounts}
+use Rattle.wasmi_machine.specs.State.{State, live_at, with_reserved, World, Turn}
 use Rattle.wasmi_machine.specs.Effects.{OnLive}
 use Rattle.wasmi_machine.specs.Determinism.{IsNotOutOfMemory}
 use Rattle.wasmi_machine.specs.Steps.{Step, IsRunOf}
@@ -105,6 +106,19 @@ pub record IsReservedFor (s : State) (calls : List Call) : Type 0 where
   pub segments : HasSlots s.reserved.segments s.segments makes_segment calls
   pub data_segments : HasSlots s.reserved.data_segments s.data_segments makes_data calls
   pub globals : HasSlots s.reserved.globals s.globals makes_global calls
+
+-- so many slots are enough for what these calls make, and each of them needs only a slot
+pub record FitsSlots (s : State) (more : SlotCounts) (calls : List Call) : Type 0 where
+  pub needs : All (NeedsOnlySlot s) calls
+  pub memories : count_by makes_lent_memory calls ≤ more.memories
+  pub segments : count_by makes_segment calls ≤ more.segments
+  pub data_segments : count_by makes_data calls ≤ more.data_segments
+  pub globals : count_by makes_global calls ≤ more.globals
+
+-- with so many more slots a machine has reserved what such calls need
+abbrev pub SlotsSuffice : Type 0
+SlotsSuffice = (s : State) (more : SlotCounts) (calls : List Call) → FitsSlots s more calls
+    → IsReservedFor (with_reserved s more) calls
 
 module _ {S : Type 0} (rules : Rules S) where
   -- the reply to a call that needs no memory doesn't say out of memory

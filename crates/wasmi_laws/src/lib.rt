@@ -4,7 +4,8 @@
 
 ghost use Rattle.wasmi_meter.specs.Limiter.{optional_rules};
 ghost use Rattle.wasmi_laws.specs.Places.{IndependentTurnsSwap, OthersStay, OthersStayInRuns, IndicesLast, LiveUntilDropped, MemoriesGrowAlike, MemoriesReadAlike, MemoriesWriteAlike, StoresAreReadBack, StoresKeepOtherBytes, TablesGrowAlike};
-ghost use Rattle.wasmi_laws.specs.Reserved.{ReservedCallsSucceed, ReservedRunsSucceed};
+ghost use Rattle.wasmi_laws.specs.Reserved.{ReservedCallsSucceed, ReservedRunsSucceed, SlotsSuffice};
+ghost use Rattle.wasmi_laws.specs.ReservedPools.{ReservedTenantsSucceed, SlotsSufficeForTenants};
 ghost use Rattle.wasmi_laws.specs.Runs.{CostsAreKept, SwitchIsKept, FuelNeverRises, MoreFuelChangesNothing, RunsAreCut, RunsOfCallsAreCut, SizesNeverShrink, TotalsNeverShrink, PlainRefusalsChangeNothing, OtherRefusalsChangeNothing, PlainlyRefusedRunsChangeNothing, CapsHoldInRuns};
 
 use wasmi_machine::laws;
@@ -118,8 +119,18 @@ pub fn machines_do_alike<L: ResourceLimiter>()
 /// Nor does any reply to a list of such calls, if each memory that they grow lies in a lent region
 /// at first, each table that they grow is reserved up to its maximum, and as many slots of each kind
 /// are reserved and free as the list takes (`IsReservedFor`): what is asked is known before the
-/// first call.
+/// first call. With as many more slots reserved as the list takes, enough slots are (`FitsSlots`).
 pub fn reserved_suffices<L: ResourceLimiter>()
     ensures turn { ReservedCallsSucceed (optional_rules L.rules) }
     ensures run { ReservedRunsSucceed (optional_rules L.rules) }
+    ensures slots { SlotsSuffice }
+{}
+
+/// No reply to a tenant's calls says out of memory, in however many runs they are made, if its
+/// machine has reserved what all of them need at first, as `reserved_suffices` says, whatever the
+/// other tenants do in between, and whatever else is reserved, made or removed. So it is after
+/// `Pool::reserve` of as many more slots as the calls take (`FitsSlots`).
+pub fn reserved_tenants_suffice()
+    ensures runs { ReservedTenantsSucceed }
+    ensures slots { SlotsSufficeForTenants }
 {}

@@ -421,6 +421,38 @@ mod pool {
             self.tenants.reserve(index, slots)
         }
 
+        /// Reserves memory for so many elements in all of a table of a tenant, those that are there
+        /// included, as `Machine::reserve_elements` does, with its replies. What is reserved counts within
+        /// no cap.
+        ///
+        /// # Errors
+        ///
+        /// [`NoTenant`](crate::pool::PoolError::NoTenant) if no tenant has the index, and no other. Then nothing has changed.
+        ///
+        /// # Contract
+        ///
+        /// ```text
+        /// ensures reserved: IfOk result (λ reply. ReservesElementsForTenant self.old index table
+        ///     elements reply self.new)
+        /// ensures refused: IfErr result (λ error. (error ≡ PoolError.NoTenant)
+        ///     × (machine_of self.old index ≡ None) × (self.new ≡ self.old))
+        /// ensures within: IsWithinCaps self.new
+        /// ```
+        ///
+        /// Definitions: [`ReservesElementsForTenant`](crate::specs::budget::PoolSpecs#ReservesElementsForTenant), [`machine_of`](crate::specs::budget::PoolSpecs#machine_of), [`IsWithinCaps`](crate::specs::budget::PoolSpecs#IsWithinCaps).
+        #[inline]
+        pub fn reserve_elements(
+            &mut self,
+            index: usize,
+            table: usize,
+            elements: u64,
+        ) -> Result<Reply, PoolError> {
+            let Some(reply) = self.tenants.reserve_elements(index, table, elements) else {
+                return Err(PoolError::NoTenant);
+            };
+            Ok(reply)
+        }
+
         /// Executes calls on the machine of a tenant, under a limiter that permits what keeps all
         /// tenants together within the caps. It costs memory for the replies, a search among the indices
         /// of the tenants, and what the calls cost, however much was made or dropped before.
@@ -801,6 +833,21 @@ mod tenant {
             self.machine.reserve(slots)
         }
 
+        /// Reserves memory for so many elements in all of a table. What the machine has stays, so no
+        /// tenant holds it.
+        ///
+        /// # Contract
+        ///
+        /// ```text
+        /// ensures reserved: ReservesElements self.old table elements result self.new
+        /// ```
+        ///
+        /// Definitions: [`ReservesElements`](crate::specs::budget::PoolSpecs#ReservesElements).
+        #[inline(always)]
+        pub(crate) fn reserve_elements(&mut self, table: usize, elements: u64) -> Reply {
+            self.machine.reserve_elements(table, elements)
+        }
+
         /// Executes calls under its limiter in a pool with these caps, whose tenants hold `all`, which
         /// becomes what they hold afterwards.
         ///
@@ -1128,6 +1175,29 @@ mod tenants {
             let counted = &mut self.machines[place];
             counted.reserve(slots)?;
             Ok(())
+        }
+
+        /// Reserves memory for so many elements in all of a table of the machine at an index, if there is
+        /// one.
+        ///
+        /// # Contract
+        ///
+        /// ```text
+        /// ensures reserved: MatchOption result
+        ///     ((slice_index_or self.old index None ≡ None) × (self.new ≡ self.old))
+        ///     (λ reply. ReservesElementsIn self.old index table elements reply self.new)
+        /// ```
+        ///
+        /// Definitions: [`ReservesElementsIn`](crate::specs::budget::PoolSpecs#ReservesElementsIn).
+        #[inline(always)]
+        pub(crate) fn reserve_elements(
+            &mut self,
+            index: usize,
+            table: usize,
+            elements: u64,
+        ) -> Option<Reply> {
+            let place = place_of(&self.indices, index)?;
+            Some(self.machines[place].reserve_elements(table, elements))
         }
 
         /// Executes calls on the machine at an index, under its limiter in a pool with these caps, whose

@@ -201,17 +201,34 @@ pub fn machines_do_alike<L: ResourceLimiter>() {}
 /// Nor does any reply to a list of such calls, if each memory that they grow lies in a lent region
 /// at first, each table that they grow is reserved up to its maximum, and as many slots of each kind
 /// are reserved and free as the list takes (`IsReservedFor`): what is asked is known before the
-/// first call.
+/// first call. With as many more slots reserved as the list takes, enough slots are (`FitsSlots`).
 ///
 /// # Contract
 ///
 /// ```text
 /// ensures turn: ReservedCallsSucceed (optional_rules L.rules)
 /// ensures run: ReservedRunsSucceed (optional_rules L.rules)
+/// ensures slots: SlotsSuffice
 /// ```
 ///
-/// Definitions: [`ReservedCallsSucceed`](crate::specs::laws::ReservedSpecs#ReservedCallsSucceed), [`optional_rules`](crate::specs::meter::LimiterSpecs#optional_rules), [`ReservedRunsSucceed`](crate::specs::laws::ReservedSpecs#ReservedRunsSucceed).
+/// Definitions: [`ReservedCallsSucceed`](crate::specs::laws::ReservedSpecs#ReservedCallsSucceed), [`optional_rules`](crate::specs::meter::LimiterSpecs#optional_rules), [`ReservedRunsSucceed`](crate::specs::laws::ReservedSpecs#ReservedRunsSucceed), [`SlotsSuffice`](crate::specs::laws::ReservedSpecs#SlotsSuffice).
 ///
 /// `L` is the type of the limiter, a [`ResourceLimiter`](crate::machine::ResourceLimiter#contract).
 #[inline]
 pub fn reserved_suffices<L: ResourceLimiter>() {}
+
+/// No reply to a tenant's calls says out of memory, in however many runs they are made, if its
+/// machine has reserved what all of them need at first, as `reserved_suffices` says, whatever the
+/// other tenants do in between, and whatever else is reserved, made or removed. So it is after
+/// `Pool::reserve` of as many more slots as the calls take (`FitsSlots`).
+///
+/// # Contract
+///
+/// ```text
+/// ensures runs: ReservedTenantsSucceed
+/// ensures slots: SlotsSufficeForTenants
+/// ```
+///
+/// Definitions: [`ReservedTenantsSucceed`](crate::specs::laws::ReservedPoolsSpecs#ReservedTenantsSucceed), [`SlotsSufficeForTenants`](crate::specs::laws::ReservedPoolsSpecs#SlotsSufficeForTenants).
+#[inline]
+pub fn reserved_tenants_suffice() {}

@@ -5514,7 +5514,8 @@ use Rattle.wasmi_machine.specs.declared.calls.Call.{Call}
 use Rattle.wasmi_machine.specs.declared.calls.Call.TheVariants.{NewMemory, NewLentMemory, GrowMemory, Read, NewTable, GrowTable, NewSegment, NewData, NewGlobal}
 use Rattle.wasmi_machine.specs.declared.calls.Reply.{Reply}
 use Rattle.wasmi_machine.specs.declared.slots.Slot.{Slot}
-use Rattle.wasmi_machine.specs.State.{<a href="../../machine/StateSpecs/index.html#State">State</a>, <a href="../../machine/StateSpecs/index.html#live_at">live_at</a>, <a href="../../machine/StateSpecs/index.html#World">World</a>, <a href="../../machine/StateSpecs/index.html#Turn">Turn</a>}
+use Rattle.wasmi_machine.specs.declared.slots.SlotCounts.{SlotCounts}
+use Rattle.wasmi_machine.specs.State.{<a href="../../machine/StateSpecs/index.html#State">State</a>, <a href="../../machine/StateSpecs/index.html#live_at">live_at</a>, <a href="../../machine/StateSpecs/index.html#with_reserved">with_reserved</a>, <a href="../../machine/StateSpecs/index.html#World">World</a>, <a href="../../machine/StateSpecs/index.html#Turn">Turn</a>}
 use Rattle.wasmi_machine.specs.Effects.{<a href="../../machine/EffectsSpecs/index.html#OnLive">OnLive</a>}
 use Rattle.wasmi_machine.specs.Determinism.{<a href="../../machine/DeterminismSpecs/index.html#IsNotOutOfMemory">IsNotOutOfMemory</a>}
 use Rattle.wasmi_machine.specs.Steps.{<a href="../../machine/StepsSpecs/index.html#Step">Step</a>, <a href="../../machine/StepsSpecs/index.html#IsRunOf">IsRunOf</a>}
@@ -5612,6 +5613,19 @@ pub record <b id="IsReservedFor">IsReservedFor</b> (s : <a href="../../machine/S
   pub <b id="data_segments">data_segments</b> : <a href="../../laws/ReservedSpecs/index.html#HasSlots">HasSlots</a> s.reserved.<a href="../../laws/ReservedSpecs/index.html#data_segments">data_segments</a> s.data_segments <a href="../../laws/ReservedSpecs/index.html#makes_data">makes_data</a> calls
   pub <b id="globals">globals</b> : <a href="../../laws/ReservedSpecs/index.html#HasSlots">HasSlots</a> s.reserved.<a href="../../laws/ReservedSpecs/index.html#globals">globals</a> s.globals <a href="../../laws/ReservedSpecs/index.html#makes_global">makes_global</a> calls
 
+-- so many slots are enough for what these calls make, and each of them needs only a slot
+pub record <b id="FitsSlots">FitsSlots</b> (s : <a href="../../machine/StateSpecs/index.html#State">State</a>) (more : SlotCounts) (calls : List Call) : Type 0 where
+  pub <b id="needs">needs</b> : All (<a href="../../laws/ReservedSpecs/index.html#NeedsOnlySlot">NeedsOnlySlot</a> s) calls
+  pub <b id="memories">memories</b> : count_by <a href="../../laws/ReservedSpecs/index.html#makes_lent_memory">makes_lent_memory</a> calls ≤ more.memories
+  pub <b id="segments">segments</b> : count_by <a href="../../laws/ReservedSpecs/index.html#makes_segment">makes_segment</a> calls ≤ more.segments
+  pub <b id="data_segments">data_segments</b> : count_by <a href="../../laws/ReservedSpecs/index.html#makes_data">makes_data</a> calls ≤ more.data_segments
+  pub <b id="globals">globals</b> : count_by <a href="../../laws/ReservedSpecs/index.html#makes_global">makes_global</a> calls ≤ more.globals
+
+-- with so many more slots a machine has reserved what such calls need
+abbrev pub <b id="SlotsSuffice">SlotsSuffice</b> : Type 0
+<a href="../../laws/ReservedSpecs/index.html#SlotsSuffice">SlotsSuffice</a> = (s : <a href="../../machine/StateSpecs/index.html#State">State</a>) (more : SlotCounts) (calls : List Call) → <a href="../../laws/ReservedSpecs/index.html#FitsSlots">FitsSlots</a> s more calls
+    → <a href="../../laws/ReservedSpecs/index.html#IsReservedFor">IsReservedFor</a> (<a href="../../machine/StateSpecs/index.html#with_reserved">with_reserved</a> s more) calls
+
 module _ {S : Type 0} (rules : <a href="../../meter/LimiterSpecs/index.html#Rules">Rules</a> S) where
   -- the reply to a call that needs no memory doesn&#x27;t say out of memory
   abbrev pub <b id="ReservedCallsSucceed">ReservedCallsSucceed</b> : Type 0
@@ -5625,6 +5639,55 @@ module _ {S : Type 0} (rules : <a href="../../meter/LimiterSpecs/index.html#Rule
 </code></pre>
 "####]
     pub mod ReservedSpecs {}
+    #[doc = r####"Tenants of a pool that have reserved what their calls need: no reply to them says out of memory.
+
+<pre><code>use Rattle.std.specs.Prelude.{◌≡◌, ◌++◌, ◌∷◌, ℕ, List, [], Some, All, nat_eq, if◌then◌else◌}
+use Rattle.wasmi_machine.specs.declared.calls.Call.{Call}
+use Rattle.wasmi_machine.specs.declared.calls.Reply.{Reply}
+use Rattle.wasmi_machine.specs.Determinism.{<a href="../../machine/DeterminismSpecs/index.html#IsNotOutOfMemory">IsNotOutOfMemory</a>}
+use Rattle.wasmi_machine.specs.State.{<a href="../../machine/StateSpecs/index.html#State">State</a>}
+use Rattle.wasmi_machine.specs.declared.slots.SlotCounts.{SlotCounts}
+use Rattle.wasmi_laws.specs.Reserved.{<a href="../../laws/ReservedSpecs/index.html#FitsSlots">FitsSlots</a>, <a href="../../laws/ReservedSpecs/index.html#IsReservedFor">IsReservedFor</a>}
+use Rattle.wasmi_budget.specs.Laws.{<a href="../../budget/LawsSpecs/index.html#PoolTurn">PoolTurn</a>, <a href="../../budget/LawsSpecs/index.html#Added">Added</a>, <a href="../../budget/LawsSpecs/index.html#Ran">Ran</a>, <a href="../../budget/LawsSpecs/index.html#Reserved">Reserved</a>, <a href="../../budget/LawsSpecs/index.html#ReservedElements">ReservedElements</a>, <a href="../../budget/LawsSpecs/index.html#Removed">Removed</a>, <a href="../../budget/LawsSpecs/index.html#Refused">Refused</a>, <a href="../../budget/LawsSpecs/index.html#PoolRun">PoolRun</a>}
+use Rattle.wasmi_budget.specs.Pool.{<a href="../../budget/PoolSpecs/index.html#PoolValue">PoolValue</a>, <a href="../../budget/PoolSpecs/index.html#machine_of">machine_of</a>}
+
+-- the calls of all runs of the tenant of an index, one after another
+abbrev pub <b id="calls_of">calls_of</b> : ℕ → List <a href="../../budget/LawsSpecs/index.html#PoolTurn">PoolTurn</a> → List Call
+<a href="../../laws/ReservedPoolsSpecs/index.html#calls_of">calls_of</a> index [] = []
+<a href="../../laws/ReservedPoolsSpecs/index.html#calls_of">calls_of</a> index (<a href="../../budget/LawsSpecs/index.html#Ran">Ran</a> i calls replies ∷ turns) =
+    if nat_eq i index then calls ++ <a href="../../laws/ReservedPoolsSpecs/index.html#calls_of">calls_of</a> index turns else <a href="../../laws/ReservedPoolsSpecs/index.html#calls_of">calls_of</a> index turns
+<a href="../../laws/ReservedPoolsSpecs/index.html#calls_of">calls_of</a> index (<a href="../../budget/LawsSpecs/index.html#Added">Added</a> s ∷ turns) = <a href="../../laws/ReservedPoolsSpecs/index.html#calls_of">calls_of</a> index turns
+<a href="../../laws/ReservedPoolsSpecs/index.html#calls_of">calls_of</a> index (<a href="../../budget/LawsSpecs/index.html#Reserved">Reserved</a> i more ∷ turns) = <a href="../../laws/ReservedPoolsSpecs/index.html#calls_of">calls_of</a> index turns
+<a href="../../laws/ReservedPoolsSpecs/index.html#calls_of">calls_of</a> index (<a href="../../budget/LawsSpecs/index.html#ReservedElements">ReservedElements</a> i table elements reply ∷ turns) = <a href="../../laws/ReservedPoolsSpecs/index.html#calls_of">calls_of</a> index turns
+<a href="../../laws/ReservedPoolsSpecs/index.html#calls_of">calls_of</a> index (<a href="../../budget/LawsSpecs/index.html#Removed">Removed</a> i s ∷ turns) = <a href="../../laws/ReservedPoolsSpecs/index.html#calls_of">calls_of</a> index turns
+<a href="../../laws/ReservedPoolsSpecs/index.html#calls_of">calls_of</a> index (<a href="../../budget/LawsSpecs/index.html#Refused">Refused</a> ∷ turns) = <a href="../../laws/ReservedPoolsSpecs/index.html#calls_of">calls_of</a> index turns
+
+-- the replies to them
+abbrev pub <b id="replies_of">replies_of</b> : ℕ → List <a href="../../budget/LawsSpecs/index.html#PoolTurn">PoolTurn</a> → List Reply
+<a href="../../laws/ReservedPoolsSpecs/index.html#replies_of">replies_of</a> index [] = []
+<a href="../../laws/ReservedPoolsSpecs/index.html#replies_of">replies_of</a> index (<a href="../../budget/LawsSpecs/index.html#Ran">Ran</a> i calls replies ∷ turns) =
+    if nat_eq i index then replies ++ <a href="../../laws/ReservedPoolsSpecs/index.html#replies_of">replies_of</a> index turns else <a href="../../laws/ReservedPoolsSpecs/index.html#replies_of">replies_of</a> index turns
+<a href="../../laws/ReservedPoolsSpecs/index.html#replies_of">replies_of</a> index (<a href="../../budget/LawsSpecs/index.html#Added">Added</a> s ∷ turns) = <a href="../../laws/ReservedPoolsSpecs/index.html#replies_of">replies_of</a> index turns
+<a href="../../laws/ReservedPoolsSpecs/index.html#replies_of">replies_of</a> index (<a href="../../budget/LawsSpecs/index.html#Reserved">Reserved</a> i more ∷ turns) = <a href="../../laws/ReservedPoolsSpecs/index.html#replies_of">replies_of</a> index turns
+<a href="../../laws/ReservedPoolsSpecs/index.html#replies_of">replies_of</a> index (<a href="../../budget/LawsSpecs/index.html#ReservedElements">ReservedElements</a> i table elements reply ∷ turns) = <a href="../../laws/ReservedPoolsSpecs/index.html#replies_of">replies_of</a> index turns
+<a href="../../laws/ReservedPoolsSpecs/index.html#replies_of">replies_of</a> index (<a href="../../budget/LawsSpecs/index.html#Removed">Removed</a> i s ∷ turns) = <a href="../../laws/ReservedPoolsSpecs/index.html#replies_of">replies_of</a> index turns
+<a href="../../laws/ReservedPoolsSpecs/index.html#replies_of">replies_of</a> index (<a href="../../budget/LawsSpecs/index.html#Refused">Refused</a> ∷ turns) = <a href="../../laws/ReservedPoolsSpecs/index.html#replies_of">replies_of</a> index turns
+
+-- no reply to the calls of a tenant whose machine has reserved what all of them need says out of memory, whatever else is
+-- done with the pool in between
+abbrev pub <b id="ReservedTenantsSucceed">ReservedTenantsSucceed</b> : Type 0
+<a href="../../laws/ReservedPoolsSpecs/index.html#ReservedTenantsSucceed">ReservedTenantsSucceed</a> = (pool : <a href="../../budget/PoolSpecs/index.html#PoolValue">PoolValue</a>) (index : ℕ) (s : <a href="../../machine/StateSpecs/index.html#State">State</a>) → <a href="../../budget/PoolSpecs/index.html#machine_of">machine_of</a> pool index ≡ Some s
+    → (turns : List <a href="../../budget/LawsSpecs/index.html#PoolTurn">PoolTurn</a>) (pool&#x27; : <a href="../../budget/PoolSpecs/index.html#PoolValue">PoolValue</a>) → <a href="../../laws/ReservedSpecs/index.html#IsReservedFor">IsReservedFor</a> s (<a href="../../laws/ReservedPoolsSpecs/index.html#calls_of">calls_of</a> index turns) → <a href="../../budget/LawsSpecs/index.html#PoolRun">PoolRun</a> pool turns pool&#x27;
+    → All <a href="../../machine/DeterminismSpecs/index.html#IsNotOutOfMemory">IsNotOutOfMemory</a> (<a href="../../laws/ReservedPoolsSpecs/index.html#replies_of">replies_of</a> index turns)
+
+-- nor does any where so many more slots are reserved on its machine first, which are enough for what the calls make
+abbrev pub <b id="SlotsSufficeForTenants">SlotsSufficeForTenants</b> : Type 0
+<a href="../../laws/ReservedPoolsSpecs/index.html#SlotsSufficeForTenants">SlotsSufficeForTenants</a> = (pool : <a href="../../budget/PoolSpecs/index.html#PoolValue">PoolValue</a>) (index : ℕ) (s : <a href="../../machine/StateSpecs/index.html#State">State</a>) → <a href="../../budget/PoolSpecs/index.html#machine_of">machine_of</a> pool index ≡ Some s
+    → (more : SlotCounts) (turns : List <a href="../../budget/LawsSpecs/index.html#PoolTurn">PoolTurn</a>) (pool&#x27; : <a href="../../budget/PoolSpecs/index.html#PoolValue">PoolValue</a>) → <a href="../../laws/ReservedSpecs/index.html#FitsSlots">FitsSlots</a> s more (<a href="../../laws/ReservedPoolsSpecs/index.html#calls_of">calls_of</a> index turns)
+    → <a href="../../budget/LawsSpecs/index.html#PoolRun">PoolRun</a> pool (<a href="../../budget/LawsSpecs/index.html#Reserved">Reserved</a> index more ∷ turns) pool&#x27; → All <a href="../../machine/DeterminismSpecs/index.html#IsNotOutOfMemory">IsNotOutOfMemory</a> (<a href="../../laws/ReservedPoolsSpecs/index.html#replies_of">replies_of</a> index turns)
+</code></pre>
+"####]
+    pub mod ReservedPoolsSpecs {}
     #[doc = r####"Laws of whole runs, and of the meter over them.
 
 <pre><code>use Rattle.std.specs.Prelude.{◌≡◌, ◌≤◌, ◌++◌, ℕ, List, length, take, drop, map, Option, Some, slice_get, All, ◌+◌, is_some}
@@ -5797,19 +5860,23 @@ pub mod budget {
 <pre><code>use Rattle.std.specs.Prelude.{◌≡◌, ◌≢◌, ◌+◌, ℕ, List, [], ◌∷◌, nat_eq, if◌then◌else◌, MatchBool, Some, None, All}
 use Rattle.wasmi_machine.specs.declared.calls.Call.{Call}
 use Rattle.wasmi_machine.specs.declared.calls.Reply.{Reply}
+use Rattle.wasmi_machine.specs.declared.slots.SlotCounts.{SlotCounts}
 use Rattle.wasmi_machine.specs.State.{<a href="../../machine/StateSpecs/index.html#State">State</a>, <a href="../../machine/StateSpecs/index.html#Turn">Turn</a>, <a href="../../machine/StateSpecs/index.html#total">total</a>}
-use Rattle.wasmi_budget.specs.Pool.{<a href="../../budget/PoolSpecs/index.html#PoolValue">PoolValue</a>, <a href="../../budget/PoolSpecs/index.html#AddsTenant">AddsTenant</a>, <a href="../../budget/PoolSpecs/index.html#RunsTenant">RunsTenant</a>, <a href="../../budget/PoolSpecs/index.html#RemovesTenant">RemovesTenant</a>, <a href="../../budget/PoolSpecs/index.html#machine_of">machine_of</a>, <a href="../../budget/PoolSpecs/index.html#tenant_rules">tenant_rules</a>, <a href="../../budget/PoolSpecs/index.html#total_of">total_of</a>, <a href="../../budget/PoolSpecs/index.html#without_others">without_others</a>, <a href="../../budget/PoolSpecs/index.html#RunsTenantBy">RunsTenantBy</a>, <a href="../../budget/PoolSpecs/index.html#IsWithinCaps">IsWithinCaps</a>}
+use Rattle.wasmi_budget.specs.Pool.{<a href="../../budget/PoolSpecs/index.html#PoolValue">PoolValue</a>, <a href="../../budget/PoolSpecs/index.html#AddsTenant">AddsTenant</a>, <a href="../../budget/PoolSpecs/index.html#RunsTenant">RunsTenant</a>, <a href="../../budget/PoolSpecs/index.html#RemovesTenant">RemovesTenant</a>, <a href="../../budget/PoolSpecs/index.html#ReservesForTenant">ReservesForTenant</a>, <a href="../../budget/PoolSpecs/index.html#ReservesElementsForTenant">ReservesElementsForTenant</a>, <a href="../../budget/PoolSpecs/index.html#machine_of">machine_of</a>, <a href="../../budget/PoolSpecs/index.html#tenant_rules">tenant_rules</a>, <a href="../../budget/PoolSpecs/index.html#total_of">total_of</a>, <a href="../../budget/PoolSpecs/index.html#without_others">without_others</a>, <a href="../../budget/PoolSpecs/index.html#RunsTenantBy">RunsTenantBy</a>, <a href="../../budget/PoolSpecs/index.html#IsWithinCaps">IsWithinCaps</a>}
 use Rattle.wasmi_meter.specs.declared.limiter.Kind.{Kind}
 use Rattle.wasmi_meter.specs.Limiter.{<a href="../../meter/LimiterSpecs/index.html#optional_rules">optional_rules</a>}
 use Rattle.wasmi_machine.specs.Determinism.{<a href="../../machine/DeterminismSpecs/index.html#permitting">permitting</a>, <a href="../../machine/DeterminismSpecs/index.html#TellsNoDenial">TellsNoDenial</a>}
 use Rattle.wasmi_machine.specs.Steps.{<a href="../../machine/StepsSpecs/index.html#Run">Run</a>}
 use Rattle.wasmi_budget.specs.declared.tenant.Tenant.{Tenant}
 
--- one call on a pool: a machine was added, a tenant&#x27;s machine has run, a tenant was removed, whose machine is this one,
--- or the call was refused
+-- one call on a pool: a machine was added, a tenant&#x27;s machine has run, so many slots were reserved on it, or it has
+-- replied to a reservation of elements of one of its tables, a tenant was removed, whose machine is this one, or the call
+-- was refused
 pub data <b id="PoolTurn">PoolTurn</b> : Type 0 where
   <b id="Added">Added</b> : <a href="../../machine/StateSpecs/index.html#State">State</a> → <a href="../../budget/LawsSpecs/index.html#PoolTurn">PoolTurn</a>
   <b id="Ran">Ran</b> : ℕ → List Call → List Reply → <a href="../../budget/LawsSpecs/index.html#PoolTurn">PoolTurn</a>
+  <b id="Reserved">Reserved</b> : ℕ → SlotCounts → <a href="../../budget/LawsSpecs/index.html#PoolTurn">PoolTurn</a>
+  <b id="ReservedElements">ReservedElements</b> : ℕ → ℕ → ℕ → Reply → <a href="../../budget/LawsSpecs/index.html#PoolTurn">PoolTurn</a>
   <b id="Removed">Removed</b> : ℕ → <a href="../../machine/StateSpecs/index.html#State">State</a> → <a href="../../budget/LawsSpecs/index.html#PoolTurn">PoolTurn</a>
   <b id="Refused">Refused</b> : <a href="../../budget/LawsSpecs/index.html#PoolTurn">PoolTurn</a>
 
@@ -5817,6 +5884,9 @@ pub data <b id="PoolTurn">PoolTurn</b> : Type 0 where
 abbrev pub <b id="PoolStep">PoolStep</b> : <a href="../../budget/PoolSpecs/index.html#PoolValue">PoolValue</a> → <a href="../../budget/LawsSpecs/index.html#PoolTurn">PoolTurn</a> → <a href="../../budget/PoolSpecs/index.html#PoolValue">PoolValue</a> → Type 0
 <a href="../../budget/LawsSpecs/index.html#PoolStep">PoolStep</a> pool (<a href="../../budget/LawsSpecs/index.html#Added">Added</a> s) pool&#x27; = <a href="../../budget/PoolSpecs/index.html#AddsTenant">AddsTenant</a> pool s pool&#x27;
 <a href="../../budget/LawsSpecs/index.html#PoolStep">PoolStep</a> pool (<a href="../../budget/LawsSpecs/index.html#Ran">Ran</a> index calls replies) pool&#x27; = <a href="../../budget/PoolSpecs/index.html#RunsTenant">RunsTenant</a> pool index calls replies pool&#x27;
+<a href="../../budget/LawsSpecs/index.html#PoolStep">PoolStep</a> pool (<a href="../../budget/LawsSpecs/index.html#Reserved">Reserved</a> index more) pool&#x27; = <a href="../../budget/PoolSpecs/index.html#ReservesForTenant">ReservesForTenant</a> pool index more pool&#x27;
+<a href="../../budget/LawsSpecs/index.html#PoolStep">PoolStep</a> pool (<a href="../../budget/LawsSpecs/index.html#ReservedElements">ReservedElements</a> index table elements reply) pool&#x27; =
+    <a href="../../budget/PoolSpecs/index.html#ReservesElementsForTenant">ReservesElementsForTenant</a> pool index table elements reply pool&#x27;
 <a href="../../budget/LawsSpecs/index.html#PoolStep">PoolStep</a> pool (<a href="../../budget/LawsSpecs/index.html#Removed">Removed</a> index s) pool&#x27; = <a href="../../budget/PoolSpecs/index.html#RemovesTenant">RemovesTenant</a> pool index s pool&#x27;
 <a href="../../budget/LawsSpecs/index.html#PoolStep">PoolStep</a> pool <a href="../../budget/LawsSpecs/index.html#Refused">Refused</a> pool&#x27; = pool&#x27; ≡ pool
 
@@ -5841,12 +5911,16 @@ abbrev pub <b id="PermittingStep">PermittingStep</b> : ℕ → <a href="../../bu
 abbrev pub <b id="PermittingRun">PermittingRun</b> : ℕ → <a href="../../budget/PoolSpecs/index.html#PoolValue">PoolValue</a> → List <a href="../../budget/LawsSpecs/index.html#PoolTurn">PoolTurn</a> → <a href="../../budget/PoolSpecs/index.html#PoolValue">PoolValue</a> → Type 0
 <a href="../../budget/LawsSpecs/index.html#PermittingRun">PermittingRun</a> index = <a href="../../budget/LawsSpecs/index.html#RunBy">RunBy</a> (<a href="../../budget/LawsSpecs/index.html#PermittingStep">PermittingStep</a> index)
 
--- the runs of the tenant of an index, as those of the only tenant
+-- the runs and reservations of the tenant of an index, as those of the only tenant
 abbrev pub <b id="own_turns">own_turns</b> : ℕ → List <a href="../../budget/LawsSpecs/index.html#PoolTurn">PoolTurn</a> → List <a href="../../budget/LawsSpecs/index.html#PoolTurn">PoolTurn</a>
 <a href="../../budget/LawsSpecs/index.html#own_turns">own_turns</a> index [] = []
 <a href="../../budget/LawsSpecs/index.html#own_turns">own_turns</a> index (<a href="../../budget/LawsSpecs/index.html#Added">Added</a> s ∷ turns) = <a href="../../budget/LawsSpecs/index.html#own_turns">own_turns</a> index turns
 <a href="../../budget/LawsSpecs/index.html#own_turns">own_turns</a> index (<a href="../../budget/LawsSpecs/index.html#Ran">Ran</a> i calls replies ∷ turns) =
     if nat_eq i index then <a href="../../budget/LawsSpecs/index.html#Ran">Ran</a> 0 calls replies ∷ <a href="../../budget/LawsSpecs/index.html#own_turns">own_turns</a> index turns else <a href="../../budget/LawsSpecs/index.html#own_turns">own_turns</a> index turns
+<a href="../../budget/LawsSpecs/index.html#own_turns">own_turns</a> index (<a href="../../budget/LawsSpecs/index.html#Reserved">Reserved</a> i more ∷ turns) =
+    if nat_eq i index then <a href="../../budget/LawsSpecs/index.html#Reserved">Reserved</a> 0 more ∷ <a href="../../budget/LawsSpecs/index.html#own_turns">own_turns</a> index turns else <a href="../../budget/LawsSpecs/index.html#own_turns">own_turns</a> index turns
+<a href="../../budget/LawsSpecs/index.html#own_turns">own_turns</a> index (<a href="../../budget/LawsSpecs/index.html#ReservedElements">ReservedElements</a> i table elements reply ∷ turns) =
+    if nat_eq i index then <a href="../../budget/LawsSpecs/index.html#ReservedElements">ReservedElements</a> 0 table elements reply ∷ <a href="../../budget/LawsSpecs/index.html#own_turns">own_turns</a> index turns else <a href="../../budget/LawsSpecs/index.html#own_turns">own_turns</a> index turns
 <a href="../../budget/LawsSpecs/index.html#own_turns">own_turns</a> index (<a href="../../budget/LawsSpecs/index.html#Removed">Removed</a> i s ∷ turns) = <a href="../../budget/LawsSpecs/index.html#own_turns">own_turns</a> index turns
 <a href="../../budget/LawsSpecs/index.html#own_turns">own_turns</a> index (<a href="../../budget/LawsSpecs/index.html#Refused">Refused</a> ∷ turns) = <a href="../../budget/LawsSpecs/index.html#own_turns">own_turns</a> index turns
 
@@ -5904,8 +5978,9 @@ use Rattle.wasmi_meter.specs.declared.amounts.Amounts.{Amounts}
 use Rattle.wasmi_machine.specs.declared.calls.Call.{Call}
 use Rattle.wasmi_machine.specs.declared.calls.Call.TheVariants.{Binary, CopyMemory, FillMemory, InitMemory, SetFuel, Store}
 use Rattle.wasmi_machine.specs.declared.calls.Reply.{Reply}
-use Rattle.wasmi_machine.specs.State.{<a href="../../machine/StateSpecs/index.html#State">State</a>, <a href="../../machine/StateSpecs/index.html#total">total</a>, <a href="../../machine/StateSpecs/index.html#world">world</a>, <a href="../../machine/StateSpecs/index.html#with_reserved">with_reserved</a>, <a href="../../machine/StateSpecs/index.html#HoldsTotals">HoldsTotals</a>}
+use Rattle.wasmi_machine.specs.State.{<a href="../../machine/StateSpecs/index.html#State">State</a>, <a href="../../machine/StateSpecs/index.html#total">total</a>, <a href="../../machine/StateSpecs/index.html#world">world</a>, <a href="../../machine/StateSpecs/index.html#with_reserved">with_reserved</a>, <a href="../../machine/StateSpecs/index.html#with_tables">with_tables</a>, <a href="../../machine/StateSpecs/index.html#HoldsTotals">HoldsTotals</a>}
 use Rattle.wasmi_machine.specs.Steps.{<a href="../../machine/StepsSpecs/index.html#IsRunOf">IsRunOf</a>, <a href="../../machine/StepsSpecs/index.html#RepliesWith">RepliesWith</a>}
+use Rattle.wasmi_machine.specs.TableEffects.{<a href="../../machine/TableEffectsSpecs/index.html#ReservesElementsAt">ReservesElementsAt</a>}
 use Rattle.wasmi_machine.specs.declared.slots.SlotCounts.{SlotCounts}
 use Rattle.wasmi_budget.specs.declared.error.AddError.{AddError}
 use Rattle.wasmi_budget.specs.declared.error.AddError.TheVariants.{NotEmpty, NoRoom}
@@ -6076,6 +6151,26 @@ pub record <b id="ReservesAt">ReservesAt</b> (<a href="../../budget/PoolSpecs/in
 abbrev pub <b id="ReservesForTenant">ReservesForTenant</b> : <a href="../../budget/PoolSpecs/index.html#PoolValue">PoolValue</a> → ℕ → SlotCounts → <a href="../../budget/PoolSpecs/index.html#PoolValue">PoolValue</a> → Type 0
 <a href="../../budget/PoolSpecs/index.html#ReservesForTenant">ReservesForTenant</a> pool index more pool&#x27; =
     (pool&#x27;.<a href="../../budget/PoolSpecs/index.html#caps">caps</a> ≡ pool.caps) × <a href="../../budget/PoolSpecs/index.html#ReservesAt">ReservesAt</a> pool.machines index more pool&#x27;.<a href="../../budget/PoolSpecs/index.html#machines">machines</a>
+
+-- a machine has replied to a reservation of so many elements in all of one of its tables, and all else is the same
+abbrev pub <b id="ReservesElements">ReservesElements</b> : <a href="../../machine/StateSpecs/index.html#State">State</a> → ℕ → ℕ → Reply → <a href="../../machine/StateSpecs/index.html#State">State</a> → Type 0
+<a href="../../budget/PoolSpecs/index.html#ReservesElements">ReservesElements</a> s table <a href="../../budget/PoolSpecs/index.html#elements">elements</a> reply s&#x27; =
+    <a href="../../machine/TableEffectsSpecs/index.html#ReservesElementsAt">ReservesElementsAt</a> table <a href="../../budget/PoolSpecs/index.html#elements">elements</a> s.tables reply s&#x27;.tables × (s&#x27; ≡ <a href="../../machine/StateSpecs/index.html#with_tables">with_tables</a> s s&#x27;.tables)
+
+-- the machine at an index has replied to a reservation of so many elements in all of one of its tables, and all others
+-- are the same
+pub record <b id="ReservesElementsIn">ReservesElementsIn</b> (<a href="../../budget/PoolSpecs/index.html#machines">machines</a> : List (Option <a href="../../machine/StateSpecs/index.html#State">State</a>)) (index table <a href="../../budget/PoolSpecs/index.html#elements">elements</a> : ℕ) (reply : Reply)
+    (machines&#x27; : List (Option <a href="../../machine/StateSpecs/index.html#State">State</a>)) : Type 0 where
+  pub <b id="machine">machine</b> : <a href="../../machine/StateSpecs/index.html#State">State</a>
+  pub <b id="found">found</b> : slice_index_or <a href="../../budget/PoolSpecs/index.html#machines">machines</a> index None ≡ Some <a href="../../budget/PoolSpecs/index.html#machine">machine</a>
+  pub <b id="machine&#x27;">machine&#x27;</b> : <a href="../../machine/StateSpecs/index.html#State">State</a>
+  pub <b id="reserved">reserved</b> : <a href="../../budget/PoolSpecs/index.html#ReservesElements">ReservesElements</a> <a href="../../budget/PoolSpecs/index.html#machine">machine</a> table <a href="../../budget/PoolSpecs/index.html#elements">elements</a> reply <a href="../../budget/PoolSpecs/index.html#machine%27">machine&#x27;</a>
+  pub <b id="after">after</b> : machines&#x27; ≡ slice_set <a href="../../budget/PoolSpecs/index.html#machines">machines</a> index (Some <a href="../../budget/PoolSpecs/index.html#machine%27">machine&#x27;</a>)
+
+-- the machine of a tenant has replied to a reservation of elements, and all else is the same
+abbrev pub <b id="ReservesElementsForTenant">ReservesElementsForTenant</b> : <a href="../../budget/PoolSpecs/index.html#PoolValue">PoolValue</a> → ℕ → ℕ → ℕ → Reply → <a href="../../budget/PoolSpecs/index.html#PoolValue">PoolValue</a> → Type 0
+<a href="../../budget/PoolSpecs/index.html#ReservesElementsForTenant">ReservesElementsForTenant</a> pool index table <a href="../../budget/PoolSpecs/index.html#elements">elements</a> reply pool&#x27; =
+    (pool&#x27;.<a href="../../budget/PoolSpecs/index.html#caps">caps</a> ≡ pool.caps) × <a href="../../budget/PoolSpecs/index.html#ReservesElementsIn">ReservesElementsIn</a> pool.machines index table <a href="../../budget/PoolSpecs/index.html#elements">elements</a> reply pool&#x27;.<a href="../../budget/PoolSpecs/index.html#machines">machines</a>
 
 -- the text of why a machine isn&#x27;t added to a pool
 abbrev pub <b id="add_error_text">add_error_text</b> : AddError → List ℕ

@@ -17,6 +17,7 @@ use Rattle.wasmi_machine.specs.declared.calls.Call.{Call}
 use Rattle.wasmi_machine.specs.declared.calls.Call.TheVariants.{NewSegment}
 use Rattle.wasmi_machine.specs.declared.calls.Reply.{Reply}
 use Rattle.wasmi_machine.specs.declared.slots.SlotCounts.{SlotCounts}
+use Rattle.wasmi_budget.specs.Pool.{ReservesElements}
 use Rattle.wasmi_c.specs.Machine.CallStructs.{call_of}
 use Rattle.wasmi_c.specs.MemoryCalls.{memory_fuel_needed}
 use Rattle.wasmi_c.specs.Machine.Caps.{MachineValue, StaysWithinCaps, Keeps}
@@ -103,6 +104,18 @@ ReservesIn holder with_machine room machine status holder' = ((status ≡ NO_ROO
 -- so a machine with its limiter
 abbrev pub Reserves : Room → MachineValue → ℕ → MachineValue → Type 0
 Reserves room machine = ReservesIn machine (λ state. record machine { state = state }) room machine.state
+
+-- what has a machine gets it as a reservation of so many elements in all of one of its tables leaves it, and the status is
+-- that of the reply
+abbrev pub ReservesElementsIn : {V : Type 0} → V → (State → V) → ℕ → ℕ → State → ℕ → V → Type 0
+ReservesElementsIn holder with_machine table elements machine status holder' = (reply : Reply) × (machine' : State)
+    × ReservesElements machine table elements reply machine' × (status ≡ status_of reply)
+    × (holder' ≡ with_machine machine')
+
+-- so a machine with its limiter
+abbrev pub ReservesElementsByStatus : ℕ → ℕ → MachineValue → ℕ → MachineValue → Type 0
+ReservesElementsByStatus table elements machine =
+    ReservesElementsIn machine (λ state. record machine { state = state }) table elements machine.state
 
 -- what a handle holds has become another; where it holds nothing, the status says so, and it holds nothing afterwards
 abbrev pub ActsOnHeld : {R V : Type 0} → R → Option V → R → Option V → (V → V → Type 0) → Type 0

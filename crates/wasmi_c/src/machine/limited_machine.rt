@@ -46,7 +46,7 @@ impl Model for LimitedMachine {
 }
 
 impl LimitedMachine {
-    ghost use Rattle.wasmi_c.specs.Machine.Calls.{MachineReplies, RepliesInStatus, RepliesInStruct, RepliesInWord, RepliesToCopy, RepliesToItems, RepliesToSegment, RepliesToList, RepliesToStruct, Reserves, PaysFuel, totals_of};
+    ghost use Rattle.wasmi_c.specs.Machine.Calls.{MachineReplies, RepliesInStatus, RepliesInStruct, RepliesInWord, RepliesToCopy, RepliesToItems, RepliesToSegment, RepliesToList, RepliesToStruct, Reserves, PaysFuel, totals_of, ReservesElementsByStatus};
     ghost use Rattle.wasmi_c.specs.Machine.Caps.{IsCapped};
     ghost use Rattle.wasmi_c.specs.Machine.NewMachines.{IsNewMachine, IsNewWithAnswers};
 
@@ -157,6 +157,17 @@ impl LimitedMachine {
             Ok(()) => DONE,
             Err(_) => NO_ROOM,
         }
+    }
+
+    /// Reserves memory for so many elements in all of a table. If the memory is refused, nothing has
+    /// changed.
+    #[tactic(auto, using(crate::proofs::MachineLemmas::kept_by_elements))]
+    pub fn reserve_elements(&mut self, table: usize, elements: u64) -> u8
+        ensures step { ReservesElementsByStatus table elements self.old result self.new }
+        ensures caps { caps_of self.new.limiter ≡ caps_of self.old.limiter }
+    {
+        let reply = self.machine.reserve_elements(table, elements);
+        ReplyStruct::from_reply(&reply).status
     }
 
     /// Loads an item by the load that has the number, if there is one.

@@ -7,3 +7,6 @@ returns-clause-turn g c = reserved.reserved_calls_succeed (optional_rules g.L.Re
 
 pub returns-clause-run : goal.returns-clause-run
 returns-clause-run g c = reserved.reserved_runs_succeed (optional_rules g.L.ResourceLimiter.rules)
+
+pub returns-clause-slots : goal.returns-clause-slots
+returns-clause-slots g c = reserved.slots_suffice

@@ -2371,6 +2371,23 @@ pub mod machine {
                 }
             }
 
+            /// Reserves memory for so many elements in all of a table. If the memory is refused, nothing has
+            /// changed.
+            ///
+            /// # Contract
+            ///
+            /// ```text
+            /// ensures step: ReservesElementsByStatus table elements self.old result self.new
+            /// ensures caps: caps_of self.new.limiter ≡ caps_of self.old.limiter
+            /// ```
+            ///
+            /// Definitions: [`caps_of`](crate::specs::meter::AnyLimiterSpecs#caps_of).
+            #[inline]
+            pub fn reserve_elements(&mut self, table: usize, elements: u64) -> u8 {
+                let reply = self.machine.reserve_elements(table, elements);
+                ReplyStruct::from_reply(&reply).status
+            }
+
             /// Loads an item by the load that has the number, if there is one.
             ///
             /// # Contract
@@ -4390,6 +4407,20 @@ pub mod pool {
                 let (dst, a, b) = (numbers.dst, numbers.a, numbers.b);
                 return self.reply(tenant, &Call::Binary { op, dst, a, b });
             }
+            self.reply_to_any_struct(tenant, numbers)
+        }
+
+        /// Replies to the call that numbers stand for by a `Call` of all of them. It is no part of
+        /// `reply_to_struct`, which would be too large to be inlined with it.
+        ///
+        /// # Contract
+        ///
+        /// ```text
+        /// ensures step: TenantRepliesToStruct tenant numbers.now result self.old self.new
+        /// ensures caps: self.new.caps ≡ self.old.caps
+        /// ```
+        #[inline]
+        fn reply_to_any_struct(&mut self, tenant: usize, numbers: &CallStruct) -> ReplyStruct {
             match &numbers.call() {
                 Some(call) => self.reply(tenant, call).by_fields(),
                 None => ReplyStruct::only(NO_CALL),
@@ -4440,6 +4471,23 @@ pub mod pool {
                 Ok(()) => DONE,
                 Err(ReserveError::NoTenant) => NO_TENANT,
                 Err(ReserveError::OutOfMemory) => NO_ROOM,
+            }
+        }
+
+        /// Reserves memory for so many elements in all of a table of a tenant. If the memory is refused,
+        /// nothing has changed.
+        ///
+        /// # Contract
+        ///
+        /// ```text
+        /// ensures step: TenantReservesElements tenant table elements result self.old self.new
+        /// ensures caps: self.new.caps ≡ self.old.caps
+        /// ```
+        #[inline]
+        pub fn reserve_elements(&mut self, tenant: usize, table: usize, elements: u64) -> u8 {
+            match self.pool.reserve_elements(tenant, table, elements) {
+                Ok(reply) => ReplyStruct::from_reply(&reply).status,
+                Err(_) => NO_TENANT,
             }
         }
 

@@ -692,6 +692,21 @@ mod machine {
     /// # Contract
     ///
     /// ```text
+    /// ensures: OnHeld (ReservesElementsByStatus table elements) NO_MACHINE
+    ///     handle.old.machine.held result handle.new.machine.held
+    /// ```
+    #[unsafe(no_mangle)]
+    pub extern "C" fn wasmi_machine_reserve_elements(
+        handle: &mut Handle,
+        table: usize,
+        elements: u64,
+    ) -> u8 {
+        on_machine!(handle, NO_MACHINE, machine => machine.reserve_elements(table, elements))
+    }
+
+    /// # Contract
+    ///
+    /// ```text
     /// ensures: OnHeld (RepliesToList calls.now replies.old) (NO_MACHINE, replies.old)
     ///     handle.old.machine.held (result, replies.new) handle.new.machine.held
     /// ```
@@ -1045,6 +1060,23 @@ mod machine {
         room: &Room,
     ) -> u8 {
         on_pool!(handle, NO_POOL, pool => pool.reserve(tenant, room))
+    }
+
+    /// # Contract
+    ///
+    /// ```text
+    /// ensures step: ActsOnHeld NO_POOL handle.old.pool.held result handle.new.pool.held
+    ///     (TenantReservesElements tenant table elements result)
+    /// ensures caps: KeepsCaps handle.old.pool.held handle.new.pool.held
+    /// ```
+    #[unsafe(no_mangle)]
+    pub extern "C" fn wasmi_pool_reserve_elements(
+        handle: &mut PoolHandle,
+        tenant: usize,
+        table: usize,
+        elements: u64,
+    ) -> u8 {
+        on_pool!(handle, NO_POOL, pool => pool.reserve_elements(tenant, table, elements))
     }
 
     /// # Contract

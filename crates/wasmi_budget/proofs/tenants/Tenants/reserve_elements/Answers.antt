@@ -1,0 +1,23 @@
+use Rattle.std.proofs.Common.{refl}
+use Rattle.wasmi_budget.proofs.TenantsLemmas.{its_value, no_value, set_value}
+use Rattle.wasmi_budget.proofs.tenants.Tenants.reserve_elements.Goals as goal
+
+pub returns-in_err-place : goal.returns-in_err-place
+returns-in_err-place c = record {
+  reserved = rw c.from_residual.ensures (
+    no_value _ _ _ c.self.invariant _ c.self.view_is _ c.deref.ensures.value _ c.in_err-place.ensures.found,
+    refl,
+  );
+}
+
+pub returns : goal.returns
+returns c = record {
+  reserved = record {
+    machine = _;
+    found = its_value _ _ _ c.self.invariant _ c.self.view_is _ c.deref.ensures.value _ _ c.in_ok-place.ensures.found _
+        c.index_mut.ensures.value;
+    machine' = c.reserve_elements.new.self;
+    reserved = c.reserve_elements.ensures.reserved;
+    after = set_value _ _ _ c.self.invariant _ c.self.view_is _ c.deref.ensures.value _ _ c.in_ok-place.ensures.found _;
+  };
+}

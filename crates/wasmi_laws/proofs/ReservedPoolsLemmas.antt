@@ -1,0 +1,152 @@
+-- What a tenant has reserved stays reserved for its calls, whatever else is done with its pool.
+use Rattle.std.proofs.Common.{◌≡◌, ◌≢◌, ◌++◌, ◌∷◌, ◌∙◌, Bool, List, None, Some, [], ap, false, refl, subst, sym, true, ℕ}
+use Rattle.std.proofs.lemmas.Bool.Decides.{Decides-eqb}
+use Rattle.std.proofs.lemmas.List.Elements.{All-append, All-nil}
+use Rattle.std.proofs.lemmas.Option.{none-some, same_Some}
+use Rattle.std.specs.Bool.{Decides}
+use Rattle.std.specs.Prelude.{All, get_or, if◌then◌else◌, nat_eq, slice_set}
+use Rattle.wasmi_meter.specs.Limiter.{optional_rules}
+use Rattle.wasmi_machine.specs.Determinism.{IsNotOutOfMemory}
+use Rattle.wasmi_machine.specs.State.{State, with_reserved, world}
+use Rattle.wasmi_machine.specs.declared.calls.Call.{Call}
+use Rattle.wasmi_laws.proofs.ReservedLemmas.{elements_stay_reserved, front_told, more_reserved, rest_reserved, slots_suffice}
+use Rattle.wasmi_laws.specs.Reserved.{FitsSlots, IsReservedFor}
+use Rattle.wasmi_laws.specs.ReservedPools.{ReservedTenantsSucceed, SlotsSufficeForTenants, calls_of, replies_of}
+use Rattle.wasmi_budget.proofs.IsolationLemmas.{kept_added, kept_set, set_at}
+use Rattle.wasmi_budget.proofs.PoolLemmas.{IsVacant, removal_vacates, vacant_stays}
+use Rattle.wasmi_budget.specs.Laws.{PoolTurn, Added, Ran, Reserved, ReservedElements, Removed, Refused, PoolRun}
+use Rattle.wasmi_budget.specs.Pool.{PoolValue, machine_of, tenant_at, tenant_rules}
+
+-- another index is another one
+other : (i index : ℕ) → Decides false (i ≡ index) → index ≢ i
+other i index decides same = let f : false ≡ true = decides.1 (sym same) in absurd cc
+
+module _ (index : ℕ) where
+  -- an index without a tenant has no replies
+  none_told : (pool : PoolValue) → IsVacant pool index → (turns : List PoolTurn) (pool' : PoolValue)
+      → PoolRun pool turns pool' → All IsNotOutOfMemory (replies_of index turns)
+  none_told pool vacant [] pool' ran = All-nil IsNotOutOfMemory
+  none_told pool vacant (Ran i calls replies ∷ turns) pool' (next, runs, ran) =
+      by (none_told next (vacant_stays pool index vacant (Ran i calls replies) next runs) turns pool' ran)
+      (nat_eq i index) (Decides-eqb i index)
+    where
+      by : All IsNotOutOfMemory (replies_of index turns) → (same : Bool) → Decides same (i ≡ index)
+          → All IsNotOutOfMemory (if same then replies ++ replies_of index turns else replies_of index turns)
+      by rest true decides = absurd
+          (none-some runs.machine (sym vacant.vacant ∙ ap (machine_of pool) (sym (decides.0 refl)) ∙ runs.found))
+      by rest false decides = rest
+  none_told pool vacant (Added s ∷ turns) pool' (next, step, ran) =
+      none_told next (vacant_stays pool index vacant (Added s) next step) turns pool' ran
+  none_told pool vacant (Reserved i more ∷ turns) pool' (next, step, ran) =
+      none_told next (vacant_stays pool index vacant (Reserved i more) next step) turns pool' ran
+  none_told pool vacant (ReservedElements i table elements reply ∷ turns) pool' (next, step, ran) = none_told next
+      (vacant_stays pool index vacant (ReservedElements i table elements reply) next step) turns pool' ran
+  none_told pool vacant (Removed i s ∷ turns) pool' (next, step, ran) =
+      none_told next (vacant_stays pool index vacant (Removed i s) next step) turns pool' ran
+  none_told pool vacant (Refused ∷ turns) pool' (next, step, ran) =
+      none_told next (vacant_stays pool index vacant Refused next step) turns pool' ran
+
+  -- the machine of the index has reserved what calls need
+  record IsReady (pool : PoolValue) (calls : List Call) : Type 0 where
+    machine : State
+    found : machine_of pool index ≡ Some machine
+    ready : IsReservedFor machine calls
+
+  module _ (pool : PoolValue) (calls : List Call) (it : IsReady pool calls) (next : PoolValue) where
+    -- in another pool it lies there with what it has reserved
+    stays_at : machine_of next index ≡ Some it.machine → IsReady next calls
+    stays_at found = record { machine = it.machine; found = found; ready = it.ready }
+
+    -- where a machine has become another, that is another tenant's, or has reserved as much
+    becomes_ready : (i : ℕ) (s s' : State) → machine_of pool i ≡ Some s
+        → next ≡ record pool { machines = slice_set pool.machines i (Some s') }
+        → (IsReservedFor s calls → IsReservedFor s' calls) → (same : Bool) → Decides same (i ≡ index)
+        → IsReady next calls
+    becomes_ready i s s' found after keeps true decides =
+        let is = decides.0 refl in
+        let own = same_Some it.machine s (sym it.found ∙ ap (machine_of pool) (sym is) ∙ found) in
+        record {
+          machine = s';
+          found = ap (λ p. machine_of p index) after
+              ∙ ap (machine_of (record pool { machines = slice_set pool.machines i (Some s') })) (sym is)
+              ∙ set_at pool.machines i s s' found;
+          ready = keeps (subst (λ t. IsReservedFor t calls) own it.ready);
+        }
+    becomes_ready i s s' found after keeps false decides = stays_at (ap (λ p. machine_of p index) after
+        ∙ kept_set pool.machines index i it.machine (Some s') (other i index decides) it.found)
+
+  -- each reply to the calls of a tenant that has reserved what they need
+  ready_told : (pool : PoolValue) (turns : List PoolTurn) → IsReady pool (calls_of index turns) → (pool' : PoolValue)
+      → PoolRun pool turns pool' → All IsNotOutOfMemory (replies_of index turns)
+  ready_told pool [] it pool' ran = All-nil IsNotOutOfMemory
+  ready_told pool (Added s ∷ turns) it pool' (next, adds, ran) =
+      ready_told next turns (stays_at pool (calls_of index turns) it next (ap (λ p. machine_of p index) adds.added
+      ∙ kept_added pool.machines index it.machine (Some s) it.found)) pool' ran
+  ready_told pool (Reserved i more ∷ turns) it pool' (next, (caps, reserves), ran) =
+      ready_told next turns (becomes_ready pool (calls_of index turns) it next i reserves.machine
+      (with_reserved reserves.machine more) reserves.found
+      (λ k. record { caps = caps k; machines = reserves.after k })
+      (more_reserved reserves.machine more (calls_of index turns)) (nat_eq i index) (Decides-eqb i index)) pool' ran
+  ready_told pool (ReservedElements i table elements reply ∷ turns) it pool' (next, (caps, reserves), ran) =
+      ready_told next turns (becomes_ready pool (calls_of index turns) it next i reserves.machine reserves.machine'
+      reserves.found (λ k. record { caps = caps k; machines = reserves.after k })
+      (elements_stay_reserved reserves.machine table elements reply reserves.machine' (calls_of index turns)
+      reserves.reserved.0 reserves.reserved.1) (nat_eq i index) (Decides-eqb i index)) pool' ran
+  ready_told pool (Refused ∷ turns) it pool' (next, same, ran) =
+      ready_told next turns
+      (stays_at pool (calls_of index turns) it next (ap (λ p. machine_of p index) same ∙ it.found)) pool' ran
+  ready_told pool (Removed i s ∷ turns) it pool' (next, removes, ran) =
+      by (λ ready. ready_told next turns ready pool' ran) (nat_eq i index) (Decides-eqb i index)
+    where
+      by : (IsReady next (calls_of index turns) → All IsNotOutOfMemory (replies_of index turns)) → (same : Bool)
+          → Decides same (i ≡ index) → All IsNotOutOfMemory (replies_of index turns)
+      by rest true decides =
+          none_told next (subst (IsVacant next) (decides.0 refl) (removal_vacates pool i s next removes)) turns pool' ran
+      by rest false decides =
+          rest (stays_at pool (calls_of index turns) it next (ap (λ p. machine_of p index) removes.removed
+          ∙ kept_set pool.machines index i it.machine None (other i index decides) it.found))
+  ready_told pool (Ran i calls replies ∷ turns) it pool' (next, runs, ran) =
+      by (λ ready. ready_told next turns ready pool' ran) (nat_eq i index) (Decides-eqb i index) it.ready
+    where
+      by : (IsReady next (calls_of index turns) → All IsNotOutOfMemory (replies_of index turns)) → (same : Bool)
+          → Decides same (i ≡ index)
+          → IsReservedFor it.machine (if same then calls ++ calls_of index turns else calls_of index turns)
+          → All IsNotOutOfMemory (if same then replies ++ replies_of index turns else replies_of index turns)
+      by rest true decides ready =
+          let is = decides.0 refl in
+          let own = same_Some it.machine runs.machine (sym it.found ∙ ap (machine_of pool) (sym is) ∙ runs.found) in
+          let w = world runs.machine (Some (tenant_at pool i runs.machine)) in
+          let w' = world runs.machine' (Some runs.tenant') in
+          let r = subst (λ t. IsReservedFor t (calls ++ calls_of index turns)) own ready in
+          All-append IsNotOutOfMemory replies (replies_of index turns)
+          (front_told (optional_rules tenant_rules) (calls_of index turns) calls w replies w' r runs.ran)
+          (rest (record {
+            machine = runs.machine';
+            found = ap (λ p. machine_of p index) runs.after
+                ∙ ap (machine_of (record pool { machines = slice_set pool.machines i (Some runs.machine') })) (sym is)
+                ∙ set_at pool.machines i runs.machine runs.machine' runs.found;
+            ready = rest_reserved (optional_rules tenant_rules) (calls_of index turns) calls w replies w' r runs.ran;
+          }))
+      by rest false decides ready = rest (record {
+        machine = it.machine;
+        found = ap (λ p. machine_of p index) runs.after
+            ∙ kept_set pool.machines index i it.machine (Some runs.machine') (other i index decides) it.found;
+        ready = ready;
+      })
+
+-- no reply to the calls of a tenant that has reserved what they need says out of memory
+pub reserved_tenants_succeed : ReservedTenantsSucceed
+reserved_tenants_succeed pool index s found turns pool' r ran =
+    ready_told index pool turns (record { machine = s; found = found; ready = r }) pool' ran
+
+-- nor does any after slots were reserved that are enough
+pub slots_suffice_for_tenants : SlotsSufficeForTenants
+slots_suffice_for_tenants pool index s found more turns pool' fits (next, (caps, reserves), ran) =
+    let own = same_Some s reserves.machine (sym found ∙ reserves.found) in
+    ready_told index next turns (record {
+      machine = with_reserved reserves.machine more;
+      found = ap (λ machines. get_or machines index None) reserves.after
+          ∙ set_at pool.machines index reserves.machine (with_reserved reserves.machine more) reserves.found;
+      ready = slots_suffice reserves.machine more (calls_of index turns)
+          (subst (λ t. FitsSlots t more (calls_of index turns)) own fits);
+    }) pool' ran
