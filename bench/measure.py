@@ -58,6 +58,7 @@ def main(folder, runs="2", word=""):
     print_others("work, ns", of("work"))
     print_others("run, ns a call", of("run"))
     print_others("one call, ns", of("single"), "`run`", "`step`")
+    print_others("list of one call, ns", of("into"), "`run`", "`run_into`")
     sys.exit(f"answers that differ from the crate's: {' '.join(sorted(differ))}" if differ else 0)
 
 

@@ -23,7 +23,7 @@ mod the_crate {
 
 #[cfg(feature = "rust")]
 mod here {
-    use wasmi_core_proved::machine::{self, Call, NoLimits, Reply, ResourceLimiterRef};
+    use wasmi_core_proved::machine::{self, Call, NoLimits, Replies, Reply, ResourceLimiterRef};
     use wasmi_core_proved::ops::{LOADS, LoadOp, STORES, StoreOp};
     use wasmi_core_proved::{
         CustomFuelCosts, Fuel, FuelCostsProvider, GlobalType, MemoryType, Mutability, RawRef, RawVal, RefType, TableType, TypedRawRef,
@@ -54,7 +54,7 @@ mod here {
     }
 
     /// Makes `count` calls of one kind, and answers them `runs` times, one by one. The replies of the last time are summed up.
-    fn single_calls(kind: u64, count: u64, runs: u64, answer: impl Fn(&mut Machine, &[Call]) -> u64) -> u64 {
+    fn single_calls(kind: u64, count: u64, runs: u64, mut answer: impl FnMut(&mut Machine, &[Call]) -> u64) -> u64 {
         let (mut machine, calls) = machine_and_calls(kind, count);
         let mut sum = 0;
         for _ in 0..runs {
@@ -70,6 +70,14 @@ mod here {
     pub unsafe extern "C" fn machine_runs_of_one(kind: u64, count: u64, runs: u64) -> u64 {
         single_calls(kind, count, runs, |machine, one| number_of(&run(machine, one)[0]))
     }
+
+    pub unsafe extern "C" fn machine_runs_into_of_one(kind: u64, count: u64, runs: u64) -> u64 {
+        let mut replies = Replies::with_capacity(1).unwrap();
+        single_calls(kind, count, runs, |machine, one| {
+            machine::run_into(machine, one, &mut nobody(), &mut replies).unwrap();
+            number_of(&replies.as_slice()[0])
+        })
+    }
 }
 
 #[cfg(not(feature = "rust"))]
@@ -78,6 +86,7 @@ mod here {
         pub fn machine_runs(kind: u64, count: u64, runs: u64) -> u64;
         pub fn machine_steps(kind: u64, count: u64, runs: u64) -> u64;
         pub fn machine_runs_of_one(kind: u64, count: u64, runs: u64) -> u64;
+        pub fn machine_runs_into_of_one(kind: u64, count: u64, runs: u64) -> u64;
     }
 }
 
@@ -127,22 +136,26 @@ pub fn report(asked: &str) {
     }
 }
 
-/// Prints a line for each kind of calls: nanoseconds a call that is made alone, by a `run` of a list of one call and by `step`.
+/// Prints two lines for each kind of calls: nanoseconds a call that is made alone, by a `run` of a list of one call and by `step`, and
+/// by `run` and by `run_into`.
 pub fn report_single_calls(asked: &str) {
     const COUNT: u64 = 10_000;
+    let ways: [unsafe extern "C" fn(u64, u64, u64) -> u64; 3] = [here::machine_runs_of_one, here::machine_steps, here::machine_runs_into_of_one];
     for (kind, name) in (0..).zip(KINDS).filter(|(_, name)| name.contains(asked)) {
-        let mut least = [f64::MAX; 4];
+        let mut least = [[f64::MAX; 2]; 3];
         let timed = |of: unsafe extern "C" fn(u64, u64, u64) -> u64, runs| {
             let start = Instant::now();
             black_box(unsafe { black_box(of)(kind, COUNT, runs) });
             start.elapsed().as_nanos() as f64
         };
         for _ in 0..21 {
-            let times = [timed(here::machine_runs_of_one, 1), timed(here::machine_steps, 1), timed(here::machine_runs_of_one, 21), timed(here::machine_steps, 21)];
-            least = std::array::from_fn(|i| least[i].min(times[i]));
+            for (least, way) in least.iter_mut().zip(ways) {
+                *least = [least[0].min(timed(way, 1)), least[1].min(timed(way, 21))];
+            }
         }
-        let same = unsafe { here::machine_runs_of_one(kind, COUNT, 2) == here::machine_steps(kind, COUNT, 2) };
-        let [run, step] = [0, 1].map(|i| (least[i + 2] - least[i]) / (20 * COUNT) as f64);
-        println!("single {name} {run} {step}{}", if same { "" } else { " DIFFERS" });
+        let sums = ways.map(|way| unsafe { way(kind, COUNT, 2) });
+        let differs = if sums.iter().all(|sum| *sum == sums[0]) { "" } else { " DIFFERS" };
+        let [run, step, into] = least.map(|[one, more]| (more - one) / (20 * COUNT) as f64);
+        println!("single {name} {run} {step}{differs}\ninto {name} {run} {into}{differs}");
     }
 }
