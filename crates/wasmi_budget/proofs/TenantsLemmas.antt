@@ -14,6 +14,8 @@ use Rattle.std.proofs.lemmas.List.Elements.{All-push}
 use Rattle.std.proofs.lemmas.List.{get_or_past, get_or-set_same, get_or-set_other, set-get_or, length-set, length-append}
 use Rattle.std.proofs.lemmas.List.FromFn.{fill_by_all, get_or-map-range_with_len, length-map-range_with_len, map-range_with_len_more}
 use Rattle.std.proofs.lemmas.List.Quantifiers.{all_pairs_push, all_pairs_remove}
+use Rattle.wasmi_machine.specs.State.{State}
+use Rattle.wasmi_budget.specs.Pool.{BecomesAt}
 use Rattle.wasmi_budget.specs.Tenants.{value_of, by_index, IsListed, IsPlace, Rises}
 
 -- a test for one number, at it and at another one
@@ -274,6 +276,20 @@ module _ {X : Type 0} (next : ℕ) (indices : List ℕ) (values : List X) (liste
     -- without the place the index has none
     pub removed_value : by_index next (remove indices p) (remove values p) ≡ set view j None
     removed_value = sym (removed_at next indices values listed p place_within) ∙ (λ i. set (is i) (place_at i) None)
+
+-- where the machine at the place of an index has become another, that of the index has
+pub becomes_at : (next : ℕ) (indices : List ℕ) (machines : List State) (listed : IsListed next indices machines)
+    (view : List (Option State)) (is : by_index next indices machines ≡ view) (seen : List ℕ) (sees : seen ≡ indices)
+    (index place : ℕ) → IsPlace seen index (Some place) → (change : State → State → Type 0) (s s' : State)
+    → s ≡ get_or machines place s → change s s'
+    → BecomesAt view index change (by_index next indices (set machines place s'))
+becomes_at next indices machines listed view is seen sees index place found change s s' at how = record {
+  machine = s;
+  found = its_value next indices machines listed view is seen sees index place found s at;
+  machine' = s';
+  becomes = how;
+  after = set_value next indices machines listed view is seen sees index place found s';
+}
 
 -- a search among rising indices finds the place of an index, or says that it isn't among them
 pub searched_place : (indices : List ℕ) (j : ℕ) (r : Result ℕ ℕ) (place : Option ℕ) → Rises indices

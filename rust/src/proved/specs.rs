@@ -5651,27 +5651,24 @@ use Rattle.wasmi_laws.specs.Reserved.{<a href="../../laws/ReservedSpecs/index.ht
 use Rattle.wasmi_budget.specs.Laws.{<a href="../../budget/LawsSpecs/index.html#PoolTurn">PoolTurn</a>, <a href="../../budget/LawsSpecs/index.html#Added">Added</a>, <a href="../../budget/LawsSpecs/index.html#Ran">Ran</a>, <a href="../../budget/LawsSpecs/index.html#Reserved">Reserved</a>, <a href="../../budget/LawsSpecs/index.html#ReservedElements">ReservedElements</a>, <a href="../../budget/LawsSpecs/index.html#Removed">Removed</a>, <a href="../../budget/LawsSpecs/index.html#Refused">Refused</a>, <a href="../../budget/LawsSpecs/index.html#PoolRun">PoolRun</a>}
 use Rattle.wasmi_budget.specs.Pool.{<a href="../../budget/PoolSpecs/index.html#PoolValue">PoolValue</a>, <a href="../../budget/PoolSpecs/index.html#machine_of">machine_of</a>}
 
+-- what a list is of each run of the tenant of an index, one after another
+abbrev pub <b id="of_runs">of_runs</b> : {A : Type 0} → (List Call → List Reply → List A) → ℕ → List <a href="../../budget/LawsSpecs/index.html#PoolTurn">PoolTurn</a> → List A
+<a href="../../laws/ReservedPoolsSpecs/index.html#of_runs">of_runs</a> list index [] = []
+<a href="../../laws/ReservedPoolsSpecs/index.html#of_runs">of_runs</a> list index (<a href="../../budget/LawsSpecs/index.html#Ran">Ran</a> i calls replies ∷ turns) =
+    if nat_eq i index then list calls replies ++ <a href="../../laws/ReservedPoolsSpecs/index.html#of_runs">of_runs</a> list index turns else <a href="../../laws/ReservedPoolsSpecs/index.html#of_runs">of_runs</a> list index turns
+<a href="../../laws/ReservedPoolsSpecs/index.html#of_runs">of_runs</a> list index (<a href="../../budget/LawsSpecs/index.html#Added">Added</a> s ∷ turns) = <a href="../../laws/ReservedPoolsSpecs/index.html#of_runs">of_runs</a> list index turns
+<a href="../../laws/ReservedPoolsSpecs/index.html#of_runs">of_runs</a> list index (<a href="../../budget/LawsSpecs/index.html#Reserved">Reserved</a> i more ∷ turns) = <a href="../../laws/ReservedPoolsSpecs/index.html#of_runs">of_runs</a> list index turns
+<a href="../../laws/ReservedPoolsSpecs/index.html#of_runs">of_runs</a> list index (<a href="../../budget/LawsSpecs/index.html#ReservedElements">ReservedElements</a> i table elements reply ∷ turns) = <a href="../../laws/ReservedPoolsSpecs/index.html#of_runs">of_runs</a> list index turns
+<a href="../../laws/ReservedPoolsSpecs/index.html#of_runs">of_runs</a> list index (<a href="../../budget/LawsSpecs/index.html#Removed">Removed</a> i s ∷ turns) = <a href="../../laws/ReservedPoolsSpecs/index.html#of_runs">of_runs</a> list index turns
+<a href="../../laws/ReservedPoolsSpecs/index.html#of_runs">of_runs</a> list index (<a href="../../budget/LawsSpecs/index.html#Refused">Refused</a> ∷ turns) = <a href="../../laws/ReservedPoolsSpecs/index.html#of_runs">of_runs</a> list index turns
+
 -- the calls of all runs of the tenant of an index, one after another
 abbrev pub <b id="calls_of">calls_of</b> : ℕ → List <a href="../../budget/LawsSpecs/index.html#PoolTurn">PoolTurn</a> → List Call
-<a href="../../laws/ReservedPoolsSpecs/index.html#calls_of">calls_of</a> index [] = []
-<a href="../../laws/ReservedPoolsSpecs/index.html#calls_of">calls_of</a> index (<a href="../../budget/LawsSpecs/index.html#Ran">Ran</a> i calls replies ∷ turns) =
-    if nat_eq i index then calls ++ <a href="../../laws/ReservedPoolsSpecs/index.html#calls_of">calls_of</a> index turns else <a href="../../laws/ReservedPoolsSpecs/index.html#calls_of">calls_of</a> index turns
-<a href="../../laws/ReservedPoolsSpecs/index.html#calls_of">calls_of</a> index (<a href="../../budget/LawsSpecs/index.html#Added">Added</a> s ∷ turns) = <a href="../../laws/ReservedPoolsSpecs/index.html#calls_of">calls_of</a> index turns
-<a href="../../laws/ReservedPoolsSpecs/index.html#calls_of">calls_of</a> index (<a href="../../budget/LawsSpecs/index.html#Reserved">Reserved</a> i more ∷ turns) = <a href="../../laws/ReservedPoolsSpecs/index.html#calls_of">calls_of</a> index turns
-<a href="../../laws/ReservedPoolsSpecs/index.html#calls_of">calls_of</a> index (<a href="../../budget/LawsSpecs/index.html#ReservedElements">ReservedElements</a> i table elements reply ∷ turns) = <a href="../../laws/ReservedPoolsSpecs/index.html#calls_of">calls_of</a> index turns
-<a href="../../laws/ReservedPoolsSpecs/index.html#calls_of">calls_of</a> index (<a href="../../budget/LawsSpecs/index.html#Removed">Removed</a> i s ∷ turns) = <a href="../../laws/ReservedPoolsSpecs/index.html#calls_of">calls_of</a> index turns
-<a href="../../laws/ReservedPoolsSpecs/index.html#calls_of">calls_of</a> index (<a href="../../budget/LawsSpecs/index.html#Refused">Refused</a> ∷ turns) = <a href="../../laws/ReservedPoolsSpecs/index.html#calls_of">calls_of</a> index turns
+<a href="../../laws/ReservedPoolsSpecs/index.html#calls_of">calls_of</a> = <a href="../../laws/ReservedPoolsSpecs/index.html#of_runs">of_runs</a> (λ calls replies. calls)
 
 -- the replies to them
 abbrev pub <b id="replies_of">replies_of</b> : ℕ → List <a href="../../budget/LawsSpecs/index.html#PoolTurn">PoolTurn</a> → List Reply
-<a href="../../laws/ReservedPoolsSpecs/index.html#replies_of">replies_of</a> index [] = []
-<a href="../../laws/ReservedPoolsSpecs/index.html#replies_of">replies_of</a> index (<a href="../../budget/LawsSpecs/index.html#Ran">Ran</a> i calls replies ∷ turns) =
-    if nat_eq i index then replies ++ <a href="../../laws/ReservedPoolsSpecs/index.html#replies_of">replies_of</a> index turns else <a href="../../laws/ReservedPoolsSpecs/index.html#replies_of">replies_of</a> index turns
-<a href="../../laws/ReservedPoolsSpecs/index.html#replies_of">replies_of</a> index (<a href="../../budget/LawsSpecs/index.html#Added">Added</a> s ∷ turns) = <a href="../../laws/ReservedPoolsSpecs/index.html#replies_of">replies_of</a> index turns
-<a href="../../laws/ReservedPoolsSpecs/index.html#replies_of">replies_of</a> index (<a href="../../budget/LawsSpecs/index.html#Reserved">Reserved</a> i more ∷ turns) = <a href="../../laws/ReservedPoolsSpecs/index.html#replies_of">replies_of</a> index turns
-<a href="../../laws/ReservedPoolsSpecs/index.html#replies_of">replies_of</a> index (<a href="../../budget/LawsSpecs/index.html#ReservedElements">ReservedElements</a> i table elements reply ∷ turns) = <a href="../../laws/ReservedPoolsSpecs/index.html#replies_of">replies_of</a> index turns
-<a href="../../laws/ReservedPoolsSpecs/index.html#replies_of">replies_of</a> index (<a href="../../budget/LawsSpecs/index.html#Removed">Removed</a> i s ∷ turns) = <a href="../../laws/ReservedPoolsSpecs/index.html#replies_of">replies_of</a> index turns
-<a href="../../laws/ReservedPoolsSpecs/index.html#replies_of">replies_of</a> index (<a href="../../budget/LawsSpecs/index.html#Refused">Refused</a> ∷ turns) = <a href="../../laws/ReservedPoolsSpecs/index.html#replies_of">replies_of</a> index turns
+<a href="../../laws/ReservedPoolsSpecs/index.html#replies_of">replies_of</a> = <a href="../../laws/ReservedPoolsSpecs/index.html#of_runs">of_runs</a> (λ calls replies. replies)
 
 -- no reply to the calls of a tenant whose machine has reserved what all of them need says out of memory, whatever else is
 -- done with the pool in between
@@ -6126,14 +6123,19 @@ abbrev pub <b id="RepliesUnasked">RepliesUnasked</b> : Call → <a href="../../m
 <a href="../../budget/PoolSpecs/index.html#RepliesUnasked">RepliesUnasked</a> call s reply s&#x27; = (tenant : Tenant)
     → <a href="../../machine/StepsSpecs/index.html#RepliesWith">RepliesWith</a> (<a href="../../meter/LimiterSpecs/index.html#optional_rules">optional_rules</a> <a href="../../budget/PoolSpecs/index.html#tenant_rules">tenant_rules</a>) call (<a href="../../machine/StateSpecs/index.html#world">world</a> s (Some tenant)) reply (<a href="../../machine/StateSpecs/index.html#world">world</a> s&#x27; (Some tenant))
 
--- the machine at an index has replied to a call without its tenant, and all others are the same
-pub record <b id="RunsUnasked">RunsUnasked</b> (<a href="../../budget/PoolSpecs/index.html#machines">machines</a> : List (Option <a href="../../machine/StateSpecs/index.html#State">State</a>)) (index : ℕ) (call : Call) (reply : Reply)
+-- the machine at an index has become another one in this way, and all others are the same
+pub record <b id="BecomesAt">BecomesAt</b> (<a href="../../budget/PoolSpecs/index.html#machines">machines</a> : List (Option <a href="../../machine/StateSpecs/index.html#State">State</a>)) (index : ℕ) (change : <a href="../../machine/StateSpecs/index.html#State">State</a> → <a href="../../machine/StateSpecs/index.html#State">State</a> → Type 0)
     (machines&#x27; : List (Option <a href="../../machine/StateSpecs/index.html#State">State</a>)) : Type 0 where
   pub <b id="machine">machine</b> : <a href="../../machine/StateSpecs/index.html#State">State</a>
   pub <b id="found">found</b> : slice_index_or <a href="../../budget/PoolSpecs/index.html#machines">machines</a> index None ≡ Some <a href="../../budget/PoolSpecs/index.html#machine">machine</a>
   pub <b id="machine&#x27;">machine&#x27;</b> : <a href="../../machine/StateSpecs/index.html#State">State</a>
-  pub <b id="replied">replied</b> : <a href="../../budget/PoolSpecs/index.html#RepliesUnasked">RepliesUnasked</a> call <a href="../../budget/PoolSpecs/index.html#machine">machine</a> reply <a href="../../budget/PoolSpecs/index.html#machine%27">machine&#x27;</a>
+  pub <b id="becomes">becomes</b> : change <a href="../../budget/PoolSpecs/index.html#machine">machine</a> <a href="../../budget/PoolSpecs/index.html#machine%27">machine&#x27;</a>
   pub <b id="after">after</b> : machines&#x27; ≡ slice_set <a href="../../budget/PoolSpecs/index.html#machines">machines</a> index (Some <a href="../../budget/PoolSpecs/index.html#machine%27">machine&#x27;</a>)
+
+-- the machine at an index has replied to a call without its tenant, and all others are the same
+abbrev pub <b id="RunsUnasked">RunsUnasked</b> : List (Option <a href="../../machine/StateSpecs/index.html#State">State</a>) → ℕ → Call → Reply → List (Option <a href="../../machine/StateSpecs/index.html#State">State</a>) → Type 0
+<a href="../../budget/PoolSpecs/index.html#RunsUnasked">RunsUnasked</a> <a href="../../budget/PoolSpecs/index.html#machines">machines</a> index call reply machines&#x27; =
+    <a href="../../budget/PoolSpecs/index.html#BecomesAt">BecomesAt</a> <a href="../../budget/PoolSpecs/index.html#machines">machines</a> index (λ s s&#x27;. <a href="../../budget/PoolSpecs/index.html#RepliesUnasked">RepliesUnasked</a> call s reply s&#x27;) machines&#x27;
 
 -- the machine of a tenant was taken off: its index has none from then on, and all else is the same
 pub record <b id="RemovesTenant">RemovesTenant</b> (pool : <a href="../../budget/PoolSpecs/index.html#PoolValue">PoolValue</a>) (index : ℕ) (s : <a href="../../machine/StateSpecs/index.html#State">State</a>) (pool&#x27; : <a href="../../budget/PoolSpecs/index.html#PoolValue">PoolValue</a>) : Type 0 where
@@ -6159,13 +6161,9 @@ abbrev pub <b id="ReservesElements">ReservesElements</b> : <a href="../../machin
 
 -- the machine at an index has replied to a reservation of so many elements in all of one of its tables, and all others
 -- are the same
-pub record <b id="ReservesElementsIn">ReservesElementsIn</b> (<a href="../../budget/PoolSpecs/index.html#machines">machines</a> : List (Option <a href="../../machine/StateSpecs/index.html#State">State</a>)) (index table <a href="../../budget/PoolSpecs/index.html#elements">elements</a> : ℕ) (reply : Reply)
-    (machines&#x27; : List (Option <a href="../../machine/StateSpecs/index.html#State">State</a>)) : Type 0 where
-  pub <b id="machine">machine</b> : <a href="../../machine/StateSpecs/index.html#State">State</a>
-  pub <b id="found">found</b> : slice_index_or <a href="../../budget/PoolSpecs/index.html#machines">machines</a> index None ≡ Some <a href="../../budget/PoolSpecs/index.html#machine">machine</a>
-  pub <b id="machine&#x27;">machine&#x27;</b> : <a href="../../machine/StateSpecs/index.html#State">State</a>
-  pub <b id="reserved">reserved</b> : <a href="../../budget/PoolSpecs/index.html#ReservesElements">ReservesElements</a> <a href="../../budget/PoolSpecs/index.html#machine">machine</a> table <a href="../../budget/PoolSpecs/index.html#elements">elements</a> reply <a href="../../budget/PoolSpecs/index.html#machine%27">machine&#x27;</a>
-  pub <b id="after">after</b> : machines&#x27; ≡ slice_set <a href="../../budget/PoolSpecs/index.html#machines">machines</a> index (Some <a href="../../budget/PoolSpecs/index.html#machine%27">machine&#x27;</a>)
+abbrev pub <b id="ReservesElementsIn">ReservesElementsIn</b> : List (Option <a href="../../machine/StateSpecs/index.html#State">State</a>) → ℕ → ℕ → ℕ → Reply → List (Option <a href="../../machine/StateSpecs/index.html#State">State</a>) → Type 0
+<a href="../../budget/PoolSpecs/index.html#ReservesElementsIn">ReservesElementsIn</a> <a href="../../budget/PoolSpecs/index.html#machines">machines</a> index table <a href="../../budget/PoolSpecs/index.html#elements">elements</a> reply machines&#x27; =
+    <a href="../../budget/PoolSpecs/index.html#BecomesAt">BecomesAt</a> <a href="../../budget/PoolSpecs/index.html#machines">machines</a> index (λ s s&#x27;. <a href="../../budget/PoolSpecs/index.html#ReservesElements">ReservesElements</a> s table <a href="../../budget/PoolSpecs/index.html#elements">elements</a> reply s&#x27;) machines&#x27;
 
 -- the machine of a tenant has replied to a reservation of elements, and all else is the same
 abbrev pub <b id="ReservesElementsForTenant">ReservesElementsForTenant</b> : <a href="../../budget/PoolSpecs/index.html#PoolValue">PoolValue</a> → ℕ → ℕ → ℕ → Reply → <a href="../../budget/PoolSpecs/index.html#PoolValue">PoolValue</a> → Type 0

@@ -5,7 +5,10 @@ use Rattle.wasmi_budget.proofs.PoolLemmas.{unasked_kept, unasked_runs}
 use Rattle.wasmi_budget.proofs.pool.Pool.write.Goals as goal
 
 pub invariant_of-self-2 : goal.invariant_of-self-2
-invariant_of-self-2 c = unasked_kept _ _ c.self.invariant c.args.index _ _ _ c.in-Some.ensures.stepped.2
+invariant_of-self-2 c =
+    let written = c.in-Some.ensures.stepped in
+    unasked_kept _ _ c.self.invariant c.args.index (Write c.args.memory c.args.offset written.0) c.in-Some.reply _
+    written.2
 
 pub returns-clause-ran : goal.returns-clause-ran
 returns-clause-ran c =
@@ -15,7 +18,8 @@ returns-clause-ran c =
       subst
           (λ (pool : PoolValue). RunsTenant pool c.args.index (Write c.args.memory c.args.offset written.0 ∷ [])
           (c.in-Some.reply ∷ []) (pool_of c.self.inside.caps c.write.new.self)) c.self.view_is
-          (unasked_runs _ _ c.self.invariant c.args.index _ _ _ written.2),
+          (unasked_runs _ _ c.self.invariant c.args.index (Write c.args.memory c.args.offset written.0) c.in-Some.reply _
+          written.2),
     )
 
 pub returns-clause-within : goal.returns-clause-within
