@@ -33,6 +33,13 @@ fn leb(mut number: u64) -> Vec<u8> {
     bytes
 }
 
+fn signed(number: i64) -> Vec<u8> {
+    match number {
+        -64..64 => vec![number as u8 & 0x7f],
+        _ => [vec![number as u8 | 0x80], signed(number >> 7)].concat(),
+    }
+}
+
 fn sized(bytes: &[u8]) -> Vec<u8> {
     [&leb(bytes.len() as u64)[..], bytes].concat()
 }
@@ -461,6 +468,110 @@ fn addresses_of_64_bits() {
     assert_eq!(reply(1 << 33, -(1 << 33)), past);
     assert_eq!(reply(u64::MAX, 1), past);
     assert_eq!(reply(0, -4), past);
+}
+
+/// What code gives whose operands are these numbers: each a parameter or a constant, in every choice of which ones.
+fn either_way(
+    operands: &[(u8, i64)],
+    result: u8,
+    limits: &[u8],
+    code: impl Fn(&[Vec<u8>]) -> Vec<u8>,
+) -> Result<i64, String> {
+    let types: Vec<_> = operands.iter().map(|(ty, _)| *ty).collect();
+    let args: Vec<Val> =
+        operands.iter().map(|(ty, it)| if *ty == I32 { (*it as i32).into() } else { (*it).into() }).collect();
+    let replies: Vec<_> = (0..1 << operands.len())
+        .map(|constants: u32| {
+            let operand = |(i, (ty, number)): (usize, &(u8, i64))| match (constants >> i & 1, *ty) {
+                (0, _) => vec![0x20, i as u8],
+                (_, I32) => [vec![0x41], signed((*number as i32).into())].concat(),
+                _ => [vec![0x42], signed(*number)].concat(),
+            };
+            let code = code(&operands.iter().enumerate().map(operand).collect::<Vec<_>>());
+            let wasm = Wasm::default().function(&types, &[result], &[], &code).memory(limits);
+            called(&wasm, &mut store(1000), &args)
+        })
+        .collect();
+    assert!(replies.iter().all(|it| *it == replies[0]), "{operands:?}: {replies:?}");
+    replies[0].clone()
+}
+
+/// Addresses and offsets around the end of a page and where 32 bits end, with the bytes that the page has from their sum on.
+const PLACES: [(i64, u64, i64); 16] = [
+    (65_535, 0, 1),
+    (65_534, 0, 2),
+    (65_533, 0, 3),
+    (65_532, 0, 4),
+    (65_529, 0, 7),
+    (65_528, 0, 8),
+    (65_520, 0, 16),
+    (3, 65_533, 0),
+    (3, 65_530, 3),
+    (0, 0xffff_ffff, 0),
+    (0xffff_ffff, 0, 0),
+    (0xffff_ffff, 1, 0),
+    (0xffff_fffc, 8, 0),
+    (8, 0xffff_fffc, 0),
+    (0xffff_ffff, 0xffff_ffff, 0),
+    (0, 0, 65_536),
+];
+
+#[test]
+fn accesses_at_constant_addresses() {
+    let (loads, stores) = ([1, 1, 2, 2, 1, 1, 2, 2, 4, 4], [4, 8, 0, 0, 1, 2, 1, 2, 4]);
+    let loads = [(0x28, 4), (0x29, 8)].into_iter().chain((0x2c..).zip(loads));
+    let past = Err(TrapCode::MemoryOutOfBounds.to_string());
+    for (limits, ty) in [([0, 1], I32), ([4, 1], I64)] {
+        for ((code, bytes), (address, offset, left)) in loads.clone().flat_map(|it| PLACES.map(|place| (it, place))) {
+            let result = if matches!(code, 0x28 | 0x2c..=0x2f) { I32 } else { I64 };
+            let load = |operand: &[Vec<u8>]| [&operand[0], &vec![code, 0], &leb(offset)].map(Vec::clone).concat();
+            let reply = either_way(&[(ty, address)], result, &limits, load);
+            assert_eq!(reply, if bytes <= left { Ok(0) } else { past.clone() }, "{code:#x} {address} {offset}");
+        }
+        for ((code, bytes), (address, offset, left)) in
+            (0x36..).zip(stores).filter(|(_, bytes)| *bytes > 0).flat_map(|it| PLACES.map(|place| (it, place)))
+        {
+            for number in [7, -7, 70_000] {
+                let value = if matches!(code, 0x36 | 0x3a | 0x3b) { I32 } else { I64 };
+                let store = |operand: &[Vec<u8>]| {
+                    let twice = [operand[1].clone(), operand[1].clone(), vec![if value == I32 { 0x6a } else { 0x7c }]];
+                    let [store, again] = [operand[1].clone(), twice.concat()]
+                        .map(|value| [operand[0].clone(), value, vec![code, 0], leb(offset)].concat());
+                    let end = [operand[2].clone(), vec![0x29, 0, 0]].concat();
+                    [store, end.clone(), again, end, vec![0x7c]].concat()
+                };
+                let place = (address as u64 + offset).min(65_528) as i64;
+                let reply = either_way(&[(ty, address), (value, number), (ty, place)], I64, &limits, store);
+                assert_eq!(reply == past, bytes > left, "{code:#x} {address} {offset}");
+            }
+        }
+    }
+    assert_eq!(either_way(&[(I64, -4)], I32, &[4, 1], |it| [&it[0][..], &[0x28, 0, 8]].concat()), past);
+    assert_eq!(either_way(&[(I64, 1 << 32)], I32, &[4, 1], |it| [&it[0][..], &[0x28, 0, 0]].concat()), past);
+}
+
+#[test]
+fn constant_operands() {
+    let numbers = [0, 1, -1, 7, 40_000, -40_000, 32_767, -32_768, 0xffff_ffff, 1 << 40, i64::MIN];
+    for (ty, a, b) in [I32, I64].into_iter().flat_map(|ty| numbers.map(|a| numbers.map(|b| (ty, a, b)))).flatten() {
+        let seen = |number: i64| if ty == I32 { i64::from(number as i32) } else { number };
+        for condition in [0, 1, 8] {
+            let chosen = Ok(seen(if condition == 0 { b } else { a }));
+            let select = |it: &[Vec<u8>]| [&it[0][..], &it[1], &it[2], &[0x1b]].concat();
+            assert_eq!(either_way(&[(ty, a), (ty, b), (I32, condition)], ty, &[0, 1], select), chosen);
+            // The condition is the last result, and the choice is taken as the last result.
+            let sum = [&[if ty == I32 { 0x6a } else { 0x7c }][..]].concat();
+            let select = |it: &[Vec<u8>]| {
+                [&it[0], &it[1], &it[2], &it[2], &vec![0x72, 0x1b], &it[0], &sum].map(Vec::clone).concat()
+            };
+            assert!(either_way(&[(ty, a), (ty, b), (I32, condition)], ty, &[0, 1], select).is_ok());
+        }
+        let (subtract, and) = if ty == I32 { (0x6b, 0x71) } else { (0x7d, 0x83) };
+        let both = |code: u8| move |it: &[Vec<u8>]| [&it[0][..], &it[1], &[code]].concat();
+        assert_eq!(either_way(&[(ty, a), (ty, b)], ty, &[0, 1], both(subtract)), Ok(seen(a.wrapping_sub(b))));
+        assert_eq!(either_way(&[(ty, a), (ty, b)], ty, &[0, 1], both(and)), Ok(seen(a & b)));
+        assert_eq!(either_way(&[(ty, a)], ty, &[0, 1], |it| it[0].clone()), Ok(seen(a)));
+    }
 }
 
 #[test]
