@@ -148,7 +148,7 @@ macro_rules! codes {
             float,
             // Values: from slot `a` to slot `d`.
             copy, copy_two, copy_many, set, set_signed, ret_one, ret_many, zero, begin, add_two, add_branch, add_scaled, shift_and,
-            and_shift, select, global_get, global_set, is_null, ref_func, shuffle, i64_add128, i64_sub128, i64_mul_wide_s,
+            and_shift, i32_sub_from, i64_sub_from, select, select_number, select_numbers, global_get, global_set, is_null, ref_func, shuffle, i64_add128, i64_sub128, i64_mul_wide_s,
             i64_mul_wide_u,
             // Memories and tables: `imm` is the number of a memory, table or segment, `lane` that of a second one.
             memory_use, add_offset, memory_size, memory_grow, memory_fill, memory_copy, memory_init, data_drop,
@@ -169,9 +169,9 @@ macro_rules! codes {
                     $($(Code::$r => Facts::of(Kind::Replace, $rt, Some(V128)),)*)*
                     $(Code::$ll => Facts::of(Kind::Lane, V128, Some(V128)),)*
                     $(Code::$sl => Facts::of(Kind::Lane, V128, None),)*
-                    Code::is_null | Code::add_offset => Facts::of(Kind::Own, I64, Some(I64)),
-                    Code::add_scaled | Code::shift_and | Code::and_shift => Facts::of(Kind::Own, I32, Some(I32)),
-                    Code::copy | Code::ref_func | Code::set | Code::set_signed | Code::select | Code::global_get => {
+                    Code::is_null | Code::add_offset | Code::i64_sub_from => Facts::of(Kind::Own, I64, Some(I64)),
+                    Code::add_scaled | Code::shift_and | Code::and_shift | Code::i32_sub_from => Facts::of(Kind::Own, I32, Some(I32)),
+                    Code::copy | Code::ref_func | Code::set | Code::set_signed | Code::global_get | Code::select | Code::select_number | Code::select_numbers => {
                         Facts { gives_last: true, has_result: true, ..Facts::NONE }
                     }
                     Code::shuffle | Code::memory_size | Code::memory_grow | Code::table_get | Code::table_size | Code::table_grow => {

@@ -169,7 +169,7 @@ impl Lowering<'_> {
             (Kind::Load, _) => self.load(draft),
             (Kind::Store, _) => self.store(draft),
             (_, Code::copy) => self.copy(draft),
-            (_, Code::select) => self.push_using(draft, 1, op.c),
+            (_, Code::select) => self.select(draft),
             (_, Code::branch_if) => self.branch_if(draft, SLOT),
             (_, Code::branch_unless) => self.branch_if(draft, LAST),
             (_, Code::branch_table) => self.push_using(draft, 1, op.a),
@@ -225,3 +225,6 @@ impl Lowering<'_> {
         is_narrow.then(|| raw.read_as())
     }
 }
+
+#[cfg(test)]
+mod tests;

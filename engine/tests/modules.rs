@@ -1,5 +1,5 @@
-//! Modules that are refused, and where; what instances share; memories beyond the first one and beyond 32 bits; fuel that
-//! can't be cheated, and stacks that end.
+//! Modules that are refused, and where; what instances share; memories beyond the first one and beyond 32 bits; operands
+//! that are constant; fuel that can't be cheated, and stacks that end.
 
 use engine::library::{TrapCode, ValType};
 use engine::{
@@ -31,6 +31,13 @@ fn leb(mut number: u64) -> Vec<u8> {
     }
     bytes.push(number as u8);
     bytes
+}
+
+fn signed(number: i64) -> Vec<u8> {
+    match number {
+        -64..64 => vec![number as u8 & 0x7f],
+        _ => [vec![number as u8 | 0x80], signed(number >> 7)].concat(),
+    }
 }
 
 fn sized(bytes: &[u8]) -> Vec<u8> {
@@ -461,6 +468,136 @@ fn addresses_of_64_bits() {
     assert_eq!(reply(1 << 33, -(1 << 33)), past);
     assert_eq!(reply(u64::MAX, 1), past);
     assert_eq!(reply(0, -4), past);
+}
+
+/// What code with these operands gives, each of which is a parameter or a constant, in every choice of which ones.
+fn either_way(
+    operands: &[(u8, i64)],
+    result: u8,
+    limits: &[u8],
+    code: impl Fn(&[Vec<u8>]) -> Vec<u8>,
+) -> Result<i64, String> {
+    let types: Vec<_> = operands.iter().map(|(ty, _)| *ty).collect();
+    let arg = |(ty, it): &(u8, i64)| if *ty == I32 { (*it as i32).into() } else { (*it).into() };
+    let args: Vec<Val> = operands.iter().map(arg).collect();
+    let reply = |constants: u32| {
+        let operand = |(i, (ty, it)): (usize, &(u8, i64))| match (constants >> i & 1, *ty) {
+            (0, _) => vec![0x20, i as u8],
+            (_, I32) => [vec![0x41], signed((*it as i32).into())].concat(),
+            _ => [vec![0x42], signed(*it)].concat(),
+        };
+        let code = code(&operands.iter().enumerate().map(operand).collect::<Vec<_>>());
+        let wasm = Wasm::default().function(&types, &[result], &[], &code).memory(limits);
+        called(&wasm, &mut store(1000), &args)
+    };
+    let replies: Vec<_> = (0..1 << operands.len()).map(reply).collect();
+    assert!(replies.iter().all(|it| *it == replies[0]), "{operands:?}: {replies:?}");
+    replies[0].clone()
+}
+
+/// Addresses and offsets around the end of a page and of 32 bits, and how many bytes the page has from their sum on.
+const PLACES: [(i64, u64, i64); 14] = [
+    (65_535, 0, 1),
+    (65_534, 0, 2),
+    (65_532, 0, 4),
+    (65_529, 0, 7),
+    (65_528, 0, 8),
+    (65_520, 0, 16),
+    (3, 65_533, 0),
+    (3, 65_530, 3),
+    (0xffff_ffff, 0, 0),
+    (0xffff_ffff, 1, 0),
+    (0xffff_fffc, 8, 0),
+    (8, 0xffff_fffc, 0),
+    (0xffff_ffff, 0xffff_ffff, 0),
+    (0, 5, 65_531),
+];
+
+/// Pages whose addresses are of 32 and of 64 bits.
+const PAGES: [(u8, [u8; 2]); 2] = [(I32, [0, 1]), (I64, [4, 1])];
+
+/// The address of eight bytes that hold those of an access as far as the page has them.
+fn eight_bytes(address: i64, offset: u64) -> i64 {
+    (address as u64 + offset).min(65_528) as i64
+}
+
+#[test]
+fn loads_at_constant_addresses() {
+    let scalars = [0x28, 0x29, 0x2c, 0x2d, 0x2e, 0x2f, 0x30, 0x31, 0x32, 0x33, 0x34, 0x35].map(|it| vec![it]);
+    let vectors = [0, 1, 2, 3, 4, 5, 6, 7, 8, 9, 10, 0x5c, 0x5d].map(|it| vec![0xfd, it]);
+    let bytes = [4, 8, 1, 1, 2, 2, 1, 1, 2, 2, 4, 4, 16, 8, 8, 8, 8, 8, 8, 1, 2, 4, 8, 4, 8];
+    let loads = scalars.into_iter().chain(vectors).zip(bytes);
+    let past = Err(TrapCode::MemoryOutOfBounds.to_string());
+    for ((load, bytes), (ty, limits)) in loads.flat_map(|it| PAGES.map(|page| (it.clone(), page))) {
+        let result = if matches!(load[0], 0x28 | 0x2c..=0x2f) { I32 } else { I64 };
+        let lane: &[u8] = if load[0] == 0xfd { &[0xfd, 0x1d, 0] } else { &[] };
+        let write = [&[0x42][..], &signed(0x8877_6655_4433_2281_u64.cast_signed()), &[0x37, 0, 0]].concat();
+        for (address, offset, left) in PLACES {
+            let code = |it: &[Vec<u8>]| [&it[1][..], &write, &it[0], &load, &[0], &leb(offset), lane].concat();
+            let operands = [(ty, address), (ty, eight_bytes(address, offset))];
+            let reply = either_way(&operands, result, &limits, code);
+            assert_eq!(reply == past, bytes > left, "{load:x?} {address} {offset}: {reply:?}");
+        }
+    }
+    for address in [-4, 1 << 32] {
+        assert_eq!(either_way(&[(I64, address)], I32, &[4, 1], |it| [&it[0][..], &[0x28, 0, 8]].concat()), past);
+    }
+}
+
+#[test]
+fn stores_at_constant_addresses() {
+    let stores = [(0x36, 4), (0x37, 8), (0x3a, 1), (0x3b, 2), (0x3c, 1), (0x3d, 2), (0x3e, 4)];
+    let stores = stores.map(|(code, bytes)| (vec![code], bytes)).into_iter();
+    // A store of a vector whose lanes are the number.
+    let stores = stores.chain([(vec![0xfd, 0x12, 0xfd, 0x0b], 16)]);
+    let past = Err(TrapCode::MemoryOutOfBounds.to_string());
+    for ((store, bytes), (ty, limits)) in stores.flat_map(|it| PAGES.map(|page| (it.clone(), page))) {
+        let (value, add) = if matches!(store[0], 0x36 | 0x3a | 0x3b) { (I32, 0x6a) } else { (I64, 0x7c) };
+        for ((address, offset, left), number) in PLACES.into_iter().flat_map(|it| [7, -7, 70_000].map(|no| (it, no))) {
+            // The number is stored, and then the last result.
+            let code = |it: &[Vec<u8>]| {
+                let store = [&store[..], &[0], &leb(offset)].concat();
+                let read = [&it[2][..], &[0x29, 0, 0]].concat();
+                let first = [&it[0][..], &it[1], &store, &read].concat();
+                [&first[..], &it[0], &it[1], &it[1], &[add], &store, &read, &[0x7c]].concat()
+            };
+            let operands = [(ty, address), (value, number), (ty, eight_bytes(address, offset))];
+            let reply = either_way(&operands, I64, &limits, code);
+            assert_eq!(reply == past, bytes > left, "{store:x?} {address} {offset}: {reply:?}");
+        }
+    }
+}
+
+#[test]
+fn constant_operands() {
+    let numbers = [0, 1, -1, 7, 40_000, -40_000, 32_767, -32_768, 0xffff_ffff, 1 << 40, i64::MIN];
+    for (ty, a, b) in [I32, I64].into_iter().flat_map(|ty| numbers.map(|a| numbers.map(|b| (ty, a, b)))).flatten() {
+        let seen = |number: i64| Ok(if ty == I32 { (number as i32).into() } else { number });
+        let [add, subtract, and] = if ty == I32 { [0x6a, 0x6b, 0x71] } else { [0x7c, 0x7d, 0x83] };
+        for condition in [0, 1, 8] {
+            let operands = [(ty, a), (ty, b), (I32, condition)];
+            let chosen = if condition == 0 { b } else { a };
+            let select = |it: &[Vec<u8>]| [&it[0][..], &it[1], &it[2], &[0x1b]].concat();
+            assert_eq!(either_way(&operands, ty, &[0, 1], select), seen(chosen));
+            // The condition is the last result, and what is chosen is taken as the last result.
+            let select = |it: &[Vec<u8>]| [&it[0][..], &it[1], &it[2], &it[2], &[0x72, 0x1b], &it[0], &[add]].concat();
+            assert_eq!(either_way(&operands, ty, &[0, 1], select), seen(chosen.wrapping_add(a)));
+        }
+        let both = |code: u8| move |it: &[Vec<u8>]| [&it[0][..], &it[1], &[code]].concat();
+        assert_eq!(either_way(&[(ty, a), (ty, b)], ty, &[0, 1], both(subtract)), seen(a.wrapping_sub(b)));
+        assert_eq!(either_way(&[(ty, a), (ty, b)], ty, &[0, 1], both(and)), seen(a & b));
+        assert_eq!(either_way(&[(ty, a)], ty, &[0, 1], |it| it[0].clone()), seen(a));
+    }
+}
+
+#[test]
+fn a_choice_of_a_constant_vector() {
+    // The upper lane of one of a constant of 7 and 0, and a vector whose lanes are the number.
+    let seven = [&[0xfd, 12, 7][..], &[0; 15]].concat();
+    for (condition, upper) in [(1, 0), (0, -1)] {
+        let code = |it: &[Vec<u8>]| [&seven[..], &it[0], &[0xfd, 0x12], &it[1], &[0x1b, 0xfd, 0x1d, 1]].concat();
+        assert_eq!(either_way(&[(I64, -1), (I32, condition)], I64, &[0, 1], code), Ok(upper));
+    }
 }
 
 #[test]

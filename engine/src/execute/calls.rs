@@ -2,7 +2,7 @@
 
 use crate::body::{Instruction, Lazy, TYPE_BITS};
 use crate::execute::Exit;
-use crate::execute::handlers::{LAST, Way, control, or_trap};
+use crate::execute::handlers::{IMM, LAST, Way, control, or_trap};
 use crate::execute::state::{Outcome, Slots, State, end, next, trapped};
 use crate::library::{RawVal, TrapCode};
 use crate::stack::{Frame, SLOTS};
@@ -12,6 +12,8 @@ control! { ret |code, op, slots, state, last| back(state, last) }
 control! { ret_one<TO, A> |code, op, slots, state, last| {
     if A == LAST {
         slots.set::<u64>(0, last);
+    } else if A == IMM {
+        slots.set(0, RawVal::from(u64::from(op.imm)));
     } else {
         slots.set::<RawVal>(0, slots.get(op.a));
     }

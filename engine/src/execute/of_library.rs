@@ -87,11 +87,20 @@ macro_rules! binary {
     };
 }
 
-/// The ways of two operands, of which the first one may stand in the instruction.
-macro_rules! store {
-    ($way:expr, $name:path, V128) => { ways!($way, $name: (SLOT, SLOT)) };
+/// The ways of a result and an address. That of a constant address is `IMM`: the offset has it then.
+macro_rules! load {
+    ($way:expr, $name:path, V128) => { ways!($way, $name: (SLOT, SLOT) (SLOT, IMM)) };
     ($way:expr, $name:path, $scalar:ident) => {
-        ways!($way, $name: (SLOT, SLOT) (SLOT, LAST) (LAST, SLOT) (IMM, SLOT) (IMM, LAST))
+        ways!($way, $name: (SLOT, SLOT) (SLOT, LAST) (SLOT, IMM) (LAST, SLOT) (LAST, LAST) (LAST, IMM))
+    };
+}
+
+/// The ways of a value, which may stand in the instruction, and an address as in a load.
+macro_rules! store {
+    ($way:expr, $name:path, V128) => { ways!($way, $name: (SLOT, SLOT) (SLOT, IMM)) };
+    ($way:expr, $name:path, $scalar:ident) => {
+        ways!($way, $name:
+            (SLOT, SLOT) (SLOT, LAST) (SLOT, IMM) (LAST, SLOT) (LAST, IMM) (IMM, SLOT) (IMM, LAST) (IMM, IMM))
     };
 }
 
@@ -226,7 +235,7 @@ macro_rules! handlers {
                     $($(Code::$b => binary!(way, self::$b, $ba, $bb),)*)*
                     $(Code::$t => self::$t as Handler,)*
                     $($(Code::$d => binary!(way, self::$d, $dt, $dt),)*)*
-                    $($(Code::$l => unary!(way, self::$l, I32, $lt),)*)*
+                    $($(Code::$l => load!(way, self::$l, $lt),)*)*
                     $($(Code::$s => store!(way, self::$s, $st),)*)*
                     $($(Code::$e => self::$e as Handler,)*)*
                     $($(Code::$r => self::$r as Handler,)*)*

@@ -3,7 +3,7 @@
 use crate::body::Instruction;
 use crate::execute::Exit;
 use crate::execute::calls::{call, call_indirect, ret, ret_many, ret_one, return_call, return_call_indirect};
-use crate::execute::handlers::{LAST, SLOT, Value, Way, branch_to, control, handler, or_trap, ways};
+use crate::execute::handlers::{IMM, LAST, SLOT, Value, Way, branch_to, control, handler, or_trap, ways};
 use crate::execute::state::{Handler, Outcome, Slots, State, end, next, next_by_loop, trapped};
 use crate::instructions::Code;
 use crate::library::{RawVal, ReadAs, TrapCode, TypedRawVal, simd, wasm};
@@ -28,7 +28,13 @@ fn of_values(code: Code, way: [Way; 3]) -> Option<Handler> {
             (SLOT, SLOT, SLOT) (SLOT, SLOT, LAST) (LAST, SLOT, SLOT) (LAST, SLOT, LAST)),
         Code::shift_and => ways!(way, shift_and: (SLOT, SLOT) (SLOT, LAST) (LAST, SLOT) (LAST, LAST)),
         Code::and_shift => ways!(way, and_shift: (SLOT, SLOT) (SLOT, LAST) (LAST, SLOT) (LAST, LAST)),
+        Code::i32_sub_from => ways!(way, i32_sub_from: (SLOT, SLOT) (SLOT, LAST) (LAST, SLOT) (LAST, LAST)),
+        Code::i64_sub_from => ways!(way, i64_sub_from: (SLOT, SLOT) (SLOT, LAST) (LAST, SLOT) (LAST, LAST)),
         Code::select => ways!(way, select: (SLOT, SLOT) (SLOT, LAST) (LAST, SLOT) (LAST, LAST)),
+        Code::select_number => ways!(way, select_number:
+            (SLOT, SLOT, SLOT) (SLOT, SLOT, LAST) (SLOT, LAST, SLOT) (SLOT, LAST, LAST)
+            (LAST, SLOT, SLOT) (LAST, SLOT, LAST) (LAST, LAST, SLOT) (LAST, LAST, LAST)),
+        Code::select_numbers => ways!(way, select_numbers: (SLOT, SLOT) (SLOT, LAST) (LAST, SLOT) (LAST, LAST)),
         Code::shuffle => shuffle,
         Code::global_get => ways!(way, global_get: (SLOT) (LAST)),
         Code::global_set => global_set,
@@ -53,7 +59,7 @@ fn of_control(code: Code, way: [Way; 3]) -> Option<Handler> {
         Code::add_branch => ways!(way, add_branch: (SLOT) (LAST)),
         Code::branch_table => ways!(way, branch_table: (SLOT, SLOT) (SLOT, LAST)),
         Code::ret => ret,
-        Code::ret_one => ways!(way, ret_one: (SLOT, SLOT) (SLOT, LAST)),
+        Code::ret_one => ways!(way, ret_one: (SLOT, SLOT) (SLOT, LAST) (SLOT, IMM)),
         Code::ret_many => ret_many,
         Code::call => call,
         Code::call_indirect => call_indirect,
@@ -122,6 +128,20 @@ fn put(low: u64, slot: u16, slots: Slots) -> u64 {
 handler! { set |op, slots, state, last| put(op.imm.into(), op.d, slots) }
 handler! { set_signed |op, slots, state, last| put(op.number().cast_unsigned(), op.d, slots) }
 
+/// A number of 16 bits with its sign, as an `i32`.
+#[inline(always)]
+fn widened(number: u16) -> u64 {
+    i32::from(number.cast_signed()).cast_unsigned().into()
+}
+
+handler! { i32_sub_from<TO, A> |op, slots, state, last| {
+    wasm::i32_sub(op.imm.cast_signed(), Value::read::<A>(op.a, 0, slots, last)).write::<TO>(op.d, slots)
+} }
+
+handler! { i64_sub_from<TO, A> |op, slots, state, last| {
+    wasm::i64_sub(op.number(), Value::read::<A>(op.a, 0, slots, last)).write::<TO>(op.d, slots)
+} }
+
 handler! { add_two |op, slots, state, last| {
     let [one, other] = [op.low(), op.high()].map(|it| it.cast_signed().into());
     slots.set(op.d, wasm::i32_add(slots.get(op.d), one));
@@ -150,6 +170,24 @@ handler! { select<TO, C> |op, slots, state, last| {
         slots.set::<RawVal>(op.d, slots.get(from));
     }
     slots.number(from)
+} }
+
+// One of a slot and a number: the slot if the condition isn't 0, or with `UNLESS` if it is.
+handler! { select_number<TO, C, UNLESS> |op, slots, state, last| {
+    let is_slot = (<i32 as Value>::read::<C>(op.high(), 0, slots, last) != 0) == (UNLESS == SLOT);
+    let number = RawVal::from(widened(op.low()));
+    let value = if is_slot { slots.get(op.a) } else { number };
+    if TO == SLOT {
+        slots.set(op.d, value);
+    }
+    value.read_as()
+} }
+
+// One of two numbers.
+handler! { select_numbers<TO, C> |op, slots, state, last| {
+    let is_first = <i32 as Value>::read::<C>(op.a, 0, slots, last) != 0;
+    let number = widened(if is_first { op.low() } else { op.high() });
+    if TO == SLOT { put(number, op.d, slots) } else { number }
 } }
 
 handler! { by loop shuffle |op, slots, state, last| {

@@ -11,7 +11,7 @@ use crate::module::Module;
 use crate::stack::{Frame, SLOTS};
 use std::cell::Cell;
 
-const OWN: [Code; 28] = [
+const OWN: [Code; 32] = [
     Code::fuel,
     Code::branch,
     Code::branch_if,
@@ -29,7 +29,11 @@ const OWN: [Code; 28] = [
     Code::add_scaled,
     Code::shift_and,
     Code::and_shift,
+    Code::i32_sub_from,
+    Code::i64_sub_from,
     Code::select,
+    Code::select_number,
+    Code::select_numbers,
     Code::global_get,
     Code::global_set,
     Code::ref_func,

@@ -22,9 +22,12 @@ impl Draft {
             (Kind::Replace | Kind::Lane, _) => [true, true, false],
             (Kind::Ternary, _) => [true; 3],
             (_, Code::select) => [true, true, second],
+            (_, Code::select_number) => [true, false, second],
             (_, Code::copy_two) => [true, false, true],
             (_, Code::add_scaled) => [true, third, false],
-            (_, Code::shift_and | Code::and_shift) => [second, false, false],
+            (_, Code::shift_and | Code::and_shift | Code::i32_sub_from | Code::i64_sub_from | Code::select_numbers) => {
+                [second, false, false]
+            }
             (_, Code::copy | Code::branch_if | Code::branch_unless | Code::branch_table | Code::ret_one) => {
                 [second, false, false]
             }
@@ -88,7 +91,8 @@ fn numbers(draft: &Draft, op: Op) -> (u16, u32) {
         (Kind::Store, _) => (b, imm),
         (Kind::Binary, _) if draft.way[2] == IMM => (d, imm),
         (Kind::Binary, _) | (_, Code::add_offset) => (d, b.into()),
-        (Kind::Ternary, _) | (_, Code::select | Code::copy_two) => (d, pair(b, c)),
+        (Kind::Ternary, _) | (_, Code::copy_two) => (d, pair(b, c)),
+        (_, Code::select | Code::select_number | Code::select_numbers) => (d, pair(b, c)),
         (_, Code::add_two | Code::add_scaled | Code::shift_and | Code::and_shift) => (d, pair(b, c)),
         (Kind::Extract | Kind::Replace, _) => (d, pair(b, lane)),
         (_, Code::call_indirect | Code::return_call_indirect) => (b, imm | u32::from(lane) << TYPE_BITS),

@@ -67,6 +67,12 @@ fn number(bits: u64, ty: Option<ValType>) -> Option<i32> {
     }
 }
 
+/// The number of 16 bits that stands in an instruction for an operand of any type with these bits.
+fn short(bits: u64) -> Option<u16> {
+    let number = u32::try_from(bits).ok()?.cast_signed();
+    i16::try_from(number).ok().map(i16::cast_unsigned)
+}
+
 impl Lowering<'_> {
     /// An instruction of two operands. A constant becomes the second one where it may.
     pub fn binary(&mut self, mut draft: Draft) {
@@ -75,6 +81,9 @@ impl Lowering<'_> {
             draft.op = exchanged(draft.op.code).map_or(draft.op, |code| Op { code, a: b, b: a, ..draft.op });
         }
         let Op { a, b, .. } = draft.op;
+        if let Some(draft) = self.with_number(draft) {
+            return self.push_using(draft, 1, draft.op.a);
+        }
         if let Some(number) = self.constant(b).and_then(|bits| number(bits, draft.facts.operand)) {
             (draft.op.imm, draft.way[2]) = (number.cast_unsigned(), IMM);
             match self.with_field(draft).or_else(|| self.with_addition(draft)) {
@@ -103,6 +112,19 @@ impl Lowering<'_> {
                 None => self.push_using(draft, 1, draft.op.a),
             },
         }
+    }
+
+    /// A difference from a constant, and the low half of 64 bits.
+    fn with_number(&self, draft: Draft) -> Option<Draft> {
+        let Op { code, a, b, .. } = draft.op;
+        let from = |code| Some((code, b, number(self.constant(a)?, draft.facts.operand)?.cast_unsigned()));
+        let (code, a, imm) = match code {
+            Code::i32_sub => from(Code::i32_sub_from)?,
+            Code::i64_sub => from(Code::i64_sub_from)?,
+            Code::i64_bitand if self.constant(b) == Some(u32::MAX.into()) => (Code::i64_extend_i32_u, a, 0),
+            _ => return None,
+        };
+        Some(Draft::new(Op { code, a, imm, ..draft.op }))
     }
 
     /// The addition of an operand that was shifted by a constant.
@@ -149,13 +171,15 @@ impl Lowering<'_> {
     }
 
     pub fn load(&mut self, draft: Draft) {
+        let draft = self.at_constant(draft);
         match self.with_sum(draft) {
             Some(draft) => self.last = Some(draft),
             None => self.push_using(draft, 1, draft.op.a),
         }
     }
 
-    pub fn store(&mut self, mut draft: Draft) {
+    pub fn store(&mut self, draft: Draft) {
+        let mut draft = self.at_constant(draft);
         let Op { a, b, .. } = draft.op;
         let number = self.constant(b).and_then(|bits| number(bits, draft.facts.operand));
         if let Some(number) = number.and_then(|it| i16::try_from(it).ok()) {
@@ -166,6 +190,13 @@ impl Lowering<'_> {
             Some(draft) => self.last = Some(draft),
             None => self.push_using_one(draft, [(1, a), (0, b)]),
         }
+    }
+
+    /// An access whose address is constant has the address in its offset, if the sum fits there.
+    fn at_constant(&self, draft: Draft) -> Draft {
+        let sum = self.constant(draft.op.a).and_then(|it| it.checked_add(draft.op.imm.into()));
+        let imm = sum.and_then(|it| u32::try_from(it).ok());
+        imm.and_then(|imm| Draft { op: Op { imm, ..draft.op }, ..draft }.with(1, IMM)).unwrap_or(draft)
     }
 
     /// An access that takes the place of the addition before it, with the operands of that.
@@ -185,6 +216,19 @@ impl Lowering<'_> {
         let [a, c] = operands;
         let draft = Draft { op: Op { a, c, ..draft.op }, shape, way: [SLOT, way, SLOT], ..draft };
         draft.checked().filter(|_| is_sum && fits)
+    }
+
+    /// A choice between operands of which one or both may be numbers.
+    pub fn select(&mut self, draft: Draft) {
+        let Op { a, b, c, .. } = draft.op;
+        let numbers = [a, b].map(|it| self.constant(it).and_then(short));
+        let (op, unless) = match numbers {
+            [None, None] => return self.push_using(draft, 1, c),
+            [None, Some(b)] => (Op { code: Code::select_number, b, ..draft.op }, SLOT),
+            [Some(a), None] => (Op { code: Code::select_number, a: b, b: a, ..draft.op }, LAST),
+            [Some(b), Some(number)] => (Op { code: Code::select_numbers, a: c, b, c: number, ..draft.op }, SLOT),
+        };
+        self.push_using(Draft { way: [SLOT, SLOT, unless], ..Draft::new(op) }, 1, c);
     }
 
     pub fn copy(&mut self, draft: Draft) {
@@ -236,7 +280,10 @@ impl Lowering<'_> {
             0 => self.push(draft),
             1 => {
                 draft.op.code = Code::ret_one;
-                self.push_typed(draft);
+                match self.constant(draft.op.a).and_then(|it| u32::try_from(it).ok()) {
+                    Some(imm) => self.push(Draft { op: Op { imm, ..draft.op }, way: [SLOT, IMM, SLOT], ..draft }),
+                    None => self.push_typed(draft),
+                }
             }
             _ => {
                 draft.op.code = Code::ret_many;
