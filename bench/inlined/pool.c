@@ -8,6 +8,13 @@
 #include <stdlib.h>
 #include <time.h>
 
+/* Places what is linked after it so many bytes further. */
+#ifdef SKIP
+#define TEXT(number) #number
+#define SKIPPED(number) ".text\n.skip " TEXT(number) ", 0x90\n"
+__asm__(SKIPPED(SKIP));
+#endif
+
 enum { CALLS = 200000, TENANTS = 8, TENANT = 5, PAGE = 65536 };
 
 static wasmi_machine machine;
