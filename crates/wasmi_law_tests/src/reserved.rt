@@ -54,7 +54,6 @@ pub fn grow_reserved_table<L: ResourceLimiter>(
         (λ x. x.ty.maximum ≡ Some maximum) }
     ensures has { IfSome result (λ reply. IsNotOutOfMemory reply) }
 {
-    wasmi_laws::reserved_suffices::<L>();
     let Reply::Done = reserve_table(machine, table, maximum) else {
         return None;
     };
