@@ -1,5 +1,5 @@
 -- Results of runs into memory that is kept for replies, and tables that are reserved.
-use Rattle.std.proofs.Common.{Bool, Err, IsOk, List, None, Ok, OnOk, Option, Result, Some, [], ap, false, inr, refl, subst, sym, true, ℕ, ◌++◌, ◌∙◌, ◌≤◌, ◌≡◌, ◌≢◌, ⊎_elim, arith}
+use Rattle.std.proofs.Common.{Bool, Err, IsOk, List, None, Ok, OnOk, Option, Result, Some, [], ap, false, refl, subst, sym, true, ℕ, ◌++◌, ◌∙◌, ◌≤◌, ◌≡◌, ◌≢◌, ⊎_elim, arith}
 use Rattle.std.proofs.lemmas.Bool.Decides.{Decides-eqb}
 use Rattle.std.proofs.lemmas.List.{append-nil}
 use Rattle.std.specs.Bool.{Decides}
@@ -15,7 +15,7 @@ use Rattle.wasmi_machine.specs.State.{live_at, live_value}
 use Rattle.wasmi_machine.specs.TableEffects.{ReservesElementsAt}
 use Rattle.wasmi_machine.proofs.EffectLemmas.{both_live, on_live}
 use Rattle.wasmi_laws.proofs.ListLemmas.{live_slot, set_same}
-use Rattle.wasmi_laws.specs.Reserved.{HasElements, HasElementsAt, IsReservedTable, IsReservedToMaximum}
+use Rattle.wasmi_laws.specs.Reserved.{IsReservedTable, IsReservedToMaximum}
 
 module _ {E : Type 0} where
   -- a result that is accepted and has no value
@@ -54,15 +54,6 @@ reserved_table k n slots reply slots' most reserves done = on_live (live_at slot
     (at_maximum x h.1.0 n h.0 (ap (λ (t : TableValue). t.ty) kept.1)
     (let is : h.1.0.reserved ≡ max x.reserved n = ap (λ (t : TableValue). t.reserved) kept.1 in grind (arith, is)))))
     (λ refused. let other : NoRoom ≡ Done = sym refused.0 ∙ done in absurd cc) h.1.1)
-
--- so it has memory for however many more elements
-pub elements_there : (n : ℕ) (slots : List (Slot TableValue)) (k : ℕ) → IsReservedTable slots k → HasElementsAt slots k n
-elements_there n slots k full = by (live_at slots k) full
-  where
-    by : (found : Option TableValue) → OnLive found (Unit {0}) IsReservedToMaximum
-        → OnLive found (Unit {0}) (HasElements n)
-    by None full = tt
-    by (Some x) full = inr full
 
 -- a number is the same as itself, and another one isn't
 is_same : (i : ℕ) → nat_eq i i ≡ true
