@@ -209,7 +209,7 @@ module _ (caps : Amounts) (index : ℕ) (pool' : PoolValue) where
           machine = becomes.machine;
           found = refl;
           machine' = becomes.machine';
-          reserved = reserves.1.reserved;
+          becomes = reserves.1.becomes;
           after = refl;
         },
       ) (own_turns index turns)

@@ -461,7 +461,7 @@ module _ (pool : PoolValue) (all : Amounts) (kept : IsKept pool all) (index : �
   own_ran : IsRunOf (optional_rules tenant_rules) (call ∷ []) (world ran.machine (Some own_tenant)) (reply ∷ [])
       (world ran.machine' (Some own_tenant))
   own_ran = run_of_one (world ran.machine own_tenant) (world ran.machine' own_tenant) call reply
-      (ran.replied own_tenant)
+      (ran.becomes own_tenant)
 
   -- it is an accepted run
   pub unasked_runs : RunsTenant pool index (call ∷ []) (reply ∷ []) (record pool { machines = machines' })
@@ -476,7 +476,7 @@ module _ (pool : PoolValue) (all : Amounts) (kept : IsKept pool all) (index : �
       subst (λ machines. IsKept (record pool { machines = machines }) all) (sym ran.after)
       (own_kept pool all kept index ran.machine ran.found (call ∷ []) (reply ∷ []) ran.machine' own_tenant own_ran
       (step_holds (world ran.machine own_tenant) (world ran.machine' own_tenant) call reply
-      (record { bytes = refl; elements = refl }) (ran.replied own_tenant)) all
+      (record { bytes = refl; elements = refl }) (ran.becomes own_tenant)) all
       (kept.counted ∙ amounts_same (total_of pool.machines) (held_together capped_tenant own_tenant)
       (λ kind. sym (tenant_held_together pool index ran.machine ran.found kind))))
 
@@ -612,7 +612,7 @@ elements_reserved pool index table elements reply pool' reserves = record {
   machine = reserves.1.machine;
   found = reserves.1.found;
   machine' = reserves.1.machine';
-  alike = elements_alike reserves.1.machine table elements reply reserves.1.machine' reserves.1.reserved;
+  alike = elements_alike reserves.1.machine table elements reply reserves.1.machine' reserves.1.becomes;
   after = λ i. record { caps = reserves.0 i; machines = reserves.1.after i };
 }
 

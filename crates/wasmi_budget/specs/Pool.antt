@@ -158,14 +158,19 @@ abbrev pub RepliesUnasked : Call → State → Reply → State → Type 0
 RepliesUnasked call s reply s' = (tenant : Tenant)
     → RepliesWith (optional_rules tenant_rules) call (world s (Some tenant)) reply (world s' (Some tenant))
 
--- the machine at an index has replied to a call without its tenant, and all others are the same
-pub record RunsUnasked (machines : List (Option State)) (index : ℕ) (call : Call) (reply : Reply)
+-- the machine at an index has become another one in this way, and all others are the same
+pub record BecomesAt (machines : List (Option State)) (index : ℕ) (becomes : State → State → Type 0)
     (machines' : List (Option State)) : Type 0 where
   pub machine : State
   pub found : slice_index_or machines index None ≡ Some machine
   pub machine' : State
-  pub replied : RepliesUnasked call machine reply machine'
+  pub becomes : becomes machine machine'
   pub after : machines' ≡ slice_set machines index (Some machine')
+
+-- the machine at an index has replied to a call without its tenant, and all others are the same
+abbrev pub RunsUnasked : List (Option State) → ℕ → Call → Reply → List (Option State) → Type 0
+RunsUnasked machines index call reply machines' =
+    BecomesAt machines index (λ s s'. RepliesUnasked call s reply s') machines'
 
 -- the machine of a tenant was taken off: its index has none from then on, and all else is the same
 pub record RemovesTenant (pool : PoolValue) (index : ℕ) (s : State) (pool' : PoolValue) : Type 0 where
@@ -191,13 +196,9 @@ ReservesElements s table elements reply s' =
 
 -- the machine at an index has replied to a reservation of so many elements in all of one of its tables, and all others
 -- are the same
-pub record ReservesElementsIn (machines : List (Option State)) (index table elements : ℕ) (reply : Reply)
-    (machines' : List (Option State)) : Type 0 where
-  pub machine : State
-  pub found : slice_index_or machines index None ≡ Some machine
-  pub machine' : State
-  pub reserved : ReservesElements machine table elements reply machine'
-  pub after : machines' ≡ slice_set machines index (Some machine')
+abbrev pub ReservesElementsIn : List (Option State) → ℕ → ℕ → ℕ → Reply → List (Option State) → Type 0
+ReservesElementsIn machines index table elements reply machines' =
+    BecomesAt machines index (λ s s'. ReservesElements s table elements reply s') machines'
 
 -- the machine of a tenant has replied to a reservation of elements, and all else is the same
 abbrev pub ReservesElementsForTenant : PoolValue → ℕ → ℕ → ℕ → Reply → PoolValue → Type 0

@@ -1207,40 +1207,44 @@ module _ {S : Type 0} (rules : Rules S) where
 
 -- ---- what is reserved beside runs
 
--- with the same slots and more of them reserved, a machine has reserved as much for calls that need no more
-more_slots : {A : Type 0} (makes : Call → Bool) (calls : List Call) (reserved additional : ℕ) (list : List A)
-    → HasSlots reserved list makes calls → HasSlots (reserved_for reserved list additional) list makes calls
-more_slots makes calls reserved additional list has = grind (arith, has)
+-- the slots for what calls make are reserved, or are as many as are reserved in addition
+abbrev FindSlots : {A : Type 0} → (Call → Bool) → List Call → ℕ → ℕ → List A → Type 0
+FindSlots makes calls reserved additional list =
+    HasSlots reserved list makes calls ⊎ (count_by makes calls ≤ additional)
+
+slots_found : {A : Type 0} (makes : Call → Bool) (calls : List Call) (reserved additional : ℕ) (list : List A)
+    → FindSlots makes calls reserved additional list
+    → HasSlots (reserved_for reserved list additional) list makes calls
+slots_found makes calls reserved additional list (inl has) = grind (arith, has)
+slots_found makes calls reserved additional list (inr fits) = grind (arith, fits)
+
+-- a machine has reserved what calls need if more slots are reserved on it, and these find theirs of each kind
+with_more_slots : (s : State) (more : SlotCounts) (calls : List Call) → All (NeedsOnlySlot s) calls
+    → FindSlots makes_lent_memory calls s.reserved.memories more.memories s.memories
+    → FindSlots makes_segment calls s.reserved.segments more.segments s.segments
+    → FindSlots makes_data calls s.reserved.data_segments more.data_segments s.data_segments
+    → FindSlots makes_global calls s.reserved.globals more.globals s.globals
+    → IsReservedFor (with_reserved s more) calls
+with_more_slots s more calls needs memories segments data_segments globals = record {
+  needs = All-weaker (NeedsOnlySlot s) (NeedsOnlySlot (with_reserved s more))
+      (needs_later s (with_reserved s more) (λ k holds. holds) (λ k holds. holds)) calls needs;
+  memories = slots_found makes_lent_memory calls s.reserved.memories more.memories s.memories memories;
+  segments = slots_found makes_segment calls s.reserved.segments more.segments s.segments segments;
+  data_segments =
+      slots_found makes_data calls s.reserved.data_segments more.data_segments s.data_segments data_segments;
+  globals = slots_found makes_global calls s.reserved.globals more.globals s.globals globals;
+}
 
 -- where more slots are reserved, what was reserved is so
 pub more_reserved : (s : State) (more : SlotCounts) (calls : List Call) → IsReservedFor s calls
     → IsReservedFor (with_reserved s more) calls
-more_reserved s more calls r = record {
-  needs = All-weaker (NeedsOnlySlot s) (NeedsOnlySlot (with_reserved s more))
-      (needs_later s (with_reserved s more) (λ k holds. holds) (λ k holds. holds)) calls r.needs;
-  memories = more_slots makes_lent_memory calls s.reserved.memories more.memories s.memories r.memories;
-  segments = more_slots makes_segment calls s.reserved.segments more.segments s.segments r.segments;
-  data_segments =
-      more_slots makes_data calls s.reserved.data_segments more.data_segments s.data_segments r.data_segments;
-  globals = more_slots makes_global calls s.reserved.globals more.globals s.globals r.globals;
-}
-
--- slots for what calls make
-new_slots : {A : Type 0} (makes : Call → Bool) (calls : List Call) (reserved additional : ℕ) (list : List A)
-    → count_by makes calls ≤ additional → HasSlots (reserved_for reserved list additional) list makes calls
-new_slots makes calls reserved additional list fits = grind (arith, fits)
+more_reserved s more calls r = with_more_slots s more calls r.needs (inl r.memories) (inl r.segments)
+    (inl r.data_segments) (inl r.globals)
 
 -- with so many more slots a machine has reserved what calls need for which they are enough
 pub slots_suffice : SlotsSuffice
-slots_suffice s more calls fits = record {
-  needs = All-weaker (NeedsOnlySlot s) (NeedsOnlySlot (with_reserved s more))
-      (needs_later s (with_reserved s more) (λ k holds. holds) (λ k holds. holds)) calls fits.needs;
-  memories = new_slots makes_lent_memory calls s.reserved.memories more.memories s.memories fits.memories;
-  segments = new_slots makes_segment calls s.reserved.segments more.segments s.segments fits.segments;
-  data_segments =
-      new_slots makes_data calls s.reserved.data_segments more.data_segments s.data_segments fits.data_segments;
-  globals = new_slots makes_global calls s.reserved.globals more.globals s.globals fits.globals;
-}
+slots_suffice s more calls fits = with_more_slots s more calls fits.needs (inr fits.memories) (inr fits.segments)
+    (inr fits.data_segments) (inr fits.globals)
 
 -- a table for which so many elements are reserved stays reserved up to its maximum
 more_elements : (n : ℕ) (x x' : TableValue) → x' ≡ with_elements_reserved x n → IsReservedToMaximum x

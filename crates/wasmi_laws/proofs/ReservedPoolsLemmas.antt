@@ -91,7 +91,7 @@ module _ (index : ℕ) where
       ready_told next turns (becomes_ready pool (calls_of index turns) it next i reserves.machine reserves.machine'
       reserves.found (λ k. record { caps = caps k; machines = reserves.after k })
       (elements_stay_reserved reserves.machine table elements reply reserves.machine' (calls_of index turns)
-      reserves.reserved.0 reserves.reserved.1) (nat_eq i index) (Decides-eqb i index)) pool' ran
+      reserves.becomes.0 reserves.becomes.1) (nat_eq i index) (Decides-eqb i index)) pool' ran
   ready_told pool (Refused ∷ turns) it pool' (next, same, ran) =
       ready_told next turns
       (stays_at pool (calls_of index turns) it next (ap (λ p. machine_of p index) same ∙ it.found)) pool' ran

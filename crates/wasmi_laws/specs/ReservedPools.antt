@@ -9,27 +9,24 @@ use Rattle.wasmi_laws.specs.Reserved.{FitsSlots, IsReservedFor}
 use Rattle.wasmi_budget.specs.Laws.{PoolTurn, Added, Ran, Reserved, ReservedElements, Removed, Refused, PoolRun}
 use Rattle.wasmi_budget.specs.Pool.{PoolValue, machine_of}
 
+-- what a list is of each run of the tenant of an index, one after another
+abbrev pub of_runs : {A : Type 0} → (List Call → List Reply → List A) → ℕ → List PoolTurn → List A
+of_runs list index [] = []
+of_runs list index (Ran i calls replies ∷ turns) =
+    if nat_eq i index then list calls replies ++ of_runs list index turns else of_runs list index turns
+of_runs list index (Added s ∷ turns) = of_runs list index turns
+of_runs list index (Reserved i more ∷ turns) = of_runs list index turns
+of_runs list index (ReservedElements i table elements reply ∷ turns) = of_runs list index turns
+of_runs list index (Removed i s ∷ turns) = of_runs list index turns
+of_runs list index (Refused ∷ turns) = of_runs list index turns
+
 -- the calls of all runs of the tenant of an index, one after another
 abbrev pub calls_of : ℕ → List PoolTurn → List Call
-calls_of index [] = []
-calls_of index (Ran i calls replies ∷ turns) =
-    if nat_eq i index then calls ++ calls_of index turns else calls_of index turns
-calls_of index (Added s ∷ turns) = calls_of index turns
-calls_of index (Reserved i more ∷ turns) = calls_of index turns
-calls_of index (ReservedElements i table elements reply ∷ turns) = calls_of index turns
-calls_of index (Removed i s ∷ turns) = calls_of index turns
-calls_of index (Refused ∷ turns) = calls_of index turns
+calls_of = of_runs (λ calls replies. calls)
 
 -- the replies to them
 abbrev pub replies_of : ℕ → List PoolTurn → List Reply
-replies_of index [] = []
-replies_of index (Ran i calls replies ∷ turns) =
-    if nat_eq i index then replies ++ replies_of index turns else replies_of index turns
-replies_of index (Added s ∷ turns) = replies_of index turns
-replies_of index (Reserved i more ∷ turns) = replies_of index turns
-replies_of index (ReservedElements i table elements reply ∷ turns) = replies_of index turns
-replies_of index (Removed i s ∷ turns) = replies_of index turns
-replies_of index (Refused ∷ turns) = replies_of index turns
+replies_of = of_runs (λ calls replies. replies)
 
 -- no reply to the calls of a tenant whose machine has reserved what all of them need says out of memory, whatever else is
 -- done with the pool in between

@@ -1,5 +1,5 @@
 use Rattle.std.proofs.Common.{refl}
-use Rattle.wasmi_budget.proofs.TenantsLemmas.{its_value, no_value, set_value}
+use Rattle.wasmi_budget.proofs.TenantsLemmas.{becomes_at, no_value}
 use Rattle.wasmi_budget.proofs.tenants.Tenants.step_unasked.Goals as goal
 
 pub returns-in_err-place : goal.returns-in_err-place
@@ -12,12 +12,6 @@ returns-in_err-place c = record {
 
 pub returns : goal.returns
 returns c = record {
-  stepped = record {
-    machine = _;
-    found = its_value _ _ _ c.self.invariant _ c.self.view_is _ c.deref.ensures.value _ _ c.in_ok-place.ensures.found _
-        c.index_mut.ensures.value;
-    machine' = c.step_unasked.new.self;
-    replied = c.step_unasked.ensures.replied;
-    after = set_value _ _ _ c.self.invariant _ c.self.view_is _ c.deref.ensures.value _ _ c.in_ok-place.ensures.found _;
-  };
+  stepped = becomes_at _ _ _ c.self.invariant _ c.self.view_is _ c.deref.ensures.value _ _ c.in_ok-place.ensures.found _ _ _
+      c.index_mut.ensures.value c.step_unasked.ensures.replied;
 }

@@ -1,5 +1,5 @@
 use Rattle.std.proofs.Common.{refl}
-use Rattle.wasmi_budget.proofs.TenantsLemmas.{its_value, no_value, set_value}
+use Rattle.wasmi_budget.proofs.TenantsLemmas.{becomes_at, no_value}
 use Rattle.wasmi_budget.proofs.tenants.Tenants.write.Goals as goal
 
 pub returns-in_err-place : goal.returns-in_err-place
@@ -17,14 +17,7 @@ returns c =
       stepped = (
         written.0,
         written.1,
-        record {
-          machine = _;
-          found = its_value _ _ _ c.self.invariant _ c.self.view_is _ c.deref.ensures.value _ _
-              c.in_ok-place.ensures.found _ c.index_mut.ensures.value;
-          machine' = c.write.new.self;
-          replied = written.2;
-          after = set_value _ _ _ c.self.invariant _ c.self.view_is _ c.deref.ensures.value _ _
-              c.in_ok-place.ensures.found _;
-        },
+        becomes_at _ _ _ c.self.invariant _ c.self.view_is _ c.deref.ensures.value _ _ c.in_ok-place.ensures.found _ _ _
+            c.index_mut.ensures.value written.2,
       );
     }
