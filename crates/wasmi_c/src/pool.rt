@@ -217,7 +217,7 @@ impl TenantPool {
     }
 
     /// Replies to the call that numbers stand for by a `Call` of all of them. It is no part of
-    /// `reply_to_struct`, which would be too large to be inlined with it.
+    /// `reply_to_struct`, which has one caller, so that it is inlined there.
     #[tactic(auto, unfolding(crate::specs::Machine::CallStructs::call_of))]
     fn reply_to_any_struct(&mut self, tenant: usize, numbers: &CallStruct) -> ReplyStruct
         ensures step { TenantRepliesToStruct tenant numbers.now result self.old self.new }
@@ -249,7 +249,7 @@ impl TenantPool {
             return LENGTHS_DIFFER;
         }
         for i in 0..calls.len() {
-            replies[i] = self.reply_to_struct(tenant, &calls[i]);
+            replies[i] = self.reply_to_any_struct(tenant, &calls[i]);
         }
         DONE
     }

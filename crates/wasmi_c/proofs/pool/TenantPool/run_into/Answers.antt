@@ -10,9 +10,9 @@ pub loop-i-preserved : goal.loop-i-preserved
 loop-i-preserved c = record {
   ran = next_in_turn (λ numbers before reply after. TenantRepliesToStruct c.args.tenant numbers reply before after)
       c.args.calls.now c.loop-i.i _ c.args.self.now c.loop-i.replies
-      c.reply_to_struct.result c.loop-i.self c.reply_to_struct.new.self c.loop-i.invariant.ran c.loop-i-test.true
-      c.loop-i.invariant.places c.reply_to_struct.ensures.step;
-  caps = c.reply_to_struct.ensures.caps ∙ c.loop-i.invariant.caps;
+      c.reply_to_any_struct.result c.loop-i.self c.reply_to_any_struct.new.self c.loop-i.invariant.ran c.loop-i-test.true
+      c.loop-i.invariant.places c.reply_to_any_struct.ensures.step;
+  caps = c.reply_to_any_struct.ensures.caps ∙ c.loop-i.invariant.caps;
   places = length-set _ _ _ ∙ c.loop-i.invariant.places;
 }
 
