@@ -4411,7 +4411,7 @@ pub mod pool {
         }
 
         /// Replies to the call that numbers stand for by a `Call` of all of them. It is no part of
-        /// `reply_to_struct`, which would be too large to be inlined with it.
+        /// `reply_to_struct`, which has one caller, so that it is inlined there.
         ///
         /// # Contract
         ///
@@ -4451,7 +4451,7 @@ pub mod pool {
                 return LENGTHS_DIFFER;
             }
             for i in 0..calls.len() {
-                replies[i] = self.reply_to_struct(tenant, &calls[i]);
+                replies[i] = self.reply_to_any_struct(tenant, &calls[i]);
             }
             DONE
         }
