@@ -1,6 +1,6 @@
 -- Values at their indices: what a change of one of them changes.
 use Rattle.std.proofs.Common.{◌≡◌, ◌≢◌, ◌∙◌, ◌<◌, ◌≤◌, ◌+◌, ◌++◌, ◌⊎◌, inl, inr, [], ◌∷◌, List, Ok, Err, Result, Option, Some, None, ap, arith, get_or, length, map, refl, set, sym, suc, zero, ℕ, Bool, true, false}
-use Rattle.std.specs.Prelude.{All, MatchResult, nat_eq, remove, if◌then◌else◌}
+use Rattle.std.specs.Prelude.{All, MatchResult, ◌↔◌, is_some, nat_eq, remove, if◌then◌else◌}
 use Rattle.std.specs.List.{range_with_len}
 use Rattle.std.specs.Bool.{Decides}
 use Rattle.std.proofs.lemmas.Bool.Decides.{Decides-eqb}
@@ -16,7 +16,7 @@ use Rattle.std.proofs.lemmas.List.FromFn.{fill_by_all, get_or-map-range_with_len
 use Rattle.std.proofs.lemmas.List.Quantifiers.{all_pairs_push, all_pairs_remove}
 use Rattle.wasmi_machine.specs.State.{State}
 use Rattle.wasmi_budget.specs.Pool.{BecomesAt}
-use Rattle.wasmi_budget.specs.Tenants.{value_of, by_index, IsListed, IsPlace, Rises}
+use Rattle.wasmi_budget.specs.Tenants.{HasAllUpTo, value_of, by_index, IsListed, IsPlace, Rises}
 
 -- a test for one number, at it and at another one
 same_is : (i : ℕ) → nat_eq i i ≡ true
@@ -27,6 +27,74 @@ other_is i j other = by (nat_eq i j) (Decides-eqb i j) where
   by : (b : Bool) → Decides b (i ≡ j) → b ≡ false
   by true d = absurd (other (d.0 refl))
   by false d = refl
+
+-- an index among rising ones is at least its place
+at_least : (indices : List ℕ) → Rises indices → (p : ℕ) → p < length indices → p ≤ get_or indices p 0
+at_least indices rises zero within = omega arith
+at_least indices rises (suc p) within =
+    let before = at_least indices rises p (omega (arith, within)) in
+    let less = rises p (suc p) 0 (omega arith) within in
+    omega (arith, before, less)
+
+-- up to an index that is its own place each is its own
+own_before : (indices : List ℕ) → Rises indices → (n : ℕ) → n < length indices → get_or indices n 0 ≡ n
+    → (k : ℕ) → k ≤ n → get_or indices k 0 ≡ k
+own_before indices rises zero within at k le =
+    let none : k ≡ 0 = omega (arith, le) in rw none at
+own_before indices rises (suc n) within at k le = elim (cases_lt k (suc n)) [
+  | inl before ↦
+    let least = at_least indices rises n (omega (arith, within)) in
+    let less = rises n (suc n) 0 (omega arith) within in
+    own_before indices rises n (omega (arith, within)) (omega (arith, least, less, at)) k (omega (arith, before))
+  | inr past ↦ let last : k ≡ suc n = omega (arith, le, past) in rw last at
+]
+
+-- a number at a place that isn't before it is its own place
+own_place : (indices : List ℕ) → Rises indices → (n p : ℕ) → p < length indices → get_or indices p 0 ≡ n → n ≤ p
+    → IsPlace indices n (Some n)
+own_place indices rises n p within at le =
+    let least = at_least indices rises p within in
+    let same : p ≡ n = omega (arith, least, at, le) in
+    (omega (arith, within, same), ap (λ q. get_or indices q 0) (sym same) ∙ at)
+
+module _ {X : Type 0} where
+  -- there is something at each place within
+  something : (values : List X) (p : ℕ) → p < length values → (x : X) × (get_or values p x ≡ x)
+  something [] p within = absurd (omega (arith, within))
+  something (x ∷ values) zero within = (x, refl)
+  something (x ∷ values) (suc p) within = something values p (omega (arith, within))
+
+  -- an index that has a value is one of the indices
+  among : (indices : List ℕ) (values : List X) (j : ℕ) → is_some (value_of indices values j) ≡ true
+      → (p : ℕ) × (p < length indices) × (get_or indices p 0 ≡ j)
+  among [] values j has = absurd cc
+  among (i ∷ indices) [] j has = absurd cc
+  among (i ∷ indices) (x ∷ values) j has = by (nat_eq i j) (Decides-eqb i j) (among indices values j) has where
+    by : (b : Bool) → Decides b (i ≡ j)
+        → (is_some (value_of indices values j) ≡ true → (p : ℕ) × (p < length indices) × (get_or indices p 0 ≡ j))
+        → is_some (if b then Some x else value_of indices values j) ≡ true
+        → (p : ℕ) × (p < suc (length indices)) × (get_or (i ∷ indices) p 0 ≡ j)
+    by true d rest has = (0, omega arith, d.0 refl)
+    by false d rest has = let (p, within, at) = rest has in (suc p, omega (arith, within), at)
+
+  -- where each index up to this one has a value, it is its own place
+  first_places : (indices : List ℕ) (values : List X) → Rises indices → (n : ℕ)
+      → ((k : ℕ) → k ≤ n → is_some (value_of indices values k) ≡ true) → IsPlace indices n (Some n)
+  first_places indices values rises zero has =
+      let found = among indices values 0 (has 0 (omega arith)) in
+      own_place indices rises 0 found.0 found.1 found.2 (omega arith)
+  first_places indices values rises (suc n) has =
+      let before = first_places indices values rises n (λ k le. has k (omega (arith, le))) in
+      let (p, within, at) = among indices values (suc n) (has (suc n) (omega arith)) in
+      own_place indices rises (suc n) p within at (elim (cases_lt p n) [
+        | inl less ↦ let r = rises p n 0 less before.0 in absurd (omega (arith, r, at, before.1))
+        | inr past ↦ elim (cases_lt n p) [
+          | inl more ↦ more
+          | inr last ↦
+            let same : p ≡ n = omega (arith, past, last) in
+            let value = ap (λ q. get_or indices q 0) same in absurd (omega (arith, value, at, before.1))
+        ]
+      ])
 
 module _ {X : Type 0} where
   -- the value of the index at a place
@@ -276,6 +344,28 @@ module _ {X : Type 0} (next : ℕ) (indices : List ℕ) (values : List X) (liste
     -- without the place the index has none
     pub removed_value : by_index next (remove indices p) (remove values p) ≡ set view j None
     removed_value = sym (removed_at next indices values listed p place_within) ∙ (λ i. set (is i) (place_at i) None)
+
+  -- an index lies at its own place if each index up to it has a value, and only then
+  pub in_place : IsPlace seen j (Some j) ↔ HasAllUpTo view j
+  in_place = (
+    λ place k le.
+        let own = own_before indices listed.rises j (omega (arith, place.0, ap length sees))
+        (ap (λ xs. get_or xs j 0) (sym sees) ∙ place.1) k le in
+        let within : k < length indices = omega (arith, le, place.0, ap length sees) in
+        let there = something values k (omega (arith, within, listed.same)) in
+        ap is_some (ap (λ xs. get_or xs k None) (sym is)
+        ∙ found_at next indices values listed k k there.0 within own there.1),
+    λ has. rw sees (first_places indices values listed.rises j (λ k le. has_value k (cases_lt k next) (has k le))),
+  )
+    where
+      has_value : (k : ℕ) → (k < next) ⊎ (next ≤ k) → is_some (get_or view k None) ≡ true
+          → is_some (value_of indices values k) ≡ true
+      has_value k (inl below) has =
+          ap is_some (sym (get_or-by_index next indices values k below) ∙ ap (λ xs. get_or xs k None) is) ∙ has
+      has_value k (inr past) has =
+          let none : get_or view k None ≡ None = get_or_past view k None
+          (omega (arith, past, ap length (sym is), length-by_index next indices values)) in
+          let f : false ≡ true = ap is_some (sym none) ∙ has in absurd cc
 
 -- where the machine at the place of an index has become another, that of the index has
 pub becomes_at : (next : ℕ) (indices : List ℕ) (machines : List State) (listed : IsListed next indices machines)

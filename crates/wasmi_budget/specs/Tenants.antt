@@ -1,5 +1,5 @@
 -- Values that lie at their indices, of which each is given once: what was removed leaves its index empty.
-use Rattle.std.specs.Prelude.{◌≡◌, ◌≢◌, ◌<◌, ℕ, List, ◌∷◌, Option, Some, None, All, length, map, nat_eq, slice_index_or, if◌then◌else◌}
+use Rattle.std.specs.Prelude.{◌≡◌, ◌≢◌, ◌<◌, ◌≤◌, ℕ, List, ◌∷◌, Option, Some, None, All, true, is_some, length, map, nat_eq, slice_index_or, if◌then◌else◌}
 use Rattle.std.specs.List.{AllPairs, range_with_len}
 
 -- the place of an index among others, or that it isn't one of them
@@ -16,6 +16,10 @@ module _ {X : Type 0} where
   abbrev pub value_of : List ℕ → List X → ℕ → Option X
   value_of (i ∷ indices) (x ∷ values) index = if nat_eq i index then Some x else value_of indices values index
   value_of indices values index = None
+
+  -- each index up to this one has something
+  abbrev pub HasAllUpTo : List (Option X) → ℕ → Type 0
+  HasAllUpTo values index = (k : ℕ) → k ≤ index → is_some (slice_index_or values k None) ≡ true
 
   -- the values at their indices, of which `next` were given
   abbrev pub by_index : ℕ → List ℕ → List X → List (Option X)

@@ -7,6 +7,7 @@ ghost use Rattle.wasmi_machine.specs.State.{total};
 ghost use Rattle.wasmi_machine.specs.Steps.{SomeCopy};
 ghost use Rattle.wasmi_machine.specs.declared.calls.Call.TheVariants.{Write};
 ghost use Rattle.wasmi_budget.specs.Pool.{IsUnasked, IsWithinCaps, machine_of, total_of, AddsTenant, IsAddRefusal, RemovesTenant, ReservesForTenant, RunsTenant, ReservesElementsForTenant};
+ghost use Rattle.wasmi_budget.specs.Tenants.{HasAllUpTo};
 
 use crate::error::{AddError, PoolError, ReserveError, RunIntoError};
 use crate::tenant::CountedMachine;
@@ -278,6 +279,15 @@ impl<'r> Pool<'r> {
             return Err(PoolError::NoTenant);
         };
         Ok(reply)
+    }
+
+    /// Whether no tenant up to the one of this index was removed. Its machine is found without a search
+    /// then.
+    #[inline(always)]
+    pub fn is_in_place(&self, index: usize) -> bool
+        ensures { IsTrue result ↔ HasAllUpTo self.now.machines index }
+    {
+        self.tenants.is_in_place(index)
     }
 
     /// The machine of a tenant, if one has the index.

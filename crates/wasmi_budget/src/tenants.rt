@@ -1,10 +1,10 @@
 //! The machines of a pool at their indices.
-ghost use Rattle.std.specs.Prelude.{◌≡◌, ◌∷◌, ◌++◌, ◌↔◌, ◌<◌, ◌≤◌, [], length, slice_index_or, slice_set, None, Some, MatchOption, IfOk, IfErr, OnErr, OnOk, IsErrOf};
+ghost use Rattle.std.specs.Prelude.{◌≡◌, ◌∷◌, ◌++◌, ◌↔◌, ◌<◌, ◌≤◌, [], length, slice_index_or, slice_set, None, Some, MatchOption, IfOk, IfErr, OnErr, OnOk, IsErrOf, IsTrue};
 ghost use Rattle.std.specs.Option.{option_copied};
 ghost use Rattle.wasmi_machine.specs.Steps.{SomeCopy};
 ghost use Rattle.wasmi_machine.specs.declared.calls.Call.TheVariants.{Write};
 ghost use Rattle.wasmi_budget.specs.Pool.{pool_of, IsKept, IsUnasked, ReservesAt, RunsTenant, RunsUnasked, ReservesElementsIn};
-ghost use Rattle.wasmi_budget.specs.Tenants.{IsPlace, Rises};
+ghost use Rattle.wasmi_budget.specs.Tenants.{HasAllUpTo, IsPlace, Rises};
 
 use crate::error::{PoolError, ReserveError, RunIntoError};
 use crate::tenant::CountedMachine;
@@ -13,6 +13,14 @@ use std::marker::Model;
 use wasmi_machine::{Call, Replies, Reply, SlotCounts};
 use wasmi_meter::Amounts;
 
+/// Whether an index lies at the place that it names.
+#[inline(always)]
+fn is_own_place(indices: &[usize], index: usize) -> bool
+    ensures { IsTrue result ↔ IsPlace indices.now index (Some index) }
+{
+    index < indices.len() && indices[index] == index
+}
+
 /// The place of an index among rising ones, if it is one of them. It is found without a search
 /// where no machine before it was removed.
 #[inline(always)]
@@ -20,7 +28,7 @@ fn place_of(indices: &[usize], index: usize) -> Option<usize>
     requires rises { Rises indices.now }
     ensures found { IsPlace indices.now index result }
 {
-    if index < indices.len() && indices[index] == index {
+    if is_own_place(indices, index) {
         return Some(index);
     }
     indices.binary_search(&index).ok()
@@ -66,6 +74,14 @@ impl<'r> Tenants<'r> {
         ensures { result ≡ length self.now }
     {
         self.next
+    }
+
+    /// Whether each index up to this one has a machine.
+    #[inline(always)]
+    pub(crate) fn is_in_place(&self, index: usize) -> bool
+        ensures { IsTrue result ↔ HasAllUpTo self.now index }
+    {
+        is_own_place(&self.indices, index)
     }
 
     /// The machine at an index, if there is one.

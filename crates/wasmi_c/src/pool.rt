@@ -354,8 +354,47 @@ impl TenantPool {
 
     /// Loads an item from a memory of a tenant by the load that has the number, if there is one.
     #[inline(always)]
-    #[tactic(auto, unfolding(crate::specs::Pool::TenantRepliesInWord))]
     pub fn load(
+        &self,
+        tenant: usize,
+        number: u16,
+        memory: usize,
+        ptr: u64,
+        offset: u64,
+        value: &mut u64,
+    ) -> u8
+        ensures { TenantRepliesInWord tenant (item_load number memory ptr offset) value.old
+            (result, value.new) self.now self.now }
+    {
+        if self.pool.is_in_place(tenant) {
+            return self.load_of(tenant, number, memory, ptr, offset, value);
+        }
+        self.load_searched(tenant, number, memory, ptr, offset, value)
+    }
+
+    /// `load` where a search finds the tenant. It is apart, so that `load` keeps no registers for the
+    /// search.
+    #[cold]
+    #[inline(never)]
+    fn load_searched(
+        &self,
+        tenant: usize,
+        number: u16,
+        memory: usize,
+        ptr: u64,
+        offset: u64,
+        value: &mut u64,
+    ) -> u8
+        ensures { TenantRepliesInWord tenant (item_load number memory ptr offset) value.old
+            (result, value.new) self.now self.now }
+    {
+        self.load_of(tenant, number, memory, ptr, offset, value)
+    }
+
+    /// `load` by either way.
+    #[inline(always)]
+    #[tactic(auto, unfolding(crate::specs::Pool::TenantRepliesInWord))]
+    fn load_of(
         &self,
         tenant: usize,
         number: u16,
@@ -391,8 +430,49 @@ impl TenantPool {
 
     /// Stores an item to a memory of a tenant by the store that has the number, if there is one.
     #[inline(always)]
-    #[tactic(auto, unfolding(crate::specs::Pool::TenantRepliesInStatus))]
     pub fn store(
+        &mut self,
+        tenant: usize,
+        number: u16,
+        memory: usize,
+        ptr: u64,
+        offset: u64,
+        value: u64,
+    ) -> u8
+        ensures step { TenantRepliesInStatus tenant (item_store number memory ptr offset value)
+            result self.old self.new }
+        ensures caps { self.new.caps ≡ self.old.caps }
+    {
+        if self.pool.is_in_place(tenant) {
+            return self.store_of(tenant, number, memory, ptr, offset, value);
+        }
+        self.store_searched(tenant, number, memory, ptr, offset, value)
+    }
+
+    /// `store` where a search finds the tenant. It is apart, so that `store` keeps no registers for the
+    /// search.
+    #[cold]
+    #[inline(never)]
+    fn store_searched(
+        &mut self,
+        tenant: usize,
+        number: u16,
+        memory: usize,
+        ptr: u64,
+        offset: u64,
+        value: u64,
+    ) -> u8
+        ensures step { TenantRepliesInStatus tenant (item_store number memory ptr offset value)
+            result self.old self.new }
+        ensures caps { self.new.caps ≡ self.old.caps }
+    {
+        self.store_of(tenant, number, memory, ptr, offset, value)
+    }
+
+    /// `store` by either way.
+    #[inline(always)]
+    #[tactic(auto, unfolding(crate::specs::Pool::TenantRepliesInStatus))]
+    fn store_of(
         &mut self,
         tenant: usize,
         number: u16,

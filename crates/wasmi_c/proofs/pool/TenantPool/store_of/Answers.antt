@@ -5,7 +5,7 @@ use Rattle.wasmi_raw.specs.RawVal.{raw_of}
 use Rattle.wasmi_c.specs.Machine.Calls.{item_store}
 use Rattle.wasmi_c.specs.Pool.{TenantRepliesInStatus}
 use Rattle.wasmi_c.proofs.TenantLemmas.{tenant_status}
-use Rattle.wasmi_c.proofs.pool.TenantPool.store.Goals as goal
+use Rattle.wasmi_c.proofs.pool.TenantPool.store_of.Goals as goal
 
 pub returns-clause-step : goal.returns-clause-step
 returns-clause-step c =

@@ -5,7 +5,7 @@ use Rattle.wasmi_budget.specs.Pool.{machine_of}
 use Rattle.wasmi_c.specs.Machine.Calls.{item_load}
 use Rattle.wasmi_c.specs.Pool.{TenantRepliesInWord}
 use Rattle.wasmi_c.proofs.TenantLemmas.{word_in_place}
-use Rattle.wasmi_c.proofs.pool.TenantPool.load.Goals as goal
+use Rattle.wasmi_c.proofs.pool.TenantPool.load_of.Goals as goal
 
 pub returns-in-Some-machine : goal.returns-in-Some-machine
 returns-in-Some-machine c =
