@@ -608,6 +608,22 @@ mod pool {
             Ok(reply)
         }
 
+        /// Whether no tenant up to the one of this index was removed. Its machine is found without a search
+        /// then.
+        ///
+        /// # Contract
+        ///
+        /// ```text
+        /// ensures: IsTrue result ↔ HasAllUpTo self.now.machines index
+        /// ```
+        ///
+        /// Definitions: [`HasAllUpTo`](crate::specs::budget::TenantsSpecs#HasAllUpTo).
+        #[inline(always)]
+        #[must_use]
+        pub fn is_in_place(&self, index: usize) -> bool {
+            self.tenants.is_in_place(index)
+        }
+
         /// The machine of a tenant, if one has the index.
         ///
         /// # Contract
@@ -1025,6 +1041,20 @@ mod tenants {
     use crate::proved::meter::Amounts;
     use crate::rattle::Vec;
 
+    /// Whether an index lies at the place that it names.
+    ///
+    /// # Contract
+    ///
+    /// ```text
+    /// ensures: IsTrue result ↔ IsPlace indices.now index (Some index)
+    /// ```
+    ///
+    /// Definitions: [`IsPlace`](crate::specs::budget::TenantsSpecs#IsPlace).
+    #[inline(always)]
+    fn is_own_place(indices: &[usize], index: usize) -> bool {
+        index < indices.len() && indices[index] == index
+    }
+
     /// The place of an index among rising ones, if it is one of them. It is found without a search
     /// where no machine before it was removed.
     ///
@@ -1038,7 +1068,7 @@ mod tenants {
     /// Definitions: [`Rises`](crate::specs::budget::TenantsSpecs#Rises), [`IsPlace`](crate::specs::budget::TenantsSpecs#IsPlace).
     #[inline(always)]
     fn place_of(indices: &[usize], index: usize) -> Option<usize> {
-        if index < indices.len() && indices[index] == index {
+        if is_own_place(indices, index) {
             return Some(index);
         }
         indices.binary_search(&index).ok()
@@ -1092,6 +1122,20 @@ mod tenants {
         #[inline]
         pub(crate) fn len(&self) -> usize {
             self.next
+        }
+
+        /// Whether each index up to this one has a machine.
+        ///
+        /// # Contract
+        ///
+        /// ```text
+        /// ensures: IsTrue result ↔ HasAllUpTo self.now index
+        /// ```
+        ///
+        /// Definitions: [`HasAllUpTo`](crate::specs::budget::TenantsSpecs#HasAllUpTo).
+        #[inline(always)]
+        pub(crate) fn is_in_place(&self, index: usize) -> bool {
+            is_own_place(&self.indices, index)
         }
 
         /// The machine at an index, if there is one.

@@ -6194,7 +6194,7 @@ abbrev pub <b id="reserve_error_text">reserve_error_text</b> : ReserveError → 
     pub mod PoolSpecs {}
     #[doc = r####"Values that lie at their indices, of which each is given once: what was removed leaves its index empty.
 
-<pre><code>use Rattle.std.specs.Prelude.{◌≡◌, ◌≢◌, ◌&lt;◌, ℕ, List, ◌∷◌, Option, Some, None, All, length, map, nat_eq, slice_index_or, if◌then◌else◌}
+<pre><code>use Rattle.std.specs.Prelude.{◌≡◌, ◌≢◌, ◌&lt;◌, ◌≤◌, ℕ, List, ◌∷◌, Option, Some, None, All, true, is_some, length, map, nat_eq, slice_index_or, if◌then◌else◌}
 use Rattle.std.specs.List.{AllPairs, range_with_len}
 
 -- the place of an index among others, or that it isn&#x27;t one of them
@@ -6211,6 +6211,10 @@ module _ {X : Type 0} where
   abbrev pub <b id="value_of">value_of</b> : List ℕ → List X → ℕ → Option X
   <a href="../../budget/TenantsSpecs/index.html#value_of">value_of</a> (i ∷ indices) (x ∷ values) index = if nat_eq i index then Some x else <a href="../../budget/TenantsSpecs/index.html#value_of">value_of</a> indices values index
   <a href="../../budget/TenantsSpecs/index.html#value_of">value_of</a> indices values index = None
+
+  -- each index up to this one has something
+  abbrev pub <b id="HasAllUpTo">HasAllUpTo</b> : List (Option X) → ℕ → Type 0
+  <a href="../../budget/TenantsSpecs/index.html#HasAllUpTo">HasAllUpTo</a> values index = (k : ℕ) → k ≤ index → is_some (slice_index_or values k None) ≡ true
 
   -- the values at their indices, of which `next` were given
   abbrev pub <b id="by_index">by_index</b> : ℕ → List ℕ → List X → List (Option X)

@@ -4595,6 +4595,53 @@ pub mod pool {
             offset: u64,
             value: &mut u64,
         ) -> u8 {
+            if self.pool.is_in_place(tenant) {
+                return self.load_of(tenant, number, memory, ptr, offset, value);
+            }
+            self.load_searched(tenant, number, memory, ptr, offset, value)
+        }
+
+        /// `load` where a search finds the tenant. It is apart, so that `load` keeps no registers for the
+        /// search.
+        ///
+        /// # Contract
+        ///
+        /// ```text
+        /// ensures: TenantRepliesInWord tenant (item_load number memory ptr offset) value.old
+        ///     (result, value.new) self.now self.now
+        /// ```
+        #[cold]
+        #[inline(never)]
+        fn load_searched(
+            &self,
+            tenant: usize,
+            number: u16,
+            memory: usize,
+            ptr: u64,
+            offset: u64,
+            value: &mut u64,
+        ) -> u8 {
+            self.load_of(tenant, number, memory, ptr, offset, value)
+        }
+
+        /// `load` by either way.
+        ///
+        /// # Contract
+        ///
+        /// ```text
+        /// ensures: TenantRepliesInWord tenant (item_load number memory ptr offset) value.old
+        ///     (result, value.new) self.now self.now
+        /// ```
+        #[inline(always)]
+        fn load_of(
+            &self,
+            tenant: usize,
+            number: u16,
+            memory: usize,
+            ptr: u64,
+            offset: u64,
+            value: &mut u64,
+        ) -> u8 {
             let Some(op) = item_load_numbered(number) else {
                 return NO_CALL;
             };
@@ -4631,6 +4678,55 @@ pub mod pool {
         /// ```
         #[inline(always)]
         pub fn store(
+            &mut self,
+            tenant: usize,
+            number: u16,
+            memory: usize,
+            ptr: u64,
+            offset: u64,
+            value: u64,
+        ) -> u8 {
+            if self.pool.is_in_place(tenant) {
+                return self.store_of(tenant, number, memory, ptr, offset, value);
+            }
+            self.store_searched(tenant, number, memory, ptr, offset, value)
+        }
+
+        /// `store` where a search finds the tenant. It is apart, so that `store` keeps no registers for the
+        /// search.
+        ///
+        /// # Contract
+        ///
+        /// ```text
+        /// ensures step: TenantRepliesInStatus tenant (item_store number memory ptr offset value)
+        ///     result self.old self.new
+        /// ensures caps: self.new.caps ≡ self.old.caps
+        /// ```
+        #[cold]
+        #[inline(never)]
+        fn store_searched(
+            &mut self,
+            tenant: usize,
+            number: u16,
+            memory: usize,
+            ptr: u64,
+            offset: u64,
+            value: u64,
+        ) -> u8 {
+            self.store_of(tenant, number, memory, ptr, offset, value)
+        }
+
+        /// `store` by either way.
+        ///
+        /// # Contract
+        ///
+        /// ```text
+        /// ensures step: TenantRepliesInStatus tenant (item_store number memory ptr offset value)
+        ///     result self.old self.new
+        /// ensures caps: self.new.caps ≡ self.old.caps
+        /// ```
+        #[inline(always)]
+        fn store_of(
             &mut self,
             tenant: usize,
             number: u16,
