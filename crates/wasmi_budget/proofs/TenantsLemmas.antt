@@ -43,9 +43,9 @@ own_before indices rises zero within at k le =
     let none : k ≡ 0 = omega (arith, le) in rw none at
 own_before indices rises (suc n) within at k le = elim (cases_lt k (suc n)) [
   | inl before ↦
-    let least = at_least indices rises n (omega (arith, within)) in
-    let less = rises n (suc n) 0 (omega arith) within in
-    own_before indices rises n (omega (arith, within)) (omega (arith, least, less, at)) k (omega (arith, before))
+      let least = at_least indices rises n (omega (arith, within)) in
+      let less = rises n (suc n) 0 (omega arith) within in
+      own_before indices rises n (omega (arith, within)) (omega (arith, least, less, at)) k (omega (arith, before))
   | inr past ↦ let last : k ≡ suc n = omega (arith, le, past) in rw last at
 ]
 
@@ -91,8 +91,8 @@ module _ {X : Type 0} where
         | inr past ↦ elim (cases_lt n p) [
           | inl more ↦ more
           | inr last ↦
-            let same : p ≡ n = omega (arith, past, last) in
-            let value = ap (λ q. get_or indices q 0) same in absurd (omega (arith, value, at, before.1))
+              let same : p ≡ n = omega (arith, past, last) in
+              let value = ap (λ q. get_or indices q 0) same in absurd (omega (arith, value, at, before.1))
         ]
       ])
 
