@@ -281,8 +281,7 @@ impl<'r> Pool<'r> {
         Ok(reply)
     }
 
-    /// Whether no tenant up to the one of this index was removed. Its machine is found without a search
-    /// then.
+    /// Whether each index up to this one has a tenant. The tenant is found without a search then.
     #[inline(always)]
     pub fn is_in_place(&self, index: usize) -> bool
         ensures { IsTrue result ↔ HasAllUpTo self.now.machines index }

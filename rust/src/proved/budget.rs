@@ -608,8 +608,7 @@ mod pool {
             Ok(reply)
         }
 
-        /// Whether no tenant up to the one of this index was removed. Its machine is found without a search
-        /// then.
+        /// Whether each index up to this one has a tenant. The tenant is found without a search then.
         ///
         /// # Contract
         ///

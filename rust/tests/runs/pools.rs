@@ -60,7 +60,10 @@ fn no_call_finds_a_removed_tenant() {
     for _ in 0..3 {
         assert!(pool.add(unmetered()).is_ok(), "a tenant");
     }
+    assert!(pool.is_in_place(2) && !pool.is_in_place(3), "three tenants");
     assert!(pool.remove(1).is_some(), "the tenant in the middle");
+    assert!(pool.is_in_place(0) && !pool.is_in_place(1), "it is gone");
+    assert!(!pool.is_in_place(2), "the one after it");
     assert!(pool.remove(1).is_none(), "no second one");
     assert!(pool.remove(3).is_none(), "none was added there");
     assert_eq!(pool.run(1, &calls), Err(PoolError::NoTenant), "no run");
