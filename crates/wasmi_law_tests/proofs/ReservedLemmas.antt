@@ -1,21 +1,32 @@
 -- Results of runs into memory that is kept for replies, and tables that are reserved.
-use Rattle.std.proofs.Common.{Bool, Err, IsOk, List, None, Ok, OnOk, Option, Result, Some, [], ap, false, refl, subst, sym, true, ℕ, ◌++◌, ◌∙◌, ◌≤◌, ◌≡◌, ◌≢◌, ⊎_elim, arith}
+use Rattle.std.proofs.Common.{Bool, Err, IsOk, List, None, Ok, OnOk, Option, Result, Some, [], ap, false, refl, subst, sym, true, ℕ, ◌++◌, ◌∙◌, ◌∷◌, ◌≤◌, ◌≡◌, ◌≢◌, ⊎_elim, arith}
 use Rattle.std.proofs.lemmas.Bool.Decides.{Decides-eqb}
 use Rattle.std.proofs.lemmas.List.{append-nil}
+use Rattle.std.proofs.lemmas.Option.{same_Some}
 use Rattle.std.specs.Bool.{Decides}
 use Rattle.std.specs.Prelude.{MatchOption, if◌then◌else◌, max, nat_eq, slice_get}
 use Rattle.std.specs.Option.{option_and_then}
 use Rattle.wasmi_store.specs.Table.{TableValue}
+use Rattle.wasmi_meter.specs.Limiter.{optional_rules}
+use Rattle.wasmi_meter.specs.declared.amounts.Amounts.{Amounts}
+use Rattle.wasmi_machine.specs.declared.calls.Call.{Call}
 use Rattle.wasmi_machine.specs.declared.calls.Reply.{Reply}
 use Rattle.wasmi_machine.specs.declared.calls.Reply.TheVariants.{Done, NoRoom, NoSuch}
 use Rattle.wasmi_machine.specs.declared.slots.Slot.{Slot}
 use Rattle.wasmi_machine.specs.declared.slots.Slot.TheVariants.{Live}
+use Rattle.wasmi_machine.specs.Determinism.{AcceptsNotices, IsDeterministic}
 use Rattle.wasmi_machine.specs.Effects.{OnLive}
-use Rattle.wasmi_machine.specs.State.{live_at, live_value}
+use Rattle.wasmi_machine.specs.Laws.{RepliesAreOne}
+use Rattle.wasmi_machine.specs.State.{State, live_at, live_value}
 use Rattle.wasmi_machine.specs.TableEffects.{ReservesElementsAt}
 use Rattle.wasmi_machine.proofs.EffectLemmas.{both_live, on_live}
 use Rattle.wasmi_laws.proofs.ListLemmas.{live_slot, set_same}
-use Rattle.wasmi_laws.specs.Reserved.{IsReservedTable, IsReservedToMaximum}
+use Rattle.wasmi_laws.specs.Reserved.{IsReservedFor, IsReservedTable, IsReservedToMaximum, ReservedRunsSucceed}
+use Rattle.wasmi_budget.specs.Pool.{PoolValue, RunsTenant, machine_of, pool_of, tenant_rules}
+use Rattle.wasmi_budget.specs.declared.error.RunIntoError.{RunIntoError}
+use Rattle.wasmi_budget.specs.declared.error.RunIntoError.TheVariants.{NoTenant, TooManyCalls}
+use Rattle.wasmi_law_tests.specs.Runs.{RunsAlone}
+use Rattle.wasmi_law_tests.proofs.RunsLemmas.{RunsWithMemory, pools_same}
 
 module _ {E : Type 0} where
   -- a result that is accepted and has no value
@@ -33,6 +44,51 @@ module _ {E : Type 0} where
       → OnOk result Fact'
   accepted_too (Ok done) too fact = too fact
   accepted_too (Err error) too fact = tt
+
+-- a run of a tenant that is there, for whose replies there is memory, is accepted
+pub accepted_there : (result : Result (Unit {0}) RunIntoError) → result ≢ Err NoTenant → result ≢ Err TooManyCalls
+    → result ≡ Ok tt
+accepted_there (Ok done) there room = refl
+accepted_there (Err NoTenant) there room = absurd (there refl)
+accepted_there (Err TooManyCalls) there room = absurd (room refl)
+
+-- a run of a tenant whose machine has reserved enough for the calls is one with memory
+abbrev pub run_with_memory : ReservedRunsSucceed (optional_rules tenant_rules)
+    → (pool : PoolValue) (index : ℕ) (calls : List Call) (replies : List Reply) (pool' : PoolValue)
+    → ((s : State) → machine_of pool index ≡ Some s → IsReservedFor s calls)
+    → RunsTenant pool index calls replies pool' → RunsWithMemory pool index calls pool'
+run_with_memory suffices pool index calls replies pool' reserved ran = record {
+  replies = replies;
+  has = suffices calls _ replies _ (reserved ran.machine ran.found) ran.ran;
+  ran = ran;
+}
+
+-- the only tenant of a pool is one that has reserved as much as its machine has
+only_reserved : (caps : Amounts) (s : State) (calls : List Call) → IsReservedFor s calls
+    → (s' : State) → machine_of (pool_of caps (Some s ∷ [])) 0 ≡ Some s' → IsReservedFor s' calls
+only_reserved caps s calls reserved s' found =
+    subst (λ m. IsReservedFor m calls) (same_Some s s' found) reserved
+
+-- a run of a tenant that is never denied, and one of an equal machine alone, have the same replies and leave equal
+-- machines, where enough is reserved
+pub as_alone : RepliesAreOne tenant_rules → IsDeterministic tenant_rules → AcceptsNotices tenant_rules
+    → ReservedRunsSucceed (optional_rules tenant_rules)
+    → (pool pool' alone alone' : PoolValue) (index : ℕ) (calls : List Call) (replies replies' : List Reply)
+    → ((s : State) → machine_of pool index ≡ Some s → alone ≡ pool_of pool.caps (Some s ∷ []))
+    → ((s : State) → machine_of pool index ≡ Some s → IsReservedFor s calls)
+    → RunsAlone pool index calls replies pool' → RunsTenant alone 0 calls replies' alone'
+    → (replies ≡ replies') × (machine_of pool' index ≡ machine_of alone' 0)
+as_alone one once accepts suffices pool pool' alone alone' index calls replies replies' equal reserved
+    (s, s', found, found', (next, ran, ended)) second =
+    let start = pool_of pool.caps (Some s ∷ []) in
+    let end = pool_of pool.caps (Some s' ∷ []) in
+    let has = only_reserved pool.caps s calls (reserved s found) in
+    let same = pools_same one once accepts start end alone' 0 calls
+    (run_with_memory suffices start 0 calls replies end has
+    (subst (λ p. RunsTenant start 0 calls replies p) (sym ended) ran))
+    (run_with_memory suffices start 0 calls replies' alone' has
+    (subst (λ p. RunsTenant p 0 calls replies' alone') (equal s found) second)) in
+    (same.0, found' ∙ ap (λ p. machine_of p 0) same.1)
 
 -- a table for as many elements of which as its maximum memory is reserved
 at_maximum : (x x' : TableValue) (n : ℕ) → x.ty.maximum ≡ Some n → x'.ty ≡ x.ty → n ≤ x'.reserved

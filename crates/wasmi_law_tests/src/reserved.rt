@@ -1,8 +1,8 @@
 //! Callers that set up once, and make calls for which enough was reserved then: none of them runs
 //! out of memory, and what they do is decided by the calls, the machine and the quota alone.
-ghost use Rattle.std.specs.Prelude.{◌≡◌, ◌≢◌, ◌≤◌, All, length, IfSome, IsTrue, OnErr, OnOk, Some, Ok};
+ghost use Rattle.std.specs.Prelude.{◌≡◌, ◌≢◌, ◌≤◌, ◌∷◌, [], All, length, IfSome, IsTrue, OnErr, OnOk, Some, Ok};
 ghost use Rattle.wasmi_meter.specs.Limiter.{optional_rules};
-ghost use Rattle.wasmi_machine.specs.Determinism.{IsNotOutOfMemory};
+ghost use Rattle.wasmi_machine.specs.Determinism.{IsNotOutOfMemory, TellsNoDenial};
 ghost use Rattle.wasmi_machine.specs.declared.calls.Reply.TheVariants.{Done};
 ghost use Rattle.wasmi_machine.specs.Effects.{OnLive};
 ghost use Rattle.wasmi_machine.specs.State.{State, live_at, with_reserved, world};
@@ -11,7 +11,7 @@ ghost use Rattle.wasmi_laws.specs.Reserved.{FitsSlots, IsReservedFor, IsReserved
 ghost use Rattle.wasmi_budget.specs.Pool as pools;
 
 use std::alloc::AllocError;
-use wasmi_budget::{Pool, RunIntoError, Tenant};
+use wasmi_budget::{Pool, RunIntoError, Tenant, laws as pool_laws};
 use wasmi_machine::{
     Call, Machine, Replies, Reply, SlotCounts, TooManyCalls, laws, run_into_lending,
 };
@@ -141,7 +141,7 @@ pub fn run_both_reserved(
 }
 
 /// Makes calls on a tenant's machine, which has reserved enough for them: none of them runs out of
-/// memory.
+/// memory, and where the tenant is there and the replies have memory, all calls are made.
 pub fn run_tenant_reserved(
     pool: &mut Pool,
     index: usize,
@@ -150,10 +150,63 @@ pub fn run_tenant_reserved(
 ) -> Result<(), RunIntoError>
     requires reserved { (s : State) → pools.machine_of pool.old index ≡ Some s
         → IsReservedFor s calls.now }
+    ensures made { (s : State) → pools.machine_of pool.old index ≡ Some s
+        → length calls.now ≤ replies.old.capacity → result ≡ Ok tt }
     ensures has { OnOk result (All IsNotOutOfMemory replies.new.items) }
 {
     wasmi_laws::reserved_suffices::<Tenant>();
     pool.run_into(index, calls, replies)
+}
+
+/// Makes the same calls on a tenant's machine in two equal pools, which has reserved enough for
+/// them: the replies are the same, and the pools are equal again, whatever memory the system has.
+pub fn run_both_tenants_reserved(
+    pool: &mut Pool,
+    other: &mut Pool,
+    index: usize,
+    calls: &[Call],
+    replies: &mut Replies,
+    other_replies: &mut Replies,
+) -> Result<(), RunIntoError>
+    requires pools { other.old ≡ pool.old }
+    requires reserved { (s : State) → pools.machine_of pool.old index ≡ Some s
+        → IsReservedFor s calls.now }
+    ensures same { OnOk result ((replies.new.items ≡ other_replies.new.items)
+        × (pool.new ≡ other.new)) }
+{
+    pool_laws::tenants_leave_no_choice();
+    laws::replies_are_one::<Tenant>();
+    wasmi_laws::reserved_suffices::<Tenant>();
+    pool.run_into(index, calls, replies)?;
+    other.run_into(index, calls, other_replies)
+}
+
+/// Makes calls on a tenant's machine, and the same on an equal machine that is alone under the same
+/// caps. They have reserved enough for the calls. If no reply to the tenant tells of a denial, the
+/// replies are the same, and the machines are equal again, whatever memory the system has.
+pub fn run_reserved_as_alone(
+    pool: &mut Pool,
+    index: usize,
+    alone: &mut Pool,
+    calls: &[Call],
+    replies: &mut Replies,
+    replies_alone: &mut Replies,
+) -> Result<(), RunIntoError>
+    requires machine { (s : State) → pools.machine_of pool.old index ≡ Some s
+        → alone.old ≡ pools.pool_of pool.old.caps (Some s ∷ []) }
+    requires reserved { (s : State) → pools.machine_of pool.old index ≡ Some s
+        → IsReservedFor s calls.now }
+    ensures same { OnOk result (All TellsNoDenial replies.new.items
+        → (replies.new.items ≡ replies_alone.new.items)
+        × (pools.machine_of pool.new index ≡ pools.machine_of alone.new 0)) }
+{
+    pool_laws::replies_permit();
+    pool_laws::permitted_runs_as_alone();
+    pool_laws::tenants_leave_no_choice();
+    laws::replies_are_one::<Tenant>();
+    wasmi_laws::reserved_suffices::<Tenant>();
+    pool.run_into(index, calls, replies)?;
+    alone.run_into(0, calls, replies_alone)
 }
 
 /// Reserves slots on a tenant's machine, makes calls of another tenant, and then those of the first,
