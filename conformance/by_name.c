@@ -1,5 +1,7 @@
 /* Compares each function of wasmi_instructions.h with the instruction of its name by number, on some operands, which
-   make each trap, and on COUNT random ones. At the end it prints how many were compared. usage: by_name [COUNT] */
+   make each trap, and on COUNT random ones. None may ask for memory: it is linked with --wrap for malloc, realloc and free.
+   At the end it prints how many were compared. usage: by_name [COUNT] */
+#include "hostile/blocks.h"
 #include "wasmi_instructions.h"
 #include "wasmi_oracle.h"
 #include <stdio.h>
@@ -260,6 +262,7 @@ int main(int count, char **words) {
     compare_calls();
     compare_accesses();
     compare_shuffles();
+    compare("the memory that is asked for", none_requested());
     printf("%d compared, %d differ\n", compared, differing);
     return differing != 0;
 }

@@ -90,8 +90,9 @@ enum {
     WASMI_UNKNOWN = 255
 };
 
-/* Runs a script of at most 1,048,576 bytes (docs/SCRIPT.md) and writes what it prints to the front of text; *needed is
-   the length of that in bytes. It returns the exit status of the program, another list than that above:
+/* Runs a script of at most 1,048,576 bytes (SCRIPT.md of the documentation) and writes what it prints to the front of
+   text; *needed is the length of that in bytes. It returns the exit status of the program, another list than that
+   above:
    0: every call has a reply, refusals included;
    2: a line is no command, or the script is too long; the text says which;
    3: out of memory while reading, parsing, or for the replies; the text says so;

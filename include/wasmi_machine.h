@@ -20,8 +20,9 @@
    Everything else is tested: a handle without a machine, and any numbers in the structs that are passed.
 
    What is promised, by proof:
-   - A call leaves a machine as one step of the library's machine does (docs/SCRIPT.md has the same calls as lines). So
-     the library's laws over such steps hold: a refused call changes nothing except where it is said below.
+   - A call leaves a machine as one step of the library's machine does (SCRIPT.md of the documentation has the same
+     calls as lines). So the library's laws over such steps hold: a refused call changes nothing except where it is said
+     below.
    - After each call the memories and the tables of a machine are within its caps, if it has caps, and these are the
      caps that it was made with.
    - A machine keeps the kind of limiter that it was made with. Of answers each question takes the next one, and nothing
@@ -66,7 +67,7 @@ enum {
     WASMI_ANSWER_COMPLAIN = 3 /* it permits; if that then fails, the answer to the notice of it is an error */
 };
 
-/* Makes a machine whose limiter answers from a list, as that of a script with an `answers` line (docs/SCRIPT.md). Each
+/* Makes a machine whose limiter answers from a list, as that of a script with an `answers` line (SCRIPT.md). Each
    question takes the next answer, and after the last one everything is permitted. A question is asked before a memory
    or a table is made, and before one grows by more than 0; not if a memory would grow beyond its type, or a table
    beyond what its indices reach. If the answer is DENY, a new one is refused by MEMORY_DENIED or TABLE_DENIED, and a
@@ -316,7 +317,7 @@ wasmi_reply wasmi_machine_consume_fuel(wasmi_machine *machine, uint64_t amount) 
 /* The totals; NO_MACHINE. Without caps its time grows with the number of memories and tables that were ever made. */
 wasmi_totals wasmi_machine_totals(wasmi_machine *machine) WASMI_NOT_NULL(1);
 
-/* Runs lines of calls, as docs/SCRIPT.md has them, one after the other, and writes what a script prints for them to the
+/* Runs lines of calls, as SCRIPT.md has them, one after the other, and writes what a script prints for them to the
    front of text, as much as text_len has room for -> number: the length of the whole text. First NO_MACHINE. Then, with
    nothing run and text unchanged: BAD_LINE (number: the first line that is no command, from 1; an `as` line is one),
    HEADER_LINE if the first lines are headers (later ones are bad), since the machine has its meter and its limiter

@@ -5,8 +5,10 @@
 #define BLOCKS_H
 
 #include <stdatomic.h>
+#include <stdbool.h>
 #include <stddef.h>
 #include <stdint.h>
+#include <stdio.h>
 
 enum { MOST_BYTES = 1 << 22 };
 
@@ -21,6 +23,13 @@ void __wrap_free(void *old);
 static atomic_long blocks;
 /* The requests of this thread, and the number of the one that is refused, if any is. What beside.py writes sets them too. */
 _Thread_local long requests, refused;
+
+/* Whether this thread has made no request, for calls that take no memory; if it has, it prints how many. */
+static inline bool none_requested(void) {
+    if (requests != 0)
+        printf("%ld requests for memory\n", requests);
+    return requests == 0;
+}
 
 static int is_refused(size_t size) {
     requests++;

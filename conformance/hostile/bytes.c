@@ -1,7 +1,9 @@
 /* Memories of a machine whose bytes aren't zeros, beside a plain model of their bytes: reads and writes of 1 to 70,000
    bytes, whose arrays end at an inaccessible page, and loads and stores of items, by calls with plain arguments and by
-   structs, inside the memory, at its end, and past 2^32 and 2^64. usage: bytes ROUNDS [SEED]; its last line is
-   `N calls, M differ`, and the exit status is 0 if M is 0. It is built with -fsanitize=address,undefined. */
+   structs, inside the memory, at its end, and past 2^32 and 2^64; none of them may ask for memory. usage: bytes ROUNDS
+   [SEED]; its last line is `N calls, M differ`, and the exit status is 0 if M is 0. It is built with
+   -fsanitize=address,undefined, and linked with --wrap for malloc, realloc and free. */
+#include "blocks.h"
 #include "hostile.h"
 #include "wasmi_machine.h"
 
@@ -180,10 +182,12 @@ int main(int count, char **words) {
     array_end = fenced(LONG);
     whole = fenced(MOST) - MOST;
     begin();
+    requests = 0;
     for (int memory = 0; memory < MEMORIES; memory++)
         access_edges(memory);
     for (uint64_t i = 0; i < rounds; i++)
         one_round();
+    differ += !none_requested();
     wasmi_machine_drop(&machine);
     for (int memory = 0; memory < MEMORIES; memory++)
         free(model[memory]);

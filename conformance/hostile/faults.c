@@ -4,6 +4,12 @@
 #include "wasmi_memory.h"
 #include <stdlib.h>
 
+/* Asks for memory and gives it back, if such a fault is linked in. */
+static void request(int is_planted) {
+    void *volatile block = is_planted ? malloc(16) : NULL;
+    free(block);
+}
+
 uint8_t __real_wasmi_binary(uint16_t number, wasmi_words a, wasmi_words b, wasmi_words *value);
 uint8_t __real_wasmi_binary_each(uint16_t number, const wasmi_words *a, size_t a_len, const wasmi_words *b, size_t b_len,
                                  wasmi_result *results, size_t results_len);
@@ -23,6 +29,7 @@ wasmi_reply __real_wasmi_machine_write(wasmi_machine *machine, size_t memory, si
 
 uint8_t __wrap_wasmi_machine_load(wasmi_machine *machine, uint16_t op, size_t memory, uint64_t ptr, uint64_t offset,
                                   uint64_t *value) {
+    request(FAULT == 17);
     uint8_t status = __real_wasmi_machine_load(machine, op, memory, ptr, offset, value);
     if (FAULT == 1 && status == WASMI_DONE && op == WASMI_LOAD_I64_LOAD32_S)
         *value &= UINT32_MAX;
@@ -73,6 +80,7 @@ uint8_t __wrap_wasmi_binary_each(uint16_t number, const wasmi_words *a, size_t a
 }
 
 uint8_t __wrap_wasmi_binary(uint16_t number, wasmi_words a, wasmi_words b, wasmi_words *value) {
+    request(FAULT == 18 || FAULT == 19);
     uint8_t status = __real_wasmi_binary(number, a, b, value);
     if (FAULT == 9 && number == WASMI_BINARY_I32_DIV_S && status == WASMI_INTEGER_OVERFLOW) {
         *value = a;
@@ -116,14 +124,15 @@ uint8_t __wrap_wasmi_memory_copy_within(const wasmi_memory *memory, uint8_t *reg
 }
 #endif
 
-#if FAULT == 13
+#if FAULT == 13 || FAULT == 16
 uint8_t __real_wasmi_table_copy_within(const wasmi_table *table, uint32_t *elements, size_t elements_len,
                                        const wasmi_range *range, wasmi_meter *meter, uint64_t *number);
 
 uint8_t __wrap_wasmi_table_copy_within(const wasmi_table *table, uint32_t *elements, size_t elements_len,
                                        const wasmi_range *range, wasmi_meter *meter, uint64_t *number) {
     const wasmi_range exchanged = {range->from, range->to, range->count};
-    return __real_wasmi_table_copy_within(table, elements, elements_len, &exchanged, meter, number);
+    request(FAULT == 16);
+    return __real_wasmi_table_copy_within(table, elements, elements_len, FAULT == 13 ? &exchanged : range, meter, number);
 }
 #endif
 
@@ -131,8 +140,18 @@ uint8_t __wrap_wasmi_table_copy_within(const wasmi_table *table, uint32_t *eleme
 wasmi_reply __real_wasmi_pool_call(wasmi_pool *pool, size_t tenant, const wasmi_call *call);
 
 wasmi_reply __wrap_wasmi_pool_call(wasmi_pool *pool, size_t tenant, const wasmi_call *call) {
-    void *volatile block = malloc(sizeof *call);
-    free(block);
+    request(1);
     return __real_wasmi_pool_call(pool, tenant, call);
+}
+#endif
+
+#if FAULT == 15
+uint8_t __real_wasmi_memory_grow(wasmi_memory *memory, uint8_t *region, size_t region_len, uint64_t pages,
+                                 wasmi_meter *meter, wasmi_quota *quota, uint64_t *number);
+
+uint8_t __wrap_wasmi_memory_grow(wasmi_memory *memory, uint8_t *region, size_t region_len, uint64_t pages,
+                                 wasmi_meter *meter, wasmi_quota *quota, uint64_t *number) {
+    request(1);
+    return __real_wasmi_memory_grow(memory, region, region_len, pages, meter, quota, number);
 }
 #endif

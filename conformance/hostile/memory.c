@@ -1,7 +1,9 @@
 /* Hostile use of include/wasmi_memory.h's memories and fuel, beside a plain model of them: structs with each field at its
    extremes, regions and arrays of any length that end at an inaccessible page, two memories under one meter and one
-   quota, and calls in random order; first, copies of a memory onto itself. usage: memory SEQUENCES [SEED]; its last line
-   is `N sequences, M calls, 0 differ`. It is built with -fsanitize=address,undefined. */
+   quota, and calls in random order; first, copies of a memory onto itself. No call may ask for memory. usage: memory
+   SEQUENCES [SEED]; its last line is `N sequences, M calls, 0 differ`. It is built with -fsanitize=address,undefined, and
+   linked with --wrap for malloc, realloc and free. */
+#include "blocks.h"
 #include "hostile.h"
 
 enum { MEMORIES = 2, SMALL = 96, LONG = 70000, PAGE = 65536, MOST = 3 * PAGE };
@@ -481,5 +483,6 @@ int main(int count, char **words) {
         printf("a copy of a memory onto itself differs\n");
         return 1;
     }
-    return try_sequences(count, words, begin_both, next_agrees);
+    int differ = try_sequences(count, words, begin_both, next_agrees);
+    return none_requested() ? differ : 1;
 }

@@ -1,7 +1,9 @@
 /* Hostile use of include/wasmi_memory.h's tables, beside a plain model of them: structs with each field at its extremes,
    regions and items of any length that end at an inaccessible page, two tables under one meter and one quota, and calls in
-   random order; first, sources that lie in the region. usage: table SEQUENCES [SEED]; its last line is `N sequences, M calls, 0 differ`. It is built with
-   -fsanitize=address,undefined. */
+   random order; first, sources that lie in the region. No call may ask for memory. usage: table SEQUENCES [SEED]; its last
+   line is `N sequences, M calls, 0 differ`. It is built with -fsanitize=address,undefined, and linked with --wrap for
+   malloc, realloc and free. */
+#include "blocks.h"
 #include "table_model.h"
 
 /* ---- the comparison */
@@ -185,5 +187,6 @@ int main(int count, char **words) {
         printf("a copy of a table onto itself differs\n");
         return 1;
     }
-    return try_sequences(count, words, begin_both, next_agrees);
+    int differ = try_sequences(count, words, begin_both, next_agrees);
+    return none_requested() ? differ : 1;
 }

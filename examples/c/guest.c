@@ -120,7 +120,7 @@ static void vectors(void) {
     printf("%-22s status %d\n", "no such register", wasmi_machine_binary(&machine, WASMI_BINARY_I8X16_ADD, 16, 2, 2));
 }
 
-/* A table whose growths a list of answers decides, as the lines of docs/SCRIPT.md's "A table under listed answers". */
+/* A table whose growths a list of answers decides, as the lines of SCRIPT.md's "A table under listed answers". */
 static void answered(void) {
     const wasmi_limits limits = {0, 0, 64, 7, 2, 0, 0};
     uint8_t answers[5] = {WASMI_ANSWER_PERMIT, WASMI_ANSWER_DENY, WASMI_ANSWER_PERMIT, WASMI_ANSWER_COMPLAIN, 4};
