@@ -1,14 +1,19 @@
 """Times calls on a tenant of a pool of eight beside the same calls on a machine, by handle. usage: pool.py [LIBRARY [ROUNDS]]
 
-LIBRARY is crates/wasmi_c_lib/out/libwasmi_core.a if none is named, or that of rust/c. Four links place its functions 16, 32, 48 and
-64 bytes further, since on some processors a jump takes longer where it ends at a multiple of 32 bytes. Each is run in turn, and each
-cell is the least time of all, in nanoseconds. It ends with 1 if a call on a tenant takes more than 1.5 of the machine's."""
+LIBRARY is crates/wasmi_c_lib/out/libwasmi_core.a if none is named, which has to be of the sources as they are, or that of rust/c. Four
+links place its functions 16, 32, 48 and 64 bytes further, since on some processors a jump takes longer where it ends at a multiple of 32
+bytes. Each is run in turn, and each cell is the least time of all, in nanoseconds. It ends with 1 if a call on a tenant takes more than
+1.5 of the machine's."""
 import pathlib
 import subprocess
 import sys
 import tempfile
 
 TOP = pathlib.Path(__file__).resolve().parents[1]
+sys.dont_write_bytecode = True
+sys.path.append(str(TOP / "tools"))
+from libraries import other_text_of
+
 MOST = 1.5
 
 
@@ -27,6 +32,8 @@ def times_of(program):
 
 
 def main(library=f"{TOP}/crates/wasmi_c_lib/out/libwasmi_core.a", rounds="10"):
+    if why := other_text_of(library):
+        sys.exit(f"{sys.argv[0]}: {why}")
     least = {}
     with tempfile.TemporaryDirectory() as folder:
         programs = [f"{folder}/{skip}" for skip in (16, 32, 48, 64)]
