@@ -1,4 +1,5 @@
 //! The program: runs an exported function of a module, or a module that is a program.
+#![forbid(unsafe_code)]
 
 use engine::{Config, Engine, Error, Instance, Linker, Module, Store, Val};
 use host::{Host, Unwritten};

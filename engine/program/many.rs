@@ -9,6 +9,7 @@
 //! memory, and later there is that of the tenants before. If a tenant takes more bytes than BYTES in the first round, the
 //! status is 1, and also if it takes more than MICROSECONDS: in the first round where the guest has no memory, else in the
 //! fastest one.
+#![forbid(unsafe_code)]
 
 use engine::{Caps, Config, Engine, Instance, Linker, Module, Store, TypedFunc};
 use std::error::Error;

@@ -36,11 +36,21 @@ impl<T> Clone for Callee<T> {
     }
 }
 
-/// The open calls of a call from the host: in the instance that runs, and in those that wait for a function of another one.
+/// Where a call from the host begins on the stack: its first value, and how many frames and how many calls that wait for a
+/// function of another instance there are before it.
+#[derive(Clone, Copy, Debug)]
+pub(crate) struct Begun {
+    pub base: usize,
+    pub floor: usize,
+    pub away: usize,
+}
+
+/// The open calls of a call from the host: in the instance that runs, and from a place on in the stack's list of those that
+/// wait for a function of another one.
 #[derive(Debug)]
 pub(crate) struct Calls {
     pub at: Activation,
-    pub away: Vec<Activation>,
+    pub away: usize,
     /// Whether they ended where fuel was missing, so that they can go on there.
     pub is_out_of_fuel: bool,
 }
@@ -57,12 +67,12 @@ impl<T> Store<T> {
     ) -> Result<R, Error> {
         let (instance, _) = self.inner.instance(owner);
         self.collect();
-        let (base, floor) = self.inner.begin()?;
-        write(self.inner.values(base));
-        let entered = self.inner.enter(instance, function, base);
-        let ended = entered.map_err(Error::from).and_then(|at| self.run(&mut Calls::new(at)));
-        let results = ended.map(|()| read(self.inner.values(base)));
-        self.inner.end(base, floor);
+        let begun = self.inner.begin()?;
+        write(self.inner.values(begun.base));
+        let entered = self.inner.enter(instance, function, begun.base);
+        let ended = entered.map_err(Error::from).and_then(|at| self.run(&mut Calls::new(at, begun)));
+        let results = ended.map(|()| read(self.inner.values(begun.base)));
+        self.inner.end(begun);
         results
     }
 
@@ -85,7 +95,7 @@ impl<T> Store<T> {
             let is_last = matches!(exit, Exit::Host(_)) && self.inner.stack().frames.len() == at.floor;
             let (callee, base) = match exit {
                 Exit::Done => {
-                    let Some(before) = away.pop() else { return Ok(()) };
+                    let Some(before) = self.inner.waiting(*away) else { return Ok(()) };
                     *at = before;
                     callees = self.callees[at.instance as usize].clone();
                     continue;
@@ -109,12 +119,9 @@ impl<T> Store<T> {
                 }
                 Callee::Guest { instance, function } => {
                     let (instance, function) = (*instance, *function);
-                    if away.len() >= self.inner.stack().calls {
-                        return Err(TrapCode::StackOverflow.into());
-                    }
                     let before = std::mem::replace(at, self.inner.enter(instance, function, base)?);
                     if !is_last {
-                        away.push(before);
+                        self.inner.stack().away.push(before);
                     }
                     callees = self.callees[instance as usize].clone();
                 }
@@ -146,14 +153,14 @@ impl<T> Store<T> {
 }
 
 impl Calls {
-    pub fn new(at: Activation) -> Self {
-        Self { at, away: vec![], is_out_of_fuel: false }
+    pub fn new(at: Activation, begun: Begun) -> Self {
+        Self { at, away: begun.away, is_out_of_fuel: false }
     }
 }
 
 impl Inner {
-    /// Begins a call from the host: its first value, and how many frames there are.
-    pub fn begin(&mut self) -> Result<(usize, usize), TrapCode> {
+    /// Begins a call from the host.
+    pub fn begin(&mut self) -> Result<Begun, TrapCode> {
         if self.nested == limits::NESTED {
             return Err(TrapCode::StackOverflow);
         }
@@ -166,12 +173,15 @@ impl Inner {
             stack.limit(limits);
             stack
         });
-        Ok((self.top, stack.lend().frames.len()))
+        let Lent { frames, away, .. } = stack.lend();
+        Ok(Begun { base: self.top, floor: frames.len(), away: away.len() })
     }
 
     /// Ends a call from the host.
-    pub fn end(&mut self, base: usize, floor: usize) {
-        self.stack().frames.truncate(floor);
+    pub fn end(&mut self, Begun { base, floor, away }: Begun) {
+        let stack = self.stack();
+        stack.frames.truncate(floor);
+        stack.away.truncate(away);
         (self.nested, self.top) = (self.nested - 1, base);
         if self.nested == 0 {
             self.stack.take().into_iter().for_each(|stack| self.engine.keep(stack));
@@ -181,14 +191,20 @@ impl Inner {
     /// Makes the frame of a function.
     pub fn enter(&mut self, instance: u32, function: u32, base: usize) -> Result<Activation, TrapCode> {
         let Self { instances, stack, .. } = self;
-        let Lent { values, frames, calls } = stack.as_mut().expect(RUNS).lend();
-        if frames.len() >= calls {
+        let Lent { values, frames, away, calls } = stack.as_mut().expect(RUNS).lend();
+        if frames.len().max(away.len()) >= calls {
             return Err(TrapCode::StackOverflow);
         }
         let function = function as usize;
         let module = &instances[instance].module;
         execute::enter(values, module.code[function].body(module.config), base)?;
         Ok(Activation { instance, floor: frames.len(), frame: Frame { function, next: 0, base } })
+    }
+
+    /// The last call that waits for a function of another instance, if there is one from this place on. It waits no longer.
+    fn waiting(&mut self, from: usize) -> Option<Activation> {
+        let away = self.stack().away;
+        if away.len() > from { away.pop() } else { None }
     }
 
     /// The values from a place on, of a call that runs.

@@ -6,6 +6,7 @@ use crate::func::Func;
 use crate::instance::Instance;
 use crate::items::{Extern, Memory};
 use crate::store::Store;
+use std::fmt;
 
 /// The instance that calls a function of the host, and the store.
 pub struct Caller<'a, T> {
@@ -65,6 +66,12 @@ impl<T> Caller<'_, T> {
     /// [`call_resumable`](crate::TypedFunc::call_resumable).
     pub fn charge_bytes(&mut self, bytes: u64) -> Result<(), Error> {
         self.as_context_mut().charge_bytes(bytes)
+    }
+}
+
+impl<T> fmt::Debug for Caller<'_, T> {
+    fn fmt(&self, f: &mut fmt::Formatter<'_>) -> fmt::Result {
+        f.debug_struct("Caller").field("instance", &self.instance).finish_non_exhaustive()
     }
 }
 

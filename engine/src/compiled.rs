@@ -4,6 +4,7 @@ use crate::engine::Engine;
 use crate::library::{FuncType, GlobalType, MemoryType, TableType};
 use crate::module::{self, Item};
 use crate::reader::Refusal;
+use std::fmt;
 use std::sync::Arc;
 
 /// A module that was read, validated and translated for an engine. It can be instantiated any number of times, and a clone
@@ -85,5 +86,12 @@ impl Module {
             Item::Table(it) => ExternType::Table(self.inner.tables[it as usize].0),
             Item::Global(it) => ExternType::Global(self.inner.globals[it as usize].0),
         }
+    }
+}
+
+impl fmt::Debug for Module {
+    fn fmt(&self, f: &mut fmt::Formatter<'_>) -> fmt::Result {
+        let (functions, exports) = (self.inner.functions.len(), &self.inner.exports);
+        f.debug_struct("Module").field("functions", &functions).field("exports", exports).finish_non_exhaustive()
     }
 }

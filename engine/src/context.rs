@@ -3,6 +3,7 @@
 use crate::engine::Engine;
 use crate::error::Error;
 use crate::store::Store;
+use std::fmt;
 
 /// A store that is borrowed.
 #[derive(Clone, Copy)]
@@ -15,7 +16,8 @@ pub struct StoreContextMut<'a, T> {
     pub(crate) store: &'a mut Store<T>,
 }
 
-/// What a store can be read by.
+/// What a store can be read by: a [`Store`], in a function of the host its [`Caller`](crate::Caller), a [`StoreContext`] or
+/// a [`StoreContextMut`], and a reference to one of these.
 pub trait AsContext {
     /// The host's data in the store.
     type Data;
@@ -24,7 +26,8 @@ pub trait AsContext {
     fn as_context(&self) -> StoreContext<'_, Self::Data>;
 }
 
-/// What a store can be changed by.
+/// What a store can be changed by: a [`Store`], in a function of the host its [`Caller`](crate::Caller), and a
+/// [`StoreContextMut`], also by a reference to one of these that is `&mut`.
 pub trait AsContextMut: AsContext {
     /// The store.
     fn as_context_mut(&mut self) -> StoreContextMut<'_, Self::Data>;
@@ -75,6 +78,18 @@ impl<T> StoreContextMut<'_, T> {
     /// [`TrapCode::OutOfFuel`](crate::TrapCode::OutOfFuel), and nothing is taken.
     pub fn charge_bytes(&mut self, bytes: u64) -> Result<(), Error> {
         Ok(self.store.inner.charge(bytes)?)
+    }
+}
+
+impl<T> fmt::Debug for StoreContext<'_, T> {
+    fn fmt(&self, f: &mut fmt::Formatter<'_>) -> fmt::Result {
+        write!(f, "StoreContext({:?})", self.store)
+    }
+}
+
+impl<T> fmt::Debug for StoreContextMut<'_, T> {
+    fn fmt(&self, f: &mut fmt::Formatter<'_>) -> fmt::Result {
+        write!(f, "StoreContextMut({:?})", self.store)
     }
 }
 

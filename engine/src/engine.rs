@@ -2,6 +2,7 @@
 
 use crate::limits;
 use crate::stack::Stack;
+use std::fmt;
 use std::sync::{Arc, Mutex, PoisonError};
 
 /// How an [`Engine`] translates and runs modules.
@@ -47,12 +48,12 @@ impl Config {
 }
 
 /// An engine: modules are made for it, and stores run them. A clone is the same engine.
-#[derive(Clone, Debug, Default)]
+#[derive(Clone, Default)]
 pub struct Engine {
     shared: Arc<Shared>,
 }
 
-#[derive(Debug, Default)]
+#[derive(Default)]
 struct Shared {
     config: Config,
     /// The stacks that no call runs on.
@@ -90,5 +91,11 @@ impl Engine {
         if stacks.len() < limits::STACKS {
             stacks.push(stack);
         }
+    }
+}
+
+impl fmt::Debug for Engine {
+    fn fmt(&self, f: &mut fmt::Formatter<'_>) -> fmt::Result {
+        f.debug_struct("Engine").field("config", &self.shared.config).finish_non_exhaustive()
     }
 }

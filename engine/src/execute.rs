@@ -77,7 +77,7 @@ enum Ran {
 /// Runs handlers, for which a memory is the first one.
 fn run(inner: &mut Inner, at: &mut Activation, memory: usize) -> Result<Ran, TrapCode> {
     let Inner { fuel, instances, items, stack, .. } = inner;
-    let Lent { values, frames, calls } = stack.as_mut().ok_or(TrapCode::StackOverflow)?.lend();
+    let Lent { values, frames, calls, .. } = stack.as_mut().ok_or(TrapCode::StackOverflow)?.lend();
     let values = Cell::from_mut(values).as_slice_of_cells();
     let Entity { module, memories, tables, globals, first, .. } = &instances[at.instance];
     let body = module.code[at.frame.function].body(module.config);

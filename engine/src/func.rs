@@ -22,10 +22,16 @@ pub struct Func {
     pub(crate) function: u32,
 }
 
-/// A function of which the types of parameters and results are known.
+/// A function of which the types of parameters and results are known ([`WasmValues`]).
 pub struct TypedFunc<P, R> {
     func: Func,
     types: PhantomData<fn(P) -> R>,
+}
+
+impl<P, R> fmt::Debug for TypedFunc<P, R> {
+    fn fmt(&self, f: &mut fmt::Formatter<'_>) -> fmt::Result {
+        write!(f, "TypedFunc({:?})", self.func)
+    }
 }
 
 impl<P, R> Clone for TypedFunc<P, R> {
@@ -119,16 +125,19 @@ impl Func {
         ty.results().iter().zip(values).map(|(ty, value)| Val::new(*ty, *value)).collect()
     }
 
-    /// The same function, with types that are known.
+    /// The same function, with types that are known. [`WasmValues`] says which ones they may be.
     ///
     /// # Errors
     ///
-    /// If it has other ones.
+    /// If it has other ones. The message has the types of the function, and those that were asked for.
     pub fn typed<P: WasmValues, R: WasmValues>(&self, context: impl AsContext) -> Result<TypedFunc<P, R>, Error> {
         let ty = self.ty(context);
         if ty.params() != P::TYPES || ty.results() != R::TYPES {
-            let (params, results) = ty.params_results();
-            return Err(Error::Misused(format!("the function takes {params:?} and gives {results:?}")));
+            let ((params, results), (wanted, given)) = (ty.params_results(), (P::TYPES, R::TYPES));
+            let found = format!("the function takes {params:?} and gives {results:?}");
+            return Err(Error::Misused(format!(
+                "{found}, and was asked for as one that takes {wanted:?} and gives {given:?}"
+            )));
         }
         Ok(TypedFunc { func: self.clone(), types: PhantomData })
     }

@@ -34,6 +34,7 @@ pub(crate) enum Given<T> {
 }
 
 /// The memories, tables and globals of an instance, those that are imported first.
+#[derive(Debug)]
 pub struct Contents<'a> {
     /// The memories.
     pub memories: Vec<&'a library::Memory>,
@@ -91,7 +92,10 @@ impl Instance {
         self.get_export(context, name)?.into_func()
     }
 
-    /// An exported function of these types.
+    /// An exported function of these types: of its parameters, and of its results.
+    ///
+    /// A type is `i32`, `u32`, `i64`, `u64`, `f32`, `f64` or [`V128`](crate::V128) ([`WasmTy`](crate::WasmTy)); none is
+    /// `()`, and several are a tuple ([`WasmValues`]).
     ///
     /// # Errors
     ///
@@ -249,12 +253,12 @@ pub(crate) fn insert<T>(
     callees: Vec<Callee<T>>,
     providers: Vec<Arc<Owner>>,
 ) -> Result<Arc<Owner>, Error> {
-    let Inner { instances, references, .. } = &mut store.inner;
+    let Inner { instances, references, recorder, .. } = &mut store.inner;
     let first = references.take(module.functions.len());
     let first = first.ok_or(Error::misused("the store has too many functions"))?;
-    let is_dropped = vec![false; module.data.len()];
+    let (is_dropped, recorded) = (vec![false; module.data.len()], recorder.number(&module));
     let (memories, tables, globals, elements, owner) = (vec![], vec![], vec![], vec![], Weak::new());
-    let entity = Entity { module, memories, tables, globals, elements, is_dropped, first, owner, providers };
+    let entity = Entity { module, memories, tables, globals, elements, is_dropped, first, recorded, owner, providers };
     let number = instances.insert(entity);
     references.give(first, number);
     let owner = store.inner.owner(Kept::Instance(number));

@@ -11,8 +11,9 @@ use crate::items::Extern;
 use crate::library::FuncType;
 use crate::module::Import;
 use crate::values::Val;
-use std::collections::HashMap;
 use std::collections::hash_map::Entry;
+use std::collections::{BTreeSet, HashMap};
+use std::fmt;
 
 /// What modules may import, by the name of a module and a name in it.
 ///
@@ -55,6 +56,14 @@ impl<T> Clone for Definition<T> {
 impl<T> Clone for Linker<T> {
     fn clone(&self) -> Self {
         Self { engine: self.engine.clone(), items: self.items.clone(), shadows: self.shadows }
+    }
+}
+
+impl<T> fmt::Debug for Linker<T> {
+    fn fmt(&self, f: &mut fmt::Formatter<'_>) -> fmt::Result {
+        let names = self.items.iter().flat_map(|(module, items)| items.keys().map(move |name| (module, name)));
+        let names = names.collect::<BTreeSet<_>>();
+        f.debug_struct("Linker").field("names", &names).finish_non_exhaustive()
     }
 }
 

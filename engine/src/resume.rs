@@ -1,6 +1,6 @@
 //! Calls that can go on after they have ended out of fuel.
 
-use crate::call::Calls;
+use crate::call::{Begun, Calls};
 use crate::context::AsContextMut;
 use crate::error::Error;
 use crate::func::{Func, TypedFunc};
@@ -26,13 +26,18 @@ pub enum ResumableCall<R> {
 /// other calls can run in the store, in the same instance too. If it is dropped, it doesn't go on.
 pub struct OutOfFuel<R> {
     owner: Arc<Owner>,
-    calls: Calls,
-    frames: Vec<Frame>,
-    values: Vec<RawVal>,
-    /// Where the values and the frames began on the stack.
-    base: usize,
-    floor: usize,
+    saved: Saved,
     read: Read<R>,
+}
+
+/// What was on the stack.
+struct Saved {
+    /// Where it began there.
+    begun: Begun,
+    values: Vec<RawVal>,
+    frames: Vec<Frame>,
+    away: Vec<Activation>,
+    at: Activation,
 }
 
 /// Reads results.
@@ -104,40 +109,55 @@ fn begin<T, R>(
 ) -> Result<ResumableCall<R>, Error> {
     let (instance, _) = store.inner.instance(&func.owner);
     store.collect();
-    let place = store.inner.begin()?;
-    write(store.inner.values(place.0));
-    let calls = store.inner.enter(instance, func.function, place.0).map(Calls::new);
-    finish(store, func.owner.clone(), place, calls, read)
+    let begun = store.inner.begin()?;
+    write(store.inner.values(begun.base));
+    let calls = store.inner.enter(instance, func.function, begun.base).map(|at| Calls::new(at, begun));
+    finish(store, func.owner.clone(), begun, calls, read)
 }
 
 /// Runs calls to their end, or until fuel is missing.
 fn finish<T, R>(
     store: &mut Store<T>,
     owner: Arc<Owner>,
-    (base, floor): (usize, usize),
+    begun: Begun,
     calls: Result<Calls, TrapCode>,
     read: Read<R>,
 ) -> Result<ResumableCall<R>, Error> {
     let run = |mut calls: Calls| match store.run(&mut calls) {
-        Ok(()) => Ok(ResumableCall::Finished(read(store.inner.values(base)))),
+        Ok(()) => Ok(ResumableCall::Finished(read(store.inner.values(begun.base)))),
         Err(_) if calls.is_out_of_fuel => {
-            let (frames, values) = saved(&mut store.inner, &calls, base, floor);
-            Ok(ResumableCall::OutOfFuel(OutOfFuel { owner, calls, frames, values, base, floor, read }))
+            let saved = saved(&mut store.inner, calls.at, begun);
+            Ok(ResumableCall::OutOfFuel(OutOfFuel { owner, saved, read }))
         }
         Err(error) => Err(error),
     };
     let ended = calls.map_err(Error::from).and_then(run);
-    store.inner.end(base, floor);
+    store.inner.end(begun);
     ended
 }
 
-/// The frames and values of calls.
-fn saved(inner: &mut Inner, calls: &Calls, base: usize, floor: usize) -> (Vec<Frame>, Vec<RawVal>) {
-    let Frame { function, base: last, .. } = calls.at.frame;
-    let module = &inner.instances[calls.at.instance].module;
+/// What calls have on the stack.
+fn saved(inner: &mut Inner, at: Activation, begun: Begun) -> Saved {
+    let Frame { function, base: last, .. } = at.frame;
+    let module = &inner.instances[at.instance].module;
     let top = last + module.code[function].body(module.config).slots;
-    let stack = inner.stack();
-    (stack.frames[floor..].to_vec(), stack.values[base..top].to_vec())
+    let Lent { values, frames, away, .. } = inner.stack();
+    let (frames, away) = (frames[begun.floor..].to_vec(), away[begun.away..].to_vec());
+    Saved { begun, values: values[begun.base..top].to_vec(), frames, away, at }
+}
+
+impl Saved {
+    /// Puts it on a stack that has room for it, from another place on: its calls there.
+    fn put(self, Lent { values, frames, away, .. }: Lent, to: Begun) -> Calls {
+        let from = self.begun;
+        let frame = |frame: Frame| Frame { base: frame.base - from.base + to.base, ..frame };
+        let moved =
+            |it: Activation| Activation { floor: it.floor - from.floor + to.floor, frame: frame(it.frame), ..it };
+        values[to.base..][..self.values.len()].copy_from_slice(&self.values);
+        frames.extend(self.frames.into_iter().map(frame));
+        away.extend(self.away.into_iter().map(moved));
+        Calls::new(moved(self.at), to)
+    }
 }
 
 impl<R> OutOfFuel<R> {
@@ -150,27 +170,23 @@ impl<R> OutOfFuel<R> {
         let store = context.as_context_mut().store;
         store.inner.check(&self.owner);
         store.collect();
-        let (base, floor) = store.inner.begin()?;
-        let Lent { values, frames, calls } = store.inner.stack();
-        let (top, count) = (base + self.values.len(), floor + self.frames.len());
-        if top + SLOTS > values.len() || count > calls {
-            store.inner.end(base, floor);
+        let begun = store.inner.begin()?;
+        let stack = store.inner.stack();
+        let top = begun.base + self.saved.values.len();
+        let count = (begun.floor + self.saved.frames.len()).max(begun.away + self.saved.away.len());
+        if top + SLOTS > stack.values.len() || count > stack.calls {
+            store.inner.end(begun);
             return Err(TrapCode::StackOverflow.into());
         }
-        let frame = |frame: &Frame| Frame { base: frame.base - self.base + base, ..*frame };
-        let calls =
-            |it: &Activation| Activation { floor: it.floor - self.floor + floor, frame: frame(&it.frame), ..*it };
-        frames.extend(self.frames.iter().map(frame));
-        values[base..top].copy_from_slice(&self.values);
-        let away = self.calls.away.iter().map(calls).collect();
-        let calls = Calls { at: calls(&self.calls.at), away, is_out_of_fuel: false };
-        finish(store, self.owner, (base, floor), Ok(calls), self.read)
+        let calls = self.saved.put(stack, begun);
+        finish(store, self.owner, begun, Ok(calls), self.read)
     }
 }
 
 impl<R> fmt::Debug for OutOfFuel<R> {
     fn fmt(&self, f: &mut fmt::Formatter<'_>) -> fmt::Result {
-        write!(f, "OutOfFuel({} frames, {} values)", self.frames.len() + 1, self.values.len())
+        let Saved { frames, values, .. } = &self.saved;
+        write!(f, "OutOfFuel({} frames, {} values)", frames.len() + 1, values.len())
     }
 }
 

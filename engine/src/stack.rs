@@ -39,11 +39,11 @@ impl Default for StackLimits {
 }
 
 /// The values of all open calls, and where each of them but the last one goes on.
-#[derive(Debug)]
 pub(crate) struct Stack {
     /// More than there may be, so that a frame always has as many as an instruction can name.
     values: Vec<RawVal>,
     frames: Vec<Frame>,
+    away: Vec<Activation>,
     limits: StackLimits,
 }
 
@@ -51,13 +51,15 @@ pub(crate) struct Stack {
 pub(crate) struct Lent<'a> {
     pub values: &'a mut [RawVal],
     pub frames: &'a mut Vec<Frame>,
+    /// The calls that wait for a function of another instance.
+    pub away: &'a mut Vec<Activation>,
     pub calls: usize,
 }
 
 impl Default for Stack {
     fn default() -> Self {
         let values = vec![RawVal::default(); limits::VALUES + SLOTS];
-        Self { values, frames: vec![], limits: StackLimits::default() }
+        Self { values, frames: vec![], away: vec![], limits: StackLimits::default() }
     }
 }
 
@@ -69,7 +71,12 @@ impl Stack {
 
     #[inline(always)]
     pub fn lend(&mut self) -> Lent<'_> {
-        let Self { values, frames, limits } = self;
-        Lent { values: &mut values[..limits.values + SLOTS], frames, calls: limits.calls }
+        let Self { values, frames, away, limits } = self;
+        Lent { values: &mut values[..limits.values + SLOTS], frames, away, calls: limits.calls }
+    }
+
+    /// How many calls are open below the one that runs.
+    pub fn depth(&self) -> usize {
+        self.frames.len() + self.away.len()
     }
 }

@@ -17,8 +17,8 @@ use crate::profile::Recorder;
 use crate::references::References;
 use crate::stack::{Stack, StackLimits};
 use crate::trace::Trace;
-use std::mem;
 use std::sync::{Arc, Weak};
+use std::{fmt, mem};
 
 /// Two caps, on the bytes of all memories and on the elements of all tables of a store: what is left of each.
 ///
@@ -170,6 +170,8 @@ pub(crate) struct Entity {
     pub is_dropped: Vec<bool>,
     /// The reference of its first function.
     pub first: u32,
+    /// The number of its module in the store's recorder.
+    pub recorded: usize,
     pub owner: Weak<Owner>,
     /// What it imports from.
     pub providers: Vec<Arc<Owner>>,
@@ -294,6 +296,18 @@ impl<T> Store<T> {
         self.inner.references.give_back(first, module.functions.len());
         self.callees[number as usize] = Arc::default();
         drop(providers);
+    }
+}
+
+impl<T> fmt::Debug for Store<T> {
+    fn fmt(&self, f: &mut fmt::Formatter<'_>) -> fmt::Result {
+        let Inner { engine, fuel, limiter, .. } = &self.inner;
+        let fuel = fuel.get_fuel().ok();
+        f.debug_struct("Store")
+            .field("engine", engine)
+            .field("fuel", &fuel)
+            .field("caps", &limiter.caps)
+            .finish_non_exhaustive()
     }
 }
 

@@ -4,13 +4,13 @@ use crate::call::Calls;
 use crate::compiled::Module;
 use crate::limits;
 use crate::module;
-use crate::stack::Frame;
+use crate::stack::{Frame, Lent};
 use crate::store::{Inner, Store};
 use std::sync::Arc;
 
 /// A function that was open: its module, and its number in the module, to which [`Module::function_names`] may have a
 /// name.
-#[derive(Clone)]
+#[derive(Clone, Debug)]
 pub struct TraceFrame {
     /// The module.
     pub module: Module,
@@ -40,9 +40,9 @@ impl Inner {
     pub fn record(&mut self, calls: &Calls) {
         let Self { instances, trace, stack, .. } = self;
         let Some(stack) = stack else { return };
-        let frames = stack.lend().frames;
+        let Lent { frames, away, .. } = stack.lend();
         let mut last = frames.len();
-        for at in std::iter::once(&calls.at).chain(calls.away.iter().rev()) {
+        for at in std::iter::once(&calls.at).chain(away[calls.away..].iter().rev()) {
             let module = &instances[at.instance].module;
             let before = frames.get(at.floor..last).unwrap_or_default().iter().rev();
             let left = limits::TRACE - trace.frames.len().min(limits::TRACE);

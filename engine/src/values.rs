@@ -15,7 +15,8 @@ pub(crate) fn canonical(value: Val) -> RawVal {
     }
 }
 
-/// A type of the host that stands for one of WebAssembly's.
+/// A type of the host that stands for one of WebAssembly's: `i32` and `u32` for `i32`, `i64` and `u64` for `i64`, `f32`,
+/// `f64`, and [`V128`] for `v128`.
 pub trait WasmTy: Sized {
     /// Which one.
     const TYPE: ValType;
@@ -55,7 +56,10 @@ types! {
     V128 = V128, self => self, raw => raw.into();
 }
 
-/// Parameters or results: nothing, a value, or a tuple of values.
+/// Parameters or results: `()` for none, a value of a type that is a [`WasmTy`], or a tuple of up to twelve such values.
+///
+/// A function with a parameter or a result that is a reference, or with more of them, is called by
+/// [`Func::call`](crate::Func::call).
 pub trait WasmValues: Sized {
     /// Their types.
     const TYPES: &'static [ValType];

@@ -2,8 +2,8 @@
 
 use engine::library::{FuncType, HostError, MemoryType, TrapCode, ValType};
 use engine::{
-    Caller, Caps, Config, Engine, Error, ExternType, Func, Instance, Linker, Memory, Module, ResumableCall,
-    StackLimits, Store, Val,
+    Caller, Caps, Config, Contents, Engine, Error, ExternType, Func, Instance, Linker, Memory, Module, ResumableCall,
+    StackLimits, Store, StoreContext, StoreContextMut, TraceFrame, TypedFunc, Val,
 };
 use std::fmt;
 
@@ -126,7 +126,10 @@ fn functions_of_any_type() {
     assert_eq!((i32::from(results[0]), i64::from(results[1])), (5, -7));
     assert!(matches!(swap.call(&mut store, &[Val::from(1_i32)]), Err(Error::Misused(_))));
     assert!(swap.typed::<(i64, i32), (i32, i64)>(&store).is_ok());
-    assert!(swap.typed::<(i64, i32), i32>(&store).is_err());
+    assert_eq!(
+        swap.typed::<i64, ()>(&store).unwrap_err().to_string(),
+        "the function takes [I64, I32] and gives [I32, I64], and was asked for as one that takes [I64] and gives []"
+    );
     assert!(instance.get_typed_func::<(), ()>(&store, "missing").is_err());
 
     // A function of the host that the host itself calls, and one whose results have the wrong types.
@@ -173,6 +176,20 @@ fn imports_that_nobody_gives() {
     assert_eq!(stub.to_string(), "host.shout was called, which nobody has defined");
     let count = instance.get_typed_func::<i32, i32>(&store, "count").unwrap();
     assert_eq!(count.call(&mut store, 5).unwrap(), 15);
+}
+
+#[test]
+fn what_can_be_printed() {
+    /// Data of the host that can't be.
+    struct Plain;
+    fn is_debug<X: fmt::Debug>() {}
+    is_debug::<(Store<Plain>, StoreContext<Plain>, StoreContextMut<Plain>)>();
+    is_debug::<(Caller<Plain>, Linker<Plain>, TypedFunc<i32, Plain>)>();
+    is_debug::<(Module, TraceFrame, Contents)>();
+    let (store, instance) = caller();
+    let count = instance.get_typed_func::<i32, i32>(&store, "count").unwrap();
+    assert_eq!(format!("{count:?}"), "TypedFunc(Func(Instance(0), 4))");
+    assert_eq!(format!("{:?}", instance.contents(&store).tables), "[]");
 }
 
 #[test]
@@ -313,6 +330,24 @@ fn a_store_limits_its_stack() {
     store.set_stack_limits(StackLimits { values: usize::MAX, calls: usize::MAX });
     assert_eq!(call(&mut store, &instance, "deep", &[10_000]).unwrap(), 10_000);
     assert_eq!(code(call(&mut store, &instance, "deep", &[100_000])), Some(TrapCode::StackOverflow));
+}
+
+// ---- profiles
+
+#[test]
+fn a_profile_of_two_instances() {
+    let (mut store, _, user) = linked(&Engine::new(Config::default().profile(true)));
+    let fuel = store.get_fuel().unwrap();
+    assert_eq!(call(&mut store, &user, "indirect", &[0, 1]).unwrap(), 102);
+    assert_eq!(call(&mut store, &user, "direct", &[5]).unwrap(), 112);
+    let profile = store.profile();
+    // The import of the user and the function of the provider that it is have the same number.
+    let calls: Vec<_> = profile.functions.iter().map(|it| (it.function, it.calls)).collect();
+    assert_eq!(calls, [(0, 3), (6, 1), (7, 1)]);
+    let (stacks, taken): (Vec<_>, Vec<_>) = profile.stacks.into_iter().unzip();
+    assert_eq!(stacks, [vec![7], vec![7, 0], vec![6], vec![6, 0], vec![6, 0, 0]]);
+    assert_eq!(taken.iter().sum::<u64>(), fuel - store.get_fuel().unwrap());
+    assert_eq!(taken[1], taken[4]);
 }
 
 // ---- calls that wait for fuel
