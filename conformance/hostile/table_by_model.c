@@ -1,5 +1,5 @@
 /* The tables of include/wasmi_memory.h, and the setting of fuel, by the plain model: a program that is linked with this file in
-   place of libwasmi_core.a prints what it should print. examples/run does so with examples/c/table.c. */
+   place of libwasmi_core.a prints what it should print. conformance/run does so with examples/c/table.c. */
 #include "table_model.h"
 
 #undef wasmi_table_copy_from
