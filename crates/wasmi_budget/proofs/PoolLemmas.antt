@@ -567,6 +567,15 @@ kept_removed pool all index s pool' held kept removes is = record {
         let less = removals_give_back pool index s pool' removes kind in
         omega (arith, sum, own, less)
 
+-- what a tenant of a pool holds is at most what all hold
+pub held_at_most : (pool : PoolValue) (all held : Amounts) (index : ℕ) (s : State) → IsKept pool all
+    → machine_of pool index ≡ Some s → held ≡ amounts_of (total s)
+    → (kind : Kind) → amount_of held kind ≤ amount_of all kind
+held_at_most pool all held index s kept found is kind =
+    let part = (is_part pool all kept index s found).counted kind in
+    let own = ap (λ amounts. amount_of amounts kind) is ∙ amount_of-amounts_of (total s) kind in
+    omega (arith, part, own)
+
 -- the machine of an index has become another that has as much, and all else is the same
 pub record BecomesAlike (pool : PoolValue) (index : ℕ) (pool' : PoolValue) : Type 0 where
   pub machine : State
