@@ -11,7 +11,7 @@ import sys
 
 FUNCTIONS = pathlib.Path(__file__).resolve().parents[1] / "include/numbers.tsv"
 WITHIN = 32
-ALIGNED = re.compile(r"^ +\d+ (.+?) +[0-9a-f]{8,} .* 2\*\*(\d+)", re.M)
+ALIGNED = re.compile(r"^ *\d+ (.+?) +[0-9a-f]{8,} .* 2\*\*(\d+)", re.M)
 # The address, the bytes, and a jump to a place of the section; behind one that the linker decides stands a relocation.
 JUMP = re.compile(r"^ *([0-9a-f]+):\t((?:[0-9a-f]{2} )+) *\t(?:\w+ )*j\w+ +[0-9a-f]+ <.*>$", re.M)
 
