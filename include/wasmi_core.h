@@ -10,7 +10,8 @@
    Who takes which call:
    - An engine with values of its own: wasmi_instructions.h, or wasmi_inline.h; for vectors, the numbers below.
    - An engine with memories, tables and fuel of its own: wasmi_memory.h besides.
-   - A host that leaves these to the library: wasmi_machine.h; plain arguments where there are, else a wasmi_call.
+   - A host that leaves these to the library: wasmi_machine.h; plain arguments where there are, else a wasmi_call. For
+     guests that share caps, its pools.
    - A host that has calls as text: wasmi_script_run, or on a machine wasmi_machine_run_lines.
    - Who compares another implementation with this one: wasmi_oracle.h.
    All of these are in the bitcode too, which clang 22 inlines.

@@ -51,7 +51,7 @@ typedef struct {
     uint32_t bytes_copied_per_fuel;     /* 64 upstream; 0 makes each copy cost UINT64_MAX */
     uint32_t fuel_per_bytes_translated; /* 7 upstream; no call here takes it */
     uint32_t fuel_per_bytes_validated;  /* 2 upstream; no call here takes it */
-    uint8_t is_metered;                 /* 0: the meter is off; else it is on, with no fuel at first */
+    uint8_t is_metered;                 /* 0: the meter is off, and nothing takes fuel; else on, with none at first */
     uint8_t is_unlimited;               /* 0: the caps hold; else there are none, and bytes and elements aren't read */
 } wasmi_limits;
 
@@ -86,9 +86,10 @@ void wasmi_machine_drop(wasmi_machine *machine) WASMI_NOT_NULL(1);
 
 /* The kinds of calls. Behind each stands what it reads of a wasmi_call, then what its reply has, and then its refusals
    in the order in which they are tested. The first is always WASMI_NO_SUCH, if there is no memory, table, segment,
-   global or register of an index or a number. */
+   global or register of an index or a number. Growths and writes over a range take fuel, as it says there; no other kind
+   does, and neither do wasmi_machine_read and wasmi_machine_write. */
 enum {
-    WASMI_CALL_SET_FUEL = 0, /* count; METERING_DISABLED */
+    WASMI_CALL_SET_FUEL = 0, /* count, in place of what is left; METERING_DISABLED */
     WASMI_CALL_GET_FUEL = 1, /* -> number; METERING_DISABLED */
     /* Makes a memory of zeros: count and maximum in pages, page_size_log2 (0 or 16), is_64 -> number: its index;
        NO_ROOM, MEMORY_SIZE_OVERFLOW, MEMORY_DENIED (by the limiter), MEMORY_OUT_OF_MEMORY. */

@@ -6,7 +6,7 @@
 //! `memory::access`, private there. Core specification: memory instructions, and the storage of
 //! integers under numerics.
 
-ghost use Rattle.std.specs.Prelude.{◌≡◌, ℕ, ◌+◌, ◌*◌, ◌^◌, ◌≤◌, List, MatchResult, length, Some};
+ghost use Rattle.std.specs.Prelude.{◌≡◌, ◌↔◌, ℕ, ◌+◌, ◌*◌, ◌^◌, ◌<◌, ◌≤◌, IsTrue, List, MatchResult, length, Some};
 ghost use Rattle.std.specs.Int.{int_wrap};
 ghost use mir.Val.{bits};
 ghost use Rattle.wasmi_types.specs.Numbers.{number_of, le_bytes, wrap};
@@ -57,6 +57,18 @@ impl<const N: usize> ByteArray for [u8; N] {
     ghost bytes_of = { λ bytes. bytes };
 }
 
+/// Whether `N` bytes at an address end past a length. Of one byte that is one comparison.
+#[inline(always)]
+fn ends_past<const N: usize>(len: usize, address: usize) -> bool
+    ensures { IsTrue result ↔ len < address + N }
+{
+    if N == 1 {
+        address >= len
+    } else {
+        len < N || address > len - N
+    }
+}
+
 /// Bytes that are read from a memory. Upstream: `LoadInto`, private there.
 pub trait LoadInto: ByteArray {
     /// Copies the bytes at `address` into `self`.
@@ -68,7 +80,7 @@ pub trait LoadInto: ByteArray {
 
 impl<const N: usize> LoadInto for [u8; N] {
     fn load_into(&mut self, memory: &[u8], address: usize) -> Result<(), TrapCode> {
-        if memory.len() < N || address > memory.len() - N {
+        if ends_past::<N>(memory.len(), address) {
             return Err(TrapCode::MemoryOutOfBounds);
         }
         let Some((bytes, _)) = memory[address..address + N].split_first_chunk::<N>() else {
@@ -89,7 +101,7 @@ pub trait StoreFrom: ByteArray {
 
 impl<const N: usize> StoreFrom for [u8; N] {
     fn store_from(&self, memory: &mut [u8], address: usize) -> Result<(), TrapCode> {
-        if memory.len() < N || address > memory.len() - N {
+        if ends_past::<N>(memory.len(), address) {
             return Err(TrapCode::MemoryOutOfBounds);
         }
         put(memory, address, self);

@@ -74,6 +74,24 @@ pub mod access {
     /// `N` is a number.
     impl<const N: usize> ByteArray for [u8; N] {}
 
+    /// Whether `N` bytes at an address end past a length. Of one byte that is one comparison.
+    ///
+    /// # Contract
+    ///
+    /// ```text
+    /// ensures: IsTrue result ↔ len < address + N
+    /// ```
+    ///
+    /// `N` is a number.
+    #[inline(always)]
+    fn ends_past<const N: usize>(len: usize, address: usize) -> bool {
+        if N == 1 {
+            address >= len
+        } else {
+            len < N || address > len - N
+        }
+    }
+
     /// Bytes that are read from a memory. Upstream: `LoadInto`, private there.
     pub trait LoadInto: ByteArray {
         /// Copies the bytes at `address` into `self`.
@@ -93,7 +111,7 @@ pub mod access {
     impl<const N: usize> LoadInto for [u8; N] {
         #[inline]
         fn load_into(&mut self, memory: &[u8], address: usize) -> Result<(), TrapCode> {
-            if memory.len() < N || address > memory.len() - N {
+            if ends_past::<N>(memory.len(), address) {
                 return Err(TrapCode::MemoryOutOfBounds);
             }
             let Some((bytes, _)) = memory[address..].split_first_chunk::<N>() else {
@@ -126,7 +144,7 @@ pub mod access {
     impl<const N: usize> StoreFrom for [u8; N] {
         #[inline]
         fn store_from(&self, memory: &mut [u8], address: usize) -> Result<(), TrapCode> {
-            if memory.len() < N || address > memory.len() - N {
+            if ends_past::<N>(memory.len(), address) {
                 return Err(TrapCode::MemoryOutOfBounds);
             }
             put(memory, address, self);
