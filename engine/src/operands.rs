@@ -22,6 +22,11 @@ struct Loose {
     before: usize,
 }
 
+/// Whether two lists of types are the same. Without an early end the comparison is one of vectors.
+pub(crate) fn are_same(types: &[ValType], others: &[ValType]) -> bool {
+    types.len() == others.len() && types.iter().zip(others).fold(true, |all, (ty, other)| all & (ty == other))
+}
+
 /// After a jump the type of an operand may be unknown.
 #[derive(Default)]
 pub(crate) struct Operands {
@@ -115,7 +120,7 @@ impl Operands {
     pub fn agree(&self, floor: usize, types: &[ValType]) -> bool {
         let count = types.len().min(self.len() - floor);
         let (found, wanted) = (&self.types[self.len() - count..], &types[types.len() - count..]);
-        // Without an early end the comparison is one of vectors.
+        // As in `are_same`.
         found.iter().zip(wanted).fold(true, |all, (ty, wanted)| all & ty.is_none_or(|ty| ty == *wanted))
     }
 

@@ -15,7 +15,7 @@ use crate::library::simd::ImmLaneIdx32;
 use crate::library::{self, FuelCostsProvider, FuncType, RawRef, RawVal, ValType, ValType::*};
 use crate::limits;
 use crate::module::Module;
-use crate::operands::{Operands, Place};
+use crate::operands::{Operands, Place, are_same};
 use crate::proposals;
 use crate::reader::{Read, Reader, Refusal, RefusalKind, ensure};
 use std::collections::HashMap;
@@ -515,7 +515,7 @@ impl<'m> Translator<'m, '_> {
         let label = self.label();
         if let Some(block) = self.blocks.pop() {
             if let Kind::If(test) = block.kind {
-                let is_kept = block.params == block.results;
+                let is_kept = are_same(block.params, block.results);
                 ensure(is_kept, self.invalid("an if without an else changes the stack"))?;
                 if !block.was_dead {
                     self.code[test].imm = label;
@@ -709,7 +709,7 @@ impl<'m> Translator<'m, '_> {
 
     /// A call whose results are those of the function, the frame of which becomes that of the callee.
     fn return_call(&mut self, op: Op, ty: &FuncType) -> Read<()> {
-        let is_right = ty.results() == self.blocks[0].results;
+        let is_right = are_same(ty.results(), self.blocks[0].results);
         ensure(is_right, self.invalid("a tail call has other results than the function"))?;
         self.take_settled(ty.params())?;
         let code = if op.code == Code::call { Code::return_call } else { Code::return_call_indirect };

@@ -369,6 +369,12 @@ fn hostile() -> Vec<(&'static str, Wasm)> {
         ("blocks over many operands", wasm(&[I32], &[&gets, &many(&[0x02, 0x40, 0x0b]), &drops(15_000)])),
         ("blocks with 1,000 operands", wasm(&[], &[&zeros, &many(&[0x02, 1, 0x0b]), &drops(1000)])),
         ("choices with 1,000 operands", wasm(&[], &[&zeros, &many(&[0x41, 0, 0x04, 1, 0x0b]), &drops(1000)])),
+        (
+            "tail calls with 1,000 operands",
+            Wasm::default()
+                .function(&[I32; 1000], &[I32; 1000], &[], &[&each(&[0x20], 1000)[..], &many(&[0x12, 1])].concat())
+                .function(&[I32; 1000], &[I32; 1000], &[], &each(&[0x20], 1000)),
+        ),
         ("jumps with 1,000 operands", in_block(&[&zeros, &many(&[0x20, 0, 0x0d, 0])])),
         ("jumps with 1,000 operands that lie in a local", in_block(&[&gets[..2000], &many(&[0x20, 0, 0x0d, 0])])),
         ("tables of labels with 1,000 operands", in_block(&[&chosen.repeat(15)])),
