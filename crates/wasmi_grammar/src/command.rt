@@ -32,7 +32,6 @@ pub(crate) fn command(alloc: Global, name: &str, operands: &[&str]) -> Result<Ca
         "write" => write(alloc, operands),
         "segment" => new_segment(alloc, operands),
         "data" => new_data(alloc, operands),
-        // What tools/generate writes begins.
         "fuel" | "left" | "global" | "gset" | "gget" | "set" | "show" => {
             values_call(name, operands)
         }
@@ -54,7 +53,6 @@ pub(crate) fn command(alloc: Global, name: &str, operands: &[&str]) -> Result<Ca
         | "extract"
         | "replace"
         | "shuffle" => vector_call(name, operands),
-        // What tools/generate writes ends.
         _ => Err(LineError::BadCommand),
     }
 }
@@ -102,13 +100,11 @@ fn memory_call(name: &str, operands: &[&str]) -> Result<Call, LineError>
     match name {
         "memory" => Ok(Call::NewMemory(memory_type(operands)?)),
         "lent" => Ok(Call::NewLentMemory(memory_type(operands)?)),
-        // What tools/generate writes begins.
         "grow" => call!(operands, two => GrowMemory { memory, pages }),
         "read" => call!(operands, three => Read { memory, offset, len }),
         "mfill" => call!(operands, four => FillMemory { memory, dst, value, len }),
         "mcopy" => call!(operands, five => CopyMemory { dst_memory, dst, src_memory, src, len }),
         "minit" => call!(operands, five => InitMemory { memory, segment, dst, src, len }),
-        // What tools/generate writes ends.
         _ => drop_live(operands),
     }
 }
@@ -163,6 +159,7 @@ fn access_call(name: &str, operands: &[&str]) -> Result<Call, LineError>
     ensures call { Accepts result (NamesAfter name.now operands.now) }
 {
     match name {
+        "load" => call!(operands, four => Load { op, memory, ptr, offset }),
         "store" => {
             let (op, memory, ptr, offset, lo) = operand::five(operands)?;
             Ok(Call::Store {
@@ -173,12 +170,9 @@ fn access_call(name: &str, operands: &[&str]) -> Result<Call, LineError>
                 value: RawVal::from_bits64(lo),
             })
         }
-        "vloadlane" => load_lane(operands),
-        // What tools/generate writes begins.
-        "load" => call!(operands, four => Load { op, memory, ptr, offset }),
         "vload" => call!(operands, five => VectorLoad { op, dst, memory, ptr, offset }),
+        "vloadlane" => load_lane(operands),
         "vstore" => call!(operands, four => VectorStore { a, memory, ptr, offset }),
-        // What tools/generate writes ends.
         _ => store_lane(operands),
     }
 }
@@ -235,6 +229,7 @@ fn table_call(name: &str, operands: &[&str]) -> Result<Call, LineError>
                 init: TypedRawRef::new(raw, ty),
             })
         }
+        "get" => call!(operands, two => GetElement { table, index }),
         "tset" => {
             let (table, index, ty, raw) = operand::four(operands)?;
             Ok(Call::SetElement {
@@ -243,6 +238,8 @@ fn table_call(name: &str, operands: &[&str]) -> Result<Call, LineError>
                 value: TypedRawRef::new(raw, ty),
             })
         }
+        "init" => call!(operands, five => InitTable { table, segment, dst, src, len }),
+        "copy" => call!(operands, five => CopyTable { dst_table, dst, src_table, src, len }),
         "fill" => {
             let (table, dst, ty, raw, len) = operand::five(operands)?;
             Ok(Call::FillTable {
@@ -253,11 +250,6 @@ fn table_call(name: &str, operands: &[&str]) -> Result<Call, LineError>
             })
         }
         "dempty" => Ok(Call::DropData(operand::one(operands)?)),
-        // What tools/generate writes begins.
-        "get" => call!(operands, two => GetElement { table, index }),
-        "init" => call!(operands, five => InitTable { table, segment, dst, src, len }),
-        "copy" => call!(operands, five => CopyTable { dst_table, dst, src_table, src, len }),
-        // What tools/generate writes ends.
         _ => Ok(Call::DropItems(operand::one(operands)?)),
     }
 }
@@ -330,16 +322,14 @@ fn vector_call(name: &str, operands: &[&str]) -> Result<Call, LineError>
     ensures call { Accepts result (NamesAfter name.now operands.now) }
 {
     match name {
-        "extract" => extract(operands),
-        "replace" => replace(operands),
-        // What tools/generate writes begins.
         "make" => call!(operands, three => Make { op, dst, a }),
         "unary" => call!(operands, three => Unary { op, dst, a }),
         "binary" => call!(operands, four => Binary { op, dst, a, b }),
         "ternary" => call!(operands, five => Ternary { op, dst, a, b, c }),
         "shift" => call!(operands, four => Shift { op, dst, a, amount }),
         "test" => call!(operands, two => Test { op, a }),
-        // What tools/generate writes ends.
+        "extract" => extract(operands),
+        "replace" => replace(operands),
         _ => shuffle(operands),
     }
 }

@@ -36,7 +36,6 @@ mod command {
             "write" => write(operands),
             "segment" => new_segment(operands),
             "data" => new_data(operands),
-            // What tools/generate writes begins.
             "fuel" | "left" | "global" | "gset" | "gget" | "set" | "show" => {
                 values_call(name, operands)
             }
@@ -51,7 +50,6 @@ mod command {
             }
             "make" | "unary" | "binary" | "ternary" | "shift" | "test" | "extract" | "replace"
             | "shuffle" => vector_call(name, operands),
-            // What tools/generate writes ends.
             _ => Err(LineError::BadCommand),
         }
     }
@@ -113,7 +111,6 @@ mod command {
         match name {
             "memory" => Ok(Call::NewMemory(memory_type(operands)?)),
             "lent" => Ok(Call::NewLentMemory(memory_type(operands)?)),
-            // What tools/generate writes begins.
             "grow" => call!(operands, two => GrowMemory { memory, pages }),
             "read" => call!(operands, three => Read { memory, offset, len }),
             "mfill" => call!(operands, four => FillMemory { memory, dst, value, len }),
@@ -121,7 +118,6 @@ mod command {
                 call!(operands, five => CopyMemory { dst_memory, dst, src_memory, src, len })
             }
             "minit" => call!(operands, five => InitMemory { memory, segment, dst, src, len }),
-            // What tools/generate writes ends.
             _ => drop_live(operands),
         }
     }
@@ -204,6 +200,7 @@ mod command {
     #[inline]
     fn access_call(name: &str, operands: &[&str]) -> Result<Call, LineError> {
         match name {
+            "load" => call!(operands, four => Load { op, memory, ptr, offset }),
             "store" => {
                 let (op, memory, ptr, offset, lo) = operand::five(operands)?;
                 Ok(Call::Store {
@@ -214,12 +211,9 @@ mod command {
                     value: RawVal::from_bits64(lo),
                 })
             }
-            "vloadlane" => load_lane(operands),
-            // What tools/generate writes begins.
-            "load" => call!(operands, four => Load { op, memory, ptr, offset }),
             "vload" => call!(operands, five => VectorLoad { op, dst, memory, ptr, offset }),
+            "vloadlane" => load_lane(operands),
             "vstore" => call!(operands, four => VectorStore { a, memory, ptr, offset }),
-            // What tools/generate writes ends.
             _ => store_lane(operands),
         }
     }
@@ -297,6 +291,7 @@ mod command {
                     init: TypedRawRef::new(raw, ty),
                 })
             }
+            "get" => call!(operands, two => GetElement { table, index }),
             "tset" => {
                 let (table, index, ty, raw) = operand::four(operands)?;
                 Ok(Call::SetElement {
@@ -305,6 +300,8 @@ mod command {
                     value: TypedRawRef::new(raw, ty),
                 })
             }
+            "init" => call!(operands, five => InitTable { table, segment, dst, src, len }),
+            "copy" => call!(operands, five => CopyTable { dst_table, dst, src_table, src, len }),
             "fill" => {
                 let (table, dst, ty, raw, len) = operand::five(operands)?;
                 Ok(Call::FillTable {
@@ -315,11 +312,6 @@ mod command {
                 })
             }
             "dempty" => Ok(Call::DropData(operand::one(operands)?)),
-            // What tools/generate writes begins.
-            "get" => call!(operands, two => GetElement { table, index }),
-            "init" => call!(operands, five => InitTable { table, segment, dst, src, len }),
-            "copy" => call!(operands, five => CopyTable { dst_table, dst, src_table, src, len }),
-            // What tools/generate writes ends.
             _ => Ok(Call::DropItems(operand::one(operands)?)),
         }
     }
@@ -432,16 +424,14 @@ mod command {
     #[inline]
     fn vector_call(name: &str, operands: &[&str]) -> Result<Call, LineError> {
         match name {
-            "extract" => extract(operands),
-            "replace" => replace(operands),
-            // What tools/generate writes begins.
             "make" => call!(operands, three => Make { op, dst, a }),
             "unary" => call!(operands, three => Unary { op, dst, a }),
             "binary" => call!(operands, four => Binary { op, dst, a, b }),
             "ternary" => call!(operands, five => Ternary { op, dst, a, b, c }),
             "shift" => call!(operands, four => Shift { op, dst, a, amount }),
             "test" => call!(operands, two => Test { op, a }),
-            // What tools/generate writes ends.
+            "extract" => extract(operands),
+            "replace" => replace(operands),
             _ => shuffle(operands),
         }
     }
