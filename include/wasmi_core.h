@@ -3,7 +3,7 @@
    Processors: the archive that is proved is for Linux on x86-64, and takes a processor of x86-64-v2 (SSE4.2 and popcnt,
    since 2009); on an older one an instruction such as wasmi_i32_popcnt ends the program. Installed with it, this
    header defines WASMI_CORE_PROVED, so that a program for another target isn't compiled. The library that is built from
-   source (rust/c) has the same calls for any target of Rust, and is tested, not proved.
+   source (rust/c) has the same calls for any target of Rust with std, and is tested, not proved.
 
    State: there is none. Instructions work on values and bytes of the caller's, and a script is run as a whole
    (wasmi_script_run). A machine with memories, fuel and limits that lives across calls is in wasmi_machine.h.

@@ -1,4 +1,4 @@
-/* Each scalar instruction, load and store by name, for C and C++, in libwasmi_core.a.
+/* Each scalar instruction, and each load and store of a number, by name, for C and C++, in libwasmi_core.a.
 
    Names: wasmi_i32_add is i32.add, and so on. bitand, bitor and bitxor are and, or and xor; the loads and stores of
    whole integers (i32.load, i64.load, i32.store, i64.store) are load_u32, load_u64, store32 and store64. The other

@@ -115,7 +115,8 @@ enum {
     /* Grows a table by elements of one reference: index, count, type, reference -> number: its old size;
        TABLE_TYPE, TABLE_GROWTH (beyond its type, or denied), TABLE_OUT_OF_FUEL, TABLE_OUT_OF_MEMORY, after which the
        fuel is spent. A growth by 0 returns the size, and takes no fuel. Each other growth, and each write below, costs
-       as much as a copy of 4 bytes an element, or of UINT64_MAX bytes where that is more. */
+       as much as a copy of 4 bytes an element, or of UINT64_MAX bytes where that is more; INIT_TABLE of no items
+       costs nothing. */
     WASMI_CALL_GROW_TABLE = 10,
     WASMI_CALL_DROP_TABLE = 11,  /* index; its size still counts */
     WASMI_CALL_GET_ELEMENT = 12, /* index, to -> type, reference; NO_ELEMENT */

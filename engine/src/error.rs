@@ -39,7 +39,8 @@ pub enum Error {
     Module(Refusal),
     /// An import is missing or has another type, or a name is defined twice.
     Link(String),
-    /// There is no such export, or it has another type, or it takes other arguments.
+    /// There is no such export, or it has another type, or it takes other arguments; or fuel is set or asked for in an
+    /// engine that consumes none.
     Misused(String),
     /// The guest stops: by a trap of WebAssembly, or by an error of the host.
     Trap(Trap),

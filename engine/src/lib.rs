@@ -40,12 +40,13 @@
 //! })?;
 //!
 //! let mut store = Store::new(&engine, vec![]);
+//! // An active segment of 64 bytes or more takes fuel already when the module is instantiated.
+//! store.set_fuel(10_000)?;
 //! let instance = linker.instantiate(&mut store, &module)?;
 //! let allocate = instance.get_typed_func::<u32, u32>(&store, "allocate")?;
 //! let greet = instance.get_typed_func::<(u32, u32), u64>(&store, "greet")?;
 //! let memory = instance.get_memory(&store, "memory").ok_or(Error::new("the guest has no memory"))?;
 //!
-//! store.set_fuel(10_000)?;
 //! let pointer = allocate.call(&mut store, 3)?;
 //! memory.write(&mut store, pointer as usize, b"Ada")?;
 //! // The guest gives a pointer to its answer and, above it, the length.

@@ -606,7 +606,10 @@ impl<'m> Translator<'m, '_> {
             0x1a => self.pop_any().map(drop),
             0x1b | 0x1c => self.select(opcode),
             0x20..=0x24 => self.variable(opcode),
+            // `table.get`, `table.set`, `memory.size`, `memory.grow`, `memory.copy`, `memory.fill`, `table.copy`, `table.grow`,
+            // `table.size` and `table.fill`.
             0x25 | 0x26 | 0x3f | 0x40 | 0xfc00a | 0xfc00b | 0xfc00e..=0xfc011 => self.of_elements(opcode),
+            // `memory.init`, `data.drop`, `table.init` and `elem.drop`.
             0xfc008 | 0xfc009 | 0xfc00c | 0xfc00d => self.of_segments(opcode),
             0x41 => self.reader.i32().and_then(|value| self.constant(I32, value.cast_unsigned())),
             0x42 => self.reader.i64().and_then(|value| self.constant(I64, value.cast_unsigned())),
@@ -823,6 +826,7 @@ impl<'m> Translator<'m, '_> {
             0xfc00f => self.plain(Op::of(Code::table_grow, imm), &[element, index], Some(index)),
             0xfc010 => self.plain(Op::of(Code::table_size, imm), &[], Some(index)),
             0xfc011 => self.plain(Op::of(Code::table_fill, imm), &[index, element, index], None),
+            // `memory.copy` and `table.copy`.
             _ => {
                 let (from, index_of_source, ty) = named(self)?;
                 ensure(ty == element, self.invalid("two tables have different types"))?;

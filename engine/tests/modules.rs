@@ -394,18 +394,25 @@ fn hostile() -> Vec<(&'static str, Wasm)> {
 const MOST: f64 = 15.0;
 
 /// Each is read, and made ready at its first call, in at most `MOST` times the time a byte of plain code, since no
-/// instruction makes a long list again and again. A time is the least of several, which are taken in turn with those of
-/// plain code, so that other work of the machine is in neither or in both. `--nocapture` shows the times.
+/// instruction makes a long list again and again. A time is the least of up to five, which are taken in turn with those of
+/// plain code, so that other work of the machine is in neither or in both; where the first are far below the bound, they
+/// suffice. `--nocapture` shows the times.
 #[test]
 fn hostile_functions_are_read_in_time() {
     let plain = [0x20, 0, 0x20, 1, 0x6a, 0x21, 1].repeat(1_000_000 / 7);
     let plain = Wasm::default().function(&[I32, I32], &[], &[], &plain).bytes();
     for (name, wasm) in hostile() {
         let bytes = wasm.bytes();
-        let pairs = || (0..5).map(|_| [&bytes, &plain].map(|it| time_of(it)));
-        let [time, of_plain] = pairs().reduce(|[a, b], [c, d]| [a.min(c), b.min(d)]).unwrap();
-        let ratio = time.div_duration_f64(of_plain) * plain.len() as f64 / bytes.len() as f64;
-        println!("{name}: {time:?}, {} bytes, {ratio:.1} times {of_plain:?} for plain code", bytes.len());
+        let (mut least, mut ratio) = ([Duration::MAX; 2], MOST);
+        for _ in 0..5 {
+            let [time, of_plain] = [&bytes, &plain].map(|it| time_of(it));
+            least = [least[0].min(time), least[1].min(of_plain)];
+            ratio = least[0].div_duration_f64(least[1]) * plain.len() as f64 / bytes.len() as f64;
+            if ratio < MOST / 2.0 {
+                break;
+            }
+        }
+        println!("{name}: {:?}, {} bytes, {ratio:.1} times {:?} for plain code", least[0], bytes.len(), least[1]);
         assert!(ratio < MOST, "{name}: {ratio:.1} times as long as plain code");
     }
 }

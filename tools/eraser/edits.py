@@ -1,5 +1,6 @@
 """What the generated text has otherwise than the sources, so that the Rust crate's API can stand on it. The edit under "Upstream's feature" alone
 changes what a function returns, and those of `Debug` what is printed; tools/erased.toml has the reason of each."""
+from calls import calls
 
 # (module, text, its replacement, how often it stands there)
 EDITS = [
@@ -79,22 +80,18 @@ EDITS += [(module, f"pub enum {name} {{", f"#[non_exhaustive]\npub enum {name} {
 
 # Calls of a machine that `MachineStore::step` passes on by groups, to a function with a jump table of its own. Where each call has an
 # arm of its own, LLVM makes one table of the two. Where all are named, rustc knows that there are no others, and tests nothing.
-GROUPS = {
-    "step_memory(call, limiter).unwrap_or(Reply::NoSuch)":
-        "NewMemory(_) NewLentMemory(_) GrowMemory{..} DropMemory(_) Read{..} Write{..} Load{..} Store{..} FillMemory{..} CopyMemory{..} InitMemory{..}",
-    "step_table(call, limiter).unwrap_or(Reply::NoSuch)":
-        "NewTable{..} GrowTable{..} DropTable(_) GetElement{..} SetElement{..} InitTable{..} CopyTable{..} FillTable{..}",
-}
-REGISTERS = "SetRegister{..} GetRegister(_) Make{..} Unary{..} Binary{..} Ternary{..} Shift{..} Test{..} Extract{..} Replace{..} Shuffle{..}"
+GROUPS = {"Memories": "step_memory", "Tables": "step_table"}
 
 
-def patterns(calls):
-    return ["Call::" + call.replace("{", " { ").replace("}", " }") for call in calls.split()]
+def patterns(subject):
+    """The calls of a subject as patterns."""
+    return [f"Call::{it.name}{'(_)' if 'operand' in it.row else ' { .. }'}" for it in calls() if it.row["subject"] == subject]
 
 
-EDITS += [("machine", "\n            | ".join(patterns(calls)) + f" => self.{step},\n",
-           "".join(f"{pattern} => self.{step},\n" for pattern in patterns(calls)), 1) for step, calls in GROUPS.items()]
-EDITS += [("machine", "            _ => self.step_register", " | ".join(patterns(REGISTERS)) + " => self.step_register", 1)]
+for subject, step in GROUPS.items():
+    arm = f" => self.{step}(call, limiter).unwrap_or(Reply::NoSuch),\n"
+    EDITS.append(("machine", "\n            | ".join(patterns(subject)) + arm, "".join(pattern + arm for pattern in patterns(subject)), 1))
+EDITS.append(("machine", "            _ => self.step_register", " | ".join(patterns("RegisterFile")) + " => self.step_register", 1))
 
 # A macro that is exported is at the root.
 EDITS += [("c", f"$crate::generated::c::{name}!", f"$crate::{name}!", 1) for name in ("on_machine", "on_pool")]

@@ -19,6 +19,7 @@ use Rattle.wasmi_machine.proofs.DeterminismLemmas.{capped_unique}
 use Rattle.wasmi_machine.proofs.EffectLemmas.{changes_kept}
 use Rattle.wasmi_machine.proofs.ExchangeLemmas.{growths_are_permitted}
 use Rattle.wasmi_machine.proofs.HoldingLemmas.{run_keeps, totals_are_held}
+use Rattle.wasmi_machine.proofs.TotalLemmas.{slots_alike}
 use Rattle.wasmi_budget.specs.declared.tenant.Tenant.{Tenant}
 use Rattle.wasmi_budget.specs.Pool.{capped_tenant, tenant_rules, holdings, PoolValue, total_of, IsWithinCaps, IsKept, HasNothing, tenant_at, machine_of, total_at, AddsTenant, RemovesTenant, ReservesElements, ReservesElementsForTenant, ReservesForTenant, IsUnasked, RepliesUnasked, RunsTenant, RunsUnasked, tenant_of, held_before, IsPart, RunsAsPart}
 use Rattle.std.proofs.lemmas.List.Sums.{sum_by-remove, sum_by-set, sum_by_push}
@@ -584,12 +585,7 @@ pub record BecomesAlike (pool : PoolValue) (index : ℕ) (pool' : PoolValue) : T
   pub alike : (kind : Kind) → total machine' kind ≡ total machine kind
   pub after : pool' ≡ record pool { machines = slice_set pool.machines index (Some machine') }
 
--- a machine has what it had where slots are reserved
-pub slots_alike : (s : State) (more : SlotCounts) (kind : Kind) → total (with_reserved s more) kind ≡ total s kind
-slots_alike s more Bytes = refl
-slots_alike s more Elements = refl
-
--- so the machine of the index has become such a one
+-- a machine whose slots are reserved has what it had: the machine of the index has become such a one
 abbrev pub slots_reserved : (pool : PoolValue) (index : ℕ) (more : SlotCounts) (pool' : PoolValue)
     → ReservesForTenant pool index more pool' → BecomesAlike pool index pool'
 slots_reserved pool index more pool' reserves = record {

@@ -1,5 +1,6 @@
 //! Each instruction by its number, on values and on arrays; the shuffle and the store of a vector by
 //! name; a script of calls; the version.
+//! `tools/header` writes this file, by the rows of `tools/exports.toml`.
 ghost use Rattle.std.specs.Prelude.{◌≡◌, ◌+◌, length};
 ghost use Rattle.wasmi_c.specs.Instruction.{Leaves, unary_result, unary_results, binary_result, binary_results, ternary_result, ternary_results, load_result, load_results, store_result, extract_result, extract_results, load_lane_result, replace_result, replace_results, store_lane_result, StoresBytes, shuffle_result};
 ghost use Rattle.wasmi_types.specs.Numbers.{le_bytes};

@@ -1,4 +1,5 @@
 //! A machine by a handle, and a pool of machines. `include/wasmi_machine.h` describes each call.
+//! `tools/header` writes this file, by the rows of `tools/exports.toml`.
 ghost use Rattle.std.specs.Prelude.{◌≡◌, ℕ, List, None, Some};
 ghost use Rattle.wasmi_machine.specs.declared.calls.Call.TheVariants.{CopyMemory, FillMemory, GetFuel, GrowMemory, InitMemory, NewData, Write};
 ghost use Rattle.wasmi_c.specs.Machine.Calls.{RepliesInStatus, RepliesInWord, item_load, item_store, vector_binary, ActsOnHeld, OnHeld, ReadsOut, RepliesToCopy, RepliesToItems, RepliesToList, RepliesToSegment, RepliesToStruct, Reserves, PaysFuel, no_totals, totals_of, RunsLines, ReservesElementsByStatus};

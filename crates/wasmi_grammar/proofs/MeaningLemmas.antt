@@ -93,28 +93,12 @@ module _ (words : LineWords) where
   abbrev number : ℕ → ℕ
   number k = decimal_value (word_at words k)
 
-  abbrev raw : ℕ → ℕ → RawVal
-  raw k l = record { lo = number k; hi = number l }
-
   -- what is dropped, by the word after
   abbrev drops_named : List (List ℕ × Option CallMeaning)
   drops_named =
       (codes "memory", Some (Other (DropMemory (number 1)))) ∷ (codes "table", Some (Other (DropTable (number 1)))) ∷ []
 
-  -- the call of the op that the first word names
-  abbrev by_name : (N : Record) → Bare N.parts → (N.D → List ℕ) → (N.D → Call) → Option CallMeaning
-  by_name N bare name_of call = option_map (λ op. Other (call op)) (named N bare name_of (word 0))
-
-  -- the call of the op that the first word names on the lane of the k-th word
-  abbrev by_lane : (N : Record) → Bare N.parts → (N.D → List ℕ) → {Op : Type 0} → (N.D → ℕ → Option Op) → ℕ
-      → (Op → Call) → Option CallMeaning
-  by_lane N bare name_of op_on k call =
-      option_map (λ op. Other (call op)) (lane_named N bare name_of op_on (word 0) (word k))
-
-  -- the call with the reference that the third word and the fourth one write
-  abbrev by_reference : (TypedRawRef → Call) → Option CallMeaning
-  by_reference call = option_map (λ reference. Other (call reference)) (reference_named (word 2) (word 3))
-
+  -- What tools/generate writes begins.
   -- the call that operands write, by the word before them
   abbrev calls_named : List (List ℕ × Option CallMeaning)
   calls_named =
@@ -123,25 +107,36 @@ module _ (words : LineWords) where
       (codes "memory", option_map (λ ty. Other (NewMemory ty)) (memory_named (word 0) (word 1) (word 2) (word 3))) ∷
       (codes "lent", option_map (λ ty. Other (NewLentMemory ty)) (memory_named (word 0) (word 1) (word 2) (word 3))) ∷
       (codes "grow", Some (Other (GrowMemory (number 0) (number 1)))) ∷
+      (codes "drop", beside drops_named (word 0)) ∷
       (codes "read", Some (Other (Read (number 0) (number 1) (number 2)))) ∷
-      (codes "write", Some (WriteMeaning (number 0) (number 1) (numbers_in (drop 2 words)))) ∷
+      (codes "write", Some (WriteMeaning (number 0) (number 1) (numbers_in (drop 2 words)))) ∷ (
+        codes "load",
+        option_map (λ op. Other (Load op (number 1) (number 2) (number 3))) (named load.enum tt load_name (word 0)),
+      ) ∷ (
+        codes "store",
+        option_map (λ op. Other (Store op (number 1) (number 2) (number 3) (raw_of (number 4))))
+            (named store.enum tt store_name (word 0)),
+      ) ∷
       (codes "mfill", Some (Other (FillMemory (number 0) (number 1) (number 2) (number 3)))) ∷
       (codes "mcopy", Some (Other (CopyMemory (number 0) (number 1) (number 2) (number 3) (number 4)))) ∷
-      (codes "minit", Some (Other (InitMemory (number 0) (number 1) (number 2) (number 3) (number 4)))) ∷
-      (codes "load", by_name load.enum tt load_name (λ op. Load op (number 1) (number 2) (number 3))) ∷ (
-        codes "store",
-        by_name store.enum tt store_name (λ op. Store op (number 1) (number 2) (number 3) (raw_of (number 4))),
-      ) ∷ (
+      (codes "minit", Some (Other (InitMemory (number 0) (number 1) (number 2) (number 3) (number 4)))) ∷ (
         codes "table",
         option_and_then (λ ty. option_map (λ init. Other (NewTable ty init)) (reference_named (word 4) (word 5)))
             (table_named (word 0) (word 1) (word 2) (word 3)),
+      ) ∷ (
+        codes "tgrow",
+        option_map (λ init. Other (GrowTable (number 0) (number 1) init)) (reference_named (word 2) (word 3)),
       ) ∷
-      (codes "tgrow", by_reference (λ init. GrowTable (number 0) (number 1) init)) ∷
-      (codes "get", Some (Other (GetElement (number 0) (number 1)))) ∷
-      (codes "tset", by_reference (λ value. SetElement (number 0) (number 1) value)) ∷
+      (codes "get", Some (Other (GetElement (number 0) (number 1)))) ∷ (
+        codes "tset",
+        option_map (λ value. Other (SetElement (number 0) (number 1) value)) (reference_named (word 2) (word 3)),
+      ) ∷
       (codes "init", Some (Other (InitTable (number 0) (number 1) (number 2) (number 3) (number 4)))) ∷
-      (codes "copy", Some (Other (CopyTable (number 0) (number 1) (number 2) (number 3) (number 4)))) ∷
-      (codes "fill", by_reference (λ value. FillTable (number 0) (number 1) value (number 4))) ∷ (
+      (codes "copy", Some (Other (CopyTable (number 0) (number 1) (number 2) (number 3) (number 4)))) ∷ (
+        codes "fill",
+        option_map (λ value. Other (FillTable (number 0) (number 1) value (number 4)))
+            (reference_named (word 2) (word 3)),
+      ) ∷ (
         codes "segment",
         option_map (λ ty. SegmentMeaning ty (numbers_in (drop 1 words)))
             (named reference_type.enum tt reference_word (word 0)),
@@ -150,108 +145,114 @@ module _ (words : LineWords) where
       (codes "data", Some (DataMeaning (numbers_in words))) ∷
       (codes "dempty", Some (Other (DropData (number 0)))) ∷ (
         codes "global",
-        option_and_then (λ content. option_map
-            (λ mutability. Other (NewGlobal (raw 2 3) (record { content = content; mutability = mutability })))
+        option_and_then (λ content. option_map (λ mutability. Other (NewGlobal (record { lo = number 2; hi = number 3 })
+            (record { content = content; mutability = mutability })))
             (named mutability.enum tt mutability_word (word 1))) (named value_type.enum tt value_word (word 0)),
       ) ∷ (
         codes "gset",
-        option_map (λ ty. Other (SetGlobal (number 0) (record { ty = ty; raw = raw 2 3 })))
+        option_map (λ ty. Other (SetGlobal (number 0)
+            (record { ty = ty; raw = record { lo = number 2; hi = number 3 } })))
             (named value_type.enum tt value_word (word 1)),
       ) ∷
       (codes "gget", Some (Other (GetGlobal (number 0)))) ∷
-      (codes "set", Some (Other (SetRegister (number 0) (raw 1 2)))) ∷
+      (codes "set", Some (Other (SetRegister (number 0) (record { lo = number 1; hi = number 2 })))) ∷
       (codes "show", Some (Other (GetRegister (number 0)))) ∷
-      (codes "make", by_name make.enum tt make_name (λ op. Make op (number 1) (number 2))) ∷
-      (codes "unary", by_name unary.enum tt unary_name (λ op. Unary op (number 1) (number 2))) ∷
-      (codes "binary", by_name binary.enum tt binary_name (λ op. Binary op (number 1) (number 2) (number 3))) ∷ (
+      (codes "make", option_map (λ op. Other (Make op (number 1) (number 2))) (named make.enum tt make_name (word 0))) ∷ (
+        codes "unary",
+        option_map (λ op. Other (Unary op (number 1) (number 2))) (named unary.enum tt unary_name (word 0)),
+      ) ∷ (
+        codes "binary",
+        option_map (λ op. Other (Binary op (number 1) (number 2) (number 3)))
+            (named binary.enum tt binary_name (word 0)),
+      ) ∷ (
         codes "ternary",
-        by_name ternary.enum tt ternary_name (λ op. Ternary op (number 1) (number 2) (number 3) (number 4)),
+        option_map (λ op. Other (Ternary op (number 1) (number 2) (number 3) (number 4)))
+            (named ternary.enum tt ternary_name (word 0)),
+      ) ∷ (
+        codes "shift",
+        option_map (λ op. Other (Shift op (number 1) (number 2) (number 3))) (named shift.enum tt shift_name (word 0)),
       ) ∷
-      (codes "shift", by_name shift.enum tt shift_name (λ op. Shift op (number 1) (number 2) (number 3))) ∷
-      (codes "test", by_name test.enum tt test_name (λ op. Test op (number 1))) ∷
-      (codes "extract", by_lane extract.enum tt extract_name extract_op 2 (λ op. Extract op (number 1))) ∷ (
+      (codes "test", option_map (λ op. Other (Test op (number 1))) (named test.enum tt test_name (word 0))) ∷ (
+        codes "extract",
+        option_map (λ op. Other (Extract op (number 1)))
+            (lane_named extract.enum tt extract_name extract_op (word 0) (word 2)),
+      ) ∷ (
         codes "replace",
-        by_lane replace.enum tt replace_name replace_op 3 (λ op. Replace op (number 1) (number 2) (number 4)),
+        option_map (λ op. Other (Replace op (number 1) (number 2) (number 4)))
+            (lane_named replace.enum tt replace_name replace_op (word 0) (word 3)),
       ) ∷
       (codes "shuffle", Some (Other (Shuffle (number 0) (number 1) (number 2) (numbers_in (drop 3 words))))) ∷ (
         codes "vload",
-        by_name vector_load.enum tt vector_load_name (λ op. VectorLoad op (number 1) (number 2) (number 3) (number 4)),
+        option_map (λ op. Other (VectorLoad op (number 1) (number 2) (number 3) (number 4)))
+            (named vector_load.enum tt vector_load_name (word 0)),
       ) ∷ (
         codes "vloadlane",
-        by_lane load_lane.enum tt load_lane_name load_lane_op 3
-            (λ op. LoadLane op (number 1) (number 2) (number 4) (number 5) (number 6)),
+        option_map (λ op. Other (LoadLane op (number 1) (number 2) (number 4) (number 5) (number 6))) (lane_named
+            load_lane.enum tt load_lane_name load_lane_op (word 0) (word 3)),
       ) ∷
       (codes "vstore", Some (Other (VectorStore (number 0) (number 1) (number 2) (number 3)))) ∷ (
         codes "vstorelane",
-        by_lane store_lane.enum tt store_lane_name store_lane_op 2
-            (λ op. StoreLane op (number 1) (number 3) (number 4) (number 5)),
+        option_map (λ op. Other (StoreLane op (number 1) (number 3) (number 4) (number 5))) (lane_named store_lane.enum
+            tt store_lane_name store_lane_op (word 0) (word 2)),
       ) ∷
-      (codes "drop", beside drops_named (word 0)) ∷
       []
 
   -- operands that write a call give what the call says, beside its word
-  call_is : (call : Call) → WritesOperands words call → beside calls_named (command_word call) ≡ Some (call_meaning call)
+  call_is : (call : Call) → WritesOperands words call → beside calls_named (command_word call) ≡ Some
+      (call_meaning call)
   unfolding IsName
   call_is (SetFuel fuel) w = λ i. Some (Other (SetFuel (sym w.1.1 i)))
   call_is GetFuel w = refl
-  call_is (NewMemory ty) w = λ i.
-      option_map (λ ty. Other (NewMemory ty)) (memory_is (word 0) (word 1) (word 2) (word 3) ty w.1 i)
-  call_is (NewLentMemory ty) w = λ i.
-      option_map (λ ty. Other (NewLentMemory ty)) (memory_is (word 0) (word 1) (word 2) (word 3) ty w.1 i)
+  call_is (NewMemory ty) w = λ i. option_map (λ ty. Other (NewMemory ty))
+      (memory_is (word 0) (word 1) (word 2) (word 3) ty w.1 i)
+  call_is (NewLentMemory ty) w = λ i. option_map (λ ty. Other (NewLentMemory ty))
+      (memory_is (word 0) (word 1) (word 2) (word 3) ty w.1 i)
   call_is (GrowMemory memory pages) w = λ i. Some (Other (GrowMemory (sym w.1.1 i) (sym w.2.1 i)))
+  call_is (DropMemory memory) w = ap (beside drops_named) w.1 ∙ (λ i. Some (Other (DropMemory (sym w.2.1 i))))
   call_is (Read memory offset len) w = λ i. Some (Other (Read (sym w.1.1 i) (sym w.2.1 i) (sym w.3.1 i)))
-  call_is (Write memory offset bytes) w = λ i.
-      Some (WriteMeaning (sym w.0.1.1 i) (sym w.0.2.1 i) (numbers_is 8 (drop 2 words) bytes.items w.1 i))
-  call_is (FillMemory memory dst value len) w = λ i.
-      Some (Other (FillMemory (sym w.1.1 i) (sym w.2.1 i) (sym w.3.1 i) (sym w.4.1 i)))
-  call_is (CopyMemory dst_memory dst src_memory src len) w = λ i.
-      Some (Other (CopyMemory (sym w.1.1 i) (sym w.2.1 i) (sym w.3.1 i) (sym w.4.1 i) (sym w.5.1 i)))
-  call_is (InitMemory memory segment dst src len) w = λ i.
-      Some (Other (InitMemory (sym w.1.1 i) (sym w.2.1 i) (sym w.3.1 i) (sym w.4.1 i) (sym w.5.1 i)))
-  call_is (Load op memory ptr offset) w = λ i.
-      option_map (λ op. Other (Load op (sym w.2.1 i) (sym w.3.1 i) (sym w.4.1 i)))
+  call_is (Write memory offset bytes) w = λ i. Some (WriteMeaning (sym w.0.1.1 i) (sym w.0.2.1 i)
+      (numbers_is 8 (drop 2 words) bytes.items w.1 i))
+  call_is (Load op memory ptr offset) w = λ i. option_map
+      (λ op. Other (Load op (sym w.2.1 i) (sym w.3.1 i) (sym w.4.1 i)))
       (named_is load.enum tt load_name refl (word 0) op w.1 i)
-  call_is (Store op memory ptr offset value) w = λ i.
-      option_map (λ op. Other (Store op (sym w.2.1 i) (sym w.3.1 i) (sym w.4.1 i) (sym (w.7 ∙ ap raw_of w.6.1) i)))
-      (named_is store.enum tt store_name refl (word 0) op w.1 i)
-  call_is (NewTable ty init) w = λ i. option_and_then
-      (λ ty. option_map (λ init. Other (NewTable ty init)) (reference_is (word 4) (word 5) init w.2 i))
-      (table_is (word 0) (word 1) (word 2) (word 3) ty w.1 i)
+  call_is (Store op memory ptr offset value) w = λ i. option_map (λ op. Other (Store op (sym w.2.1 i) (sym w.3.1 i)
+      (sym w.4.1 i) (sym (w.7 ∙ ap raw_of w.6.1) i))) (named_is store.enum tt store_name refl (word 0) op w.1 i)
+  call_is (FillMemory memory dst value len) w = λ i. Some (Other
+      (FillMemory (sym w.1.1 i) (sym w.2.1 i) (sym w.3.1 i) (sym w.4.1 i)))
+  call_is (CopyMemory dst_memory dst src_memory src len) w = λ i. Some (Other (CopyMemory (sym w.1.1 i) (sym w.2.1 i)
+      (sym w.3.1 i) (sym w.4.1 i) (sym w.5.1 i)))
+  call_is (InitMemory memory segment dst src len) w = λ i. Some (Other (InitMemory (sym w.1.1 i) (sym w.2.1 i)
+      (sym w.3.1 i) (sym w.4.1 i) (sym w.5.1 i)))
+  call_is (NewTable ty init) w = λ i. option_and_then (λ ty. option_map (λ init. Other (NewTable ty init))
+      (reference_is (word 4) (word 5) init w.2 i)) (table_is (word 0) (word 1) (word 2) (word 3) ty w.1 i)
   call_is (GrowTable table delta init) w = λ i. option_map (λ init. Other (GrowTable (sym w.1.1 i) (sym w.2.1 i) init))
       (reference_is (word 2) (word 3) init w.3 i)
+  call_is (DropTable table) w = ap (beside drops_named) w.1 ∙ (λ i. Some (Other (DropTable (sym w.2.1 i))))
   call_is (GetElement table index) w = λ i. Some (Other (GetElement (sym w.1.1 i) (sym w.2.1 i)))
-  call_is (SetElement table index value) w = λ i.
-      option_map (λ value. Other (SetElement (sym w.1.1 i) (sym w.2.1 i) value))
-      (reference_is (word 2) (word 3) value w.3 i)
-  call_is (InitTable table segment dst src len) w = λ i.
-      Some (Other (InitTable (sym w.1.1 i) (sym w.2.1 i) (sym w.3.1 i) (sym w.4.1 i) (sym w.5.1 i)))
-  call_is (CopyTable dst_table dst src_table src len) w = λ i.
-      Some (Other (CopyTable (sym w.1.1 i) (sym w.2.1 i) (sym w.3.1 i) (sym w.4.1 i) (sym w.5.1 i)))
-  call_is (FillTable table dst value len) w = λ i.
-      option_map (λ value. Other (FillTable (sym w.1.1 i) (sym w.2.1 i) value (sym w.4.1 i)))
-      (reference_is (word 2) (word 3) value w.3 i)
-  call_is (NewSegment ty items) w =
-      λ i. option_map (λ ty. SegmentMeaning ty (numbers_is 32 (drop 1 words) items.items w.1 i))
+  call_is (SetElement table index value) w = λ i. option_map
+      (λ value. Other (SetElement (sym w.1.1 i) (sym w.2.1 i) value)) (reference_is (word 2) (word 3) value w.3 i)
+  call_is (InitTable table segment dst src len) w = λ i. Some (Other (InitTable (sym w.1.1 i) (sym w.2.1 i)
+      (sym w.3.1 i) (sym w.4.1 i) (sym w.5.1 i)))
+  call_is (CopyTable dst_table dst src_table src len) w = λ i. Some (Other (CopyTable (sym w.1.1 i) (sym w.2.1 i)
+      (sym w.3.1 i) (sym w.4.1 i) (sym w.5.1 i)))
+  call_is (FillTable table dst value len) w = λ i. option_map (λ value. Other
+      (FillTable (sym w.1.1 i) (sym w.2.1 i) value (sym w.4.1 i))) (reference_is (word 2) (word 3) value w.3 i)
+  call_is (NewSegment ty items) w = λ i. option_map
+      (λ ty. SegmentMeaning ty (numbers_is 32 (drop 1 words) items.items w.1 i))
       (named_is reference_type.enum tt reference_word refl (word 0) ty w.0.1 i)
   call_is (DropItems segment) w = λ i. Some (Other (DropItems (sym w.1.1 i)))
   call_is (NewData bytes) w = λ i. Some (DataMeaning (numbers_is 8 words bytes.items w i))
   call_is (DropData segment) w = λ i. Some (Other (DropData (sym w.1.1 i)))
-  call_is (NewGlobal value ty) w =
-      let lo = sym w.3.1 in
-      let hi = sym w.4.1 in
-      λ i. option_and_then (λ content. option_map (λ mutability.
-      Other (NewGlobal (record { lo = lo i; hi = hi i }) (record { content = content; mutability = mutability })))
+  call_is (NewGlobal value ty) w = λ i. option_and_then (λ content. option_map (λ mutability. Other (NewGlobal
+      (record { lo = sym w.3.1 i; hi = sym w.4.1 i }) (record { content = content; mutability = mutability })))
       (named_is mutability.enum tt mutability_word refl (word 1) ty.mutability w.2 i))
       (named_is value_type.enum tt value_word refl (word 0) ty.content w.1 i)
-  call_is (SetGlobal global value) w =
-      let lo = sym w.3.1 in
-      let hi = sym w.4.1 in
-      λ i. option_map (λ ty. Other
-      (SetGlobal (sym w.1.1 i) (record { ty = ty; raw = record { lo = lo i; hi = hi i } })))
+  call_is (SetGlobal global value) w = λ i. option_map (λ ty. Other (SetGlobal (sym w.1.1 i)
+      (record { ty = ty; raw = record { lo = sym w.3.1 i; hi = sym w.4.1 i } })))
       (named_is value_type.enum tt value_word refl (word 1) value.ty w.2 i)
   call_is (GetGlobal global) w = λ i. Some (Other (GetGlobal (sym w.1.1 i)))
-  call_is (SetRegister dst value) w = λ i.
-      Some (Other (SetRegister (sym w.1.1 i) (record { lo = sym w.2.1 i; hi = sym w.3.1 i })))
+  call_is (SetRegister dst value) w = λ i. Some (Other
+      (SetRegister (sym w.1.1 i) (record { lo = sym w.2.1 i; hi = sym w.3.1 i })))
   call_is (GetRegister a) w = λ i. Some (Other (GetRegister (sym w.1.1 i)))
   call_is (Make op dst a) w = λ i. option_map (λ op. Other (Make op (sym w.2.1 i) (sym w.3.1 i)))
       (named_is make.enum tt make_name refl (word 0) op w.1 i)
@@ -259,33 +260,33 @@ module _ (words : LineWords) where
       (named_is unary.enum tt unary_name refl (word 0) op w.1 i)
   call_is (Binary op dst a b) w = λ i. option_map (λ op. Other (Binary op (sym w.2.1 i) (sym w.3.1 i) (sym w.4.1 i)))
       (named_is binary.enum tt binary_name refl (word 0) op w.1 i)
-  call_is (Ternary op dst a b c) w = λ i.
-      option_map (λ op. Other (Ternary op (sym w.2.1 i) (sym w.3.1 i) (sym w.4.1 i) (sym w.5.1 i)))
+  call_is (Ternary op dst a b c) w = λ i. option_map (λ op. Other
+      (Ternary op (sym w.2.1 i) (sym w.3.1 i) (sym w.4.1 i) (sym w.5.1 i)))
       (named_is ternary.enum tt ternary_name refl (word 0) op w.1 i)
   call_is (Shift op dst a amount) w = λ i. option_map (λ op. Other (Shift op (sym w.2.1 i) (sym w.3.1 i) (sym w.4.1 i)))
       (named_is shift.enum tt shift_name refl (word 0) op w.1 i)
-  call_is (Test op a) w =
-      λ i. option_map (λ op. Other (Test op (sym w.2.1 i))) (named_is test.enum tt test_name refl (word 0) op w.1 i)
-  call_is (Extract op a) w = λ i. option_map (λ op. Other (Extract op (sym w.2.1 i)))
-      (lane_is extract.enum tt extract_name extract_op (word 0) (word 2) refl op w.1 i)
-  call_is (Replace op dst a item) w = λ i.
-      option_map (λ op. Other (Replace op (sym w.2.1 i) (sym w.3.1 i) (sym w.4.1 i)))
-      (lane_is replace.enum tt replace_name replace_op (word 0) (word 3) refl op w.1 i)
+  call_is (Test op a) w = λ i. option_map (λ op. Other (Test op (sym w.2.1 i)))
+      (named_is test.enum tt test_name refl (word 0) op w.1 i)
+  call_is (Extract op a) w = λ i. option_map (λ op. Other (Extract op (sym w.2.1 i))) (lane_is extract.enum tt
+      extract_name extract_op (word 0) (word 2) refl op w.1 i)
+  call_is (Replace op dst a item) w = λ i. option_map
+      (λ op. Other (Replace op (sym w.2.1 i) (sym w.3.1 i) (sym w.4.1 i))) (lane_is replace.enum tt replace_name
+      replace_op (word 0) (word 3) refl op w.1 i)
   call_is (Shuffle dst a b lanes) w = λ i. Some (Other (Shuffle (sym w.0.1.1 i) (sym w.0.2.1 i) (sym w.0.3.1 i)
       (numbers_is 5 (drop 3 words) lanes w.1.written i)))
-  call_is (VectorLoad op dst memory ptr offset) w = λ i.
-      option_map (λ op. Other (VectorLoad op (sym w.2.1 i) (sym w.3.1 i) (sym w.4.1 i) (sym w.5.1 i)))
+  call_is (VectorLoad op dst memory ptr offset) w = λ i. option_map (λ op. Other
+      (VectorLoad op (sym w.2.1 i) (sym w.3.1 i) (sym w.4.1 i) (sym w.5.1 i)))
       (named_is vector_load.enum tt vector_load_name refl (word 0) op w.1 i)
-  call_is (LoadLane op dst a memory ptr offset) w = λ i.
-      option_map (λ op. Other (LoadLane op (sym w.2.1 i) (sym w.3.1 i) (sym w.4.1 i) (sym w.5.1 i) (sym w.6.1 i)))
-      (lane_is load_lane.enum tt load_lane_name load_lane_op (word 0) (word 3) refl op w.1 i)
-  call_is (VectorStore a memory ptr offset) w = λ i.
-      Some (Other (VectorStore (sym w.1.1 i) (sym w.2.1 i) (sym w.3.1 i) (sym w.4.1 i)))
-  call_is (StoreLane op a memory ptr offset) w = λ i.
-      option_map (λ op. Other (StoreLane op (sym w.2.1 i) (sym w.3.1 i) (sym w.4.1 i) (sym w.5.1 i)))
-      (lane_is store_lane.enum tt store_lane_name store_lane_op (word 0) (word 2) refl op w.1 i)
-  call_is (DropMemory memory) w = ap (beside drops_named) w.1 ∙ (λ i. Some (Other (DropMemory (sym w.2.1 i))))
-  call_is (DropTable table) w = ap (beside drops_named) w.1 ∙ (λ i. Some (Other (DropTable (sym w.2.1 i))))
+  call_is (LoadLane op dst a memory ptr offset) w = λ i. option_map (λ op. Other (LoadLane op (sym w.2.1 i)
+      (sym w.3.1 i) (sym w.4.1 i) (sym w.5.1 i) (sym w.6.1 i))) (lane_is load_lane.enum tt load_lane_name load_lane_op
+      (word 0) (word 3) refl op w.1 i)
+  call_is (VectorStore a memory ptr offset) w = λ i. Some (Other
+      (VectorStore (sym w.1.1 i) (sym w.2.1 i) (sym w.3.1 i) (sym w.4.1 i)))
+  call_is (StoreLane op a memory ptr offset) w = λ i. option_map (λ op. Other
+      (StoreLane op (sym w.2.1 i) (sym w.3.1 i) (sym w.4.1 i) (sym w.5.1 i))) (lane_is store_lane.enum tt
+      store_lane_name store_lane_op (word 0) (word 2) refl op w.1 i)
+
+  -- What tools/generate writes ends.
 
   -- what the operands of each header line say, and those of `as`
   abbrev meter_named : MeterLine

@@ -61,6 +61,7 @@ pub record NamesTableType (element minimum maximum width : List ℕ) (ty : Table
   pub limits_words : WritesLimits minimum maximum width (table_limits ty)
   pub valid : table_type.IsValid ty
 
+-- What tools/generate writes begins.
 -- the word that a command begins with
 abbrev pub command_word : Call → List ℕ
 command_word (call.SetFuel fuel) = codes "fuel"
@@ -113,14 +114,14 @@ OperandsWrite count word (call.SetFuel fuel) = (count ≡ 1) × WritesNumber 64 
 OperandsWrite count word call.GetFuel = count ≡ 0
 OperandsWrite count word (call.NewMemory ty) = (count ≡ 4) × NamesType (word 0) (word 1) (word 2) (word 3) ty
 OperandsWrite count word (call.NewLentMemory ty) = (count ≡ 4) × NamesType (word 0) (word 1) (word 2) (word 3) ty
-OperandsWrite count word (call.GrowMemory memory pages) =
-    (count ≡ 2) × WritesNumber 64 (word 0) memory × WritesNumber 64 (word 1) pages
-OperandsWrite count word (call.DropMemory memory) =
-    (count ≡ 2) × (word 0 ≡ codes "memory") × WritesNumber 64 (word 1) memory
-OperandsWrite count word (call.Read memory offset len) =
-    (count ≡ 3) × WritesNumber 64 (word 0) memory × WritesNumber 64 (word 1) offset × WritesNumber 64 (word 2) len
-OperandsWrite count word (call.Write memory offset bytes) =
-    (2 ≤ count) × WritesNumber 64 (word 0) memory × WritesNumber 64 (word 1) offset
+OperandsWrite count word (call.GrowMemory memory pages) = (count ≡ 2) × WritesNumber 64 (word 0) memory
+    × WritesNumber 64 (word 1) pages
+OperandsWrite count word (call.DropMemory memory) = (count ≡ 2) × (word 0 ≡ codes "memory")
+    × WritesNumber 64 (word 1) memory
+OperandsWrite count word (call.Read memory offset len) = (count ≡ 3) × WritesNumber 64 (word 0) memory
+    × WritesNumber 64 (word 1) offset × WritesNumber 64 (word 2) len
+OperandsWrite count word (call.Write memory offset bytes) = (2 ≤ count) × WritesNumber 64 (word 0) memory
+    × WritesNumber 64 (word 1) offset
 OperandsWrite count word (call.Load op memory ptr offset) = (count ≡ 4) × IsName load_name (word 0) op
     × WritesNumber 64 (word 1) memory × WritesNumber 64 (word 2) ptr × WritesNumber 64 (word 3) offset
 OperandsWrite count word (call.Store op memory ptr offset value) = (count ≡ 5) × IsName store_name (word 0) op
@@ -128,30 +129,28 @@ OperandsWrite count word (call.Store op memory ptr offset value) = (count ≡ 5)
     × WritesNumber 64 (word 4) lo × (value ≡ raw_of lo)
 OperandsWrite count word (call.FillMemory memory dst value len) = (count ≡ 4) × WritesNumber 64 (word 0) memory
     × WritesNumber 64 (word 1) dst × WritesNumber 8 (word 2) value × WritesNumber 64 (word 3) len
-OperandsWrite count word (call.CopyMemory dst_memory dst src_memory src len) =
-    (count ≡ 5) × WritesNumber 64 (word 0) dst_memory
-    × WritesNumber 64 (word 1) dst × WritesNumber 64 (word 2) src_memory × WritesNumber 64 (word 3) src
-    × WritesNumber 64 (word 4) len
+OperandsWrite count word (call.CopyMemory dst_memory dst src_memory src len) = (count ≡ 5)
+    × WritesNumber 64 (word 0) dst_memory × WritesNumber 64 (word 1) dst × WritesNumber 64 (word 2) src_memory
+    × WritesNumber 64 (word 3) src × WritesNumber 64 (word 4) len
 OperandsWrite count word (call.InitMemory memory segment dst src len) = (count ≡ 5) × WritesNumber 64 (word 0) memory
     × WritesNumber 64 (word 1) segment × WritesNumber 64 (word 2) dst × WritesNumber 32 (word 3) src
     × WritesNumber 32 (word 4) len
-OperandsWrite count word (call.NewTable ty init) =
-    (count ≡ 6) × NamesTableType (word 0) (word 1) (word 2) (word 3) ty × WritesReference (word 4) (word 5) init
+OperandsWrite count word (call.NewTable ty init) = (count ≡ 6) × NamesTableType (word 0) (word 1) (word 2) (word 3) ty
+    × WritesReference (word 4) (word 5) init
 OperandsWrite count word (call.GrowTable table delta init) = (count ≡ 4) × WritesNumber 64 (word 0) table
     × WritesNumber 64 (word 1) delta × WritesReference (word 2) (word 3) init
-OperandsWrite count word (call.DropTable table) =
-    (count ≡ 2) × (word 0 ≡ codes "table") × WritesNumber 64 (word 1) table
-OperandsWrite count word (call.GetElement table index) =
-    (count ≡ 2) × WritesNumber 64 (word 0) table × WritesNumber 64 (word 1) index
+OperandsWrite count word (call.DropTable table) = (count ≡ 2) × (word 0 ≡ codes "table")
+    × WritesNumber 64 (word 1) table
+OperandsWrite count word (call.GetElement table index) = (count ≡ 2) × WritesNumber 64 (word 0) table
+    × WritesNumber 64 (word 1) index
 OperandsWrite count word (call.SetElement table index value) = (count ≡ 4) × WritesNumber 64 (word 0) table
     × WritesNumber 64 (word 1) index × WritesReference (word 2) (word 3) value
 OperandsWrite count word (call.InitTable table segment dst src len) = (count ≡ 5) × WritesNumber 64 (word 0) table
     × WritesNumber 64 (word 1) segment × WritesNumber 64 (word 2) dst × WritesNumber 32 (word 3) src
     × WritesNumber 32 (word 4) len
-OperandsWrite count word (call.CopyTable dst_table dst src_table src len) =
-    (count ≡ 5) × WritesNumber 64 (word 0) dst_table
-    × WritesNumber 64 (word 1) dst × WritesNumber 64 (word 2) src_table × WritesNumber 64 (word 3) src
-    × WritesNumber 64 (word 4) len
+OperandsWrite count word (call.CopyTable dst_table dst src_table src len) = (count ≡ 5)
+    × WritesNumber 64 (word 0) dst_table × WritesNumber 64 (word 1) dst × WritesNumber 64 (word 2) src_table
+    × WritesNumber 64 (word 3) src × WritesNumber 64 (word 4) len
 OperandsWrite count word (call.FillTable table dst value len) = (count ≡ 5) × WritesNumber 64 (word 0) table
     × WritesNumber 64 (word 1) dst × WritesReference (word 2) (word 3) value × WritesNumber 64 (word 4) len
 OperandsWrite count word (call.NewSegment ty items) = (1 ≤ count) × (word 0 ≡ reference_word ty)
@@ -163,13 +162,13 @@ OperandsWrite count word (call.NewGlobal value ty) = (count ≡ 4) × (word 0 �
 OperandsWrite count word (call.SetGlobal global value) = (count ≡ 4) × WritesNumber 64 (word 0) global
     × (word 1 ≡ value_word value.ty) × WritesNumber 64 (word 2) value.raw.lo × WritesNumber 64 (word 3) value.raw.hi
 OperandsWrite count word (call.GetGlobal global) = (count ≡ 1) × WritesNumber 64 (word 0) global
-OperandsWrite count word (call.SetRegister dst value) =
-    (count ≡ 3) × WritesNumber 8 (word 0) dst × WritesNumber 64 (word 1) value.lo × WritesNumber 64 (word 2) value.hi
+OperandsWrite count word (call.SetRegister dst value) = (count ≡ 3) × WritesNumber 8 (word 0) dst
+    × WritesNumber 64 (word 1) value.lo × WritesNumber 64 (word 2) value.hi
 OperandsWrite count word (call.GetRegister a) = (count ≡ 1) × WritesNumber 8 (word 0) a
-OperandsWrite count word (call.Make op dst a) =
-    (count ≡ 3) × IsName make_name (word 0) op × WritesNumber 8 (word 1) dst × WritesNumber 8 (word 2) a
-OperandsWrite count word (call.Unary op dst a) =
-    (count ≡ 3) × IsName unary_name (word 0) op × WritesNumber 8 (word 1) dst × WritesNumber 8 (word 2) a
+OperandsWrite count word (call.Make op dst a) = (count ≡ 3) × IsName make_name (word 0) op × WritesNumber 8 (word 1) dst
+    × WritesNumber 8 (word 2) a
+OperandsWrite count word (call.Unary op dst a) = (count ≡ 3) × IsName unary_name (word 0) op
+    × WritesNumber 8 (word 1) dst × WritesNumber 8 (word 2) a
 OperandsWrite count word (call.Binary op dst a b) = (count ≡ 4) × IsName binary_name (word 0) op
     × WritesNumber 8 (word 1) dst × WritesNumber 8 (word 2) a × WritesNumber 8 (word 3) b
 OperandsWrite count word (call.Ternary op dst a b c) = (count ≡ 5) × IsName ternary_name (word 0) op
@@ -177,25 +176,27 @@ OperandsWrite count word (call.Ternary op dst a b c) = (count ≡ 5) × IsName t
 OperandsWrite count word (call.Shift op dst a amount) = (count ≡ 4) × IsName shift_name (word 0) op
     × WritesNumber 8 (word 1) dst × WritesNumber 8 (word 2) a × WritesNumber 32 (word 3) amount
 OperandsWrite count word (call.Test op a) = (count ≡ 2) × IsName test_name (word 0) op × WritesNumber 8 (word 1) a
-OperandsWrite count word (call.Extract op a) =
-    (count ≡ 3) × NamesLane extract_name extract_op (word 0) (word 2) op × WritesNumber 8 (word 1) a
-OperandsWrite count word (call.Replace op dst a item) =
-    (count ≡ 5) × NamesLane replace_name replace_op (word 0) (word 3) op
-    × WritesNumber 8 (word 1) dst × WritesNumber 8 (word 2) a × WritesNumber 8 (word 4) item
-OperandsWrite count word (call.Shuffle dst a b lanes) =
-    (3 ≤ count) × WritesNumber 8 (word 0) dst × WritesNumber 8 (word 1) a × WritesNumber 8 (word 2) b
+OperandsWrite count word (call.Extract op a) = (count ≡ 3) × NamesLane extract_name extract_op (word 0) (word 2) op
+    × WritesNumber 8 (word 1) a
+OperandsWrite count word (call.Replace op dst a item) = (count ≡ 5)
+    × NamesLane replace_name replace_op (word 0) (word 3) op × WritesNumber 8 (word 1) dst × WritesNumber 8 (word 2) a
+    × WritesNumber 8 (word 4) item
+OperandsWrite count word (call.Shuffle dst a b lanes) = (3 ≤ count) × WritesNumber 8 (word 0) dst
+    × WritesNumber 8 (word 1) a × WritesNumber 8 (word 2) b
 OperandsWrite count word (call.VectorLoad op dst memory ptr offset) = (count ≡ 5) × IsName vector_load_name (word 0) op
     × WritesNumber 8 (word 1) dst × WritesNumber 64 (word 2) memory × WritesNumber 64 (word 3) ptr
     × WritesNumber 64 (word 4) offset
-OperandsWrite count word (call.LoadLane op dst a memory ptr offset) =
-    (count ≡ 7) × NamesLane load_lane_name load_lane_op (word 0) (word 3) op × WritesNumber 8 (word 1) dst
+OperandsWrite count word (call.LoadLane op dst a memory ptr offset) = (count ≡ 7)
+    × NamesLane load_lane_name load_lane_op (word 0) (word 3) op × WritesNumber 8 (word 1) dst
     × WritesNumber 8 (word 2) a × WritesNumber 64 (word 4) memory × WritesNumber 64 (word 5) ptr
     × WritesNumber 64 (word 6) offset
 OperandsWrite count word (call.VectorStore a memory ptr offset) = (count ≡ 4) × WritesNumber 8 (word 0) a
     × WritesNumber 64 (word 1) memory × WritesNumber 64 (word 2) ptr × WritesNumber 64 (word 3) offset
-OperandsWrite count word (call.StoreLane op a memory ptr offset) =
-    (count ≡ 6) × NamesLane store_lane_name store_lane_op (word 0) (word 2) op × WritesNumber 8 (word 1) a
+OperandsWrite count word (call.StoreLane op a memory ptr offset) = (count ≡ 6)
+    × NamesLane store_lane_name store_lane_op (word 0) (word 2) op × WritesNumber 8 (word 1) a
     × WritesNumber 64 (word 3) memory × WritesNumber 64 (word 4) ptr × WritesNumber 64 (word 5) offset
+
+-- What tools/generate writes ends.
 
 -- the words after the first write what the call is given: its list, if it has one, is what the last of them write
 abbrev pub WritesOperands : LineWords → Call → Type 0
@@ -214,6 +215,7 @@ WritesOperands words call = OperandsWrite (length words) (word_at words) call
 abbrev pub NamesAfter : List ℕ → LineWords → Call → Type 0
 NamesAfter name operands call = (command_word call ≡ name) × WritesOperands operands call
 
+-- What tools/generate writes begins.
 -- a word that a command of the meter, of a global or of a register begins with
 abbrev pub IsValueWord : List ℕ → Type 0
 IsValueWord name = (name ≡ codes "fuel") ⊎ (name ≡ codes "left") ⊎ (name ≡ codes "global") ⊎ (name ≡ codes "gset")
@@ -221,16 +223,24 @@ IsValueWord name = (name ≡ codes "fuel") ⊎ (name ≡ codes "left") ⊎ (name
 
 -- a word that a command of a memory begins with, or one that drops a memory or a table
 abbrev pub IsMemoryWord : List ℕ → Type 0
-IsMemoryWord name = (name ≡ codes "memory") ⊎ (name ≡ codes "lent") ⊎ (name ≡ codes "grow") ⊎ (name ≡ codes "drop") ⊎ (name ≡ codes "read") ⊎ (name ≡ codes "mfill") ⊎ (name ≡ codes "mcopy") ⊎ (name ≡ codes "minit")
+IsMemoryWord name = (name ≡ codes "memory") ⊎ (name ≡ codes "lent") ⊎ (name ≡ codes "grow") ⊎ (name ≡ codes "drop")
+    ⊎ (name ≡ codes "read") ⊎ (name ≡ codes "mfill") ⊎ (name ≡ codes "mcopy") ⊎ (name ≡ codes "minit")
 
 -- a word that a command begins with which loads or stores
 abbrev pub IsAccessWord : List ℕ → Type 0
-IsAccessWord name = (name ≡ codes "load") ⊎ (name ≡ codes "store") ⊎ (name ≡ codes "vload") ⊎ (name ≡ codes "vloadlane") ⊎ (name ≡ codes "vstore") ⊎ (name ≡ codes "vstorelane")
+IsAccessWord name = (name ≡ codes "load") ⊎ (name ≡ codes "store") ⊎ (name ≡ codes "vload") ⊎ (name ≡ codes "vloadlane")
+    ⊎ (name ≡ codes "vstore") ⊎ (name ≡ codes "vstorelane")
 
 -- a word that a command of a table begins with, or one that empties a segment
 abbrev pub IsTableWord : List ℕ → Type 0
-IsTableWord name = (name ≡ codes "table") ⊎ (name ≡ codes "tgrow") ⊎ (name ≡ codes "get") ⊎ (name ≡ codes "tset") ⊎ (name ≡ codes "init") ⊎ (name ≡ codes "copy") ⊎ (name ≡ codes "fill") ⊎ (name ≡ codes "empty") ⊎ (name ≡ codes "dempty")
+IsTableWord name = (name ≡ codes "table") ⊎ (name ≡ codes "tgrow") ⊎ (name ≡ codes "get") ⊎ (name ≡ codes "tset")
+    ⊎ (name ≡ codes "init") ⊎ (name ≡ codes "copy") ⊎ (name ≡ codes "fill") ⊎ (name ≡ codes "empty")
+    ⊎ (name ≡ codes "dempty")
 
 -- a word that a command of a vector instruction begins with
 abbrev pub IsVectorWord : List ℕ → Type 0
-IsVectorWord name = (name ≡ codes "make") ⊎ (name ≡ codes "unary") ⊎ (name ≡ codes "binary") ⊎ (name ≡ codes "ternary") ⊎ (name ≡ codes "shift") ⊎ (name ≡ codes "test") ⊎ (name ≡ codes "extract") ⊎ (name ≡ codes "replace") ⊎ (name ≡ codes "shuffle")
+IsVectorWord name = (name ≡ codes "make") ⊎ (name ≡ codes "unary") ⊎ (name ≡ codes "binary") ⊎ (name ≡ codes "ternary")
+    ⊎ (name ≡ codes "shift") ⊎ (name ≡ codes "test") ⊎ (name ≡ codes "extract") ⊎ (name ≡ codes "replace")
+    ⊎ (name ≡ codes "shuffle")
+
+-- What tools/generate writes ends.

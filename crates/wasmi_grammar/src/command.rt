@@ -32,6 +32,7 @@ pub(crate) fn command(alloc: Global, name: &str, operands: &[&str]) -> Result<Ca
         "write" => write(alloc, operands),
         "segment" => new_segment(alloc, operands),
         "data" => new_data(alloc, operands),
+        // What tools/generate writes begins.
         "fuel" | "left" | "global" | "gset" | "gget" | "set" | "show" => {
             values_call(name, operands)
         }
@@ -53,6 +54,7 @@ pub(crate) fn command(alloc: Global, name: &str, operands: &[&str]) -> Result<Ca
         | "extract"
         | "replace"
         | "shuffle" => vector_call(name, operands),
+        // What tools/generate writes ends.
         _ => Err(LineError::BadCommand),
     }
 }
@@ -100,11 +102,13 @@ fn memory_call(name: &str, operands: &[&str]) -> Result<Call, LineError>
     match name {
         "memory" => Ok(Call::NewMemory(memory_type(operands)?)),
         "lent" => Ok(Call::NewLentMemory(memory_type(operands)?)),
+        // What tools/generate writes begins.
         "grow" => call!(operands, two => GrowMemory { memory, pages }),
         "read" => call!(operands, three => Read { memory, offset, len }),
         "mfill" => call!(operands, four => FillMemory { memory, dst, value, len }),
         "mcopy" => call!(operands, five => CopyMemory { dst_memory, dst, src_memory, src, len }),
         "minit" => call!(operands, five => InitMemory { memory, segment, dst, src, len }),
+        // What tools/generate writes ends.
         _ => drop_live(operands),
     }
 }
@@ -159,7 +163,6 @@ fn access_call(name: &str, operands: &[&str]) -> Result<Call, LineError>
     ensures call { Accepts result (NamesAfter name.now operands.now) }
 {
     match name {
-        "load" => call!(operands, four => Load { op, memory, ptr, offset }),
         "store" => {
             let (op, memory, ptr, offset, lo) = operand::five(operands)?;
             Ok(Call::Store {
@@ -170,9 +173,12 @@ fn access_call(name: &str, operands: &[&str]) -> Result<Call, LineError>
                 value: RawVal::from_bits64(lo),
             })
         }
-        "vload" => call!(operands, five => VectorLoad { op, dst, memory, ptr, offset }),
         "vloadlane" => load_lane(operands),
+        // What tools/generate writes begins.
+        "load" => call!(operands, four => Load { op, memory, ptr, offset }),
+        "vload" => call!(operands, five => VectorLoad { op, dst, memory, ptr, offset }),
         "vstore" => call!(operands, four => VectorStore { a, memory, ptr, offset }),
+        // What tools/generate writes ends.
         _ => store_lane(operands),
     }
 }
@@ -229,7 +235,6 @@ fn table_call(name: &str, operands: &[&str]) -> Result<Call, LineError>
                 init: TypedRawRef::new(raw, ty),
             })
         }
-        "get" => call!(operands, two => GetElement { table, index }),
         "tset" => {
             let (table, index, ty, raw) = operand::four(operands)?;
             Ok(Call::SetElement {
@@ -238,8 +243,6 @@ fn table_call(name: &str, operands: &[&str]) -> Result<Call, LineError>
                 value: TypedRawRef::new(raw, ty),
             })
         }
-        "init" => call!(operands, five => InitTable { table, segment, dst, src, len }),
-        "copy" => call!(operands, five => CopyTable { dst_table, dst, src_table, src, len }),
         "fill" => {
             let (table, dst, ty, raw, len) = operand::five(operands)?;
             Ok(Call::FillTable {
@@ -250,6 +253,11 @@ fn table_call(name: &str, operands: &[&str]) -> Result<Call, LineError>
             })
         }
         "dempty" => Ok(Call::DropData(operand::one(operands)?)),
+        // What tools/generate writes begins.
+        "get" => call!(operands, two => GetElement { table, index }),
+        "init" => call!(operands, five => InitTable { table, segment, dst, src, len }),
+        "copy" => call!(operands, five => CopyTable { dst_table, dst, src_table, src, len }),
+        // What tools/generate writes ends.
         _ => Ok(Call::DropItems(operand::one(operands)?)),
     }
 }
@@ -322,14 +330,16 @@ fn vector_call(name: &str, operands: &[&str]) -> Result<Call, LineError>
     ensures call { Accepts result (NamesAfter name.now operands.now) }
 {
     match name {
+        "extract" => extract(operands),
+        "replace" => replace(operands),
+        // What tools/generate writes begins.
         "make" => call!(operands, three => Make { op, dst, a }),
         "unary" => call!(operands, three => Unary { op, dst, a }),
         "binary" => call!(operands, four => Binary { op, dst, a, b }),
         "ternary" => call!(operands, five => Ternary { op, dst, a, b, c }),
         "shift" => call!(operands, four => Shift { op, dst, a, amount }),
         "test" => call!(operands, two => Test { op, a }),
-        "extract" => extract(operands),
-        "replace" => replace(operands),
+        // What tools/generate writes ends.
         _ => shuffle(operands),
     }
 }

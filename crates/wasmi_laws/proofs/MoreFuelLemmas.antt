@@ -33,6 +33,7 @@ use Rattle.wasmi_machine.specs.MemoryEffects.{byte_write_of}
 use Rattle.wasmi_machine.specs.TableEffects.{write_of}
 use Rattle.wasmi_machine.proofs.AccountLemmas.{Growing, after, before, growing, grows_takes}
 use Rattle.wasmi_machine.proofs.EffectLemmas.{both_live, on_live_too, on_test_too}
+use Rattle.wasmi_machine.proofs.ToldLemmas.{optional_accepts}
 use Rattle.wasmi_machine.proofs.RangeLemmas.{IsRange, KeepsMemory, KeepsTable, byte_range, source_range}
 use Rattle.wasmi_laws.specs.Runs.{HasFuel, MoreFuelChangesNothing, NamesNoFuel, meter_with_more, world_with_more}
 
@@ -389,14 +390,6 @@ module _ (more : ℕ) {S : Type 0} (rules : Rules S) (accepts : AcceptsNotices r
     run_richer v turns w' (All-tail NamesNoFuel turn.call (map Turn.call turns) others)
         (All-tail HasFuel turn.reply (map Turn.reply turns) has) ran,
   )
-
--- a limiter that may be absent accepts each notice if the limiter does
-optional_accepts : {L : Type 0} (rules : Rules L) → AcceptsNotices rules → AcceptsNotices (optional_rules rules)
-optional_accepts rules accepts (Some l) failure notice_answer (Some l') notices =
-    accepts l failure notice_answer l' notices
-optional_accepts rules accepts (Some l) failure notice_answer None notices = absurd notices
-optional_accepts rules accepts None failure notice_answer (Some l') notices = absurd notices
-optional_accepts rules accepts None failure notice_answer None notices = notices
 
 -- a run under a limiter that accepts each notice
 pub more_fuel_changes_nothing : {L : Type 0} (rules : Rules L) → MoreFuelChangesNothing rules

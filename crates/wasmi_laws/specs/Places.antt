@@ -60,27 +60,26 @@ content_at (DataAt k) s = slice_get s.data_segments k
 content_at (GlobalAt k) s = slice_get s.globals k
 content_at (RegisterAt k) s = slice_get s.registers k
 
+-- What tools/generate writes begins.
 -- the one index at which a call may change what is there; a call that makes something, or that only reads, changes what
 -- is at none
 abbrev pub changed_location : Call → Option Location
-changed_location (call.GrowMemory k pages) = Some (MemoryAt k)
-changed_location (call.DropMemory k) = Some (MemoryAt k)
-changed_location (call.Write k offset bytes) = Some (MemoryAt k)
-changed_location (call.Store op k ptr offset value) = Some (MemoryAt k)
-changed_location (call.FillMemory k dst value len) = Some (MemoryAt k)
-changed_location (call.CopyMemory k dst j src len) = Some (MemoryAt k)
-changed_location (call.InitMemory k j dst src len) = Some (MemoryAt k)
-changed_location (call.VectorStore a k ptr offset) = Some (MemoryAt k)
-changed_location (call.StoreLane op a k ptr offset) = Some (MemoryAt k)
-changed_location (call.GrowTable k n init) = Some (TableAt k)
-changed_location (call.DropTable k) = Some (TableAt k)
-changed_location (call.SetElement k index value) = Some (TableAt k)
-changed_location (call.InitTable k j dst src len) = Some (TableAt k)
-changed_location (call.CopyTable k dst j src len) = Some (TableAt k)
-changed_location (call.FillTable k dst value len) = Some (TableAt k)
-changed_location (call.DropItems k) = Some (SegmentAt k)
-changed_location (call.DropData k) = Some (DataAt k)
-changed_location (call.SetGlobal k value) = Some (GlobalAt k)
+changed_location (call.GrowMemory memory pages) = Some (MemoryAt memory)
+changed_location (call.DropMemory memory) = Some (MemoryAt memory)
+changed_location (call.Write memory offset bytes) = Some (MemoryAt memory)
+changed_location (call.Store op memory ptr offset value) = Some (MemoryAt memory)
+changed_location (call.FillMemory memory dst value len) = Some (MemoryAt memory)
+changed_location (call.CopyMemory dst_memory dst src_memory src len) = Some (MemoryAt dst_memory)
+changed_location (call.InitMemory memory segment dst src len) = Some (MemoryAt memory)
+changed_location (call.GrowTable table delta init) = Some (TableAt table)
+changed_location (call.DropTable table) = Some (TableAt table)
+changed_location (call.SetElement table index value) = Some (TableAt table)
+changed_location (call.InitTable table segment dst src len) = Some (TableAt table)
+changed_location (call.CopyTable dst_table dst src_table src len) = Some (TableAt dst_table)
+changed_location (call.FillTable table dst value len) = Some (TableAt table)
+changed_location (call.DropItems segment) = Some (SegmentAt segment)
+changed_location (call.DropData segment) = Some (DataAt segment)
+changed_location (call.SetGlobal global value) = Some (GlobalAt global)
 changed_location (call.SetRegister dst value) = Some (RegisterAt dst)
 changed_location (call.Make op dst a) = Some (RegisterAt dst)
 changed_location (call.Unary op dst a) = Some (RegisterAt dst)
@@ -89,26 +88,28 @@ changed_location (call.Ternary op dst a b c) = Some (RegisterAt dst)
 changed_location (call.Shift op dst a amount) = Some (RegisterAt dst)
 changed_location (call.Replace op dst a item) = Some (RegisterAt dst)
 changed_location (call.Shuffle dst a b lanes) = Some (RegisterAt dst)
-changed_location (call.VectorLoad op dst k ptr offset) = Some (RegisterAt dst)
-changed_location (call.LoadLane op dst a k ptr offset) = Some (RegisterAt dst)
+changed_location (call.VectorLoad op dst memory ptr offset) = Some (RegisterAt dst)
+changed_location (call.LoadLane op dst a memory ptr offset) = Some (RegisterAt dst)
+changed_location (call.VectorStore a memory ptr offset) = Some (MemoryAt memory)
+changed_location (call.StoreLane op a memory ptr offset) = Some (MemoryAt memory)
 changed_location call = None
 
 -- the index at which a call drops a memory or a table
 abbrev pub dropped_location : Call → Option Location
-dropped_location (call.DropMemory k) = Some (MemoryAt k)
-dropped_location (call.DropTable k) = Some (TableAt k)
+dropped_location (call.DropMemory memory) = Some (MemoryAt memory)
+dropped_location (call.DropTable table) = Some (TableAt table)
 dropped_location call = None
 
 -- the other indices of which a call reads what is there
 abbrev pub read_locations : Call → List Location
-read_locations (call.Read k offset len) = MemoryAt k ∷ []
-read_locations (call.Load op k ptr offset) = MemoryAt k ∷ []
-read_locations (call.CopyMemory k dst j src len) = MemoryAt j ∷ []
-read_locations (call.InitMemory k j dst src len) = DataAt j ∷ []
-read_locations (call.GetElement k index) = TableAt k ∷ []
-read_locations (call.InitTable k j dst src len) = SegmentAt j ∷ []
-read_locations (call.CopyTable k dst j src len) = TableAt j ∷ []
-read_locations (call.GetGlobal k) = GlobalAt k ∷ []
+read_locations (call.Read memory offset len) = MemoryAt memory ∷ []
+read_locations (call.Load op memory ptr offset) = MemoryAt memory ∷ []
+read_locations (call.CopyMemory dst_memory dst src_memory src len) = MemoryAt src_memory ∷ []
+read_locations (call.InitMemory memory segment dst src len) = DataAt segment ∷ []
+read_locations (call.GetElement table index) = TableAt table ∷ []
+read_locations (call.InitTable table segment dst src len) = SegmentAt segment ∷ []
+read_locations (call.CopyTable dst_table dst src_table src len) = TableAt src_table ∷ []
+read_locations (call.GetGlobal global) = GlobalAt global ∷ []
 read_locations (call.GetRegister a) = RegisterAt a ∷ []
 read_locations (call.Make op dst a) = RegisterAt a ∷ []
 read_locations (call.Unary op dst a) = RegisterAt a ∷ []
@@ -119,10 +120,10 @@ read_locations (call.Test op a) = RegisterAt a ∷ []
 read_locations (call.Extract op a) = RegisterAt a ∷ []
 read_locations (call.Replace op dst a item) = RegisterAt a ∷ RegisterAt item ∷ []
 read_locations (call.Shuffle dst a b lanes) = RegisterAt a ∷ RegisterAt b ∷ []
-read_locations (call.VectorLoad op dst k ptr offset) = MemoryAt k ∷ []
-read_locations (call.LoadLane op dst a k ptr offset) = RegisterAt a ∷ MemoryAt k ∷ []
-read_locations (call.VectorStore a k ptr offset) = RegisterAt a ∷ []
-read_locations (call.StoreLane op a k ptr offset) = RegisterAt a ∷ []
+read_locations (call.VectorLoad op dst memory ptr offset) = MemoryAt memory ∷ []
+read_locations (call.LoadLane op dst a memory ptr offset) = RegisterAt a ∷ MemoryAt memory ∷ []
+read_locations (call.VectorStore a memory ptr offset) = RegisterAt a ∷ []
+read_locations (call.StoreLane op a memory ptr offset) = RegisterAt a ∷ []
 read_locations call = []
 
 -- a call acts on what is at indices alone: it makes nothing, is never charged, and reaches neither the meter nor the
@@ -132,19 +133,21 @@ IsLocal (call.SetFuel fuel) = ⊥
 IsLocal call.GetFuel = ⊥
 IsLocal (call.NewMemory ty) = ⊥
 IsLocal (call.NewLentMemory ty) = ⊥
-IsLocal (call.GrowMemory k pages) = ⊥
-IsLocal (call.FillMemory k dst value len) = ⊥
-IsLocal (call.CopyMemory k dst j src len) = ⊥
-IsLocal (call.InitMemory k j dst src len) = ⊥
+IsLocal (call.GrowMemory memory pages) = ⊥
+IsLocal (call.FillMemory memory dst value len) = ⊥
+IsLocal (call.CopyMemory dst_memory dst src_memory src len) = ⊥
+IsLocal (call.InitMemory memory segment dst src len) = ⊥
 IsLocal (call.NewTable ty init) = ⊥
-IsLocal (call.GrowTable k n init) = ⊥
-IsLocal (call.InitTable k j dst src len) = ⊥
-IsLocal (call.CopyTable k dst j src len) = ⊥
-IsLocal (call.FillTable k dst value len) = ⊥
+IsLocal (call.GrowTable table delta init) = ⊥
+IsLocal (call.InitTable table segment dst src len) = ⊥
+IsLocal (call.CopyTable dst_table dst src_table src len) = ⊥
+IsLocal (call.FillTable table dst value len) = ⊥
 IsLocal (call.NewSegment ty items) = ⊥
 IsLocal (call.NewData bytes) = ⊥
 IsLocal (call.NewGlobal value ty) = ⊥
 IsLocal call = Unit {0}
+
+-- What tools/generate writes ends.
 
 -- a call may not change what is at this index
 abbrev pub LeavesAlone : Location → Call → Type 0

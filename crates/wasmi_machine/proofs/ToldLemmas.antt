@@ -129,6 +129,14 @@ module _ {L : Type 0} (rules : Rules L) (IsAccepting : L → Type 0) (stays : St
   optional_stays : StaysAccepting (optional_rules rules) (IsIn IsAccepting)
   optional_stays = record { asked = asked_stays; noticed = noticed_stays }
 
+-- a limiter that may be absent accepts each notice if the limiter does
+pub optional_accepts : {L : Type 0} (rules : Rules L) → AcceptsNotices rules → AcceptsNotices (optional_rules rules)
+optional_accepts rules accepts (Some l) failure notice_answer (Some l') notices =
+    accepts l failure notice_answer l' notices
+optional_accepts rules accepts (Some l) failure notice_answer None notices = absurd notices
+optional_accepts rules accepts None failure notice_answer (Some l') notices = absurd notices
+optional_accepts rules accepts None failure notice_answer None notices = notices
+
 -- the limiter that permits everything
 pub unlimited_accepts : {S : Type 0} → AcceptsNotices (unlimited_rules {S = S})
 unlimited_accepts l failure notice_answer l' noticed = noticed.0

@@ -1,5 +1,5 @@
 -- The sizes of slots as slots change, and a copy between two slots.
-use Rattle.std.proofs.Common.{◌≡◌, ◌<◌, ◌++◌, ℕ, List, length, get_or, set, Some, ap, sym, ◌∙◌, arith, None, Option, [], map, sum, ◌+◌, ◌∷◌}
+use Rattle.std.proofs.Common.{◌≡◌, ◌<◌, ◌++◌, ℕ, List, length, get_or, set, Some, ap, refl, sym, ◌∙◌, arith, None, Option, [], map, sum, ◌+◌, ◌∷◌}
 use Rattle.std.specs.List.{SameBelow, TailFrom}
 use Rattle.std.specs.Prelude.{slice_get, slice_set}
 use Rattle.std.proofs.lemmas.List.{set-append_left, set-append_right, set-get_or, map-set}
@@ -9,8 +9,9 @@ use Rattle.wasmi_meter.specs.Attempt.{MeteredValue}
 use Rattle.wasmi_store.specs.Write.{MeteredWrite}
 use Rattle.wasmi_machine.specs.declared.calls.Reply.{Reply}
 use Rattle.wasmi_machine.specs.declared.slots.Slot.{Slot}
+use Rattle.wasmi_machine.specs.declared.slots.SlotCounts.{SlotCounts}
 use Rattle.wasmi_machine.specs.declared.slots.Slot.TheVariants.{Live, Gone}
-use Rattle.wasmi_machine.specs.State.{live_at, live_value, slot_count}
+use Rattle.wasmi_machine.specs.State.{State, live_at, live_value, slot_count, total, with_reserved}
 use Rattle.wasmi_machine.specs.Effects.{CopiesSlot, MeteredSlots, WritesFrom}
 use Rattle.wasmi_store.specs.Growth.{metered}
 use Rattle.std.proofs.lemmas.List.Sums.{sum_by-set, sum_by_push}
@@ -145,3 +146,8 @@ sum_push xs desired = sum_by_push (λ x. x) xs desired
 pub each_kind : (P : Kind → Type 0) → P Bytes → P Elements → (kind : Kind) → P kind
 each_kind P bytes elements Bytes = bytes
 each_kind P bytes elements Elements = elements
+
+-- a machine has what it had where slots are reserved
+pub slots_alike : (s : State) (more : SlotCounts) (kind : Kind) → total (with_reserved s more) kind ≡ total s kind
+slots_alike s more Bytes = refl
+slots_alike s more Elements = refl

@@ -16,11 +16,11 @@ use Rattle.wasmi_store.specs.Memory as memory
 use Rattle.wasmi_store.specs.Table as table
 use Rattle.wasmi_store.specs.Table.{TableValue, same_type}
 use Rattle.wasmi_machine.specs.declared.calls.Call.{Call}
-use Rattle.wasmi_machine.specs.declared.calls.Call.TheVariants.{NewMemory, NewLentMemory, GrowMemory, FillMemory, CopyMemory, InitMemory, NewTable, GrowTable, InitTable, CopyTable, FillTable}
 use Rattle.wasmi_machine.specs.declared.calls.Reply.{Reply}
 use Rattle.wasmi_machine.specs.declared.calls.Reply.TheVariants.{Done, Memory, Table, NoRoom}
 use Rattle.wasmi_machine.specs.State.{State, live_at, World, Turn, IsRefusal, sizes}
 use Rattle.wasmi_machine.specs.Account.{ChangesMeter}
+use Rattle.wasmi_machine.specs.declared.calls.Call.TheVariants as call
 
 -- nothing; a question and its denial; a permission alone; or a permission and the notice that what it permitted failed,
 -- with the answer to it
@@ -53,12 +53,13 @@ table_growth_question n init x =
 
 -- what a call asks of the limiter in a state, if it asks something
 abbrev pub question_of : State → Call → Option Question
-question_of s (NewMemory ty) = question_in (memory.creation_of Owned ty)
-question_of s (NewLentMemory ty) = option_and_then (λ region. question_in (memory.creation_of (Lent region) ty)) s.spare
-question_of s (GrowMemory k pages) =
+question_of s (call.NewMemory ty) = question_in (memory.creation_of Owned ty)
+question_of s (call.NewLentMemory ty) =
+    option_and_then (λ region. question_in (memory.creation_of (Lent region) ty)) s.spare
+question_of s (call.GrowMemory k pages) =
     option_and_then (λ x. growth_question pages (memory.growth_of x pages)) (live_at s.memories k)
-question_of s (NewTable ty init) = question_in (table.creation_of ty init.ty)
-question_of s (GrowTable k n init) = option_and_then (table_growth_question n init) (live_at s.tables k)
+question_of s (call.NewTable ty init) = question_in (table.creation_of ty init.ty)
+question_of s (call.GrowTable k n init) = option_and_then (table_growth_question n init) (live_at s.tables k)
 question_of s call = None
 
 -- what is asked is the question of the call; where it has one, it is asked, unless there is no room for what it makes
@@ -88,15 +89,18 @@ pub data Place : Type 0 where
   New : Place
   At : ℕ → Place
 
+-- What tools/generate writes begins.
 -- where a call lets something grow: a creation at a new index, a growth at the index that it names, and another call
 -- nowhere
 abbrev pub place_of : Call → Place
-place_of (NewMemory ty) = New
-place_of (NewLentMemory ty) = New
-place_of (GrowMemory k pages) = At k
-place_of (NewTable ty init) = New
-place_of (GrowTable k n init) = At k
+place_of (call.NewMemory ty) = New
+place_of (call.NewLentMemory ty) = New
+place_of (call.GrowMemory memory pages) = At memory
+place_of (call.NewTable ty init) = New
+place_of (call.GrowTable table delta init) = At table
 place_of call = Nowhere
+
+-- What tools/generate writes ends.
 
 -- the size in a place has grown as a question asks: a new one from 0, or another from what it was
 abbrev pub GrowsAsAsked : Place → Question → List ℕ → List ℕ → Type 0
@@ -141,19 +145,22 @@ growth_charge (Denial question answer) m = 0
 growth_charge (Permission question) m = growth_due m question
 growth_charge (Notice question failure notice_answer) m = failed_charge failure (growth_due m question)
 
+-- What tools/generate writes begins.
 -- how many elements a call pays for that writes over a range of a table: an initialization by no item pays for none
 abbrev pub elements_paid : Call → Option ℕ
-elements_paid (InitTable k j dst src len) = if nat_eq len 0 then None else Some len
-elements_paid (CopyTable k dst j src len) = Some len
-elements_paid (FillTable k dst value len) = Some len
+elements_paid (call.InitTable table segment dst src len) = if nat_eq len 0 then None else Some len
+elements_paid (call.CopyTable dst_table dst src_table src len) = Some len
+elements_paid (call.FillTable table dst value len) = Some len
 elements_paid call = None
 
 -- the price of what a call writes over a range, if it has one
 abbrev pub writing_price : Call → Option (CustomFuelCosts → ℕ)
-writing_price (FillMemory k dst value len) = Some (item_price 1 len)
-writing_price (CopyMemory k dst j src len) = Some (item_price 1 len)
-writing_price (InitMemory k j dst src len) = Some (item_price 1 len)
+writing_price (call.FillMemory memory dst value len) = Some (item_price 1 len)
+writing_price (call.CopyMemory dst_memory dst src_memory src len) = Some (item_price 1 len)
+writing_price (call.InitMemory memory segment dst src len) = Some (item_price 1 len)
 writing_price call = option_map table.element_price (elements_paid call)
+
+-- What tools/generate writes ends.
 
 -- what is charged for what is written, by its price and the reply: nothing where it is refused
 abbrev pub writing_charge : Meter → Option (CustomFuelCosts → ℕ) → Reply → ℕ

@@ -37,53 +37,56 @@ pub data Subject : Type 0 where
   RegisterFile : Subject
   VectorAccesses : Subject
 
--- what each call is about: a line for each, but for those on registers
+-- What tools/generate writes begins.
+-- what each call is about
 abbrev pub subject_of : Call → Subject
 subject_of (call.SetFuel fuel) = TheMeter
 subject_of call.GetFuel = TheMeter
 subject_of (call.NewMemory ty) = Memories
 subject_of (call.NewLentMemory ty) = Memories
-subject_of (call.GrowMemory k pages) = Memories
-subject_of (call.DropMemory k) = Memories
-subject_of (call.Read k offset len) = Memories
-subject_of (call.Write k offset bytes) = Memories
-subject_of (call.Load op k ptr offset) = Memories
-subject_of (call.Store op k ptr offset value) = Memories
-subject_of (call.FillMemory k dst value len) = Memories
-subject_of (call.CopyMemory k dst j src len) = Memories
-subject_of (call.InitMemory k j dst src len) = Memories
+subject_of (call.GrowMemory memory pages) = Memories
+subject_of (call.DropMemory memory) = Memories
+subject_of (call.Read memory offset len) = Memories
+subject_of (call.Write memory offset bytes) = Memories
+subject_of (call.Load op memory ptr offset) = Memories
+subject_of (call.Store op memory ptr offset value) = Memories
+subject_of (call.FillMemory memory dst value len) = Memories
+subject_of (call.CopyMemory dst_memory dst src_memory src len) = Memories
+subject_of (call.InitMemory memory segment dst src len) = Memories
 subject_of (call.NewTable ty init) = Tables
-subject_of (call.GrowTable k n init) = Tables
-subject_of (call.DropTable k) = Tables
-subject_of (call.GetElement k index) = Tables
-subject_of (call.SetElement k index value) = Tables
-subject_of (call.InitTable k j dst src len) = Tables
-subject_of (call.CopyTable k dst j src len) = Tables
-subject_of (call.FillTable k dst value len) = Tables
+subject_of (call.GrowTable table delta init) = Tables
+subject_of (call.DropTable table) = Tables
+subject_of (call.GetElement table index) = Tables
+subject_of (call.SetElement table index value) = Tables
+subject_of (call.InitTable table segment dst src len) = Tables
+subject_of (call.CopyTable dst_table dst src_table src len) = Tables
+subject_of (call.FillTable table dst value len) = Tables
 subject_of (call.NewSegment ty items) = Values
-subject_of (call.DropItems k) = Values
+subject_of (call.DropItems segment) = Values
 subject_of (call.NewData bytes) = Values
-subject_of (call.DropData k) = Values
+subject_of (call.DropData segment) = Values
 subject_of (call.NewGlobal value ty) = Values
-subject_of (call.SetGlobal k value) = Values
-subject_of (call.GetGlobal k) = Values
-subject_of (call.VectorLoad op dst k ptr offset) = VectorAccesses
-subject_of (call.LoadLane op dst a k ptr offset) = VectorAccesses
-subject_of (call.VectorStore a k ptr offset) = VectorAccesses
-subject_of (call.StoreLane op a k ptr offset) = VectorAccesses
+subject_of (call.SetGlobal global value) = Values
+subject_of (call.GetGlobal global) = Values
+subject_of (call.VectorLoad op dst memory ptr offset) = VectorAccesses
+subject_of (call.LoadLane op dst a memory ptr offset) = VectorAccesses
+subject_of (call.VectorStore a memory ptr offset) = VectorAccesses
+subject_of (call.StoreLane op a memory ptr offset) = VectorAccesses
 subject_of call = RegisterFile
 
 -- the calls that are charged for what they write: growths, and those that write over a range of a memory or a table
 abbrev pub is_charged : Call → Bool
-is_charged (call.GrowMemory k pages) = true
-is_charged (call.FillMemory k dst value len) = true
-is_charged (call.CopyMemory k dst j src len) = true
-is_charged (call.InitMemory k j dst src len) = true
-is_charged (call.GrowTable k n init) = true
-is_charged (call.InitTable k j dst src len) = true
-is_charged (call.CopyTable k dst j src len) = true
-is_charged (call.FillTable k dst value len) = true
+is_charged (call.GrowMemory memory pages) = true
+is_charged (call.FillMemory memory dst value len) = true
+is_charged (call.CopyMemory dst_memory dst src_memory src len) = true
+is_charged (call.InitMemory memory segment dst src len) = true
+is_charged (call.GrowTable table delta init) = true
+is_charged (call.InitTable table segment dst src len) = true
+is_charged (call.CopyTable dst_table dst src_table src len) = true
+is_charged (call.FillTable table dst value len) = true
 is_charged call = false
+
+-- What tools/generate writes ends.
 
 -- what changes one part of the state, but for the meter: nothing is charged, and the limiter isn't reached
 pub data Change : Type 0 where
@@ -119,16 +122,17 @@ pub data Effect : Type 0 where
   TableGrown : ℕ → ℕ → TypedRawRef → Effect
   RangeWritten : RangeWrite → Effect
 
+-- What tools/generate writes begins.
 -- what a call that makes a vector of what is in registers gives the register of its result
 abbrev pub vector_given : List RawVal → Call → Option (Result RawVal TrapCode)
 vector_given rs (call.Make op dst a) = option_map (λ raw. given_vector (made_vector op raw)) (slice_get rs a)
 vector_given rs (call.Unary op dst a) = of_one (unary_vector op) (vector_at rs a)
 vector_given rs (call.Binary op dst a b) = of_two (binary_vector op) (vector_at rs a) (vector_at rs b)
-vector_given rs (call.Ternary op dst a b c) =
-    of_three (ternary_vector op) (vector_at rs a) (vector_at rs b) (vector_at rs c)
+vector_given rs (call.Ternary op dst a b c) = of_three (ternary_vector op) (vector_at rs a) (vector_at rs b)
+    (vector_at rs c)
 vector_given rs (call.Shift op dst a amount) = of_one (λ v. shifted_vector op v amount) (vector_at rs a)
-vector_given rs (call.Replace op dst a item) =
-    option_and_then (λ raw. of_one (λ v. replaced_vector op v raw) (vector_at rs a)) (slice_get rs item)
+vector_given rs (call.Replace op dst a item) = option_and_then
+    (λ raw. of_one (λ v. replaced_vector op v raw) (vector_at rs a)) (slice_get rs item)
 vector_given rs (call.Shuffle dst a b lanes) = of_two (λ x y. shuffle x y lanes) (vector_at rs a) (vector_at rs b)
 vector_given rs call = None
 
@@ -143,63 +147,66 @@ MakesVector (call.Replace op dst a item) = Unit {0}
 MakesVector (call.Shuffle dst a b lanes) = Unit {0}
 MakesVector call = ⊥
 
--- the effect of a call on a machine in this state: a line for each call
+-- the effect of a call on a machine in this state
 abbrev pub effect_of : State → Call → Effect
 effect_of s (call.SetFuel fuel) = FuelSet fuel
 effect_of s call.GetFuel = Told (get_fuel_reply s.meter)
 effect_of s (call.NewMemory ty) = MemoryMade ty
 effect_of s (call.NewLentMemory ty) = LentMemoryMade ty
-effect_of s (call.GrowMemory k pages) = MemoryGrown k pages
-effect_of s (call.DropMemory k) = Changed (MemoryDropped k)
-effect_of s (call.Read k offset len) = BytesRead k offset len
-effect_of s (call.Write k offset bytes) = Changed (BytesWritten k offset bytes.items)
-effect_of s (call.Load op k ptr offset) = Told (load_reply op (ptr + offset) (live_at s.memories k))
-effect_of s (call.Store op k ptr offset value) = Changed (BytesStored k (ptr + offset) (Some (stored_bytes op value)))
-effect_of s (call.FillMemory k dst value len) = RangeWritten (MemoryWritten k (OfByte value) dst len)
-effect_of s (call.CopyMemory k dst j src len) =
-    RangeWritten (MemoryWritten k (OfBytes (bytes_in (live_at s.memories j)) src) dst len)
-effect_of s (call.InitMemory k j dst src len) =
-    RangeWritten (MemoryWritten k (OfBytes (slice_get s.data_segments j) src) dst len)
+effect_of s (call.GrowMemory memory pages) = MemoryGrown memory pages
+effect_of s (call.DropMemory memory) = Changed (MemoryDropped memory)
+effect_of s (call.Read memory offset len) = BytesRead memory offset len
+effect_of s (call.Write memory offset bytes) = Changed (BytesWritten memory offset bytes.items)
+effect_of s (call.Load op memory ptr offset) = Told (load_reply op (ptr + offset) (live_at s.memories memory))
+effect_of s (call.Store op memory ptr offset value) = Changed
+    (BytesStored memory (ptr + offset) (Some (stored_bytes op value)))
+effect_of s (call.FillMemory memory dst value len) = RangeWritten (MemoryWritten memory (OfByte value) dst len)
+effect_of s (call.CopyMemory dst_memory dst src_memory src len) = RangeWritten (MemoryWritten dst_memory
+    (OfBytes (bytes_in (live_at s.memories src_memory)) src) dst len)
+effect_of s (call.InitMemory memory segment dst src len) = RangeWritten (MemoryWritten memory
+    (OfBytes (slice_get s.data_segments segment) src) dst len)
 effect_of s (call.NewTable ty init) = TableMade ty init
-effect_of s (call.GrowTable k n init) = TableGrown k n init
-effect_of s (call.DropTable k) = Changed (TableDropped k)
-effect_of s (call.GetElement k index) = Told (element_reply index (live_at s.tables k))
-effect_of s (call.SetElement k index value) = Changed (ElementSet k index value)
-effect_of s (call.InitTable k j dst src len) =
-    RangeWritten (TableWritten k (OfSegment (slice_get s.segments j) src) dst len)
-effect_of s (call.CopyTable k dst j src len) =
-    RangeWritten (TableWritten k (OfTable (live_at s.tables j) src) dst len)
-effect_of s (call.FillTable k dst value len) = RangeWritten (TableWritten k (OfReference value) dst len)
+effect_of s (call.GrowTable table delta init) = TableGrown table delta init
+effect_of s (call.DropTable table) = Changed (TableDropped table)
+effect_of s (call.GetElement table index) = Told (element_reply index (live_at s.tables table))
+effect_of s (call.SetElement table index value) = Changed (ElementSet table index value)
+effect_of s (call.InitTable table segment dst src len) = RangeWritten
+    (TableWritten table (OfSegment (slice_get s.segments segment) src) dst len)
+effect_of s (call.CopyTable dst_table dst src_table src len) = RangeWritten
+    (TableWritten dst_table (OfTable (live_at s.tables src_table) src) dst len)
+effect_of s (call.FillTable table dst value len) = RangeWritten (TableWritten table (OfReference value) dst len)
 effect_of s (call.NewSegment ty items) = Changed (SegmentMade ty items.items)
-effect_of s (call.DropItems k) = Changed (ItemsDropped k)
+effect_of s (call.DropItems segment) = Changed (ItemsDropped segment)
 effect_of s (call.NewData bytes) = Changed (DataMade bytes.items)
-effect_of s (call.DropData k) = Changed (DataDropped k)
+effect_of s (call.DropData segment) = Changed (DataDropped segment)
 effect_of s (call.NewGlobal value ty) = Changed (GlobalMade (record { value = value; ty = ty }))
-effect_of s (call.SetGlobal k value) = Changed (GlobalSet k value)
-effect_of s (call.GetGlobal k) = Told (global_reply (slice_get s.globals k))
+effect_of s (call.SetGlobal global value) = Changed (GlobalSet global value)
+effect_of s (call.GetGlobal global) = Told (global_reply (slice_get s.globals global))
 effect_of s (call.SetRegister dst value) = Changed (RegisterSet dst (Some (Ok value)))
 effect_of s (call.GetRegister a) = Told (raw_reply (slice_get s.registers a))
 effect_of s (call.Make op dst a) = Changed (RegisterSet dst (vector_given s.registers (call.Make op dst a)))
 effect_of s (call.Unary op dst a) = Changed (RegisterSet dst (vector_given s.registers (call.Unary op dst a)))
 effect_of s (call.Binary op dst a b) = Changed (RegisterSet dst (vector_given s.registers (call.Binary op dst a b)))
-effect_of s (call.Ternary op dst a b c) =
-    Changed (RegisterSet dst (vector_given s.registers (call.Ternary op dst a b c)))
-effect_of s (call.Shift op dst a amount) =
-    Changed (RegisterSet dst (vector_given s.registers (call.Shift op dst a amount)))
+effect_of s (call.Ternary op dst a b c) = Changed
+    (RegisterSet dst (vector_given s.registers (call.Ternary op dst a b c)))
+effect_of s (call.Shift op dst a amount) = Changed
+    (RegisterSet dst (vector_given s.registers (call.Shift op dst a amount)))
 effect_of s (call.Test op a) = Told (raw_reply (option_map (tested_raw op) (vector_at s.registers a)))
 effect_of s (call.Extract op a) = Told (raw_reply (option_map (extracted_raw op) (vector_at s.registers a)))
-effect_of s (call.Replace op dst a item) =
-    Changed (RegisterSet dst (vector_given s.registers (call.Replace op dst a item)))
-effect_of s (call.Shuffle dst a b lanes) =
-    Changed (RegisterSet dst (vector_given s.registers (call.Shuffle dst a b lanes)))
-effect_of s (call.VectorLoad op dst k ptr offset) =
-    Changed (RegisterSet dst (vector_loaded op (ptr + offset) (live_at s.memories k)))
-effect_of s (call.LoadLane op dst a k ptr offset) =
-    Changed (RegisterSet dst (lane_loaded op (ptr + offset) (vector_at s.registers a) (live_at s.memories k)))
-effect_of s (call.VectorStore a k ptr offset) =
-    Changed (BytesStored k (ptr + offset) (option_map (le_bytes 16) (vector_at s.registers a)))
-effect_of s (call.StoreLane op a k ptr offset) =
-    Changed (BytesStored k (ptr + offset) (option_map (stored_lane op) (vector_at s.registers a)))
+effect_of s (call.Replace op dst a item) = Changed
+    (RegisterSet dst (vector_given s.registers (call.Replace op dst a item)))
+effect_of s (call.Shuffle dst a b lanes) = Changed
+    (RegisterSet dst (vector_given s.registers (call.Shuffle dst a b lanes)))
+effect_of s (call.VectorLoad op dst memory ptr offset) = Changed (RegisterSet dst
+    (vector_loaded op (ptr + offset) (live_at s.memories memory)))
+effect_of s (call.LoadLane op dst a memory ptr offset) = Changed (RegisterSet dst (lane_loaded op (ptr + offset)
+    (vector_at s.registers a) (live_at s.memories memory)))
+effect_of s (call.VectorStore a memory ptr offset) = Changed (BytesStored memory (ptr + offset)
+    (option_map (le_bytes 16) (vector_at s.registers a)))
+effect_of s (call.StoreLane op a memory ptr offset) = Changed (BytesStored memory (ptr + offset)
+    (option_map (stored_lane op) (vector_at s.registers a)))
+
+-- What tools/generate writes ends.
 
 -- memory for one more slot may lack, since each one that is reserved is used
 abbrev pub LacksSlot : {A : Type 0} → ℕ → List A → Type 0

@@ -33,8 +33,7 @@ amount_held h kind = amount_of h.held kind
 abbrev pub with_more : Holdings → Kind → ℕ → Holdings
 with_more h kind n = record { held = with_amount h.held kind (amount_held h kind + n); last = Some (kind, n) }
 
--- a notice of a kind takes back the last difference of that kind, once; with nothing of that kind to take back, all
--- stays
+-- a notice of a kind takes back the last difference, once, if it is of that kind; otherwise all stays
 abbrev pub without_last_of : Kind → Holdings → Option (Kind × ℕ) → Holdings
 without_last_of Bytes h (Some (Bytes, n)) =
     record { held = with_amount h.held Bytes (h.held.bytes - n); last = None }
@@ -71,7 +70,7 @@ abbrev pub Reserves : Question → Answer → Holdings → Holdings → Type 0
 Reserves q (Ok true) h h' = h' ≡ with_more h q.kind (q.desired - q.current)
 Reserves q _ h h' = HoldsTheSame h h'
 
--- a notice takes back the last difference of its kind, once, and changes nothing that is held otherwise
+-- a notice takes back the last difference, once, if it is of its kind, and changes nothing that is held otherwise
 abbrev pub GivesBack : Kind → Holdings → Holdings → Type 0
 GivesBack kind h h' = h' ≡ without_last kind h
 

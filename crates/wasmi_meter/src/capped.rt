@@ -29,8 +29,8 @@ pub trait Reserving: ResourceLimiter {
         → Self.rules.asked l question answer l'
         → Reserves question answer (holdings l) (holdings l') };
 
-    /// A notice takes back the last permitted difference of its kind, once, whatever the answer to
-    /// it is. If there is none of its kind, what is held stays.
+    /// A notice takes back the last permitted difference, once, if it is of the same kind, whatever
+    /// the answer to it is. Otherwise what is held stays.
     ghost gives_back: { (l l' : Self) (failure : Failure) (notice_answer : NoticeAnswer)
         → Self.rules.noticed l failure notice_answer l'
         → GivesBack (kind_of failure) (holdings l) (holdings l') };

@@ -91,13 +91,13 @@ pub trait ResourceLimiter {
     fn table_grow_failed(&mut self, error: &TableError) -> Result<(), LimiterError>
         ensures { rules.noticed self.old (TableFailure error.now) result self.new };
 
-    /// The greatest number of instances of a store. Nothing in this library calls it.
+    /// The greatest number of instances of a store. No call of this library asks for it.
     fn instances(&self) -> usize;
 
-    /// The greatest number of tables of a store. Nothing in this library calls it.
+    /// The greatest number of tables of a store. No call of this library asks for it.
     fn tables(&self) -> usize;
 
-    /// The greatest number of linear memories of a store. Nothing in this library calls it.
+    /// The greatest number of linear memories of a store. No call of this library asks for it.
     fn memories(&self) -> usize;
 }
 

@@ -4,7 +4,7 @@ use Rattle.std.specs.Borrow.{Bor}
 use Rattle.std.specs.List.{AllZip}
 use Rattle.wasmi_operands.specs.declared.error.LineError.{LineError}
 use Rattle.wasmi_operands.specs.declared.error.LineError.TheVariants.{BadCommand, OutOfMemory}
-use Rattle.wasmi_operands.specs.LineWords.{Accepts, AcceptsWithMemory, LineWords, WritesEach, IsDecimal, decimal_value, WritesLimit}
+use Rattle.wasmi_operands.specs.LineWords.{Accepts, AcceptsWithMemory, LineWords, WritesEach, IsDecimal, decimal_value, WritesLimit, word_at}
 use Rattle.std.specs.Char.{digit_value}
 use Rattle.std.specs.Str.Parse.{AllDigits}
 
@@ -134,3 +134,14 @@ pub on_refusal : {A E : Type 0} {P : Type 0} {Q : E → Type 0} (r : Result A E)
     → IfErr r Q
 on_refusal (Ok a) says p = tt
 on_refusal (Err error) says p = says error p
+
+-- the text of the word at a place, as the code takes the word
+text_at : (words : LineWords) (k : ℕ) (none : Bor (List ℕ)) → none.now ≡ [] → word_at words k ≡ (get_or words k none).now
+text_at [] k none empty = sym empty
+text_at (word ∷ words) zero none empty = refl
+text_at (word ∷ words) (suc k) none empty = text_at words k none empty
+
+-- what the word at a place writes, as the code takes the word
+pub written_at : (Writes : List ℕ → Type 0) (words : LineWords) (k : ℕ) (none : Bor (List ℕ)) → none.now ≡ []
+    → Writes (word_at words k) → Writes (get_or words k none).now
+written_at Writes words k none empty = subst Writes (text_at words k none empty)

@@ -1,5 +1,5 @@
-//! The functions that the headers in `include/` declare, over the sources of the Rust crate: for any target of rustc, by
-//! `cargo build --release` alone. Tested, not proved; the archive by the kit is the proved one.
+//! The functions that the headers in `include/` declare, over the sources of the Rust crate: for any target of rustc
+//! with `std`, by `cargo build --release` alone. Tested, not proved; the archive by the kit is the proved one.
 //!
 //! The modules of the crate beside this one are compiled here as well, since what is for C stands on parts of it that no
 //! other crate can name.

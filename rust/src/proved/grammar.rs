@@ -36,6 +36,7 @@ mod command {
             "write" => write(operands),
             "segment" => new_segment(operands),
             "data" => new_data(operands),
+            // What tools/generate writes begins.
             "fuel" | "left" | "global" | "gset" | "gget" | "set" | "show" => {
                 values_call(name, operands)
             }
@@ -50,6 +51,7 @@ mod command {
             }
             "make" | "unary" | "binary" | "ternary" | "shift" | "test" | "extract" | "replace"
             | "shuffle" => vector_call(name, operands),
+            // What tools/generate writes ends.
             _ => Err(LineError::BadCommand),
         }
     }
@@ -111,6 +113,7 @@ mod command {
         match name {
             "memory" => Ok(Call::NewMemory(memory_type(operands)?)),
             "lent" => Ok(Call::NewLentMemory(memory_type(operands)?)),
+            // What tools/generate writes begins.
             "grow" => call!(operands, two => GrowMemory { memory, pages }),
             "read" => call!(operands, three => Read { memory, offset, len }),
             "mfill" => call!(operands, four => FillMemory { memory, dst, value, len }),
@@ -118,6 +121,7 @@ mod command {
                 call!(operands, five => CopyMemory { dst_memory, dst, src_memory, src, len })
             }
             "minit" => call!(operands, five => InitMemory { memory, segment, dst, src, len }),
+            // What tools/generate writes ends.
             _ => drop_live(operands),
         }
     }
@@ -200,7 +204,6 @@ mod command {
     #[inline]
     fn access_call(name: &str, operands: &[&str]) -> Result<Call, LineError> {
         match name {
-            "load" => call!(operands, four => Load { op, memory, ptr, offset }),
             "store" => {
                 let (op, memory, ptr, offset, lo) = operand::five(operands)?;
                 Ok(Call::Store {
@@ -211,9 +214,12 @@ mod command {
                     value: RawVal::from_bits64(lo),
                 })
             }
-            "vload" => call!(operands, five => VectorLoad { op, dst, memory, ptr, offset }),
             "vloadlane" => load_lane(operands),
+            // What tools/generate writes begins.
+            "load" => call!(operands, four => Load { op, memory, ptr, offset }),
+            "vload" => call!(operands, five => VectorLoad { op, dst, memory, ptr, offset }),
             "vstore" => call!(operands, four => VectorStore { a, memory, ptr, offset }),
+            // What tools/generate writes ends.
             _ => store_lane(operands),
         }
     }
@@ -291,7 +297,6 @@ mod command {
                     init: TypedRawRef::new(raw, ty),
                 })
             }
-            "get" => call!(operands, two => GetElement { table, index }),
             "tset" => {
                 let (table, index, ty, raw) = operand::four(operands)?;
                 Ok(Call::SetElement {
@@ -300,8 +305,6 @@ mod command {
                     value: TypedRawRef::new(raw, ty),
                 })
             }
-            "init" => call!(operands, five => InitTable { table, segment, dst, src, len }),
-            "copy" => call!(operands, five => CopyTable { dst_table, dst, src_table, src, len }),
             "fill" => {
                 let (table, dst, ty, raw, len) = operand::five(operands)?;
                 Ok(Call::FillTable {
@@ -312,6 +315,11 @@ mod command {
                 })
             }
             "dempty" => Ok(Call::DropData(operand::one(operands)?)),
+            // What tools/generate writes begins.
+            "get" => call!(operands, two => GetElement { table, index }),
+            "init" => call!(operands, five => InitTable { table, segment, dst, src, len }),
+            "copy" => call!(operands, five => CopyTable { dst_table, dst, src_table, src, len }),
+            // What tools/generate writes ends.
             _ => Ok(Call::DropItems(operand::one(operands)?)),
         }
     }
@@ -424,14 +432,16 @@ mod command {
     #[inline]
     fn vector_call(name: &str, operands: &[&str]) -> Result<Call, LineError> {
         match name {
+            "extract" => extract(operands),
+            "replace" => replace(operands),
+            // What tools/generate writes begins.
             "make" => call!(operands, three => Make { op, dst, a }),
             "unary" => call!(operands, three => Unary { op, dst, a }),
             "binary" => call!(operands, four => Binary { op, dst, a, b }),
             "ternary" => call!(operands, five => Ternary { op, dst, a, b, c }),
             "shift" => call!(operands, four => Shift { op, dst, a, amount }),
             "test" => call!(operands, two => Test { op, a }),
-            "extract" => extract(operands),
-            "replace" => replace(operands),
+            // What tools/generate writes ends.
             _ => shuffle(operands),
         }
     }

@@ -200,7 +200,7 @@ mod capped {
     /// reserves: (l l' : Self) (question : Question) (answer : Answer)
     ///     → Self.rules.asked l question answer l'
     ///     → Reserves question answer (holdings l) (holdings l')
-    /// -- A notice takes back the last permitted difference of its kind, once, whatever the answer to it is. If there is none of its kind, what is held stays.
+    /// -- A notice takes back the last permitted difference, once, if it is of the same kind, whatever the answer to it is. Otherwise what is held stays.
     /// gives_back: (l l' : Self) (failure : Failure) (notice_answer : NoticeAnswer)
     ///     → Self.rules.noticed l failure notice_answer l'
     ///     → GivesBack (kind_of failure) (holdings l) (holdings l')
@@ -1317,13 +1317,13 @@ mod limiter {
         /// Definitions: [`TableFailure`](crate::specs::meter::LimiterSpecs#TableFailure).
         fn table_grow_failed(&mut self, error: &TableError) -> Result<(), LimiterError>;
 
-        /// The greatest number of instances of a store. Nothing in this library calls it.
+        /// The greatest number of instances of a store. No call of this library asks for it.
         fn instances(&self) -> usize;
 
-        /// The greatest number of tables of a store. Nothing in this library calls it.
+        /// The greatest number of tables of a store. No call of this library asks for it.
         fn tables(&self) -> usize;
 
-        /// The greatest number of linear memories of a store. Nothing in this library calls it.
+        /// The greatest number of linear memories of a store. No call of this library asks for it.
         fn memories(&self) -> usize;
     }
 

@@ -2346,8 +2346,7 @@ abbrev pub <b id="amount_held">amount_held</b> : Holdings → Kind → ℕ
 abbrev pub <b id="with_more">with_more</b> : Holdings → Kind → ℕ → Holdings
 <a href="../../meter/CappedSpecs/index.html#with_more">with_more</a> h kind n = record { <a href="../../meter/CappedSpecs/index.html#held">held</a> = <a href="../../meter/CappedSpecs/index.html#with_amount">with_amount</a> h.held kind (<a href="../../meter/CappedSpecs/index.html#amount_held">amount_held</a> h kind + n); last = Some (kind, n) }
 
--- a notice of a kind takes back the last difference of that kind, once; with nothing of that kind to take back, all
--- stays
+-- a notice of a kind takes back the last difference, once, if it is of that kind; otherwise all stays
 abbrev pub <b id="without_last_of">without_last_of</b> : Kind → Holdings → Option (Kind × ℕ) → Holdings
 <a href="../../meter/CappedSpecs/index.html#without_last_of">without_last_of</a> Bytes h (Some (Bytes, n)) =
     record { <a href="../../meter/CappedSpecs/index.html#held">held</a> = <a href="../../meter/CappedSpecs/index.html#with_amount">with_amount</a> h.held Bytes (h.held.<a href="../../meter/CappedSpecs/index.html#bytes">bytes</a> - n); last = None }
@@ -2384,7 +2383,7 @@ abbrev pub <b id="Reserves">Reserves</b> : <a href="../../meter/LimiterSpecs/ind
 <a href="../../meter/CappedSpecs/index.html#Reserves">Reserves</a> q (Ok true) h h&#x27; = h&#x27; ≡ <a href="../../meter/CappedSpecs/index.html#with_more">with_more</a> h q.kind (q.desired - q.current)
 <a href="../../meter/CappedSpecs/index.html#Reserves">Reserves</a> q _ h h&#x27; = <a href="../../meter/CappedSpecs/index.html#HoldsTheSame">HoldsTheSame</a> h h&#x27;
 
--- a notice takes back the last difference of its kind, once, and changes nothing that is held otherwise
+-- a notice takes back the last difference, once, if it is of its kind, and changes nothing that is held otherwise
 abbrev pub <b id="GivesBack">GivesBack</b> : Kind → Holdings → Holdings → Type 0
 <a href="../../meter/CappedSpecs/index.html#GivesBack">GivesBack</a> kind h h&#x27; = h&#x27; ≡ <a href="../../meter/CappedSpecs/index.html#without_last">without_last</a> kind h
 
@@ -3905,11 +3904,11 @@ use Rattle.wasmi_store.specs.Memory as memory
 use Rattle.wasmi_store.specs.Table as table
 use Rattle.wasmi_store.specs.Table.{<a href="../../store/TableSpecs/index.html#TableValue">TableValue</a>, <a href="../../store/TableSpecs/index.html#same_type">same_type</a>}
 use Rattle.wasmi_machine.specs.declared.calls.Call.{Call}
-use Rattle.wasmi_machine.specs.declared.calls.Call.TheVariants.{NewMemory, NewLentMemory, GrowMemory, FillMemory, CopyMemory, InitMemory, NewTable, GrowTable, InitTable, CopyTable, FillTable}
 use Rattle.wasmi_machine.specs.declared.calls.Reply.{Reply}
 use Rattle.wasmi_machine.specs.declared.calls.Reply.TheVariants.{Done, Memory, Table, NoRoom}
 use Rattle.wasmi_machine.specs.State.{<a href="../../machine/StateSpecs/index.html#State">State</a>, <a href="../../machine/StateSpecs/index.html#live_at">live_at</a>, <a href="../../machine/StateSpecs/index.html#World">World</a>, <a href="../../machine/StateSpecs/index.html#Turn">Turn</a>, <a href="../../machine/StateSpecs/index.html#IsRefusal">IsRefusal</a>, <a href="../../machine/StateSpecs/index.html#sizes">sizes</a>}
 use Rattle.wasmi_machine.specs.Account.{<a href="../../machine/AccountSpecs/index.html#ChangesMeter">ChangesMeter</a>}
+use Rattle.wasmi_machine.specs.declared.calls.Call.TheVariants as call
 
 -- nothing; a question and its denial; a permission alone; or a permission and the notice that what it permitted failed,
 -- with the answer to it
@@ -3942,12 +3941,13 @@ abbrev pub <b id="table_growth_question">table_growth_question</b> : ℕ → Typ
 
 -- what a call asks of the limiter in a state, if it asks something
 abbrev pub <b id="question_of">question_of</b> : <a href="../../machine/StateSpecs/index.html#State">State</a> → Call → Option <a href="../../meter/LimiterSpecs/index.html#Question">Question</a>
-<a href="../../machine/ExchangeSpecs/index.html#question_of">question_of</a> s (NewMemory ty) = <a href="../../machine/ExchangeSpecs/index.html#question_in">question_in</a> (<a href="../../store/MemorySpecs/index.html#creation_of">memory.creation_of</a> <a href="../../store/BufferSpecs/index.html#Owned">Owned</a> ty)
-<a href="../../machine/ExchangeSpecs/index.html#question_of">question_of</a> s (NewLentMemory ty) = option_and_then (λ region. <a href="../../machine/ExchangeSpecs/index.html#question_in">question_in</a> (<a href="../../store/MemorySpecs/index.html#creation_of">memory.creation_of</a> (<a href="../../store/BufferSpecs/index.html#Lent">Lent</a> region) ty)) s.spare
-<a href="../../machine/ExchangeSpecs/index.html#question_of">question_of</a> s (GrowMemory k pages) =
+<a href="../../machine/ExchangeSpecs/index.html#question_of">question_of</a> s (call.NewMemory ty) = <a href="../../machine/ExchangeSpecs/index.html#question_in">question_in</a> (<a href="../../store/MemorySpecs/index.html#creation_of">memory.creation_of</a> <a href="../../store/BufferSpecs/index.html#Owned">Owned</a> ty)
+<a href="../../machine/ExchangeSpecs/index.html#question_of">question_of</a> s (call.NewLentMemory ty) =
+    option_and_then (λ region. <a href="../../machine/ExchangeSpecs/index.html#question_in">question_in</a> (<a href="../../store/MemorySpecs/index.html#creation_of">memory.creation_of</a> (<a href="../../store/BufferSpecs/index.html#Lent">Lent</a> region) ty)) s.spare
+<a href="../../machine/ExchangeSpecs/index.html#question_of">question_of</a> s (call.GrowMemory k pages) =
     option_and_then (λ x. <a href="../../machine/ExchangeSpecs/index.html#growth_question">growth_question</a> pages (<a href="../../store/MemorySpecs/index.html#growth_of">memory.growth_of</a> x pages)) (<a href="../../machine/StateSpecs/index.html#live_at">live_at</a> s.memories k)
-<a href="../../machine/ExchangeSpecs/index.html#question_of">question_of</a> s (NewTable ty init) = <a href="../../machine/ExchangeSpecs/index.html#question_in">question_in</a> (<a href="../../store/TableSpecs/index.html#creation_of">table.creation_of</a> ty init.ty)
-<a href="../../machine/ExchangeSpecs/index.html#question_of">question_of</a> s (GrowTable k n init) = option_and_then (<a href="../../machine/ExchangeSpecs/index.html#table_growth_question">table_growth_question</a> n init) (<a href="../../machine/StateSpecs/index.html#live_at">live_at</a> s.tables k)
+<a href="../../machine/ExchangeSpecs/index.html#question_of">question_of</a> s (call.NewTable ty init) = <a href="../../machine/ExchangeSpecs/index.html#question_in">question_in</a> (<a href="../../store/TableSpecs/index.html#creation_of">table.creation_of</a> ty init.ty)
+<a href="../../machine/ExchangeSpecs/index.html#question_of">question_of</a> s (call.GrowTable k n init) = option_and_then (<a href="../../machine/ExchangeSpecs/index.html#table_growth_question">table_growth_question</a> n init) (<a href="../../machine/StateSpecs/index.html#live_at">live_at</a> s.tables k)
 <a href="../../machine/ExchangeSpecs/index.html#question_of">question_of</a> s call = None
 
 -- what is asked is the question of the call; where it has one, it is asked, unless there is no room for what it makes
@@ -3977,15 +3977,18 @@ pub data <b id="Place">Place</b> : Type 0 where
   <b id="New">New</b> : <a href="../../machine/ExchangeSpecs/index.html#Place">Place</a>
   <b id="At">At</b> : ℕ → <a href="../../machine/ExchangeSpecs/index.html#Place">Place</a>
 
+-- What tools/generate writes begins.
 -- where a call lets something grow: a creation at a new index, a growth at the index that it names, and another call
 -- nowhere
 abbrev pub <b id="place_of">place_of</b> : Call → <a href="../../machine/ExchangeSpecs/index.html#Place">Place</a>
-<a href="../../machine/ExchangeSpecs/index.html#place_of">place_of</a> (NewMemory ty) = <a href="../../machine/ExchangeSpecs/index.html#New">New</a>
-<a href="../../machine/ExchangeSpecs/index.html#place_of">place_of</a> (NewLentMemory ty) = <a href="../../machine/ExchangeSpecs/index.html#New">New</a>
-<a href="../../machine/ExchangeSpecs/index.html#place_of">place_of</a> (GrowMemory k pages) = <a href="../../machine/ExchangeSpecs/index.html#At">At</a> k
-<a href="../../machine/ExchangeSpecs/index.html#place_of">place_of</a> (NewTable ty init) = <a href="../../machine/ExchangeSpecs/index.html#New">New</a>
-<a href="../../machine/ExchangeSpecs/index.html#place_of">place_of</a> (GrowTable k n init) = <a href="../../machine/ExchangeSpecs/index.html#At">At</a> k
+<a href="../../machine/ExchangeSpecs/index.html#place_of">place_of</a> (call.NewMemory ty) = <a href="../../machine/ExchangeSpecs/index.html#New">New</a>
+<a href="../../machine/ExchangeSpecs/index.html#place_of">place_of</a> (call.NewLentMemory ty) = <a href="../../machine/ExchangeSpecs/index.html#New">New</a>
+<a href="../../machine/ExchangeSpecs/index.html#place_of">place_of</a> (call.GrowMemory memory pages) = <a href="../../machine/ExchangeSpecs/index.html#At">At</a> memory
+<a href="../../machine/ExchangeSpecs/index.html#place_of">place_of</a> (call.NewTable ty init) = <a href="../../machine/ExchangeSpecs/index.html#New">New</a>
+<a href="../../machine/ExchangeSpecs/index.html#place_of">place_of</a> (call.GrowTable table delta init) = <a href="../../machine/ExchangeSpecs/index.html#At">At</a> table
 <a href="../../machine/ExchangeSpecs/index.html#place_of">place_of</a> call = <a href="../../machine/ExchangeSpecs/index.html#Nowhere">Nowhere</a>
+
+-- What tools/generate writes ends.
 
 -- the size in a place has grown as a question asks: a new one from 0, or another from what it was
 abbrev pub <b id="GrowsAsAsked">GrowsAsAsked</b> : <a href="../../machine/ExchangeSpecs/index.html#Place">Place</a> → <a href="../../meter/LimiterSpecs/index.html#Question">Question</a> → List ℕ → List ℕ → Type 0
@@ -4030,19 +4033,22 @@ abbrev pub <b id="growth_charge">growth_charge</b> : <a href="../../machine/Exch
 <a href="../../machine/ExchangeSpecs/index.html#growth_charge">growth_charge</a> (<a href="../../machine/ExchangeSpecs/index.html#Permission">Permission</a> question) m = <a href="../../machine/ExchangeSpecs/index.html#growth_due">growth_due</a> m question
 <a href="../../machine/ExchangeSpecs/index.html#growth_charge">growth_charge</a> (<a href="../../machine/ExchangeSpecs/index.html#Notice">Notice</a> question failure notice_answer) m = <a href="../../machine/ExchangeSpecs/index.html#failed_charge">failed_charge</a> failure (<a href="../../machine/ExchangeSpecs/index.html#growth_due">growth_due</a> m question)
 
+-- What tools/generate writes begins.
 -- how many elements a call pays for that writes over a range of a table: an initialization by no item pays for none
 abbrev pub <b id="elements_paid">elements_paid</b> : Call → Option ℕ
-<a href="../../machine/ExchangeSpecs/index.html#elements_paid">elements_paid</a> (InitTable k j dst src len) = if nat_eq len 0 then None else Some len
-<a href="../../machine/ExchangeSpecs/index.html#elements_paid">elements_paid</a> (CopyTable k dst j src len) = Some len
-<a href="../../machine/ExchangeSpecs/index.html#elements_paid">elements_paid</a> (FillTable k dst value len) = Some len
+<a href="../../machine/ExchangeSpecs/index.html#elements_paid">elements_paid</a> (call.InitTable table segment dst src len) = if nat_eq len 0 then None else Some len
+<a href="../../machine/ExchangeSpecs/index.html#elements_paid">elements_paid</a> (call.CopyTable dst_table dst src_table src len) = Some len
+<a href="../../machine/ExchangeSpecs/index.html#elements_paid">elements_paid</a> (call.FillTable table dst value len) = Some len
 <a href="../../machine/ExchangeSpecs/index.html#elements_paid">elements_paid</a> call = None
 
 -- the price of what a call writes over a range, if it has one
 abbrev pub <b id="writing_price">writing_price</b> : Call → Option (CustomFuelCosts → ℕ)
-<a href="../../machine/ExchangeSpecs/index.html#writing_price">writing_price</a> (FillMemory k dst value len) = Some (<a href="../../store/WriteSpecs/index.html#item_price">item_price</a> 1 len)
-<a href="../../machine/ExchangeSpecs/index.html#writing_price">writing_price</a> (CopyMemory k dst j src len) = Some (<a href="../../store/WriteSpecs/index.html#item_price">item_price</a> 1 len)
-<a href="../../machine/ExchangeSpecs/index.html#writing_price">writing_price</a> (InitMemory k j dst src len) = Some (<a href="../../store/WriteSpecs/index.html#item_price">item_price</a> 1 len)
+<a href="../../machine/ExchangeSpecs/index.html#writing_price">writing_price</a> (call.FillMemory memory dst value len) = Some (<a href="../../store/WriteSpecs/index.html#item_price">item_price</a> 1 len)
+<a href="../../machine/ExchangeSpecs/index.html#writing_price">writing_price</a> (call.CopyMemory dst_memory dst src_memory src len) = Some (<a href="../../store/WriteSpecs/index.html#item_price">item_price</a> 1 len)
+<a href="../../machine/ExchangeSpecs/index.html#writing_price">writing_price</a> (call.InitMemory memory segment dst src len) = Some (<a href="../../store/WriteSpecs/index.html#item_price">item_price</a> 1 len)
 <a href="../../machine/ExchangeSpecs/index.html#writing_price">writing_price</a> call = option_map <a href="../../store/TableSpecs/index.html#element_price">table.element_price</a> (<a href="../../machine/ExchangeSpecs/index.html#elements_paid">elements_paid</a> call)
+
+-- What tools/generate writes ends.
 
 -- what is charged for what is written, by its price and the reply: nothing where it is refused
 abbrev pub <b id="writing_charge">writing_charge</b> : <a href="../../meter/MeterSpecs/index.html#Meter">Meter</a> → Option (CustomFuelCosts → ℕ) → Reply → ℕ
@@ -4789,53 +4795,56 @@ pub data <b id="Subject">Subject</b> : Type 0 where
   <b id="RegisterFile">RegisterFile</b> : <a href="../../machine/StepsSpecs/index.html#Subject">Subject</a>
   <b id="VectorAccesses">VectorAccesses</b> : <a href="../../machine/StepsSpecs/index.html#Subject">Subject</a>
 
--- what each call is about: a line for each, but for those on registers
+-- What tools/generate writes begins.
+-- what each call is about
 abbrev pub <b id="subject_of">subject_of</b> : Call → <a href="../../machine/StepsSpecs/index.html#Subject">Subject</a>
 <a href="../../machine/StepsSpecs/index.html#subject_of">subject_of</a> (call.SetFuel fuel) = <a href="../../machine/StepsSpecs/index.html#TheMeter">TheMeter</a>
 <a href="../../machine/StepsSpecs/index.html#subject_of">subject_of</a> call.GetFuel = <a href="../../machine/StepsSpecs/index.html#TheMeter">TheMeter</a>
 <a href="../../machine/StepsSpecs/index.html#subject_of">subject_of</a> (call.NewMemory ty) = <a href="../../machine/StepsSpecs/index.html#Memories">Memories</a>
 <a href="../../machine/StepsSpecs/index.html#subject_of">subject_of</a> (call.NewLentMemory ty) = <a href="../../machine/StepsSpecs/index.html#Memories">Memories</a>
-<a href="../../machine/StepsSpecs/index.html#subject_of">subject_of</a> (call.GrowMemory k pages) = <a href="../../machine/StepsSpecs/index.html#Memories">Memories</a>
-<a href="../../machine/StepsSpecs/index.html#subject_of">subject_of</a> (call.DropMemory k) = <a href="../../machine/StepsSpecs/index.html#Memories">Memories</a>
-<a href="../../machine/StepsSpecs/index.html#subject_of">subject_of</a> (call.Read k offset len) = <a href="../../machine/StepsSpecs/index.html#Memories">Memories</a>
-<a href="../../machine/StepsSpecs/index.html#subject_of">subject_of</a> (call.Write k offset bytes) = <a href="../../machine/StepsSpecs/index.html#Memories">Memories</a>
-<a href="../../machine/StepsSpecs/index.html#subject_of">subject_of</a> (call.Load op k ptr offset) = <a href="../../machine/StepsSpecs/index.html#Memories">Memories</a>
-<a href="../../machine/StepsSpecs/index.html#subject_of">subject_of</a> (call.Store op k ptr offset value) = <a href="../../machine/StepsSpecs/index.html#Memories">Memories</a>
-<a href="../../machine/StepsSpecs/index.html#subject_of">subject_of</a> (call.FillMemory k dst value len) = <a href="../../machine/StepsSpecs/index.html#Memories">Memories</a>
-<a href="../../machine/StepsSpecs/index.html#subject_of">subject_of</a> (call.CopyMemory k dst j src len) = <a href="../../machine/StepsSpecs/index.html#Memories">Memories</a>
-<a href="../../machine/StepsSpecs/index.html#subject_of">subject_of</a> (call.InitMemory k j dst src len) = <a href="../../machine/StepsSpecs/index.html#Memories">Memories</a>
+<a href="../../machine/StepsSpecs/index.html#subject_of">subject_of</a> (call.GrowMemory memory pages) = <a href="../../machine/StepsSpecs/index.html#Memories">Memories</a>
+<a href="../../machine/StepsSpecs/index.html#subject_of">subject_of</a> (call.DropMemory memory) = <a href="../../machine/StepsSpecs/index.html#Memories">Memories</a>
+<a href="../../machine/StepsSpecs/index.html#subject_of">subject_of</a> (call.Read memory offset len) = <a href="../../machine/StepsSpecs/index.html#Memories">Memories</a>
+<a href="../../machine/StepsSpecs/index.html#subject_of">subject_of</a> (call.Write memory offset bytes) = <a href="../../machine/StepsSpecs/index.html#Memories">Memories</a>
+<a href="../../machine/StepsSpecs/index.html#subject_of">subject_of</a> (call.Load op memory ptr offset) = <a href="../../machine/StepsSpecs/index.html#Memories">Memories</a>
+<a href="../../machine/StepsSpecs/index.html#subject_of">subject_of</a> (call.Store op memory ptr offset value) = <a href="../../machine/StepsSpecs/index.html#Memories">Memories</a>
+<a href="../../machine/StepsSpecs/index.html#subject_of">subject_of</a> (call.FillMemory memory dst value len) = <a href="../../machine/StepsSpecs/index.html#Memories">Memories</a>
+<a href="../../machine/StepsSpecs/index.html#subject_of">subject_of</a> (call.CopyMemory dst_memory dst src_memory src len) = <a href="../../machine/StepsSpecs/index.html#Memories">Memories</a>
+<a href="../../machine/StepsSpecs/index.html#subject_of">subject_of</a> (call.InitMemory memory segment dst src len) = <a href="../../machine/StepsSpecs/index.html#Memories">Memories</a>
 <a href="../../machine/StepsSpecs/index.html#subject_of">subject_of</a> (call.NewTable ty init) = <a href="../../machine/StepsSpecs/index.html#Tables">Tables</a>
-<a href="../../machine/StepsSpecs/index.html#subject_of">subject_of</a> (call.GrowTable k n init) = <a href="../../machine/StepsSpecs/index.html#Tables">Tables</a>
-<a href="../../machine/StepsSpecs/index.html#subject_of">subject_of</a> (call.DropTable k) = <a href="../../machine/StepsSpecs/index.html#Tables">Tables</a>
-<a href="../../machine/StepsSpecs/index.html#subject_of">subject_of</a> (call.GetElement k index) = <a href="../../machine/StepsSpecs/index.html#Tables">Tables</a>
-<a href="../../machine/StepsSpecs/index.html#subject_of">subject_of</a> (call.SetElement k index value) = <a href="../../machine/StepsSpecs/index.html#Tables">Tables</a>
-<a href="../../machine/StepsSpecs/index.html#subject_of">subject_of</a> (call.InitTable k j dst src len) = <a href="../../machine/StepsSpecs/index.html#Tables">Tables</a>
-<a href="../../machine/StepsSpecs/index.html#subject_of">subject_of</a> (call.CopyTable k dst j src len) = <a href="../../machine/StepsSpecs/index.html#Tables">Tables</a>
-<a href="../../machine/StepsSpecs/index.html#subject_of">subject_of</a> (call.FillTable k dst value len) = <a href="../../machine/StepsSpecs/index.html#Tables">Tables</a>
+<a href="../../machine/StepsSpecs/index.html#subject_of">subject_of</a> (call.GrowTable table delta init) = <a href="../../machine/StepsSpecs/index.html#Tables">Tables</a>
+<a href="../../machine/StepsSpecs/index.html#subject_of">subject_of</a> (call.DropTable table) = <a href="../../machine/StepsSpecs/index.html#Tables">Tables</a>
+<a href="../../machine/StepsSpecs/index.html#subject_of">subject_of</a> (call.GetElement table index) = <a href="../../machine/StepsSpecs/index.html#Tables">Tables</a>
+<a href="../../machine/StepsSpecs/index.html#subject_of">subject_of</a> (call.SetElement table index value) = <a href="../../machine/StepsSpecs/index.html#Tables">Tables</a>
+<a href="../../machine/StepsSpecs/index.html#subject_of">subject_of</a> (call.InitTable table segment dst src len) = <a href="../../machine/StepsSpecs/index.html#Tables">Tables</a>
+<a href="../../machine/StepsSpecs/index.html#subject_of">subject_of</a> (call.CopyTable dst_table dst src_table src len) = <a href="../../machine/StepsSpecs/index.html#Tables">Tables</a>
+<a href="../../machine/StepsSpecs/index.html#subject_of">subject_of</a> (call.FillTable table dst value len) = <a href="../../machine/StepsSpecs/index.html#Tables">Tables</a>
 <a href="../../machine/StepsSpecs/index.html#subject_of">subject_of</a> (call.NewSegment ty items) = <a href="../../machine/StepsSpecs/index.html#Values">Values</a>
-<a href="../../machine/StepsSpecs/index.html#subject_of">subject_of</a> (call.DropItems k) = <a href="../../machine/StepsSpecs/index.html#Values">Values</a>
+<a href="../../machine/StepsSpecs/index.html#subject_of">subject_of</a> (call.DropItems segment) = <a href="../../machine/StepsSpecs/index.html#Values">Values</a>
 <a href="../../machine/StepsSpecs/index.html#subject_of">subject_of</a> (call.NewData bytes) = <a href="../../machine/StepsSpecs/index.html#Values">Values</a>
-<a href="../../machine/StepsSpecs/index.html#subject_of">subject_of</a> (call.DropData k) = <a href="../../machine/StepsSpecs/index.html#Values">Values</a>
+<a href="../../machine/StepsSpecs/index.html#subject_of">subject_of</a> (call.DropData segment) = <a href="../../machine/StepsSpecs/index.html#Values">Values</a>
 <a href="../../machine/StepsSpecs/index.html#subject_of">subject_of</a> (call.NewGlobal value ty) = <a href="../../machine/StepsSpecs/index.html#Values">Values</a>
-<a href="../../machine/StepsSpecs/index.html#subject_of">subject_of</a> (call.SetGlobal k value) = <a href="../../machine/StepsSpecs/index.html#Values">Values</a>
-<a href="../../machine/StepsSpecs/index.html#subject_of">subject_of</a> (call.GetGlobal k) = <a href="../../machine/StepsSpecs/index.html#Values">Values</a>
-<a href="../../machine/StepsSpecs/index.html#subject_of">subject_of</a> (call.VectorLoad op dst k ptr offset) = <a href="../../machine/StepsSpecs/index.html#VectorAccesses">VectorAccesses</a>
-<a href="../../machine/StepsSpecs/index.html#subject_of">subject_of</a> (call.LoadLane op dst a k ptr offset) = <a href="../../machine/StepsSpecs/index.html#VectorAccesses">VectorAccesses</a>
-<a href="../../machine/StepsSpecs/index.html#subject_of">subject_of</a> (call.VectorStore a k ptr offset) = <a href="../../machine/StepsSpecs/index.html#VectorAccesses">VectorAccesses</a>
-<a href="../../machine/StepsSpecs/index.html#subject_of">subject_of</a> (call.StoreLane op a k ptr offset) = <a href="../../machine/StepsSpecs/index.html#VectorAccesses">VectorAccesses</a>
+<a href="../../machine/StepsSpecs/index.html#subject_of">subject_of</a> (call.SetGlobal global value) = <a href="../../machine/StepsSpecs/index.html#Values">Values</a>
+<a href="../../machine/StepsSpecs/index.html#subject_of">subject_of</a> (call.GetGlobal global) = <a href="../../machine/StepsSpecs/index.html#Values">Values</a>
+<a href="../../machine/StepsSpecs/index.html#subject_of">subject_of</a> (call.VectorLoad op dst memory ptr offset) = <a href="../../machine/StepsSpecs/index.html#VectorAccesses">VectorAccesses</a>
+<a href="../../machine/StepsSpecs/index.html#subject_of">subject_of</a> (call.LoadLane op dst a memory ptr offset) = <a href="../../machine/StepsSpecs/index.html#VectorAccesses">VectorAccesses</a>
+<a href="../../machine/StepsSpecs/index.html#subject_of">subject_of</a> (call.VectorStore a memory ptr offset) = <a href="../../machine/StepsSpecs/index.html#VectorAccesses">VectorAccesses</a>
+<a href="../../machine/StepsSpecs/index.html#subject_of">subject_of</a> (call.StoreLane op a memory ptr offset) = <a href="../../machine/StepsSpecs/index.html#VectorAccesses">VectorAccesses</a>
 <a href="../../machine/StepsSpecs/index.html#subject_of">subject_of</a> call = <a href="../../machine/StepsSpecs/index.html#RegisterFile">RegisterFile</a>
 
 -- the calls that are charged for what they write: growths, and those that write over a range of a memory or a table
 abbrev pub <b id="is_charged">is_charged</b> : Call → Bool
-<a href="../../machine/StepsSpecs/index.html#is_charged">is_charged</a> (call.GrowMemory k pages) = true
-<a href="../../machine/StepsSpecs/index.html#is_charged">is_charged</a> (call.FillMemory k dst value len) = true
-<a href="../../machine/StepsSpecs/index.html#is_charged">is_charged</a> (call.CopyMemory k dst j src len) = true
-<a href="../../machine/StepsSpecs/index.html#is_charged">is_charged</a> (call.InitMemory k j dst src len) = true
-<a href="../../machine/StepsSpecs/index.html#is_charged">is_charged</a> (call.GrowTable k n init) = true
-<a href="../../machine/StepsSpecs/index.html#is_charged">is_charged</a> (call.InitTable k j dst src len) = true
-<a href="../../machine/StepsSpecs/index.html#is_charged">is_charged</a> (call.CopyTable k dst j src len) = true
-<a href="../../machine/StepsSpecs/index.html#is_charged">is_charged</a> (call.FillTable k dst value len) = true
+<a href="../../machine/StepsSpecs/index.html#is_charged">is_charged</a> (call.GrowMemory memory pages) = true
+<a href="../../machine/StepsSpecs/index.html#is_charged">is_charged</a> (call.FillMemory memory dst value len) = true
+<a href="../../machine/StepsSpecs/index.html#is_charged">is_charged</a> (call.CopyMemory dst_memory dst src_memory src len) = true
+<a href="../../machine/StepsSpecs/index.html#is_charged">is_charged</a> (call.InitMemory memory segment dst src len) = true
+<a href="../../machine/StepsSpecs/index.html#is_charged">is_charged</a> (call.GrowTable table delta init) = true
+<a href="../../machine/StepsSpecs/index.html#is_charged">is_charged</a> (call.InitTable table segment dst src len) = true
+<a href="../../machine/StepsSpecs/index.html#is_charged">is_charged</a> (call.CopyTable dst_table dst src_table src len) = true
+<a href="../../machine/StepsSpecs/index.html#is_charged">is_charged</a> (call.FillTable table dst value len) = true
 <a href="../../machine/StepsSpecs/index.html#is_charged">is_charged</a> call = false
+
+-- What tools/generate writes ends.
 
 -- what changes one part of the state, but for the meter: nothing is charged, and the limiter isn&#x27;t reached
 pub data <b id="Change">Change</b> : Type 0 where
@@ -4871,16 +4880,17 @@ pub data <b id="Effect">Effect</b> : Type 0 where
   <b id="TableGrown">TableGrown</b> : ℕ → ℕ → TypedRawRef → <a href="../../machine/StepsSpecs/index.html#Effect">Effect</a>
   <b id="RangeWritten">RangeWritten</b> : <a href="../../machine/StepsSpecs/index.html#RangeWrite">RangeWrite</a> → <a href="../../machine/StepsSpecs/index.html#Effect">Effect</a>
 
+-- What tools/generate writes begins.
 -- what a call that makes a vector of what is in registers gives the register of its result
 abbrev pub <b id="vector_given">vector_given</b> : List RawVal → Call → Option (Result RawVal TrapCode)
 <a href="../../machine/StepsSpecs/index.html#vector_given">vector_given</a> rs (call.Make op dst a) = option_map (λ raw. <a href="../../machine/RegisterEffectsSpecs/index.html#given_vector">given_vector</a> (<a href="../../ops/VectorOpsSpecs/index.html#made_vector">made_vector</a> op raw)) (slice_get rs a)
 <a href="../../machine/StepsSpecs/index.html#vector_given">vector_given</a> rs (call.Unary op dst a) = <a href="../../machine/RegisterEffectsSpecs/index.html#of_one">of_one</a> (<a href="../../ops/VectorOpsSpecs/index.html#unary_vector">unary_vector</a> op) (<a href="../../machine/RegisterEffectsSpecs/index.html#vector_at">vector_at</a> rs a)
 <a href="../../machine/StepsSpecs/index.html#vector_given">vector_given</a> rs (call.Binary op dst a b) = <a href="../../machine/RegisterEffectsSpecs/index.html#of_two">of_two</a> (<a href="../../ops/VectorOpsSpecs/index.html#binary_vector">binary_vector</a> op) (<a href="../../machine/RegisterEffectsSpecs/index.html#vector_at">vector_at</a> rs a) (<a href="../../machine/RegisterEffectsSpecs/index.html#vector_at">vector_at</a> rs b)
-<a href="../../machine/StepsSpecs/index.html#vector_given">vector_given</a> rs (call.Ternary op dst a b c) =
-    <a href="../../machine/RegisterEffectsSpecs/index.html#of_three">of_three</a> (<a href="../../ops/VectorOpsSpecs/index.html#ternary_vector">ternary_vector</a> op) (<a href="../../machine/RegisterEffectsSpecs/index.html#vector_at">vector_at</a> rs a) (<a href="../../machine/RegisterEffectsSpecs/index.html#vector_at">vector_at</a> rs b) (<a href="../../machine/RegisterEffectsSpecs/index.html#vector_at">vector_at</a> rs c)
+<a href="../../machine/StepsSpecs/index.html#vector_given">vector_given</a> rs (call.Ternary op dst a b c) = <a href="../../machine/RegisterEffectsSpecs/index.html#of_three">of_three</a> (<a href="../../ops/VectorOpsSpecs/index.html#ternary_vector">ternary_vector</a> op) (<a href="../../machine/RegisterEffectsSpecs/index.html#vector_at">vector_at</a> rs a) (<a href="../../machine/RegisterEffectsSpecs/index.html#vector_at">vector_at</a> rs b)
+    (<a href="../../machine/RegisterEffectsSpecs/index.html#vector_at">vector_at</a> rs c)
 <a href="../../machine/StepsSpecs/index.html#vector_given">vector_given</a> rs (call.Shift op dst a amount) = <a href="../../machine/RegisterEffectsSpecs/index.html#of_one">of_one</a> (λ v. <a href="../../ops/VectorOpsSpecs/index.html#shifted_vector">shifted_vector</a> op v amount) (<a href="../../machine/RegisterEffectsSpecs/index.html#vector_at">vector_at</a> rs a)
-<a href="../../machine/StepsSpecs/index.html#vector_given">vector_given</a> rs (call.Replace op dst a item) =
-    option_and_then (λ raw. <a href="../../machine/RegisterEffectsSpecs/index.html#of_one">of_one</a> (λ v. <a href="../../ops/LaneOpsSpecs/index.html#replaced_vector">replaced_vector</a> op v raw) (<a href="../../machine/RegisterEffectsSpecs/index.html#vector_at">vector_at</a> rs a)) (slice_get rs item)
+<a href="../../machine/StepsSpecs/index.html#vector_given">vector_given</a> rs (call.Replace op dst a item) = option_and_then
+    (λ raw. <a href="../../machine/RegisterEffectsSpecs/index.html#of_one">of_one</a> (λ v. <a href="../../ops/LaneOpsSpecs/index.html#replaced_vector">replaced_vector</a> op v raw) (<a href="../../machine/RegisterEffectsSpecs/index.html#vector_at">vector_at</a> rs a)) (slice_get rs item)
 <a href="../../machine/StepsSpecs/index.html#vector_given">vector_given</a> rs (call.Shuffle dst a b lanes) = <a href="../../machine/RegisterEffectsSpecs/index.html#of_two">of_two</a> (λ x y. <a href="../../lanewise/VectorTableSpecs/index.html#shuffle">shuffle</a> x y lanes) (<a href="../../machine/RegisterEffectsSpecs/index.html#vector_at">vector_at</a> rs a) (<a href="../../machine/RegisterEffectsSpecs/index.html#vector_at">vector_at</a> rs b)
 <a href="../../machine/StepsSpecs/index.html#vector_given">vector_given</a> rs call = None
 
@@ -4895,63 +4905,66 @@ abbrev pub <b id="MakesVector">MakesVector</b> : Call → Type 0
 <a href="../../machine/StepsSpecs/index.html#MakesVector">MakesVector</a> (call.Shuffle dst a b lanes) = Unit {0}
 <a href="../../machine/StepsSpecs/index.html#MakesVector">MakesVector</a> call = ⊥
 
--- the effect of a call on a machine in this state: a line for each call
+-- the effect of a call on a machine in this state
 abbrev pub <b id="effect_of">effect_of</b> : <a href="../../machine/StateSpecs/index.html#State">State</a> → Call → <a href="../../machine/StepsSpecs/index.html#Effect">Effect</a>
 <a href="../../machine/StepsSpecs/index.html#effect_of">effect_of</a> s (call.SetFuel fuel) = <a href="../../machine/StepsSpecs/index.html#FuelSet">FuelSet</a> fuel
 <a href="../../machine/StepsSpecs/index.html#effect_of">effect_of</a> s call.GetFuel = <a href="../../machine/StepsSpecs/index.html#Told">Told</a> (<a href="../../machine/ValueEffectsSpecs/index.html#get_fuel_reply">get_fuel_reply</a> s.meter)
 <a href="../../machine/StepsSpecs/index.html#effect_of">effect_of</a> s (call.NewMemory ty) = <a href="../../machine/StepsSpecs/index.html#MemoryMade">MemoryMade</a> ty
 <a href="../../machine/StepsSpecs/index.html#effect_of">effect_of</a> s (call.NewLentMemory ty) = <a href="../../machine/StepsSpecs/index.html#LentMemoryMade">LentMemoryMade</a> ty
-<a href="../../machine/StepsSpecs/index.html#effect_of">effect_of</a> s (call.GrowMemory k pages) = <a href="../../machine/StepsSpecs/index.html#MemoryGrown">MemoryGrown</a> k pages
-<a href="../../machine/StepsSpecs/index.html#effect_of">effect_of</a> s (call.DropMemory k) = <a href="../../machine/StepsSpecs/index.html#Changed">Changed</a> (<a href="../../machine/StepsSpecs/index.html#MemoryDropped">MemoryDropped</a> k)
-<a href="../../machine/StepsSpecs/index.html#effect_of">effect_of</a> s (call.Read k offset len) = <a href="../../machine/StepsSpecs/index.html#BytesRead">BytesRead</a> k offset len
-<a href="../../machine/StepsSpecs/index.html#effect_of">effect_of</a> s (call.Write k offset bytes) = <a href="../../machine/StepsSpecs/index.html#Changed">Changed</a> (<a href="../../machine/StepsSpecs/index.html#BytesWritten">BytesWritten</a> k offset bytes.items)
-<a href="../../machine/StepsSpecs/index.html#effect_of">effect_of</a> s (call.Load op k ptr offset) = <a href="../../machine/StepsSpecs/index.html#Told">Told</a> (<a href="../../machine/MemoryEffectsSpecs/index.html#load_reply">load_reply</a> op (ptr + offset) (<a href="../../machine/StateSpecs/index.html#live_at">live_at</a> s.memories k))
-<a href="../../machine/StepsSpecs/index.html#effect_of">effect_of</a> s (call.Store op k ptr offset value) = <a href="../../machine/StepsSpecs/index.html#Changed">Changed</a> (<a href="../../machine/StepsSpecs/index.html#BytesStored">BytesStored</a> k (ptr + offset) (Some (<a href="../../ops/LoadStoreOpsSpecs/index.html#stored_bytes">stored_bytes</a> op value)))
-<a href="../../machine/StepsSpecs/index.html#effect_of">effect_of</a> s (call.FillMemory k dst value len) = <a href="../../machine/StepsSpecs/index.html#RangeWritten">RangeWritten</a> (<a href="../../machine/StepsSpecs/index.html#MemoryWritten">MemoryWritten</a> k (<a href="../../machine/MemoryEffectsSpecs/index.html#OfByte">OfByte</a> value) dst len)
-<a href="../../machine/StepsSpecs/index.html#effect_of">effect_of</a> s (call.CopyMemory k dst j src len) =
-    <a href="../../machine/StepsSpecs/index.html#RangeWritten">RangeWritten</a> (<a href="../../machine/StepsSpecs/index.html#MemoryWritten">MemoryWritten</a> k (<a href="../../machine/MemoryEffectsSpecs/index.html#OfBytes">OfBytes</a> (<a href="../../machine/MemoryEffectsSpecs/index.html#bytes_in">bytes_in</a> (<a href="../../machine/StateSpecs/index.html#live_at">live_at</a> s.memories j)) src) dst len)
-<a href="../../machine/StepsSpecs/index.html#effect_of">effect_of</a> s (call.InitMemory k j dst src len) =
-    <a href="../../machine/StepsSpecs/index.html#RangeWritten">RangeWritten</a> (<a href="../../machine/StepsSpecs/index.html#MemoryWritten">MemoryWritten</a> k (<a href="../../machine/MemoryEffectsSpecs/index.html#OfBytes">OfBytes</a> (slice_get s.data_segments j) src) dst len)
+<a href="../../machine/StepsSpecs/index.html#effect_of">effect_of</a> s (call.GrowMemory memory pages) = <a href="../../machine/StepsSpecs/index.html#MemoryGrown">MemoryGrown</a> memory pages
+<a href="../../machine/StepsSpecs/index.html#effect_of">effect_of</a> s (call.DropMemory memory) = <a href="../../machine/StepsSpecs/index.html#Changed">Changed</a> (<a href="../../machine/StepsSpecs/index.html#MemoryDropped">MemoryDropped</a> memory)
+<a href="../../machine/StepsSpecs/index.html#effect_of">effect_of</a> s (call.Read memory offset len) = <a href="../../machine/StepsSpecs/index.html#BytesRead">BytesRead</a> memory offset len
+<a href="../../machine/StepsSpecs/index.html#effect_of">effect_of</a> s (call.Write memory offset bytes) = <a href="../../machine/StepsSpecs/index.html#Changed">Changed</a> (<a href="../../machine/StepsSpecs/index.html#BytesWritten">BytesWritten</a> memory offset bytes.items)
+<a href="../../machine/StepsSpecs/index.html#effect_of">effect_of</a> s (call.Load op memory ptr offset) = <a href="../../machine/StepsSpecs/index.html#Told">Told</a> (<a href="../../machine/MemoryEffectsSpecs/index.html#load_reply">load_reply</a> op (ptr + offset) (<a href="../../machine/StateSpecs/index.html#live_at">live_at</a> s.memories memory))
+<a href="../../machine/StepsSpecs/index.html#effect_of">effect_of</a> s (call.Store op memory ptr offset value) = <a href="../../machine/StepsSpecs/index.html#Changed">Changed</a>
+    (<a href="../../machine/StepsSpecs/index.html#BytesStored">BytesStored</a> memory (ptr + offset) (Some (<a href="../../ops/LoadStoreOpsSpecs/index.html#stored_bytes">stored_bytes</a> op value)))
+<a href="../../machine/StepsSpecs/index.html#effect_of">effect_of</a> s (call.FillMemory memory dst value len) = <a href="../../machine/StepsSpecs/index.html#RangeWritten">RangeWritten</a> (<a href="../../machine/StepsSpecs/index.html#MemoryWritten">MemoryWritten</a> memory (<a href="../../machine/MemoryEffectsSpecs/index.html#OfByte">OfByte</a> value) dst len)
+<a href="../../machine/StepsSpecs/index.html#effect_of">effect_of</a> s (call.CopyMemory dst_memory dst src_memory src len) = <a href="../../machine/StepsSpecs/index.html#RangeWritten">RangeWritten</a> (<a href="../../machine/StepsSpecs/index.html#MemoryWritten">MemoryWritten</a> dst_memory
+    (<a href="../../machine/MemoryEffectsSpecs/index.html#OfBytes">OfBytes</a> (<a href="../../machine/MemoryEffectsSpecs/index.html#bytes_in">bytes_in</a> (<a href="../../machine/StateSpecs/index.html#live_at">live_at</a> s.memories src_memory)) src) dst len)
+<a href="../../machine/StepsSpecs/index.html#effect_of">effect_of</a> s (call.InitMemory memory segment dst src len) = <a href="../../machine/StepsSpecs/index.html#RangeWritten">RangeWritten</a> (<a href="../../machine/StepsSpecs/index.html#MemoryWritten">MemoryWritten</a> memory
+    (<a href="../../machine/MemoryEffectsSpecs/index.html#OfBytes">OfBytes</a> (slice_get s.data_segments segment) src) dst len)
 <a href="../../machine/StepsSpecs/index.html#effect_of">effect_of</a> s (call.NewTable ty init) = <a href="../../machine/StepsSpecs/index.html#TableMade">TableMade</a> ty init
-<a href="../../machine/StepsSpecs/index.html#effect_of">effect_of</a> s (call.GrowTable k n init) = <a href="../../machine/StepsSpecs/index.html#TableGrown">TableGrown</a> k n init
-<a href="../../machine/StepsSpecs/index.html#effect_of">effect_of</a> s (call.DropTable k) = <a href="../../machine/StepsSpecs/index.html#Changed">Changed</a> (<a href="../../machine/StepsSpecs/index.html#TableDropped">TableDropped</a> k)
-<a href="../../machine/StepsSpecs/index.html#effect_of">effect_of</a> s (call.GetElement k index) = <a href="../../machine/StepsSpecs/index.html#Told">Told</a> (<a href="../../machine/TableEffectsSpecs/index.html#element_reply">element_reply</a> index (<a href="../../machine/StateSpecs/index.html#live_at">live_at</a> s.tables k))
-<a href="../../machine/StepsSpecs/index.html#effect_of">effect_of</a> s (call.SetElement k index value) = <a href="../../machine/StepsSpecs/index.html#Changed">Changed</a> (<a href="../../machine/StepsSpecs/index.html#ElementSet">ElementSet</a> k index value)
-<a href="../../machine/StepsSpecs/index.html#effect_of">effect_of</a> s (call.InitTable k j dst src len) =
-    <a href="../../machine/StepsSpecs/index.html#RangeWritten">RangeWritten</a> (<a href="../../machine/StepsSpecs/index.html#TableWritten">TableWritten</a> k (<a href="../../machine/TableEffectsSpecs/index.html#OfSegment">OfSegment</a> (slice_get s.segments j) src) dst len)
-<a href="../../machine/StepsSpecs/index.html#effect_of">effect_of</a> s (call.CopyTable k dst j src len) =
-    <a href="../../machine/StepsSpecs/index.html#RangeWritten">RangeWritten</a> (<a href="../../machine/StepsSpecs/index.html#TableWritten">TableWritten</a> k (<a href="../../machine/TableEffectsSpecs/index.html#OfTable">OfTable</a> (<a href="../../machine/StateSpecs/index.html#live_at">live_at</a> s.tables j) src) dst len)
-<a href="../../machine/StepsSpecs/index.html#effect_of">effect_of</a> s (call.FillTable k dst value len) = <a href="../../machine/StepsSpecs/index.html#RangeWritten">RangeWritten</a> (<a href="../../machine/StepsSpecs/index.html#TableWritten">TableWritten</a> k (<a href="../../machine/TableEffectsSpecs/index.html#OfReference">OfReference</a> value) dst len)
+<a href="../../machine/StepsSpecs/index.html#effect_of">effect_of</a> s (call.GrowTable table delta init) = <a href="../../machine/StepsSpecs/index.html#TableGrown">TableGrown</a> table delta init
+<a href="../../machine/StepsSpecs/index.html#effect_of">effect_of</a> s (call.DropTable table) = <a href="../../machine/StepsSpecs/index.html#Changed">Changed</a> (<a href="../../machine/StepsSpecs/index.html#TableDropped">TableDropped</a> table)
+<a href="../../machine/StepsSpecs/index.html#effect_of">effect_of</a> s (call.GetElement table index) = <a href="../../machine/StepsSpecs/index.html#Told">Told</a> (<a href="../../machine/TableEffectsSpecs/index.html#element_reply">element_reply</a> index (<a href="../../machine/StateSpecs/index.html#live_at">live_at</a> s.tables table))
+<a href="../../machine/StepsSpecs/index.html#effect_of">effect_of</a> s (call.SetElement table index value) = <a href="../../machine/StepsSpecs/index.html#Changed">Changed</a> (<a href="../../machine/StepsSpecs/index.html#ElementSet">ElementSet</a> table index value)
+<a href="../../machine/StepsSpecs/index.html#effect_of">effect_of</a> s (call.InitTable table segment dst src len) = <a href="../../machine/StepsSpecs/index.html#RangeWritten">RangeWritten</a>
+    (<a href="../../machine/StepsSpecs/index.html#TableWritten">TableWritten</a> table (<a href="../../machine/TableEffectsSpecs/index.html#OfSegment">OfSegment</a> (slice_get s.segments segment) src) dst len)
+<a href="../../machine/StepsSpecs/index.html#effect_of">effect_of</a> s (call.CopyTable dst_table dst src_table src len) = <a href="../../machine/StepsSpecs/index.html#RangeWritten">RangeWritten</a>
+    (<a href="../../machine/StepsSpecs/index.html#TableWritten">TableWritten</a> dst_table (<a href="../../machine/TableEffectsSpecs/index.html#OfTable">OfTable</a> (<a href="../../machine/StateSpecs/index.html#live_at">live_at</a> s.tables src_table) src) dst len)
+<a href="../../machine/StepsSpecs/index.html#effect_of">effect_of</a> s (call.FillTable table dst value len) = <a href="../../machine/StepsSpecs/index.html#RangeWritten">RangeWritten</a> (<a href="../../machine/StepsSpecs/index.html#TableWritten">TableWritten</a> table (<a href="../../machine/TableEffectsSpecs/index.html#OfReference">OfReference</a> value) dst len)
 <a href="../../machine/StepsSpecs/index.html#effect_of">effect_of</a> s (call.NewSegment ty items) = <a href="../../machine/StepsSpecs/index.html#Changed">Changed</a> (<a href="../../machine/StepsSpecs/index.html#SegmentMade">SegmentMade</a> ty items.items)
-<a href="../../machine/StepsSpecs/index.html#effect_of">effect_of</a> s (call.DropItems k) = <a href="../../machine/StepsSpecs/index.html#Changed">Changed</a> (<a href="../../machine/StepsSpecs/index.html#ItemsDropped">ItemsDropped</a> k)
+<a href="../../machine/StepsSpecs/index.html#effect_of">effect_of</a> s (call.DropItems segment) = <a href="../../machine/StepsSpecs/index.html#Changed">Changed</a> (<a href="../../machine/StepsSpecs/index.html#ItemsDropped">ItemsDropped</a> segment)
 <a href="../../machine/StepsSpecs/index.html#effect_of">effect_of</a> s (call.NewData bytes) = <a href="../../machine/StepsSpecs/index.html#Changed">Changed</a> (<a href="../../machine/StepsSpecs/index.html#DataMade">DataMade</a> bytes.items)
-<a href="../../machine/StepsSpecs/index.html#effect_of">effect_of</a> s (call.DropData k) = <a href="../../machine/StepsSpecs/index.html#Changed">Changed</a> (<a href="../../machine/StepsSpecs/index.html#DataDropped">DataDropped</a> k)
+<a href="../../machine/StepsSpecs/index.html#effect_of">effect_of</a> s (call.DropData segment) = <a href="../../machine/StepsSpecs/index.html#Changed">Changed</a> (<a href="../../machine/StepsSpecs/index.html#DataDropped">DataDropped</a> segment)
 <a href="../../machine/StepsSpecs/index.html#effect_of">effect_of</a> s (call.NewGlobal value ty) = <a href="../../machine/StepsSpecs/index.html#Changed">Changed</a> (<a href="../../machine/StepsSpecs/index.html#GlobalMade">GlobalMade</a> (record { value = value; ty = ty }))
-<a href="../../machine/StepsSpecs/index.html#effect_of">effect_of</a> s (call.SetGlobal k value) = <a href="../../machine/StepsSpecs/index.html#Changed">Changed</a> (<a href="../../machine/StepsSpecs/index.html#GlobalSet">GlobalSet</a> k value)
-<a href="../../machine/StepsSpecs/index.html#effect_of">effect_of</a> s (call.GetGlobal k) = <a href="../../machine/StepsSpecs/index.html#Told">Told</a> (<a href="../../machine/ValueEffectsSpecs/index.html#global_reply">global_reply</a> (slice_get s.globals k))
+<a href="../../machine/StepsSpecs/index.html#effect_of">effect_of</a> s (call.SetGlobal global value) = <a href="../../machine/StepsSpecs/index.html#Changed">Changed</a> (<a href="../../machine/StepsSpecs/index.html#GlobalSet">GlobalSet</a> global value)
+<a href="../../machine/StepsSpecs/index.html#effect_of">effect_of</a> s (call.GetGlobal global) = <a href="../../machine/StepsSpecs/index.html#Told">Told</a> (<a href="../../machine/ValueEffectsSpecs/index.html#global_reply">global_reply</a> (slice_get s.globals global))
 <a href="../../machine/StepsSpecs/index.html#effect_of">effect_of</a> s (call.SetRegister dst value) = <a href="../../machine/StepsSpecs/index.html#Changed">Changed</a> (<a href="../../machine/StepsSpecs/index.html#RegisterSet">RegisterSet</a> dst (Some (Ok value)))
 <a href="../../machine/StepsSpecs/index.html#effect_of">effect_of</a> s (call.GetRegister a) = <a href="../../machine/StepsSpecs/index.html#Told">Told</a> (<a href="../../machine/RegisterEffectsSpecs/index.html#raw_reply">raw_reply</a> (slice_get s.registers a))
 <a href="../../machine/StepsSpecs/index.html#effect_of">effect_of</a> s (call.Make op dst a) = <a href="../../machine/StepsSpecs/index.html#Changed">Changed</a> (<a href="../../machine/StepsSpecs/index.html#RegisterSet">RegisterSet</a> dst (<a href="../../machine/StepsSpecs/index.html#vector_given">vector_given</a> s.registers (call.Make op dst a)))
 <a href="../../machine/StepsSpecs/index.html#effect_of">effect_of</a> s (call.Unary op dst a) = <a href="../../machine/StepsSpecs/index.html#Changed">Changed</a> (<a href="../../machine/StepsSpecs/index.html#RegisterSet">RegisterSet</a> dst (<a href="../../machine/StepsSpecs/index.html#vector_given">vector_given</a> s.registers (call.Unary op dst a)))
 <a href="../../machine/StepsSpecs/index.html#effect_of">effect_of</a> s (call.Binary op dst a b) = <a href="../../machine/StepsSpecs/index.html#Changed">Changed</a> (<a href="../../machine/StepsSpecs/index.html#RegisterSet">RegisterSet</a> dst (<a href="../../machine/StepsSpecs/index.html#vector_given">vector_given</a> s.registers (call.Binary op dst a b)))
-<a href="../../machine/StepsSpecs/index.html#effect_of">effect_of</a> s (call.Ternary op dst a b c) =
-    <a href="../../machine/StepsSpecs/index.html#Changed">Changed</a> (<a href="../../machine/StepsSpecs/index.html#RegisterSet">RegisterSet</a> dst (<a href="../../machine/StepsSpecs/index.html#vector_given">vector_given</a> s.registers (call.Ternary op dst a b c)))
-<a href="../../machine/StepsSpecs/index.html#effect_of">effect_of</a> s (call.Shift op dst a amount) =
-    <a href="../../machine/StepsSpecs/index.html#Changed">Changed</a> (<a href="../../machine/StepsSpecs/index.html#RegisterSet">RegisterSet</a> dst (<a href="../../machine/StepsSpecs/index.html#vector_given">vector_given</a> s.registers (call.Shift op dst a amount)))
+<a href="../../machine/StepsSpecs/index.html#effect_of">effect_of</a> s (call.Ternary op dst a b c) = <a href="../../machine/StepsSpecs/index.html#Changed">Changed</a>
+    (<a href="../../machine/StepsSpecs/index.html#RegisterSet">RegisterSet</a> dst (<a href="../../machine/StepsSpecs/index.html#vector_given">vector_given</a> s.registers (call.Ternary op dst a b c)))
+<a href="../../machine/StepsSpecs/index.html#effect_of">effect_of</a> s (call.Shift op dst a amount) = <a href="../../machine/StepsSpecs/index.html#Changed">Changed</a>
+    (<a href="../../machine/StepsSpecs/index.html#RegisterSet">RegisterSet</a> dst (<a href="../../machine/StepsSpecs/index.html#vector_given">vector_given</a> s.registers (call.Shift op dst a amount)))
 <a href="../../machine/StepsSpecs/index.html#effect_of">effect_of</a> s (call.Test op a) = <a href="../../machine/StepsSpecs/index.html#Told">Told</a> (<a href="../../machine/RegisterEffectsSpecs/index.html#raw_reply">raw_reply</a> (option_map (<a href="../../ops/VectorOpsSpecs/index.html#tested_raw">tested_raw</a> op) (<a href="../../machine/RegisterEffectsSpecs/index.html#vector_at">vector_at</a> s.registers a)))
 <a href="../../machine/StepsSpecs/index.html#effect_of">effect_of</a> s (call.Extract op a) = <a href="../../machine/StepsSpecs/index.html#Told">Told</a> (<a href="../../machine/RegisterEffectsSpecs/index.html#raw_reply">raw_reply</a> (option_map (<a href="../../ops/LaneOpsSpecs/index.html#extracted_raw">extracted_raw</a> op) (<a href="../../machine/RegisterEffectsSpecs/index.html#vector_at">vector_at</a> s.registers a)))
-<a href="../../machine/StepsSpecs/index.html#effect_of">effect_of</a> s (call.Replace op dst a item) =
-    <a href="../../machine/StepsSpecs/index.html#Changed">Changed</a> (<a href="../../machine/StepsSpecs/index.html#RegisterSet">RegisterSet</a> dst (<a href="../../machine/StepsSpecs/index.html#vector_given">vector_given</a> s.registers (call.Replace op dst a item)))
-<a href="../../machine/StepsSpecs/index.html#effect_of">effect_of</a> s (call.Shuffle dst a b lanes) =
-    <a href="../../machine/StepsSpecs/index.html#Changed">Changed</a> (<a href="../../machine/StepsSpecs/index.html#RegisterSet">RegisterSet</a> dst (<a href="../../machine/StepsSpecs/index.html#vector_given">vector_given</a> s.registers (call.Shuffle dst a b lanes)))
-<a href="../../machine/StepsSpecs/index.html#effect_of">effect_of</a> s (call.VectorLoad op dst k ptr offset) =
-    <a href="../../machine/StepsSpecs/index.html#Changed">Changed</a> (<a href="../../machine/StepsSpecs/index.html#RegisterSet">RegisterSet</a> dst (<a href="../../machine/RegisterEffectsSpecs/index.html#vector_loaded">vector_loaded</a> op (ptr + offset) (<a href="../../machine/StateSpecs/index.html#live_at">live_at</a> s.memories k)))
-<a href="../../machine/StepsSpecs/index.html#effect_of">effect_of</a> s (call.LoadLane op dst a k ptr offset) =
-    <a href="../../machine/StepsSpecs/index.html#Changed">Changed</a> (<a href="../../machine/StepsSpecs/index.html#RegisterSet">RegisterSet</a> dst (<a href="../../machine/RegisterEffectsSpecs/index.html#lane_loaded">lane_loaded</a> op (ptr + offset) (<a href="../../machine/RegisterEffectsSpecs/index.html#vector_at">vector_at</a> s.registers a) (<a href="../../machine/StateSpecs/index.html#live_at">live_at</a> s.memories k)))
-<a href="../../machine/StepsSpecs/index.html#effect_of">effect_of</a> s (call.VectorStore a k ptr offset) =
-    <a href="../../machine/StepsSpecs/index.html#Changed">Changed</a> (<a href="../../machine/StepsSpecs/index.html#BytesStored">BytesStored</a> k (ptr + offset) (option_map (<a href="../../types/NumbersSpecs/index.html#le_bytes">le_bytes</a> 16) (<a href="../../machine/RegisterEffectsSpecs/index.html#vector_at">vector_at</a> s.registers a)))
-<a href="../../machine/StepsSpecs/index.html#effect_of">effect_of</a> s (call.StoreLane op a k ptr offset) =
-    <a href="../../machine/StepsSpecs/index.html#Changed">Changed</a> (<a href="../../machine/StepsSpecs/index.html#BytesStored">BytesStored</a> k (ptr + offset) (option_map (<a href="../../ops/VectorOpsSpecs/index.html#stored_lane">stored_lane</a> op) (<a href="../../machine/RegisterEffectsSpecs/index.html#vector_at">vector_at</a> s.registers a)))
+<a href="../../machine/StepsSpecs/index.html#effect_of">effect_of</a> s (call.Replace op dst a item) = <a href="../../machine/StepsSpecs/index.html#Changed">Changed</a>
+    (<a href="../../machine/StepsSpecs/index.html#RegisterSet">RegisterSet</a> dst (<a href="../../machine/StepsSpecs/index.html#vector_given">vector_given</a> s.registers (call.Replace op dst a item)))
+<a href="../../machine/StepsSpecs/index.html#effect_of">effect_of</a> s (call.Shuffle dst a b lanes) = <a href="../../machine/StepsSpecs/index.html#Changed">Changed</a>
+    (<a href="../../machine/StepsSpecs/index.html#RegisterSet">RegisterSet</a> dst (<a href="../../machine/StepsSpecs/index.html#vector_given">vector_given</a> s.registers (call.Shuffle dst a b lanes)))
+<a href="../../machine/StepsSpecs/index.html#effect_of">effect_of</a> s (call.VectorLoad op dst memory ptr offset) = <a href="../../machine/StepsSpecs/index.html#Changed">Changed</a> (<a href="../../machine/StepsSpecs/index.html#RegisterSet">RegisterSet</a> dst
+    (<a href="../../machine/RegisterEffectsSpecs/index.html#vector_loaded">vector_loaded</a> op (ptr + offset) (<a href="../../machine/StateSpecs/index.html#live_at">live_at</a> s.memories memory)))
+<a href="../../machine/StepsSpecs/index.html#effect_of">effect_of</a> s (call.LoadLane op dst a memory ptr offset) = <a href="../../machine/StepsSpecs/index.html#Changed">Changed</a> (<a href="../../machine/StepsSpecs/index.html#RegisterSet">RegisterSet</a> dst (<a href="../../machine/RegisterEffectsSpecs/index.html#lane_loaded">lane_loaded</a> op (ptr + offset)
+    (<a href="../../machine/RegisterEffectsSpecs/index.html#vector_at">vector_at</a> s.registers a) (<a href="../../machine/StateSpecs/index.html#live_at">live_at</a> s.memories memory)))
+<a href="../../machine/StepsSpecs/index.html#effect_of">effect_of</a> s (call.VectorStore a memory ptr offset) = <a href="../../machine/StepsSpecs/index.html#Changed">Changed</a> (<a href="../../machine/StepsSpecs/index.html#BytesStored">BytesStored</a> memory (ptr + offset)
+    (option_map (<a href="../../types/NumbersSpecs/index.html#le_bytes">le_bytes</a> 16) (<a href="../../machine/RegisterEffectsSpecs/index.html#vector_at">vector_at</a> s.registers a)))
+<a href="../../machine/StepsSpecs/index.html#effect_of">effect_of</a> s (call.StoreLane op a memory ptr offset) = <a href="../../machine/StepsSpecs/index.html#Changed">Changed</a> (<a href="../../machine/StepsSpecs/index.html#BytesStored">BytesStored</a> memory (ptr + offset)
+    (option_map (<a href="../../ops/VectorOpsSpecs/index.html#stored_lane">stored_lane</a> op) (<a href="../../machine/RegisterEffectsSpecs/index.html#vector_at">vector_at</a> s.registers a)))
+
+-- What tools/generate writes ends.
 
 -- memory for one more slot may lack, since each one that is reserved is used
 abbrev pub <b id="LacksSlot">LacksSlot</b> : {A : Type 0} → ℕ → List A → Type 0
@@ -5233,27 +5246,26 @@ abbrev pub <b id="content_at">content_at</b> : (location : <a href="../../laws/P
 <a href="../../laws/PlacesSpecs/index.html#content_at">content_at</a> (<a href="../../laws/PlacesSpecs/index.html#GlobalAt">GlobalAt</a> k) s = slice_get s.globals k
 <a href="../../laws/PlacesSpecs/index.html#content_at">content_at</a> (<a href="../../laws/PlacesSpecs/index.html#RegisterAt">RegisterAt</a> k) s = slice_get s.registers k
 
+-- What tools/generate writes begins.
 -- the one index at which a call may change what is there; a call that makes something, or that only reads, changes what
 -- is at none
 abbrev pub <b id="changed_location">changed_location</b> : Call → Option <a href="../../laws/PlacesSpecs/index.html#Location">Location</a>
-<a href="../../laws/PlacesSpecs/index.html#changed_location">changed_location</a> (call.GrowMemory k pages) = Some (<a href="../../laws/PlacesSpecs/index.html#MemoryAt">MemoryAt</a> k)
-<a href="../../laws/PlacesSpecs/index.html#changed_location">changed_location</a> (call.DropMemory k) = Some (<a href="../../laws/PlacesSpecs/index.html#MemoryAt">MemoryAt</a> k)
-<a href="../../laws/PlacesSpecs/index.html#changed_location">changed_location</a> (call.Write k <a href="../../laws/PlacesSpecs/index.html#offset">offset</a> bytes) = Some (<a href="../../laws/PlacesSpecs/index.html#MemoryAt">MemoryAt</a> k)
-<a href="../../laws/PlacesSpecs/index.html#changed_location">changed_location</a> (call.Store <a href="../../laws/PlacesSpecs/index.html#op">op</a> k <a href="../../laws/PlacesSpecs/index.html#ptr">ptr</a> <a href="../../laws/PlacesSpecs/index.html#offset">offset</a> <a href="../../laws/PlacesSpecs/index.html#value">value</a>) = Some (<a href="../../laws/PlacesSpecs/index.html#MemoryAt">MemoryAt</a> k)
-<a href="../../laws/PlacesSpecs/index.html#changed_location">changed_location</a> (call.FillMemory k dst <a href="../../laws/PlacesSpecs/index.html#value">value</a> len) = Some (<a href="../../laws/PlacesSpecs/index.html#MemoryAt">MemoryAt</a> k)
-<a href="../../laws/PlacesSpecs/index.html#changed_location">changed_location</a> (call.CopyMemory k dst j src len) = Some (<a href="../../laws/PlacesSpecs/index.html#MemoryAt">MemoryAt</a> k)
-<a href="../../laws/PlacesSpecs/index.html#changed_location">changed_location</a> (call.InitMemory k j dst src len) = Some (<a href="../../laws/PlacesSpecs/index.html#MemoryAt">MemoryAt</a> k)
-<a href="../../laws/PlacesSpecs/index.html#changed_location">changed_location</a> (call.VectorStore a k <a href="../../laws/PlacesSpecs/index.html#ptr">ptr</a> <a href="../../laws/PlacesSpecs/index.html#offset">offset</a>) = Some (<a href="../../laws/PlacesSpecs/index.html#MemoryAt">MemoryAt</a> k)
-<a href="../../laws/PlacesSpecs/index.html#changed_location">changed_location</a> (call.StoreLane <a href="../../laws/PlacesSpecs/index.html#op">op</a> a k <a href="../../laws/PlacesSpecs/index.html#ptr">ptr</a> <a href="../../laws/PlacesSpecs/index.html#offset">offset</a>) = Some (<a href="../../laws/PlacesSpecs/index.html#MemoryAt">MemoryAt</a> k)
-<a href="../../laws/PlacesSpecs/index.html#changed_location">changed_location</a> (call.GrowTable k n init) = Some (<a href="../../laws/PlacesSpecs/index.html#TableAt">TableAt</a> k)
-<a href="../../laws/PlacesSpecs/index.html#changed_location">changed_location</a> (call.DropTable k) = Some (<a href="../../laws/PlacesSpecs/index.html#TableAt">TableAt</a> k)
-<a href="../../laws/PlacesSpecs/index.html#changed_location">changed_location</a> (call.SetElement k index <a href="../../laws/PlacesSpecs/index.html#value">value</a>) = Some (<a href="../../laws/PlacesSpecs/index.html#TableAt">TableAt</a> k)
-<a href="../../laws/PlacesSpecs/index.html#changed_location">changed_location</a> (call.InitTable k j dst src len) = Some (<a href="../../laws/PlacesSpecs/index.html#TableAt">TableAt</a> k)
-<a href="../../laws/PlacesSpecs/index.html#changed_location">changed_location</a> (call.CopyTable k dst j src len) = Some (<a href="../../laws/PlacesSpecs/index.html#TableAt">TableAt</a> k)
-<a href="../../laws/PlacesSpecs/index.html#changed_location">changed_location</a> (call.FillTable k dst <a href="../../laws/PlacesSpecs/index.html#value">value</a> len) = Some (<a href="../../laws/PlacesSpecs/index.html#TableAt">TableAt</a> k)
-<a href="../../laws/PlacesSpecs/index.html#changed_location">changed_location</a> (call.DropItems k) = Some (<a href="../../laws/PlacesSpecs/index.html#SegmentAt">SegmentAt</a> k)
-<a href="../../laws/PlacesSpecs/index.html#changed_location">changed_location</a> (call.DropData k) = Some (<a href="../../laws/PlacesSpecs/index.html#DataAt">DataAt</a> k)
-<a href="../../laws/PlacesSpecs/index.html#changed_location">changed_location</a> (call.SetGlobal k <a href="../../laws/PlacesSpecs/index.html#value">value</a>) = Some (<a href="../../laws/PlacesSpecs/index.html#GlobalAt">GlobalAt</a> k)
+<a href="../../laws/PlacesSpecs/index.html#changed_location">changed_location</a> (call.GrowMemory <a href="../../laws/PlacesSpecs/index.html#memory">memory</a> pages) = Some (<a href="../../laws/PlacesSpecs/index.html#MemoryAt">MemoryAt</a> <a href="../../laws/PlacesSpecs/index.html#memory">memory</a>)
+<a href="../../laws/PlacesSpecs/index.html#changed_location">changed_location</a> (call.DropMemory <a href="../../laws/PlacesSpecs/index.html#memory">memory</a>) = Some (<a href="../../laws/PlacesSpecs/index.html#MemoryAt">MemoryAt</a> <a href="../../laws/PlacesSpecs/index.html#memory">memory</a>)
+<a href="../../laws/PlacesSpecs/index.html#changed_location">changed_location</a> (call.Write <a href="../../laws/PlacesSpecs/index.html#memory">memory</a> <a href="../../laws/PlacesSpecs/index.html#offset">offset</a> bytes) = Some (<a href="../../laws/PlacesSpecs/index.html#MemoryAt">MemoryAt</a> <a href="../../laws/PlacesSpecs/index.html#memory">memory</a>)
+<a href="../../laws/PlacesSpecs/index.html#changed_location">changed_location</a> (call.Store <a href="../../laws/PlacesSpecs/index.html#op">op</a> <a href="../../laws/PlacesSpecs/index.html#memory">memory</a> <a href="../../laws/PlacesSpecs/index.html#ptr">ptr</a> <a href="../../laws/PlacesSpecs/index.html#offset">offset</a> <a href="../../laws/PlacesSpecs/index.html#value">value</a>) = Some (<a href="../../laws/PlacesSpecs/index.html#MemoryAt">MemoryAt</a> <a href="../../laws/PlacesSpecs/index.html#memory">memory</a>)
+<a href="../../laws/PlacesSpecs/index.html#changed_location">changed_location</a> (call.FillMemory <a href="../../laws/PlacesSpecs/index.html#memory">memory</a> dst <a href="../../laws/PlacesSpecs/index.html#value">value</a> len) = Some (<a href="../../laws/PlacesSpecs/index.html#MemoryAt">MemoryAt</a> <a href="../../laws/PlacesSpecs/index.html#memory">memory</a>)
+<a href="../../laws/PlacesSpecs/index.html#changed_location">changed_location</a> (call.CopyMemory dst_memory dst src_memory src len) = Some (<a href="../../laws/PlacesSpecs/index.html#MemoryAt">MemoryAt</a> dst_memory)
+<a href="../../laws/PlacesSpecs/index.html#changed_location">changed_location</a> (call.InitMemory <a href="../../laws/PlacesSpecs/index.html#memory">memory</a> segment dst src len) = Some (<a href="../../laws/PlacesSpecs/index.html#MemoryAt">MemoryAt</a> <a href="../../laws/PlacesSpecs/index.html#memory">memory</a>)
+<a href="../../laws/PlacesSpecs/index.html#changed_location">changed_location</a> (call.GrowTable table delta init) = Some (<a href="../../laws/PlacesSpecs/index.html#TableAt">TableAt</a> table)
+<a href="../../laws/PlacesSpecs/index.html#changed_location">changed_location</a> (call.DropTable table) = Some (<a href="../../laws/PlacesSpecs/index.html#TableAt">TableAt</a> table)
+<a href="../../laws/PlacesSpecs/index.html#changed_location">changed_location</a> (call.SetElement table index <a href="../../laws/PlacesSpecs/index.html#value">value</a>) = Some (<a href="../../laws/PlacesSpecs/index.html#TableAt">TableAt</a> table)
+<a href="../../laws/PlacesSpecs/index.html#changed_location">changed_location</a> (call.InitTable table segment dst src len) = Some (<a href="../../laws/PlacesSpecs/index.html#TableAt">TableAt</a> table)
+<a href="../../laws/PlacesSpecs/index.html#changed_location">changed_location</a> (call.CopyTable dst_table dst src_table src len) = Some (<a href="../../laws/PlacesSpecs/index.html#TableAt">TableAt</a> dst_table)
+<a href="../../laws/PlacesSpecs/index.html#changed_location">changed_location</a> (call.FillTable table dst <a href="../../laws/PlacesSpecs/index.html#value">value</a> len) = Some (<a href="../../laws/PlacesSpecs/index.html#TableAt">TableAt</a> table)
+<a href="../../laws/PlacesSpecs/index.html#changed_location">changed_location</a> (call.DropItems segment) = Some (<a href="../../laws/PlacesSpecs/index.html#SegmentAt">SegmentAt</a> segment)
+<a href="../../laws/PlacesSpecs/index.html#changed_location">changed_location</a> (call.DropData segment) = Some (<a href="../../laws/PlacesSpecs/index.html#DataAt">DataAt</a> segment)
+<a href="../../laws/PlacesSpecs/index.html#changed_location">changed_location</a> (call.SetGlobal global <a href="../../laws/PlacesSpecs/index.html#value">value</a>) = Some (<a href="../../laws/PlacesSpecs/index.html#GlobalAt">GlobalAt</a> global)
 <a href="../../laws/PlacesSpecs/index.html#changed_location">changed_location</a> (call.SetRegister dst <a href="../../laws/PlacesSpecs/index.html#value">value</a>) = Some (<a href="../../laws/PlacesSpecs/index.html#RegisterAt">RegisterAt</a> dst)
 <a href="../../laws/PlacesSpecs/index.html#changed_location">changed_location</a> (call.Make <a href="../../laws/PlacesSpecs/index.html#op">op</a> dst a) = Some (<a href="../../laws/PlacesSpecs/index.html#RegisterAt">RegisterAt</a> dst)
 <a href="../../laws/PlacesSpecs/index.html#changed_location">changed_location</a> (call.Unary <a href="../../laws/PlacesSpecs/index.html#op">op</a> dst a) = Some (<a href="../../laws/PlacesSpecs/index.html#RegisterAt">RegisterAt</a> dst)
@@ -5262,26 +5274,28 @@ abbrev pub <b id="changed_location">changed_location</b> : Call → Option <a hr
 <a href="../../laws/PlacesSpecs/index.html#changed_location">changed_location</a> (call.Shift <a href="../../laws/PlacesSpecs/index.html#op">op</a> dst a amount) = Some (<a href="../../laws/PlacesSpecs/index.html#RegisterAt">RegisterAt</a> dst)
 <a href="../../laws/PlacesSpecs/index.html#changed_location">changed_location</a> (call.Replace <a href="../../laws/PlacesSpecs/index.html#op">op</a> dst a item) = Some (<a href="../../laws/PlacesSpecs/index.html#RegisterAt">RegisterAt</a> dst)
 <a href="../../laws/PlacesSpecs/index.html#changed_location">changed_location</a> (call.Shuffle dst a b lanes) = Some (<a href="../../laws/PlacesSpecs/index.html#RegisterAt">RegisterAt</a> dst)
-<a href="../../laws/PlacesSpecs/index.html#changed_location">changed_location</a> (call.VectorLoad <a href="../../laws/PlacesSpecs/index.html#op">op</a> dst k <a href="../../laws/PlacesSpecs/index.html#ptr">ptr</a> <a href="../../laws/PlacesSpecs/index.html#offset">offset</a>) = Some (<a href="../../laws/PlacesSpecs/index.html#RegisterAt">RegisterAt</a> dst)
-<a href="../../laws/PlacesSpecs/index.html#changed_location">changed_location</a> (call.LoadLane <a href="../../laws/PlacesSpecs/index.html#op">op</a> dst a k <a href="../../laws/PlacesSpecs/index.html#ptr">ptr</a> <a href="../../laws/PlacesSpecs/index.html#offset">offset</a>) = Some (<a href="../../laws/PlacesSpecs/index.html#RegisterAt">RegisterAt</a> dst)
+<a href="../../laws/PlacesSpecs/index.html#changed_location">changed_location</a> (call.VectorLoad <a href="../../laws/PlacesSpecs/index.html#op">op</a> dst <a href="../../laws/PlacesSpecs/index.html#memory">memory</a> <a href="../../laws/PlacesSpecs/index.html#ptr">ptr</a> <a href="../../laws/PlacesSpecs/index.html#offset">offset</a>) = Some (<a href="../../laws/PlacesSpecs/index.html#RegisterAt">RegisterAt</a> dst)
+<a href="../../laws/PlacesSpecs/index.html#changed_location">changed_location</a> (call.LoadLane <a href="../../laws/PlacesSpecs/index.html#op">op</a> dst a <a href="../../laws/PlacesSpecs/index.html#memory">memory</a> <a href="../../laws/PlacesSpecs/index.html#ptr">ptr</a> <a href="../../laws/PlacesSpecs/index.html#offset">offset</a>) = Some (<a href="../../laws/PlacesSpecs/index.html#RegisterAt">RegisterAt</a> dst)
+<a href="../../laws/PlacesSpecs/index.html#changed_location">changed_location</a> (call.VectorStore a <a href="../../laws/PlacesSpecs/index.html#memory">memory</a> <a href="../../laws/PlacesSpecs/index.html#ptr">ptr</a> <a href="../../laws/PlacesSpecs/index.html#offset">offset</a>) = Some (<a href="../../laws/PlacesSpecs/index.html#MemoryAt">MemoryAt</a> <a href="../../laws/PlacesSpecs/index.html#memory">memory</a>)
+<a href="../../laws/PlacesSpecs/index.html#changed_location">changed_location</a> (call.StoreLane <a href="../../laws/PlacesSpecs/index.html#op">op</a> a <a href="../../laws/PlacesSpecs/index.html#memory">memory</a> <a href="../../laws/PlacesSpecs/index.html#ptr">ptr</a> <a href="../../laws/PlacesSpecs/index.html#offset">offset</a>) = Some (<a href="../../laws/PlacesSpecs/index.html#MemoryAt">MemoryAt</a> <a href="../../laws/PlacesSpecs/index.html#memory">memory</a>)
 <a href="../../laws/PlacesSpecs/index.html#changed_location">changed_location</a> call = None
 
 -- the index at which a call drops a memory or a table
 abbrev pub <b id="dropped_location">dropped_location</b> : Call → Option <a href="../../laws/PlacesSpecs/index.html#Location">Location</a>
-<a href="../../laws/PlacesSpecs/index.html#dropped_location">dropped_location</a> (call.DropMemory k) = Some (<a href="../../laws/PlacesSpecs/index.html#MemoryAt">MemoryAt</a> k)
-<a href="../../laws/PlacesSpecs/index.html#dropped_location">dropped_location</a> (call.DropTable k) = Some (<a href="../../laws/PlacesSpecs/index.html#TableAt">TableAt</a> k)
+<a href="../../laws/PlacesSpecs/index.html#dropped_location">dropped_location</a> (call.DropMemory <a href="../../laws/PlacesSpecs/index.html#memory">memory</a>) = Some (<a href="../../laws/PlacesSpecs/index.html#MemoryAt">MemoryAt</a> <a href="../../laws/PlacesSpecs/index.html#memory">memory</a>)
+<a href="../../laws/PlacesSpecs/index.html#dropped_location">dropped_location</a> (call.DropTable table) = Some (<a href="../../laws/PlacesSpecs/index.html#TableAt">TableAt</a> table)
 <a href="../../laws/PlacesSpecs/index.html#dropped_location">dropped_location</a> call = None
 
 -- the other indices of which a call reads what is there
 abbrev pub <b id="read_locations">read_locations</b> : Call → List <a href="../../laws/PlacesSpecs/index.html#Location">Location</a>
-<a href="../../laws/PlacesSpecs/index.html#read_locations">read_locations</a> (call.Read k <a href="../../laws/PlacesSpecs/index.html#offset">offset</a> len) = <a href="../../laws/PlacesSpecs/index.html#MemoryAt">MemoryAt</a> k ∷ []
-<a href="../../laws/PlacesSpecs/index.html#read_locations">read_locations</a> (call.Load <a href="../../laws/PlacesSpecs/index.html#op">op</a> k <a href="../../laws/PlacesSpecs/index.html#ptr">ptr</a> <a href="../../laws/PlacesSpecs/index.html#offset">offset</a>) = <a href="../../laws/PlacesSpecs/index.html#MemoryAt">MemoryAt</a> k ∷ []
-<a href="../../laws/PlacesSpecs/index.html#read_locations">read_locations</a> (call.CopyMemory k dst j src len) = <a href="../../laws/PlacesSpecs/index.html#MemoryAt">MemoryAt</a> j ∷ []
-<a href="../../laws/PlacesSpecs/index.html#read_locations">read_locations</a> (call.InitMemory k j dst src len) = <a href="../../laws/PlacesSpecs/index.html#DataAt">DataAt</a> j ∷ []
-<a href="../../laws/PlacesSpecs/index.html#read_locations">read_locations</a> (call.GetElement k index) = <a href="../../laws/PlacesSpecs/index.html#TableAt">TableAt</a> k ∷ []
-<a href="../../laws/PlacesSpecs/index.html#read_locations">read_locations</a> (call.InitTable k j dst src len) = <a href="../../laws/PlacesSpecs/index.html#SegmentAt">SegmentAt</a> j ∷ []
-<a href="../../laws/PlacesSpecs/index.html#read_locations">read_locations</a> (call.CopyTable k dst j src len) = <a href="../../laws/PlacesSpecs/index.html#TableAt">TableAt</a> j ∷ []
-<a href="../../laws/PlacesSpecs/index.html#read_locations">read_locations</a> (call.GetGlobal k) = <a href="../../laws/PlacesSpecs/index.html#GlobalAt">GlobalAt</a> k ∷ []
+<a href="../../laws/PlacesSpecs/index.html#read_locations">read_locations</a> (call.Read <a href="../../laws/PlacesSpecs/index.html#memory">memory</a> <a href="../../laws/PlacesSpecs/index.html#offset">offset</a> len) = <a href="../../laws/PlacesSpecs/index.html#MemoryAt">MemoryAt</a> <a href="../../laws/PlacesSpecs/index.html#memory">memory</a> ∷ []
+<a href="../../laws/PlacesSpecs/index.html#read_locations">read_locations</a> (call.Load <a href="../../laws/PlacesSpecs/index.html#op">op</a> <a href="../../laws/PlacesSpecs/index.html#memory">memory</a> <a href="../../laws/PlacesSpecs/index.html#ptr">ptr</a> <a href="../../laws/PlacesSpecs/index.html#offset">offset</a>) = <a href="../../laws/PlacesSpecs/index.html#MemoryAt">MemoryAt</a> <a href="../../laws/PlacesSpecs/index.html#memory">memory</a> ∷ []
+<a href="../../laws/PlacesSpecs/index.html#read_locations">read_locations</a> (call.CopyMemory dst_memory dst src_memory src len) = <a href="../../laws/PlacesSpecs/index.html#MemoryAt">MemoryAt</a> src_memory ∷ []
+<a href="../../laws/PlacesSpecs/index.html#read_locations">read_locations</a> (call.InitMemory <a href="../../laws/PlacesSpecs/index.html#memory">memory</a> segment dst src len) = <a href="../../laws/PlacesSpecs/index.html#DataAt">DataAt</a> segment ∷ []
+<a href="../../laws/PlacesSpecs/index.html#read_locations">read_locations</a> (call.GetElement table index) = <a href="../../laws/PlacesSpecs/index.html#TableAt">TableAt</a> table ∷ []
+<a href="../../laws/PlacesSpecs/index.html#read_locations">read_locations</a> (call.InitTable table segment dst src len) = <a href="../../laws/PlacesSpecs/index.html#SegmentAt">SegmentAt</a> segment ∷ []
+<a href="../../laws/PlacesSpecs/index.html#read_locations">read_locations</a> (call.CopyTable dst_table dst src_table src len) = <a href="../../laws/PlacesSpecs/index.html#TableAt">TableAt</a> src_table ∷ []
+<a href="../../laws/PlacesSpecs/index.html#read_locations">read_locations</a> (call.GetGlobal global) = <a href="../../laws/PlacesSpecs/index.html#GlobalAt">GlobalAt</a> global ∷ []
 <a href="../../laws/PlacesSpecs/index.html#read_locations">read_locations</a> (call.GetRegister a) = <a href="../../laws/PlacesSpecs/index.html#RegisterAt">RegisterAt</a> a ∷ []
 <a href="../../laws/PlacesSpecs/index.html#read_locations">read_locations</a> (call.Make <a href="../../laws/PlacesSpecs/index.html#op">op</a> dst a) = <a href="../../laws/PlacesSpecs/index.html#RegisterAt">RegisterAt</a> a ∷ []
 <a href="../../laws/PlacesSpecs/index.html#read_locations">read_locations</a> (call.Unary <a href="../../laws/PlacesSpecs/index.html#op">op</a> dst a) = <a href="../../laws/PlacesSpecs/index.html#RegisterAt">RegisterAt</a> a ∷ []
@@ -5292,10 +5306,10 @@ abbrev pub <b id="read_locations">read_locations</b> : Call → List <a href="..
 <a href="../../laws/PlacesSpecs/index.html#read_locations">read_locations</a> (call.Extract <a href="../../laws/PlacesSpecs/index.html#op">op</a> a) = <a href="../../laws/PlacesSpecs/index.html#RegisterAt">RegisterAt</a> a ∷ []
 <a href="../../laws/PlacesSpecs/index.html#read_locations">read_locations</a> (call.Replace <a href="../../laws/PlacesSpecs/index.html#op">op</a> dst a item) = <a href="../../laws/PlacesSpecs/index.html#RegisterAt">RegisterAt</a> a ∷ <a href="../../laws/PlacesSpecs/index.html#RegisterAt">RegisterAt</a> item ∷ []
 <a href="../../laws/PlacesSpecs/index.html#read_locations">read_locations</a> (call.Shuffle dst a b lanes) = <a href="../../laws/PlacesSpecs/index.html#RegisterAt">RegisterAt</a> a ∷ <a href="../../laws/PlacesSpecs/index.html#RegisterAt">RegisterAt</a> b ∷ []
-<a href="../../laws/PlacesSpecs/index.html#read_locations">read_locations</a> (call.VectorLoad <a href="../../laws/PlacesSpecs/index.html#op">op</a> dst k <a href="../../laws/PlacesSpecs/index.html#ptr">ptr</a> <a href="../../laws/PlacesSpecs/index.html#offset">offset</a>) = <a href="../../laws/PlacesSpecs/index.html#MemoryAt">MemoryAt</a> k ∷ []
-<a href="../../laws/PlacesSpecs/index.html#read_locations">read_locations</a> (call.LoadLane <a href="../../laws/PlacesSpecs/index.html#op">op</a> dst a k <a href="../../laws/PlacesSpecs/index.html#ptr">ptr</a> <a href="../../laws/PlacesSpecs/index.html#offset">offset</a>) = <a href="../../laws/PlacesSpecs/index.html#RegisterAt">RegisterAt</a> a ∷ <a href="../../laws/PlacesSpecs/index.html#MemoryAt">MemoryAt</a> k ∷ []
-<a href="../../laws/PlacesSpecs/index.html#read_locations">read_locations</a> (call.VectorStore a k <a href="../../laws/PlacesSpecs/index.html#ptr">ptr</a> <a href="../../laws/PlacesSpecs/index.html#offset">offset</a>) = <a href="../../laws/PlacesSpecs/index.html#RegisterAt">RegisterAt</a> a ∷ []
-<a href="../../laws/PlacesSpecs/index.html#read_locations">read_locations</a> (call.StoreLane <a href="../../laws/PlacesSpecs/index.html#op">op</a> a k <a href="../../laws/PlacesSpecs/index.html#ptr">ptr</a> <a href="../../laws/PlacesSpecs/index.html#offset">offset</a>) = <a href="../../laws/PlacesSpecs/index.html#RegisterAt">RegisterAt</a> a ∷ []
+<a href="../../laws/PlacesSpecs/index.html#read_locations">read_locations</a> (call.VectorLoad <a href="../../laws/PlacesSpecs/index.html#op">op</a> dst <a href="../../laws/PlacesSpecs/index.html#memory">memory</a> <a href="../../laws/PlacesSpecs/index.html#ptr">ptr</a> <a href="../../laws/PlacesSpecs/index.html#offset">offset</a>) = <a href="../../laws/PlacesSpecs/index.html#MemoryAt">MemoryAt</a> <a href="../../laws/PlacesSpecs/index.html#memory">memory</a> ∷ []
+<a href="../../laws/PlacesSpecs/index.html#read_locations">read_locations</a> (call.LoadLane <a href="../../laws/PlacesSpecs/index.html#op">op</a> dst a <a href="../../laws/PlacesSpecs/index.html#memory">memory</a> <a href="../../laws/PlacesSpecs/index.html#ptr">ptr</a> <a href="../../laws/PlacesSpecs/index.html#offset">offset</a>) = <a href="../../laws/PlacesSpecs/index.html#RegisterAt">RegisterAt</a> a ∷ <a href="../../laws/PlacesSpecs/index.html#MemoryAt">MemoryAt</a> <a href="../../laws/PlacesSpecs/index.html#memory">memory</a> ∷ []
+<a href="../../laws/PlacesSpecs/index.html#read_locations">read_locations</a> (call.VectorStore a <a href="../../laws/PlacesSpecs/index.html#memory">memory</a> <a href="../../laws/PlacesSpecs/index.html#ptr">ptr</a> <a href="../../laws/PlacesSpecs/index.html#offset">offset</a>) = <a href="../../laws/PlacesSpecs/index.html#RegisterAt">RegisterAt</a> a ∷ []
+<a href="../../laws/PlacesSpecs/index.html#read_locations">read_locations</a> (call.StoreLane <a href="../../laws/PlacesSpecs/index.html#op">op</a> a <a href="../../laws/PlacesSpecs/index.html#memory">memory</a> <a href="../../laws/PlacesSpecs/index.html#ptr">ptr</a> <a href="../../laws/PlacesSpecs/index.html#offset">offset</a>) = <a href="../../laws/PlacesSpecs/index.html#RegisterAt">RegisterAt</a> a ∷ []
 <a href="../../laws/PlacesSpecs/index.html#read_locations">read_locations</a> call = []
 
 -- a call acts on what is at indices alone: it makes nothing, is never charged, and reaches neither the meter nor the
@@ -5305,19 +5319,21 @@ abbrev pub <b id="IsLocal">IsLocal</b> : Call → Type 0
 <a href="../../laws/PlacesSpecs/index.html#IsLocal">IsLocal</a> call.GetFuel = ⊥
 <a href="../../laws/PlacesSpecs/index.html#IsLocal">IsLocal</a> (call.NewMemory ty) = ⊥
 <a href="../../laws/PlacesSpecs/index.html#IsLocal">IsLocal</a> (call.NewLentMemory ty) = ⊥
-<a href="../../laws/PlacesSpecs/index.html#IsLocal">IsLocal</a> (call.GrowMemory k pages) = ⊥
-<a href="../../laws/PlacesSpecs/index.html#IsLocal">IsLocal</a> (call.FillMemory k dst <a href="../../laws/PlacesSpecs/index.html#value">value</a> len) = ⊥
-<a href="../../laws/PlacesSpecs/index.html#IsLocal">IsLocal</a> (call.CopyMemory k dst j src len) = ⊥
-<a href="../../laws/PlacesSpecs/index.html#IsLocal">IsLocal</a> (call.InitMemory k j dst src len) = ⊥
+<a href="../../laws/PlacesSpecs/index.html#IsLocal">IsLocal</a> (call.GrowMemory <a href="../../laws/PlacesSpecs/index.html#memory">memory</a> pages) = ⊥
+<a href="../../laws/PlacesSpecs/index.html#IsLocal">IsLocal</a> (call.FillMemory <a href="../../laws/PlacesSpecs/index.html#memory">memory</a> dst <a href="../../laws/PlacesSpecs/index.html#value">value</a> len) = ⊥
+<a href="../../laws/PlacesSpecs/index.html#IsLocal">IsLocal</a> (call.CopyMemory dst_memory dst src_memory src len) = ⊥
+<a href="../../laws/PlacesSpecs/index.html#IsLocal">IsLocal</a> (call.InitMemory <a href="../../laws/PlacesSpecs/index.html#memory">memory</a> segment dst src len) = ⊥
 <a href="../../laws/PlacesSpecs/index.html#IsLocal">IsLocal</a> (call.NewTable ty init) = ⊥
-<a href="../../laws/PlacesSpecs/index.html#IsLocal">IsLocal</a> (call.GrowTable k n init) = ⊥
-<a href="../../laws/PlacesSpecs/index.html#IsLocal">IsLocal</a> (call.InitTable k j dst src len) = ⊥
-<a href="../../laws/PlacesSpecs/index.html#IsLocal">IsLocal</a> (call.CopyTable k dst j src len) = ⊥
-<a href="../../laws/PlacesSpecs/index.html#IsLocal">IsLocal</a> (call.FillTable k dst <a href="../../laws/PlacesSpecs/index.html#value">value</a> len) = ⊥
+<a href="../../laws/PlacesSpecs/index.html#IsLocal">IsLocal</a> (call.GrowTable table delta init) = ⊥
+<a href="../../laws/PlacesSpecs/index.html#IsLocal">IsLocal</a> (call.InitTable table segment dst src len) = ⊥
+<a href="../../laws/PlacesSpecs/index.html#IsLocal">IsLocal</a> (call.CopyTable dst_table dst src_table src len) = ⊥
+<a href="../../laws/PlacesSpecs/index.html#IsLocal">IsLocal</a> (call.FillTable table dst <a href="../../laws/PlacesSpecs/index.html#value">value</a> len) = ⊥
 <a href="../../laws/PlacesSpecs/index.html#IsLocal">IsLocal</a> (call.NewSegment ty items) = ⊥
 <a href="../../laws/PlacesSpecs/index.html#IsLocal">IsLocal</a> (call.NewData bytes) = ⊥
 <a href="../../laws/PlacesSpecs/index.html#IsLocal">IsLocal</a> (call.NewGlobal <a href="../../laws/PlacesSpecs/index.html#value">value</a> ty) = ⊥
 <a href="../../laws/PlacesSpecs/index.html#IsLocal">IsLocal</a> call = Unit {0}
+
+-- What tools/generate writes ends.
 
 -- a call may not change what is at this index
 abbrev pub <b id="LeavesAlone">LeavesAlone</b> : <a href="../../laws/PlacesSpecs/index.html#Location">Location</a> → Call → Type 0
@@ -6624,6 +6640,7 @@ pub record <b id="NamesTableType">NamesTableType</b> (element <a href="../../gra
   pub <b id="limits_words">limits_words</b> : <a href="../../grammar/CommandsSpecs/index.html#WritesLimits">WritesLimits</a> <a href="../../grammar/CommandsSpecs/index.html#minimum">minimum</a> <a href="../../grammar/CommandsSpecs/index.html#maximum">maximum</a> width (<a href="../../grammar/CommandsSpecs/index.html#table_limits">table_limits</a> ty)
   pub <b id="valid">valid</b> : <a href="../../store/TableSpecs/index.html#IsValid">table_type.IsValid</a> ty
 
+-- What tools/generate writes begins.
 -- the word that a command begins with
 abbrev pub <b id="command_word">command_word</b> : Call → List ℕ
 <a href="../../grammar/CommandsSpecs/index.html#command_word">command_word</a> (call.SetFuel fuel) = codes "fuel"
@@ -6676,14 +6693,14 @@ abbrev pub <b id="OperandsWrite">OperandsWrite</b> : ℕ → (ℕ → List ℕ) 
 <a href="../../grammar/CommandsSpecs/index.html#OperandsWrite">OperandsWrite</a> count word call.GetFuel = count ≡ 0
 <a href="../../grammar/CommandsSpecs/index.html#OperandsWrite">OperandsWrite</a> count word (call.NewMemory ty) = (count ≡ 4) × <a href="../../grammar/CommandsSpecs/index.html#NamesType">NamesType</a> (word 0) (word 1) (word 2) (word 3) ty
 <a href="../../grammar/CommandsSpecs/index.html#OperandsWrite">OperandsWrite</a> count word (call.NewLentMemory ty) = (count ≡ 4) × <a href="../../grammar/CommandsSpecs/index.html#NamesType">NamesType</a> (word 0) (word 1) (word 2) (word 3) ty
-<a href="../../grammar/CommandsSpecs/index.html#OperandsWrite">OperandsWrite</a> count word (call.GrowMemory memory pages) =
-    (count ≡ 2) × <a href="../../operands/LineWordsSpecs/index.html#WritesNumber">WritesNumber</a> 64 (word 0) memory × <a href="../../operands/LineWordsSpecs/index.html#WritesNumber">WritesNumber</a> 64 (word 1) pages
-<a href="../../grammar/CommandsSpecs/index.html#OperandsWrite">OperandsWrite</a> count word (call.DropMemory memory) =
-    (count ≡ 2) × (word 0 ≡ codes "memory") × <a href="../../operands/LineWordsSpecs/index.html#WritesNumber">WritesNumber</a> 64 (word 1) memory
-<a href="../../grammar/CommandsSpecs/index.html#OperandsWrite">OperandsWrite</a> count word (call.Read memory offset len) =
-    (count ≡ 3) × <a href="../../operands/LineWordsSpecs/index.html#WritesNumber">WritesNumber</a> 64 (word 0) memory × <a href="../../operands/LineWordsSpecs/index.html#WritesNumber">WritesNumber</a> 64 (word 1) offset × <a href="../../operands/LineWordsSpecs/index.html#WritesNumber">WritesNumber</a> 64 (word 2) len
-<a href="../../grammar/CommandsSpecs/index.html#OperandsWrite">OperandsWrite</a> count word (call.Write memory offset bytes) =
-    (2 ≤ count) × <a href="../../operands/LineWordsSpecs/index.html#WritesNumber">WritesNumber</a> 64 (word 0) memory × <a href="../../operands/LineWordsSpecs/index.html#WritesNumber">WritesNumber</a> 64 (word 1) offset
+<a href="../../grammar/CommandsSpecs/index.html#OperandsWrite">OperandsWrite</a> count word (call.GrowMemory memory pages) = (count ≡ 2) × <a href="../../operands/LineWordsSpecs/index.html#WritesNumber">WritesNumber</a> 64 (word 0) memory
+    × <a href="../../operands/LineWordsSpecs/index.html#WritesNumber">WritesNumber</a> 64 (word 1) pages
+<a href="../../grammar/CommandsSpecs/index.html#OperandsWrite">OperandsWrite</a> count word (call.DropMemory memory) = (count ≡ 2) × (word 0 ≡ codes "memory")
+    × <a href="../../operands/LineWordsSpecs/index.html#WritesNumber">WritesNumber</a> 64 (word 1) memory
+<a href="../../grammar/CommandsSpecs/index.html#OperandsWrite">OperandsWrite</a> count word (call.Read memory offset len) = (count ≡ 3) × <a href="../../operands/LineWordsSpecs/index.html#WritesNumber">WritesNumber</a> 64 (word 0) memory
+    × <a href="../../operands/LineWordsSpecs/index.html#WritesNumber">WritesNumber</a> 64 (word 1) offset × <a href="../../operands/LineWordsSpecs/index.html#WritesNumber">WritesNumber</a> 64 (word 2) len
+<a href="../../grammar/CommandsSpecs/index.html#OperandsWrite">OperandsWrite</a> count word (call.Write memory offset bytes) = (2 ≤ count) × <a href="../../operands/LineWordsSpecs/index.html#WritesNumber">WritesNumber</a> 64 (word 0) memory
+    × <a href="../../operands/LineWordsSpecs/index.html#WritesNumber">WritesNumber</a> 64 (word 1) offset
 <a href="../../grammar/CommandsSpecs/index.html#OperandsWrite">OperandsWrite</a> count word (call.Load op memory ptr offset) = (count ≡ 4) × <a href="../../operands/NamesSpecs/index.html#IsName">IsName</a> <a href="../../ops/LoadStoreOpsSpecs/index.html#load_name">load_name</a> (word 0) op
     × <a href="../../operands/LineWordsSpecs/index.html#WritesNumber">WritesNumber</a> 64 (word 1) memory × <a href="../../operands/LineWordsSpecs/index.html#WritesNumber">WritesNumber</a> 64 (word 2) ptr × <a href="../../operands/LineWordsSpecs/index.html#WritesNumber">WritesNumber</a> 64 (word 3) offset
 <a href="../../grammar/CommandsSpecs/index.html#OperandsWrite">OperandsWrite</a> count word (call.Store op memory ptr offset value) = (count ≡ 5) × <a href="../../operands/NamesSpecs/index.html#IsName">IsName</a> <a href="../../ops/LoadStoreOpsSpecs/index.html#store_name">store_name</a> (word 0) op
@@ -6691,30 +6708,28 @@ abbrev pub <b id="OperandsWrite">OperandsWrite</b> : ℕ → (ℕ → List ℕ) 
     × <a href="../../operands/LineWordsSpecs/index.html#WritesNumber">WritesNumber</a> 64 (word 4) lo × (value ≡ <a href="../../raw/RawValSpecs/index.html#raw_of">raw_of</a> lo)
 <a href="../../grammar/CommandsSpecs/index.html#OperandsWrite">OperandsWrite</a> count word (call.FillMemory memory dst value len) = (count ≡ 4) × <a href="../../operands/LineWordsSpecs/index.html#WritesNumber">WritesNumber</a> 64 (word 0) memory
     × <a href="../../operands/LineWordsSpecs/index.html#WritesNumber">WritesNumber</a> 64 (word 1) dst × <a href="../../operands/LineWordsSpecs/index.html#WritesNumber">WritesNumber</a> 8 (word 2) value × <a href="../../operands/LineWordsSpecs/index.html#WritesNumber">WritesNumber</a> 64 (word 3) len
-<a href="../../grammar/CommandsSpecs/index.html#OperandsWrite">OperandsWrite</a> count word (call.CopyMemory dst_memory dst src_memory src len) =
-    (count ≡ 5) × <a href="../../operands/LineWordsSpecs/index.html#WritesNumber">WritesNumber</a> 64 (word 0) dst_memory
-    × <a href="../../operands/LineWordsSpecs/index.html#WritesNumber">WritesNumber</a> 64 (word 1) dst × <a href="../../operands/LineWordsSpecs/index.html#WritesNumber">WritesNumber</a> 64 (word 2) src_memory × <a href="../../operands/LineWordsSpecs/index.html#WritesNumber">WritesNumber</a> 64 (word 3) src
-    × <a href="../../operands/LineWordsSpecs/index.html#WritesNumber">WritesNumber</a> 64 (word 4) len
+<a href="../../grammar/CommandsSpecs/index.html#OperandsWrite">OperandsWrite</a> count word (call.CopyMemory dst_memory dst src_memory src len) = (count ≡ 5)
+    × <a href="../../operands/LineWordsSpecs/index.html#WritesNumber">WritesNumber</a> 64 (word 0) dst_memory × <a href="../../operands/LineWordsSpecs/index.html#WritesNumber">WritesNumber</a> 64 (word 1) dst × <a href="../../operands/LineWordsSpecs/index.html#WritesNumber">WritesNumber</a> 64 (word 2) src_memory
+    × <a href="../../operands/LineWordsSpecs/index.html#WritesNumber">WritesNumber</a> 64 (word 3) src × <a href="../../operands/LineWordsSpecs/index.html#WritesNumber">WritesNumber</a> 64 (word 4) len
 <a href="../../grammar/CommandsSpecs/index.html#OperandsWrite">OperandsWrite</a> count word (call.InitMemory memory segment dst src len) = (count ≡ 5) × <a href="../../operands/LineWordsSpecs/index.html#WritesNumber">WritesNumber</a> 64 (word 0) memory
     × <a href="../../operands/LineWordsSpecs/index.html#WritesNumber">WritesNumber</a> 64 (word 1) segment × <a href="../../operands/LineWordsSpecs/index.html#WritesNumber">WritesNumber</a> 64 (word 2) dst × <a href="../../operands/LineWordsSpecs/index.html#WritesNumber">WritesNumber</a> 32 (word 3) src
     × <a href="../../operands/LineWordsSpecs/index.html#WritesNumber">WritesNumber</a> 32 (word 4) len
-<a href="../../grammar/CommandsSpecs/index.html#OperandsWrite">OperandsWrite</a> count word (call.NewTable ty init) =
-    (count ≡ 6) × <a href="../../grammar/CommandsSpecs/index.html#NamesTableType">NamesTableType</a> (word 0) (word 1) (word 2) (word 3) ty × <a href="../../operands/NamesSpecs/index.html#WritesReference">WritesReference</a> (word 4) (word 5) init
+<a href="../../grammar/CommandsSpecs/index.html#OperandsWrite">OperandsWrite</a> count word (call.NewTable ty init) = (count ≡ 6) × <a href="../../grammar/CommandsSpecs/index.html#NamesTableType">NamesTableType</a> (word 0) (word 1) (word 2) (word 3) ty
+    × <a href="../../operands/NamesSpecs/index.html#WritesReference">WritesReference</a> (word 4) (word 5) init
 <a href="../../grammar/CommandsSpecs/index.html#OperandsWrite">OperandsWrite</a> count word (call.GrowTable table delta init) = (count ≡ 4) × <a href="../../operands/LineWordsSpecs/index.html#WritesNumber">WritesNumber</a> 64 (word 0) table
     × <a href="../../operands/LineWordsSpecs/index.html#WritesNumber">WritesNumber</a> 64 (word 1) delta × <a href="../../operands/NamesSpecs/index.html#WritesReference">WritesReference</a> (word 2) (word 3) init
-<a href="../../grammar/CommandsSpecs/index.html#OperandsWrite">OperandsWrite</a> count word (call.DropTable table) =
-    (count ≡ 2) × (word 0 ≡ codes "table") × <a href="../../operands/LineWordsSpecs/index.html#WritesNumber">WritesNumber</a> 64 (word 1) table
-<a href="../../grammar/CommandsSpecs/index.html#OperandsWrite">OperandsWrite</a> count word (call.GetElement table <a href="../../grammar/CommandsSpecs/index.html#index">index</a>) =
-    (count ≡ 2) × <a href="../../operands/LineWordsSpecs/index.html#WritesNumber">WritesNumber</a> 64 (word 0) table × <a href="../../operands/LineWordsSpecs/index.html#WritesNumber">WritesNumber</a> 64 (word 1) <a href="../../grammar/CommandsSpecs/index.html#index">index</a>
+<a href="../../grammar/CommandsSpecs/index.html#OperandsWrite">OperandsWrite</a> count word (call.DropTable table) = (count ≡ 2) × (word 0 ≡ codes "table")
+    × <a href="../../operands/LineWordsSpecs/index.html#WritesNumber">WritesNumber</a> 64 (word 1) table
+<a href="../../grammar/CommandsSpecs/index.html#OperandsWrite">OperandsWrite</a> count word (call.GetElement table <a href="../../grammar/CommandsSpecs/index.html#index">index</a>) = (count ≡ 2) × <a href="../../operands/LineWordsSpecs/index.html#WritesNumber">WritesNumber</a> 64 (word 0) table
+    × <a href="../../operands/LineWordsSpecs/index.html#WritesNumber">WritesNumber</a> 64 (word 1) <a href="../../grammar/CommandsSpecs/index.html#index">index</a>
 <a href="../../grammar/CommandsSpecs/index.html#OperandsWrite">OperandsWrite</a> count word (call.SetElement table <a href="../../grammar/CommandsSpecs/index.html#index">index</a> value) = (count ≡ 4) × <a href="../../operands/LineWordsSpecs/index.html#WritesNumber">WritesNumber</a> 64 (word 0) table
     × <a href="../../operands/LineWordsSpecs/index.html#WritesNumber">WritesNumber</a> 64 (word 1) <a href="../../grammar/CommandsSpecs/index.html#index">index</a> × <a href="../../operands/NamesSpecs/index.html#WritesReference">WritesReference</a> (word 2) (word 3) value
 <a href="../../grammar/CommandsSpecs/index.html#OperandsWrite">OperandsWrite</a> count word (call.InitTable table segment dst src len) = (count ≡ 5) × <a href="../../operands/LineWordsSpecs/index.html#WritesNumber">WritesNumber</a> 64 (word 0) table
     × <a href="../../operands/LineWordsSpecs/index.html#WritesNumber">WritesNumber</a> 64 (word 1) segment × <a href="../../operands/LineWordsSpecs/index.html#WritesNumber">WritesNumber</a> 64 (word 2) dst × <a href="../../operands/LineWordsSpecs/index.html#WritesNumber">WritesNumber</a> 32 (word 3) src
     × <a href="../../operands/LineWordsSpecs/index.html#WritesNumber">WritesNumber</a> 32 (word 4) len
-<a href="../../grammar/CommandsSpecs/index.html#OperandsWrite">OperandsWrite</a> count word (call.CopyTable dst_table dst src_table src len) =
-    (count ≡ 5) × <a href="../../operands/LineWordsSpecs/index.html#WritesNumber">WritesNumber</a> 64 (word 0) dst_table
-    × <a href="../../operands/LineWordsSpecs/index.html#WritesNumber">WritesNumber</a> 64 (word 1) dst × <a href="../../operands/LineWordsSpecs/index.html#WritesNumber">WritesNumber</a> 64 (word 2) src_table × <a href="../../operands/LineWordsSpecs/index.html#WritesNumber">WritesNumber</a> 64 (word 3) src
-    × <a href="../../operands/LineWordsSpecs/index.html#WritesNumber">WritesNumber</a> 64 (word 4) len
+<a href="../../grammar/CommandsSpecs/index.html#OperandsWrite">OperandsWrite</a> count word (call.CopyTable dst_table dst src_table src len) = (count ≡ 5)
+    × <a href="../../operands/LineWordsSpecs/index.html#WritesNumber">WritesNumber</a> 64 (word 0) dst_table × <a href="../../operands/LineWordsSpecs/index.html#WritesNumber">WritesNumber</a> 64 (word 1) dst × <a href="../../operands/LineWordsSpecs/index.html#WritesNumber">WritesNumber</a> 64 (word 2) src_table
+    × <a href="../../operands/LineWordsSpecs/index.html#WritesNumber">WritesNumber</a> 64 (word 3) src × <a href="../../operands/LineWordsSpecs/index.html#WritesNumber">WritesNumber</a> 64 (word 4) len
 <a href="../../grammar/CommandsSpecs/index.html#OperandsWrite">OperandsWrite</a> count word (call.FillTable table dst value len) = (count ≡ 5) × <a href="../../operands/LineWordsSpecs/index.html#WritesNumber">WritesNumber</a> 64 (word 0) table
     × <a href="../../operands/LineWordsSpecs/index.html#WritesNumber">WritesNumber</a> 64 (word 1) dst × <a href="../../operands/NamesSpecs/index.html#WritesReference">WritesReference</a> (word 2) (word 3) value × <a href="../../operands/LineWordsSpecs/index.html#WritesNumber">WritesNumber</a> 64 (word 4) len
 <a href="../../grammar/CommandsSpecs/index.html#OperandsWrite">OperandsWrite</a> count word (call.NewSegment ty items) = (1 ≤ count) × (word 0 ≡ <a href="../../operands/NamesSpecs/index.html#reference_word">reference_word</a> ty)
@@ -6726,13 +6741,13 @@ abbrev pub <b id="OperandsWrite">OperandsWrite</b> : ℕ → (ℕ → List ℕ) 
 <a href="../../grammar/CommandsSpecs/index.html#OperandsWrite">OperandsWrite</a> count word (call.SetGlobal global value) = (count ≡ 4) × <a href="../../operands/LineWordsSpecs/index.html#WritesNumber">WritesNumber</a> 64 (word 0) global
     × (word 1 ≡ <a href="../../operands/NamesSpecs/index.html#value_word">value_word</a> value.ty) × <a href="../../operands/LineWordsSpecs/index.html#WritesNumber">WritesNumber</a> 64 (word 2) value.raw.lo × <a href="../../operands/LineWordsSpecs/index.html#WritesNumber">WritesNumber</a> 64 (word 3) value.raw.hi
 <a href="../../grammar/CommandsSpecs/index.html#OperandsWrite">OperandsWrite</a> count word (call.GetGlobal global) = (count ≡ 1) × <a href="../../operands/LineWordsSpecs/index.html#WritesNumber">WritesNumber</a> 64 (word 0) global
-<a href="../../grammar/CommandsSpecs/index.html#OperandsWrite">OperandsWrite</a> count word (call.SetRegister dst value) =
-    (count ≡ 3) × <a href="../../operands/LineWordsSpecs/index.html#WritesNumber">WritesNumber</a> 8 (word 0) dst × <a href="../../operands/LineWordsSpecs/index.html#WritesNumber">WritesNumber</a> 64 (word 1) value.lo × <a href="../../operands/LineWordsSpecs/index.html#WritesNumber">WritesNumber</a> 64 (word 2) value.hi
+<a href="../../grammar/CommandsSpecs/index.html#OperandsWrite">OperandsWrite</a> count word (call.SetRegister dst value) = (count ≡ 3) × <a href="../../operands/LineWordsSpecs/index.html#WritesNumber">WritesNumber</a> 8 (word 0) dst
+    × <a href="../../operands/LineWordsSpecs/index.html#WritesNumber">WritesNumber</a> 64 (word 1) value.lo × <a href="../../operands/LineWordsSpecs/index.html#WritesNumber">WritesNumber</a> 64 (word 2) value.hi
 <a href="../../grammar/CommandsSpecs/index.html#OperandsWrite">OperandsWrite</a> count word (call.GetRegister a) = (count ≡ 1) × <a href="../../operands/LineWordsSpecs/index.html#WritesNumber">WritesNumber</a> 8 (word 0) a
-<a href="../../grammar/CommandsSpecs/index.html#OperandsWrite">OperandsWrite</a> count word (call.Make op dst a) =
-    (count ≡ 3) × <a href="../../operands/NamesSpecs/index.html#IsName">IsName</a> <a href="../../ops/VectorOpsSpecs/index.html#make_name">make_name</a> (word 0) op × <a href="../../operands/LineWordsSpecs/index.html#WritesNumber">WritesNumber</a> 8 (word 1) dst × <a href="../../operands/LineWordsSpecs/index.html#WritesNumber">WritesNumber</a> 8 (word 2) a
-<a href="../../grammar/CommandsSpecs/index.html#OperandsWrite">OperandsWrite</a> count word (call.Unary op dst a) =
-    (count ≡ 3) × <a href="../../operands/NamesSpecs/index.html#IsName">IsName</a> <a href="../../ops/VectorOpsSpecs/index.html#unary_name">unary_name</a> (word 0) op × <a href="../../operands/LineWordsSpecs/index.html#WritesNumber">WritesNumber</a> 8 (word 1) dst × <a href="../../operands/LineWordsSpecs/index.html#WritesNumber">WritesNumber</a> 8 (word 2) a
+<a href="../../grammar/CommandsSpecs/index.html#OperandsWrite">OperandsWrite</a> count word (call.Make op dst a) = (count ≡ 3) × <a href="../../operands/NamesSpecs/index.html#IsName">IsName</a> <a href="../../ops/VectorOpsSpecs/index.html#make_name">make_name</a> (word 0) op × <a href="../../operands/LineWordsSpecs/index.html#WritesNumber">WritesNumber</a> 8 (word 1) dst
+    × <a href="../../operands/LineWordsSpecs/index.html#WritesNumber">WritesNumber</a> 8 (word 2) a
+<a href="../../grammar/CommandsSpecs/index.html#OperandsWrite">OperandsWrite</a> count word (call.Unary op dst a) = (count ≡ 3) × <a href="../../operands/NamesSpecs/index.html#IsName">IsName</a> <a href="../../ops/VectorOpsSpecs/index.html#unary_name">unary_name</a> (word 0) op
+    × <a href="../../operands/LineWordsSpecs/index.html#WritesNumber">WritesNumber</a> 8 (word 1) dst × <a href="../../operands/LineWordsSpecs/index.html#WritesNumber">WritesNumber</a> 8 (word 2) a
 <a href="../../grammar/CommandsSpecs/index.html#OperandsWrite">OperandsWrite</a> count word (call.Binary op dst a b) = (count ≡ 4) × <a href="../../operands/NamesSpecs/index.html#IsName">IsName</a> <a href="../../ops/VectorOpsSpecs/index.html#binary_name">binary_name</a> (word 0) op
     × <a href="../../operands/LineWordsSpecs/index.html#WritesNumber">WritesNumber</a> 8 (word 1) dst × <a href="../../operands/LineWordsSpecs/index.html#WritesNumber">WritesNumber</a> 8 (word 2) a × <a href="../../operands/LineWordsSpecs/index.html#WritesNumber">WritesNumber</a> 8 (word 3) b
 <a href="../../grammar/CommandsSpecs/index.html#OperandsWrite">OperandsWrite</a> count word (call.Ternary op dst a b c) = (count ≡ 5) × <a href="../../operands/NamesSpecs/index.html#IsName">IsName</a> <a href="../../ops/VectorOpsSpecs/index.html#ternary_name">ternary_name</a> (word 0) op
@@ -6740,25 +6755,27 @@ abbrev pub <b id="OperandsWrite">OperandsWrite</b> : ℕ → (ℕ → List ℕ) 
 <a href="../../grammar/CommandsSpecs/index.html#OperandsWrite">OperandsWrite</a> count word (call.Shift op dst a amount) = (count ≡ 4) × <a href="../../operands/NamesSpecs/index.html#IsName">IsName</a> <a href="../../ops/VectorOpsSpecs/index.html#shift_name">shift_name</a> (word 0) op
     × <a href="../../operands/LineWordsSpecs/index.html#WritesNumber">WritesNumber</a> 8 (word 1) dst × <a href="../../operands/LineWordsSpecs/index.html#WritesNumber">WritesNumber</a> 8 (word 2) a × <a href="../../operands/LineWordsSpecs/index.html#WritesNumber">WritesNumber</a> 32 (word 3) amount
 <a href="../../grammar/CommandsSpecs/index.html#OperandsWrite">OperandsWrite</a> count word (call.Test op a) = (count ≡ 2) × <a href="../../operands/NamesSpecs/index.html#IsName">IsName</a> <a href="../../ops/VectorOpsSpecs/index.html#test_name">test_name</a> (word 0) op × <a href="../../operands/LineWordsSpecs/index.html#WritesNumber">WritesNumber</a> 8 (word 1) a
-<a href="../../grammar/CommandsSpecs/index.html#OperandsWrite">OperandsWrite</a> count word (call.Extract op a) =
-    (count ≡ 3) × <a href="../../operands/NamesSpecs/index.html#NamesLane">NamesLane</a> <a href="../../ops/LaneOpsSpecs/index.html#extract_name">extract_name</a> <a href="../../ops/LaneOpsSpecs/index.html#extract_op">extract_op</a> (word 0) (word 2) op × <a href="../../operands/LineWordsSpecs/index.html#WritesNumber">WritesNumber</a> 8 (word 1) a
-<a href="../../grammar/CommandsSpecs/index.html#OperandsWrite">OperandsWrite</a> count word (call.Replace op dst a item) =
-    (count ≡ 5) × <a href="../../operands/NamesSpecs/index.html#NamesLane">NamesLane</a> <a href="../../ops/LaneOpsSpecs/index.html#replace_name">replace_name</a> <a href="../../ops/LaneOpsSpecs/index.html#replace_op">replace_op</a> (word 0) (word 3) op
-    × <a href="../../operands/LineWordsSpecs/index.html#WritesNumber">WritesNumber</a> 8 (word 1) dst × <a href="../../operands/LineWordsSpecs/index.html#WritesNumber">WritesNumber</a> 8 (word 2) a × <a href="../../operands/LineWordsSpecs/index.html#WritesNumber">WritesNumber</a> 8 (word 4) item
-<a href="../../grammar/CommandsSpecs/index.html#OperandsWrite">OperandsWrite</a> count word (call.Shuffle dst a b lanes) =
-    (3 ≤ count) × <a href="../../operands/LineWordsSpecs/index.html#WritesNumber">WritesNumber</a> 8 (word 0) dst × <a href="../../operands/LineWordsSpecs/index.html#WritesNumber">WritesNumber</a> 8 (word 1) a × <a href="../../operands/LineWordsSpecs/index.html#WritesNumber">WritesNumber</a> 8 (word 2) b
+<a href="../../grammar/CommandsSpecs/index.html#OperandsWrite">OperandsWrite</a> count word (call.Extract op a) = (count ≡ 3) × <a href="../../operands/NamesSpecs/index.html#NamesLane">NamesLane</a> <a href="../../ops/LaneOpsSpecs/index.html#extract_name">extract_name</a> <a href="../../ops/LaneOpsSpecs/index.html#extract_op">extract_op</a> (word 0) (word 2) op
+    × <a href="../../operands/LineWordsSpecs/index.html#WritesNumber">WritesNumber</a> 8 (word 1) a
+<a href="../../grammar/CommandsSpecs/index.html#OperandsWrite">OperandsWrite</a> count word (call.Replace op dst a item) = (count ≡ 5)
+    × <a href="../../operands/NamesSpecs/index.html#NamesLane">NamesLane</a> <a href="../../ops/LaneOpsSpecs/index.html#replace_name">replace_name</a> <a href="../../ops/LaneOpsSpecs/index.html#replace_op">replace_op</a> (word 0) (word 3) op × <a href="../../operands/LineWordsSpecs/index.html#WritesNumber">WritesNumber</a> 8 (word 1) dst × <a href="../../operands/LineWordsSpecs/index.html#WritesNumber">WritesNumber</a> 8 (word 2) a
+    × <a href="../../operands/LineWordsSpecs/index.html#WritesNumber">WritesNumber</a> 8 (word 4) item
+<a href="../../grammar/CommandsSpecs/index.html#OperandsWrite">OperandsWrite</a> count word (call.Shuffle dst a b lanes) = (3 ≤ count) × <a href="../../operands/LineWordsSpecs/index.html#WritesNumber">WritesNumber</a> 8 (word 0) dst
+    × <a href="../../operands/LineWordsSpecs/index.html#WritesNumber">WritesNumber</a> 8 (word 1) a × <a href="../../operands/LineWordsSpecs/index.html#WritesNumber">WritesNumber</a> 8 (word 2) b
 <a href="../../grammar/CommandsSpecs/index.html#OperandsWrite">OperandsWrite</a> count word (call.VectorLoad op dst memory ptr offset) = (count ≡ 5) × <a href="../../operands/NamesSpecs/index.html#IsName">IsName</a> <a href="../../ops/VectorOpsSpecs/index.html#vector_load_name">vector_load_name</a> (word 0) op
     × <a href="../../operands/LineWordsSpecs/index.html#WritesNumber">WritesNumber</a> 8 (word 1) dst × <a href="../../operands/LineWordsSpecs/index.html#WritesNumber">WritesNumber</a> 64 (word 2) memory × <a href="../../operands/LineWordsSpecs/index.html#WritesNumber">WritesNumber</a> 64 (word 3) ptr
     × <a href="../../operands/LineWordsSpecs/index.html#WritesNumber">WritesNumber</a> 64 (word 4) offset
-<a href="../../grammar/CommandsSpecs/index.html#OperandsWrite">OperandsWrite</a> count word (call.LoadLane op dst a memory ptr offset) =
-    (count ≡ 7) × <a href="../../operands/NamesSpecs/index.html#NamesLane">NamesLane</a> <a href="../../ops/LaneOpsSpecs/index.html#load_lane_name">load_lane_name</a> <a href="../../ops/LaneOpsSpecs/index.html#load_lane_op">load_lane_op</a> (word 0) (word 3) op × <a href="../../operands/LineWordsSpecs/index.html#WritesNumber">WritesNumber</a> 8 (word 1) dst
+<a href="../../grammar/CommandsSpecs/index.html#OperandsWrite">OperandsWrite</a> count word (call.LoadLane op dst a memory ptr offset) = (count ≡ 7)
+    × <a href="../../operands/NamesSpecs/index.html#NamesLane">NamesLane</a> <a href="../../ops/LaneOpsSpecs/index.html#load_lane_name">load_lane_name</a> <a href="../../ops/LaneOpsSpecs/index.html#load_lane_op">load_lane_op</a> (word 0) (word 3) op × <a href="../../operands/LineWordsSpecs/index.html#WritesNumber">WritesNumber</a> 8 (word 1) dst
     × <a href="../../operands/LineWordsSpecs/index.html#WritesNumber">WritesNumber</a> 8 (word 2) a × <a href="../../operands/LineWordsSpecs/index.html#WritesNumber">WritesNumber</a> 64 (word 4) memory × <a href="../../operands/LineWordsSpecs/index.html#WritesNumber">WritesNumber</a> 64 (word 5) ptr
     × <a href="../../operands/LineWordsSpecs/index.html#WritesNumber">WritesNumber</a> 64 (word 6) offset
 <a href="../../grammar/CommandsSpecs/index.html#OperandsWrite">OperandsWrite</a> count word (call.VectorStore a memory ptr offset) = (count ≡ 4) × <a href="../../operands/LineWordsSpecs/index.html#WritesNumber">WritesNumber</a> 8 (word 0) a
     × <a href="../../operands/LineWordsSpecs/index.html#WritesNumber">WritesNumber</a> 64 (word 1) memory × <a href="../../operands/LineWordsSpecs/index.html#WritesNumber">WritesNumber</a> 64 (word 2) ptr × <a href="../../operands/LineWordsSpecs/index.html#WritesNumber">WritesNumber</a> 64 (word 3) offset
-<a href="../../grammar/CommandsSpecs/index.html#OperandsWrite">OperandsWrite</a> count word (call.StoreLane op a memory ptr offset) =
-    (count ≡ 6) × <a href="../../operands/NamesSpecs/index.html#NamesLane">NamesLane</a> <a href="../../ops/LaneOpsSpecs/index.html#store_lane_name">store_lane_name</a> <a href="../../ops/LaneOpsSpecs/index.html#store_lane_op">store_lane_op</a> (word 0) (word 2) op × <a href="../../operands/LineWordsSpecs/index.html#WritesNumber">WritesNumber</a> 8 (word 1) a
+<a href="../../grammar/CommandsSpecs/index.html#OperandsWrite">OperandsWrite</a> count word (call.StoreLane op a memory ptr offset) = (count ≡ 6)
+    × <a href="../../operands/NamesSpecs/index.html#NamesLane">NamesLane</a> <a href="../../ops/LaneOpsSpecs/index.html#store_lane_name">store_lane_name</a> <a href="../../ops/LaneOpsSpecs/index.html#store_lane_op">store_lane_op</a> (word 0) (word 2) op × <a href="../../operands/LineWordsSpecs/index.html#WritesNumber">WritesNumber</a> 8 (word 1) a
     × <a href="../../operands/LineWordsSpecs/index.html#WritesNumber">WritesNumber</a> 64 (word 3) memory × <a href="../../operands/LineWordsSpecs/index.html#WritesNumber">WritesNumber</a> 64 (word 4) ptr × <a href="../../operands/LineWordsSpecs/index.html#WritesNumber">WritesNumber</a> 64 (word 5) offset
+
+-- What tools/generate writes ends.
 
 -- the words after the first write what the call is given: its list, if it has one, is what the last of them write
 abbrev pub <b id="WritesOperands">WritesOperands</b> : <a href="../../operands/LineWordsSpecs/index.html#LineWords">LineWords</a> → Call → Type 0
@@ -6777,6 +6794,7 @@ abbrev pub <b id="WritesOperands">WritesOperands</b> : <a href="../../operands/L
 abbrev pub <b id="NamesAfter">NamesAfter</b> : List ℕ → <a href="../../operands/LineWordsSpecs/index.html#LineWords">LineWords</a> → Call → Type 0
 <a href="../../grammar/CommandsSpecs/index.html#NamesAfter">NamesAfter</a> name operands call = (<a href="../../grammar/CommandsSpecs/index.html#command_word">command_word</a> call ≡ name) × <a href="../../grammar/CommandsSpecs/index.html#WritesOperands">WritesOperands</a> operands call
 
+-- What tools/generate writes begins.
 -- a word that a command of the meter, of a global or of a register begins with
 abbrev pub <b id="IsValueWord">IsValueWord</b> : List ℕ → Type 0
 <a href="../../grammar/CommandsSpecs/index.html#IsValueWord">IsValueWord</a> name = (name ≡ codes "fuel") ⊎ (name ≡ codes "left") ⊎ (name ≡ codes "global") ⊎ (name ≡ codes "gset")
@@ -6784,19 +6802,27 @@ abbrev pub <b id="IsValueWord">IsValueWord</b> : List ℕ → Type 0
 
 -- a word that a command of a memory begins with, or one that drops a memory or a table
 abbrev pub <b id="IsMemoryWord">IsMemoryWord</b> : List ℕ → Type 0
-<a href="../../grammar/CommandsSpecs/index.html#IsMemoryWord">IsMemoryWord</a> name = (name ≡ codes "memory") ⊎ (name ≡ codes "lent") ⊎ (name ≡ codes "grow") ⊎ (name ≡ codes "drop") ⊎ (name ≡ codes "read") ⊎ (name ≡ codes "mfill") ⊎ (name ≡ codes "mcopy") ⊎ (name ≡ codes "minit")
+<a href="../../grammar/CommandsSpecs/index.html#IsMemoryWord">IsMemoryWord</a> name = (name ≡ codes "memory") ⊎ (name ≡ codes "lent") ⊎ (name ≡ codes "grow") ⊎ (name ≡ codes "drop")
+    ⊎ (name ≡ codes "read") ⊎ (name ≡ codes "mfill") ⊎ (name ≡ codes "mcopy") ⊎ (name ≡ codes "minit")
 
 -- a word that a command begins with which loads or stores
 abbrev pub <b id="IsAccessWord">IsAccessWord</b> : List ℕ → Type 0
-<a href="../../grammar/CommandsSpecs/index.html#IsAccessWord">IsAccessWord</a> name = (name ≡ codes "load") ⊎ (name ≡ codes "store") ⊎ (name ≡ codes "vload") ⊎ (name ≡ codes "vloadlane") ⊎ (name ≡ codes "vstore") ⊎ (name ≡ codes "vstorelane")
+<a href="../../grammar/CommandsSpecs/index.html#IsAccessWord">IsAccessWord</a> name = (name ≡ codes "load") ⊎ (name ≡ codes "store") ⊎ (name ≡ codes "vload") ⊎ (name ≡ codes "vloadlane")
+    ⊎ (name ≡ codes "vstore") ⊎ (name ≡ codes "vstorelane")
 
 -- a word that a command of a table begins with, or one that empties a segment
 abbrev pub <b id="IsTableWord">IsTableWord</b> : List ℕ → Type 0
-<a href="../../grammar/CommandsSpecs/index.html#IsTableWord">IsTableWord</a> name = (name ≡ codes "table") ⊎ (name ≡ codes "tgrow") ⊎ (name ≡ codes "get") ⊎ (name ≡ codes "tset") ⊎ (name ≡ codes "init") ⊎ (name ≡ codes "copy") ⊎ (name ≡ codes "fill") ⊎ (name ≡ codes "empty") ⊎ (name ≡ codes "dempty")
+<a href="../../grammar/CommandsSpecs/index.html#IsTableWord">IsTableWord</a> name = (name ≡ codes "table") ⊎ (name ≡ codes "tgrow") ⊎ (name ≡ codes "get") ⊎ (name ≡ codes "tset")
+    ⊎ (name ≡ codes "init") ⊎ (name ≡ codes "copy") ⊎ (name ≡ codes "fill") ⊎ (name ≡ codes "empty")
+    ⊎ (name ≡ codes "dempty")
 
 -- a word that a command of a vector instruction begins with
 abbrev pub <b id="IsVectorWord">IsVectorWord</b> : List ℕ → Type 0
-<a href="../../grammar/CommandsSpecs/index.html#IsVectorWord">IsVectorWord</a> name = (name ≡ codes "make") ⊎ (name ≡ codes "unary") ⊎ (name ≡ codes "binary") ⊎ (name ≡ codes "ternary") ⊎ (name ≡ codes "shift") ⊎ (name ≡ codes "test") ⊎ (name ≡ codes "extract") ⊎ (name ≡ codes "replace") ⊎ (name ≡ codes "shuffle")
+<a href="../../grammar/CommandsSpecs/index.html#IsVectorWord">IsVectorWord</a> name = (name ≡ codes "make") ⊎ (name ≡ codes "unary") ⊎ (name ≡ codes "binary") ⊎ (name ≡ codes "ternary")
+    ⊎ (name ≡ codes "shift") ⊎ (name ≡ codes "test") ⊎ (name ≡ codes "extract") ⊎ (name ≡ codes "replace")
+    ⊎ (name ≡ codes "shuffle")
+
+-- What tools/generate writes ends.
 </code></pre>
 "####]
     pub mod CommandsSpecs {}

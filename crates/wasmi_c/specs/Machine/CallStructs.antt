@@ -86,87 +86,44 @@ module _ (numbers : CallStruct) where
   abbrev pub binary_call : Option Call
   binary_call = option_and_then binary_as (binary_numbered numbers.op)
 
-  -- a load of a lane
-  abbrev pub load_lane_call : Option Call
-  load_lane_call =
-      option_map (λ op. call.LoadLane op numbers.dst numbers.a numbers.index numbers.ptr numbers.offset)
-      (result_ok (lane_load_of numbers.op numbers.lane))
-
-  -- a store of a lane
-  abbrev pub store_lane_call : Option Call
-  store_lane_call = option_map (λ op. call.StoreLane op numbers.a numbers.index numbers.ptr numbers.offset)
-      (result_ok (lane_store_of numbers.op numbers.lane))
-
-  -- an instruction of three registers
-  abbrev pub ternary_call : Option Call
-  ternary_call = option_map (λ op. call.Ternary op numbers.dst numbers.a numbers.b numbers.c)
-      (op_numbered TERNARIES numbers.op)
-
-  -- an extraction of a lane
-  abbrev pub extract_lane_call : Option Call
-  extract_lane_call = option_map (λ op. call.Extract op numbers.a)
-      (result_ok (extraction_of numbers.op numbers.lane))
-
-  -- a replacement of a lane
-  abbrev pub replace_lane_call : Option Call
-  replace_lane_call = option_map (λ op. call.Replace op numbers.dst numbers.a numbers.b)
-      (result_ok (replacement_of numbers.op numbers.lane))
-
-  -- a shuffle of the bytes of two registers
-  abbrev pub shuffle_call : Option Call
-  shuffle_call = option_map (call.Shuffle numbers.dst numbers.a numbers.b) (lanes_of numbers.lanes)
-
-  -- an initialization of a table, by items of an element segment
-  abbrev pub init_table_call : Option Call
-  init_table_call =
-      option_and_then
-      (λ src. option_map (call.InitTable numbers.index numbers.source numbers.to src) (u32_of numbers.count))
-      (u32_of numbers.from)
-
-  -- an initialization of a memory, by bytes of a data segment
-  abbrev pub init_memory_call : Option Call
-  init_memory_call =
-      option_and_then
-      (λ src. option_map (call.InitMemory numbers.index numbers.source numbers.to src) (u32_of numbers.count))
-      (u32_of numbers.from)
-
-  -- a new global
-  abbrev pub new_global_call : Option Call
-  new_global_call =
-      option_map (λ ty. call.NewGlobal numbers.value (record { content = ty; mutability = mutability_of }))
-      (val_type_of numbers.ty)
-
-  -- a write of a global
-  abbrev pub set_global_call : Option Call
-  set_global_call =
-      option_map (λ ty. call.SetGlobal numbers.index (record { ty = ty; raw = numbers.value }))
-      (val_type_of numbers.ty)
-
+-- What tools/generate writes begins.
 -- the call on a global or registers, if the kind is of one and the operands are ones that there are
 unfoldable pub value_call : CallStruct → Option Call
-value_call numbers = if nat_eq numbers.kind 18 then new_global_call numbers
-    else if nat_eq numbers.kind 19 then set_global_call numbers
+value_call numbers = if nat_eq numbers.kind 23 then unary_call numbers
+    else if nat_eq numbers.kind 18
+    then option_map (λ ty. call.NewGlobal numbers.value (record { content = ty; mutability = mutability_of numbers }))
+    (val_type_of numbers.ty)
+    else if nat_eq numbers.kind 19
+    then option_map (λ value. call.SetGlobal numbers.index (record { ty = value; raw = numbers.value }))
+    (val_type_of numbers.ty)
     else if nat_eq numbers.kind 20 then Some (call.GetGlobal numbers.index)
     else if nat_eq numbers.kind 21 then Some (call.SetRegister numbers.dst numbers.value)
     else if nat_eq numbers.kind 22 then Some (call.GetRegister numbers.a)
-    else if nat_eq numbers.kind 23 then unary_call numbers
-    else if nat_eq numbers.kind 25 then ternary_call numbers
-    else if nat_eq numbers.kind 26 then extract_lane_call numbers
-    else if nat_eq numbers.kind 27 then replace_lane_call numbers
-    else if nat_eq numbers.kind 28 then shuffle_call numbers
+    else if nat_eq numbers.kind 25
+    then option_map (λ op. call.Ternary op numbers.dst numbers.a numbers.b numbers.c) (op_numbered TERNARIES numbers.op)
+    else if nat_eq numbers.kind 26
+    then option_map (λ op. call.Extract op numbers.a) (result_ok (extraction_of numbers.op numbers.lane))
+    else if nat_eq numbers.kind 27
+    then option_map (λ op. call.Replace op numbers.dst numbers.a numbers.b)
+    (result_ok (replacement_of numbers.op numbers.lane))
+    else if nat_eq numbers.kind 28
+    then option_map (λ lanes. call.Shuffle numbers.dst numbers.a numbers.b lanes) (lanes_of numbers.lanes)
     else None
 
 -- so one on a table or an element segment
 unfoldable pub table_call : CallStruct → Option Call
 table_call numbers = if nat_eq numbers.kind 9
-    then option_and_then (λ ty. option_map (call.NewTable ty) (typed_reference_of numbers)) (table_type_in numbers)
+    then option_and_then (λ ty. option_map (λ init. call.NewTable ty init) (typed_reference_of numbers))
+    (table_type_in numbers)
     else if nat_eq numbers.kind 10
-    then option_map (call.GrowTable numbers.index numbers.count) (typed_reference_of numbers)
+    then option_map (λ init. call.GrowTable numbers.index numbers.count init) (typed_reference_of numbers)
     else if nat_eq numbers.kind 11 then Some (call.DropTable numbers.index)
     else if nat_eq numbers.kind 12 then Some (call.GetElement numbers.index numbers.to)
     else if nat_eq numbers.kind 13
-    then option_map (call.SetElement numbers.index numbers.to) (typed_reference_of numbers)
-    else if nat_eq numbers.kind 14 then init_table_call numbers
+    then option_map (λ value. call.SetElement numbers.index numbers.to value) (typed_reference_of numbers)
+    else if nat_eq numbers.kind 14
+    then option_and_then (λ src. option_map (λ len. call.InitTable numbers.index numbers.source numbers.to src len)
+    (u32_of numbers.count)) (u32_of numbers.from)
     else if nat_eq numbers.kind 15
     then Some (call.CopyTable numbers.index numbers.to numbers.source numbers.from numbers.count)
     else if nat_eq numbers.kind 16
@@ -180,7 +137,9 @@ range_call numbers = if nat_eq numbers.kind 29
     then Some (call.FillMemory numbers.index numbers.to (byte_of numbers) numbers.count)
     else if nat_eq numbers.kind 30
     then Some (call.CopyMemory numbers.index numbers.to numbers.source numbers.from numbers.count)
-    else if nat_eq numbers.kind 31 then init_memory_call numbers
+    else if nat_eq numbers.kind 31
+    then option_and_then (λ src. option_map (λ len. call.InitMemory numbers.index numbers.source numbers.to src len)
+    (u32_of numbers.count)) (u32_of numbers.from)
     else if nat_eq numbers.kind 32 then Some (call.DropData numbers.index)
     else table_call numbers
 
@@ -191,9 +150,15 @@ call_of numbers = if nat_eq numbers.kind 5 then load_call numbers
     else if nat_eq numbers.kind 24 then binary_call numbers
     else if nat_eq numbers.kind 0 then Some (call.SetFuel numbers.count)
     else if nat_eq numbers.kind 1 then Some call.GetFuel
-    else if nat_eq numbers.kind 2 then option_map call.NewMemory (memory_type_in numbers)
+    else if nat_eq numbers.kind 2 then option_map (λ ty. call.NewMemory ty) (memory_type_in numbers)
     else if nat_eq numbers.kind 3 then Some (call.GrowMemory numbers.index numbers.count)
     else if nat_eq numbers.kind 4 then Some (call.DropMemory numbers.index)
-    else if nat_eq numbers.kind 7 then load_lane_call numbers
-    else if nat_eq numbers.kind 8 then store_lane_call numbers
+    else if nat_eq numbers.kind 7
+    then option_map (λ op. call.LoadLane op numbers.dst numbers.a numbers.index numbers.ptr numbers.offset)
+    (result_ok (lane_load_of numbers.op numbers.lane))
+    else if nat_eq numbers.kind 8
+    then option_map (λ op. call.StoreLane op numbers.a numbers.index numbers.ptr numbers.offset)
+    (result_ok (lane_store_of numbers.op numbers.lane))
     else range_call numbers
+
+-- What tools/generate writes ends.

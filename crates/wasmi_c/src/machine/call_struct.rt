@@ -1,6 +1,6 @@
 //! Calls as structs of plain numbers, and the calls that these stand for.
 ghost use Rattle.std.specs.Prelude.{◌≡◌};
-ghost use Rattle.wasmi_c.specs.Machine.CallStructs.{binary_call, byte_of, call_of, load_call, mutability_of, range_call, store_call, table_call, typed_reference_of, unary_call, value_call};
+ghost use Rattle.wasmi_c.specs.Machine.CallStructs.{binary_call, byte_of, call_of, load_call, memory_type_in, mutability_of, range_call, store_call, table_call, table_type_in, typed_reference_of, unary_call, value_call};
 ghost use Rattle.wasmi_c.specs.Machine.Calls.{item_load_numbered, item_store_numbered, vector_binary_numbered};
 
 use crate::instruction::binary::{Binary, binary_numbered};
@@ -14,6 +14,7 @@ use crate::types::{if_flag, memory_type, reference_type, table_type, to_u32, val
 use wasmi_machine::Call;
 use wasmi_ops::{BinaryOp, LoadOp, StoreOp};
 use wasmi_raw::{RawRef, RawVal};
+use wasmi_store::{MemoryType, TableType};
 use wasmi_typed::{GlobalType, Mutability, TypedRawRef, TypedRawVal};
 
 /// The kind of loads.
@@ -82,18 +83,17 @@ impl CallStruct {
     pub fn call(&self) -> Option<Call>
         ensures { result ≡ call_of self.now }
     {
-        let count = self.count;
-        let maximum = if_flag(self.has_maximum, self.maximum);
         Some(match self.kind {
             LOAD => self.load_call()?,
             STORE => self.store_call()?,
             BINARY => self.binary_call()?,
-            0 => Call::SetFuel(count),
+            // What tools/generate writes begins.
+            0 => Call::SetFuel(self.count),
             1 => Call::GetFuel,
-            2 => Call::NewMemory(memory_type(count, maximum, self.is_64, self.page_size_log2)?),
+            2 => Call::NewMemory(self.memory_type()?),
             3 => Call::GrowMemory {
                 memory: self.index,
-                pages: count,
+                pages: self.count,
             },
             4 => Call::DropMemory(self.index),
             7 => Call::LoadLane {
@@ -111,6 +111,7 @@ impl CallStruct {
                 ptr: self.ptr,
                 offset: self.offset,
             },
+            // What tools/generate writes ends.
             _ => return self.range_call(),
         })
     }
@@ -121,29 +122,30 @@ impl CallStruct {
     fn range_call(&self) -> Option<Call>
         ensures { result ≡ range_call self.now }
     {
-        let (memory, dst, len) = (self.index, self.to, self.count);
         Some(match self.kind {
+            // What tools/generate writes begins.
             29 => Call::FillMemory {
-                memory,
-                dst,
+                memory: self.index,
+                dst: self.to,
                 value: self.byte(),
-                len,
+                len: self.count,
             },
             30 => Call::CopyMemory {
-                dst_memory: memory,
-                dst,
+                dst_memory: self.index,
+                dst: self.to,
                 src_memory: self.source,
                 src: self.from,
-                len,
+                len: self.count,
             },
             31 => Call::InitMemory {
-                memory,
+                memory: self.index,
                 segment: self.source,
-                dst,
+                dst: self.to,
                 src: to_u32(self.from)?,
-                len: to_u32(len)?,
+                len: to_u32(self.count)?,
             },
             32 => Call::DropData(self.index),
+            // What tools/generate writes ends.
             _ => return self.table_call(),
         })
     }
@@ -153,49 +155,49 @@ impl CallStruct {
     fn table_call(&self) -> Option<Call>
         ensures { result ≡ table_call self.now }
     {
-        let table = self.index;
-        let maximum = if_flag(self.has_maximum, self.maximum);
         Some(match self.kind {
+            // What tools/generate writes begins.
             9 => Call::NewTable {
-                ty: table_type(self.ty, self.count, maximum, self.is_64)?,
+                ty: self.table_type()?,
                 init: self.typed_reference()?,
             },
             10 => Call::GrowTable {
-                table,
+                table: self.index,
                 delta: self.count,
                 init: self.typed_reference()?,
             },
-            11 => Call::DropTable(table),
+            11 => Call::DropTable(self.index),
             12 => Call::GetElement {
-                table,
+                table: self.index,
                 index: self.to,
             },
             13 => Call::SetElement {
-                table,
+                table: self.index,
                 index: self.to,
                 value: self.typed_reference()?,
             },
             14 => Call::InitTable {
-                table,
+                table: self.index,
                 segment: self.source,
                 dst: self.to,
                 src: to_u32(self.from)?,
                 len: to_u32(self.count)?,
             },
             15 => Call::CopyTable {
-                dst_table: table,
+                dst_table: self.index,
                 dst: self.to,
                 src_table: self.source,
                 src: self.from,
                 len: self.count,
             },
             16 => Call::FillTable {
-                table,
+                table: self.index,
                 dst: self.to,
                 value: self.typed_reference()?,
                 len: self.count,
             },
-            17 => Call::DropItems(table),
+            17 => Call::DropItems(self.index),
+            // What tools/generate writes ends.
             _ => return self.value_call(),
         })
     }
@@ -205,8 +207,9 @@ impl CallStruct {
     fn value_call(&self) -> Option<Call>
         ensures { result ≡ value_call self.now }
     {
-        let (dst, a, b) = (self.dst, self.a, self.b);
         Some(match self.kind {
+            23 => self.unary_call()?,
+            // What tools/generate writes begins.
             18 => Call::NewGlobal {
                 value: self.value,
                 ty: GlobalType::new(val_type(self.ty)?, self.mutability()),
@@ -217,34 +220,34 @@ impl CallStruct {
             },
             20 => Call::GetGlobal(self.index),
             21 => Call::SetRegister {
-                dst,
+                dst: self.dst,
                 value: self.value,
             },
-            22 => Call::GetRegister(a),
-            23 => self.unary_call()?,
+            22 => Call::GetRegister(self.a),
             25 => Call::Ternary {
                 op: ternary_numbered(self.op)?,
-                dst,
-                a,
-                b,
+                dst: self.dst,
+                a: self.a,
+                b: self.b,
                 c: self.c,
             },
             26 => Call::Extract {
                 op: extraction(self.op, self.lane).ok()?,
-                a,
+                a: self.a,
             },
             27 => Call::Replace {
                 op: replacement(self.op, self.lane).ok()?,
-                dst,
-                a,
-                item: b,
+                dst: self.dst,
+                a: self.a,
+                item: self.b,
             },
             28 => Call::Shuffle {
-                dst,
-                a,
-                b,
+                dst: self.dst,
+                a: self.a,
+                b: self.b,
                 lanes: lanes_of(self.lanes)?,
             },
+            // What tools/generate writes ends.
             _ => return None,
         })
     }
@@ -327,6 +330,22 @@ impl CallStruct {
         ensures { result ≡ typed_reference_of self.now }
     {
         Some(TypedRawRef::new(RawRef::from(self.reference), reference_type(self.ty)?))
+    }
+
+    /// The type of a memory, if there is such a type.
+    fn memory_type(&self) -> Option<MemoryType>
+        ensures { result ≡ memory_type_in self.now }
+    {
+        let maximum = if_flag(self.has_maximum, self.maximum);
+        memory_type(self.count, maximum, self.is_64, self.page_size_log2)
+    }
+
+    /// The type of a table, if there is such a type.
+    fn table_type(&self) -> Option<TableType>
+        ensures { result ≡ table_type_in self.now }
+    {
+        let maximum = if_flag(self.has_maximum, self.maximum);
+        table_type(self.ty, self.count, maximum, self.is_64)
     }
 
     /// The lowest byte of the value.

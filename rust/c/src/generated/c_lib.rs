@@ -2,6 +2,7 @@
 mod instructions {
     //! Each instruction by its number, on values and on arrays; the shuffle and the store of a vector by
     //! name; a script of calls; the version.
+    //! `tools/header` writes this file, by the rows of `tools/exports.toml`.
 
     use crate::generated::c::instruction::result::{InstructionResult, status_of};
     use crate::generated::c::instruction::{binary, lanes, load, shuffle, store, ternary, unary};
@@ -617,6 +618,7 @@ mod loads {
 }
 mod machine {
     //! A machine by a handle, and a pool of machines. `include/wasmi_machine.h` describes each call.
+    //! `tools/header` writes this file, by the rows of `tools/exports.toml`.
 
     use crate::generated::c::machine::call_struct::CallStruct;
     use crate::generated::c::machine::handle::Handle;
@@ -1415,6 +1417,7 @@ mod machine {
 }
 mod memory {
     //! Memories in regions of the caller's, and fuel meters.
+    //! `tools/header` writes this file, by the rows of `tools/exports.toml`.
 
     use crate::generated::c::{
         HostAnswers, MemoryNumbers, MeterNumbers, Question, QuotaNumbers, Range, fuel,
@@ -2809,6 +2812,7 @@ mod stores {
 }
 mod table {
     //! Tables in regions of the caller's.
+    //! `tools/header` writes this file, by the rows of `tools/exports.toml`.
 
     use crate::generated::c::{
         HostAnswers, MeterNumbers, Question, QuotaNumbers, Range, TableNumbers, table as on_table,

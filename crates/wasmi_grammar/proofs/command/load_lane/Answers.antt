@@ -1,7 +1,7 @@
 use Rattle.std.proofs.Common.{codes, refl, rules}
 use Rattle.wasmi_operands.specs.LineWords.{WritesNumber}
-use Rattle.wasmi_operands.proofs.LineWordsLemmas.{refused_with}
-use Rattle.wasmi_grammar.proofs.CommandsLemmas.{refused_form, written_at}
+use Rattle.wasmi_operands.proofs.LineWordsLemmas.{refused_with, written_at}
+use Rattle.wasmi_grammar.proofs.CommandsLemmas.{refused_form}
 use Rattle.wasmi_grammar.proofs.command.load_lane.Goals as goal
 
 pub returns-in_err-dst : goal.returns-in_err-dst

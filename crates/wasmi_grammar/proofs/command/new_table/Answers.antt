@@ -1,8 +1,8 @@
 use Rattle.std.proofs.Common.{◌≡◌, codes, refl, rules}
 use Rattle.wasmi_operands.specs.LineWords.{WritesNumber}
 use Rattle.wasmi_operands.specs.Names.{reference_word}
-use Rattle.wasmi_operands.proofs.LineWordsLemmas.{refused_with}
-use Rattle.wasmi_grammar.proofs.CommandsLemmas.{refused_form, written_at}
+use Rattle.wasmi_operands.proofs.LineWordsLemmas.{refused_with, written_at}
+use Rattle.wasmi_grammar.proofs.CommandsLemmas.{refused_form}
 use Rattle.wasmi_grammar.proofs.command.new_table.Goals as goal
 
 pub returns-in_err-init_ty : goal.returns-in_err-init_ty

@@ -13,12 +13,6 @@ returns-in_ok-table-in-tgrow c =
     let w = c.in_ok-table-in-tgrow.ensures in
     record { call = rw c.new.ensures (sym c.in-tgrow.is, (w.0, w.1, w.2, (w.3, w.4))) }
 
-pub returns-in_err-table-in-get : goal.returns-in_err-table-in-get
-returns-in_err-table-in-get c = record { call = refused_named _ (search rules) c.in-get.is c.in_err-table-in-get.ensures }
-
-pub returns-in_ok-table-in-get : goal.returns-in_ok-table-in-get
-returns-in_ok-table-in-get c = record { call = (sym c.in-get.is, c.in_ok-table-in-get.ensures) }
-
 pub returns-in_err-table-in-tset : goal.returns-in_err-table-in-tset
 returns-in_err-table-in-tset c = record { call = refused_named _ (search rules) c.in-tset.is c.in_err-table-in-tset.ensures }
 
@@ -26,18 +20,6 @@ pub returns-in_ok-table-in-tset : goal.returns-in_ok-table-in-tset
 returns-in_ok-table-in-tset c =
     let w = c.in_ok-table-in-tset.ensures in
     record { call = rw c.new-in-tset.ensures (sym c.in-tset.is, (w.0, w.1, w.2, (w.3, w.4))) }
-
-pub returns-in_err-table-in-init : goal.returns-in_err-table-in-init
-returns-in_err-table-in-init c = record { call = refused_named _ (search rules) c.in-init.is c.in_err-table-in-init.ensures }
-
-pub returns-in_ok-table-in-init : goal.returns-in_ok-table-in-init
-returns-in_ok-table-in-init c = record { call = (sym c.in-init.is, c.in_ok-table-in-init.ensures) }
-
-pub returns-in_ok-dst_table-in-copy : goal.returns-in_ok-dst_table-in-copy
-returns-in_ok-dst_table-in-copy c = record { call = (sym c.in-copy.is, c.in_ok-dst_table-in-copy.ensures) }
-
-pub returns-in_err-dst_table-in-copy : goal.returns-in_err-dst_table-in-copy
-returns-in_err-dst_table-in-copy c = record { call = refused_named _ (search rules) c.in-copy.is c.in_err-dst_table-in-copy.ensures }
 
 pub returns-in_err-table-in-fill : goal.returns-in_err-table-in-fill
 returns-in_err-table-in-fill c = record { call = refused_named _ (search rules) c.in-fill.is c.in_err-table-in-fill.ensures }
@@ -58,3 +40,24 @@ returns-in_err-one-in_default c = record { call = refused_named {word = codes "e
 
 pub returns-in_ok-one-in_default : goal.returns-in_ok-one-in_default
 returns-in_ok-one-in_default c = record { call = (search rules, c.in_ok-one-in_default.ensures) }
+
+-- What tools/generate writes begins.
+pub returns-in_err-table-in-get : goal.returns-in_err-table-in-get
+returns-in_err-table-in-get c = record { call = refused_named _ (search rules) c.in-get.is c.in_err-table-in-get.ensures }
+
+pub returns-in_ok-table-in-get : goal.returns-in_ok-table-in-get
+returns-in_ok-table-in-get c = record { call = (sym c.in-get.is, c.in_ok-table-in-get.ensures) }
+
+pub returns-in_err-table-in-init : goal.returns-in_err-table-in-init
+returns-in_err-table-in-init c = record { call = refused_named _ (search rules) c.in-init.is c.in_err-table-in-init.ensures }
+
+pub returns-in_ok-table-in-init : goal.returns-in_ok-table-in-init
+returns-in_ok-table-in-init c = record { call = (sym c.in-init.is, c.in_ok-table-in-init.ensures) }
+
+pub returns-in_err-dst_table-in-copy : goal.returns-in_err-dst_table-in-copy
+returns-in_err-dst_table-in-copy c = record { call = refused_named _ (search rules) c.in-copy.is c.in_err-dst_table-in-copy.ensures }
+
+pub returns-in_ok-dst_table-in-copy : goal.returns-in_ok-dst_table-in-copy
+returns-in_ok-dst_table-in-copy c = record { call = (sym c.in-copy.is, c.in_ok-dst_table-in-copy.ensures) }
+
+-- What tools/generate writes ends.
