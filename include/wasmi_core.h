@@ -40,13 +40,7 @@ extern "C" {
 #endif
 
 /* The version of this header and the others beside it: MAJOR counts what breaks a program, and MINOR what is new, such
-   as a call or a status. 1.0.0 had this header without a version, 1.1.0 came with wasmi_machine.h and wasmi_memory.h,
-   1.2.0 with wasmi_instructions.h, 1.3.0 with the pools of wasmi_machine.h, and 1.4.0 with writes over a range of a
-   machine's memory, data segments, wasmi_pool_remove, wasmi_quota_release_memory and _table, wasmi_memory_new_zeroed
-   and wasmi_memory_grow_zeroed. Since 2.0.0 the functions of wasmi_instructions.h have the prefix wasmi_, in place of
-   wasm_; it came with wasmi_core_version, wasmi_table_copy_within, with wasmi_pool_fill, _copy, _init, _new_segment,
-   _new_data and _consume_fuel, and with wasmi_machine_reserve, _reserve_elements and _run_into, and
-   wasmi_pool_reserve, _reserve_elements and _run_into. */
+   as a call or a status. CHANGELOG.md says what each version brought. */
 #define WASMI_CORE_VERSION "2.0.0"
 #define WASMI_CORE_VERSION_MAJOR 2
 #define WASMI_CORE_VERSION_MINOR 0

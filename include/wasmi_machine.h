@@ -142,11 +142,13 @@ enum {
     WASMI_CALL_EXTRACT_LANE = 26, /* op, lane, a -> value */
     WASMI_CALL_REPLACE_LANE = 27, /* op, lane, a, b (the item), dst */
     WASMI_CALL_SHUFFLE = 28,      /* lanes, a, b, dst: byte i of the result is the byte of lane lanes[i] */
+    /* What tools/generate writes begins. */
     /* Writes over count bytes of a memory from to on, for fuel: MEMORY_ACCESS, then MEMORY_OUT_OF_FUEL. */
-    WASMI_CALL_FILL_MEMORY = 29,  /* index, to, count, value: its lowest byte */
-    WASMI_CALL_COPY_MEMORY = 30,  /* index, to, source (a memory, this one too), from, count */
-    WASMI_CALL_INIT_MEMORY = 31,  /* index, to, source (a data segment), from, count (below 2^32 both) */
-    WASMI_CALL_DROP_DATA = 32     /* index: the bytes of a data segment, which stays */
+    WASMI_CALL_FILL_MEMORY = 29, /* index, to, count, value: its lowest byte */
+    WASMI_CALL_COPY_MEMORY = 30, /* index, to, source (a memory, this one too), from, count */
+    WASMI_CALL_INIT_MEMORY = 31, /* index, to, source (a data segment), from, count (below 2^32 both) */
+    WASMI_CALL_DROP_DATA = 32    /* index: the bytes of a data segment, which stays */
+    /* What tools/generate writes ends. */
 };
 
 /* Value types. */
@@ -196,6 +198,7 @@ enum {
     WASMI_NO_POOL = 27,     /* of the calls on a pool: the handle has none */
     WASMI_HAS_POOL = 28,    /* the handle has one */
     WASMI_NO_TENANT = 29,   /* no tenant of the pool has the index: nothing was run */
+    /* What tools/generate writes begins. */
     WASMI_MEMORY_OUT_OF_MEMORY = 32,
     WASMI_MEMORY_GROWTH = 33,        /* beyond the type, or denied, as beyond the caps */
     WASMI_MEMORY_ACCESS = 34,        /* of wasmi_machine_read and wasmi_machine_write */
@@ -211,6 +214,7 @@ enum {
     WASMI_TABLE_COPY = 56,
     WASMI_TABLE_TYPE = 57,
     WASMI_TABLE_OUT_OF_FUEL = 58,
+    /* What tools/generate writes ends. */
     WASMI_METERING_DISABLED = 64,
     WASMI_OUT_OF_FUEL = 65,
     WASMI_GLOBAL_IMMUTABLE = 72,

@@ -1,19 +1,20 @@
 """The calls of the machine: what tools/calls.toml says of each, and the definitions and lemmas that are projections of it. The names and the types of what a call is
 given are those of `Call` in crates/wasmi_machine/src/calls.rt. What is written stands between two comments that say so."""
 import re
-import textwrap
 import tomllib
 
+import errors
+import numbering
+import regions
 from libraries import TOP
+from regions import definition, filled
 
 CALLS = TOP / "crates/wasmi_machine/src/calls.rt"
 ROWS = TOP / "tools/calls.toml"
-BEGINS, ENDS = "What tools/generate writes begins.", "What tools/generate writes ends."
-FIXED = "\N{NO-BREAK SPACE}"
 BITS = {"usize": 64, "u64": 64, "u32": 32, "u8": 8}
 # The keys of a row, which the head of tools/calls.toml explains.
 NEEDED = {"subject", "word", "syntax", "reply"}
-POSSIBLE = {"operand", "effect", "vector", "changes", "reads", "words", "parser", "form", "kind", "members", "refusals"}
+POSSIBLE = {"operand", "effect", "vector", "changes", "reads", "words", "parser", "form", "kind", "members", "above", "header", "refusals"}
 # The effects of calls that aren't local: they reach the meter or the limiter, or make something.
 NOT_LOCAL = re.compile(r"FuelSet|Told \(get_fuel_reply|\w*Made|\w+Grown|RangeWritten|Changed \(\w+Made")
 CHARGED = re.compile(r"\w+Grown|RangeWritten")
@@ -93,8 +94,8 @@ class Call:
             return Part("op", at, field, [f"IsName {kind}_name (word {at}) {field}"], type, kind)
         return Part("lane_op", at, field, [f"NamesLane {kind}_name {kind}_op (word {at}) (word {self.lane}) {field}"], type, kind)
 
-    def pattern(self, prefix="call."):
-        return f"({prefix}{self.name} {' '.join(self.variables)})" if self.variables else f"{prefix}{self.name}"
+    def pattern(self):
+        return f"(call.{self.name} {' '.join(self.variables)})" if self.variables else f"call.{self.name}"
 
     def conditions(self):
         return [it for part in self.parts for it in part.conditions]
@@ -108,7 +109,7 @@ class Call:
     def has_form(self):
         return self.row.get("form", not self.list and all(part.kind != "text" for part in self.parts))
 
-    def applied(self, value, prefix="call.", listed=None):
+    def applied(self, value, listed=None):
         """The call of values: of each part by its place among the parts, and of the list at the end."""
         def given(field):
             its = {part.term.removeprefix(field).lstrip("."): value(k) for k, part in enumerate(self.parts) if part.term.split(".")[0] == field}
@@ -118,7 +119,7 @@ class Call:
                 its = {"ty": its["ty"], "raw": f"record {{ lo = {its['raw.lo']}; hi = {its['raw.hi']} }}"}
             return f"(record {{ {'; '.join(f'{name} = {it}' for name, it in its.items())} }})"
         its = [listed if self.list and field == self.list[0] else given(field) for field, _ in self.fields]
-        return " ".join([prefix + self.name, *its])
+        return " ".join([f"call.{self.name}", *its])
 
 
 def calls():
@@ -137,34 +138,6 @@ def calls():
     if len(kinds) != len(set(kinds)):
         raise SystemExit(f"tools/calls.toml has a kind twice: {[kind for kind in kinds if kinds.count(kind) > 1]}")
     return [Call(name, given[name], row) for name, row in rows.items()]
-
-
-def glued(text):
-    """A text whose groups of up to 75 characters in brackets have no place for a break."""
-    made, depth, start = "", 0, 0
-    for k, letter in enumerate(text):
-        depth += (letter == "(") - (letter == ")")
-        start = k if letter == "(" and depth == 1 else start
-        if depth == 0:
-            group = text[start:k + 1] if letter == ")" else letter
-            made += group.replace(" ", FIXED) if len(group) <= 75 and letter == ")" else f"({glued(group[1:-1])})" if letter == ")" else letter
-    return made
-
-
-def filled(text, indent=0, deeper=4):
-    """A text in lines of at most 120 characters, of which all but the first are set in. A product or a sum is broken before its parts."""
-    pad, (head, _, value) = " " * indent, text.partition(" = ")
-    if len(pad + text) <= 120:
-        return f"{pad}{text}\n"
-    operator = next((it for it in (" × ", " ⊎ ") if it in value), None)
-    if operator:
-        text = f"{head} = ".replace(" ", FIXED).removesuffix(FIXED) + " " + f" {operator[1]}{FIXED}".join(it.replace(" ", FIXED) for it in value.split(operator))
-    made = textwrap.fill(glued(text), 120, initial_indent=pad, subsequent_indent=pad + " " * deeper, break_long_words=False, break_on_hyphens=False)
-    return made.replace(FIXED, " ") + "\n"
-
-
-def definition(comment, name, type, lines, public="abbrev pub ", indent=0):
-    return "".join([*(f"{' ' * indent}-- {line}\n" for line in textwrap.wrap(comment, 117 - indent)), filled(f"{public}{name} : {type}", indent), *lines])
 
 
 def clauses(name, its, other=None):
@@ -379,8 +352,8 @@ MEANINGS = {"Write": "WriteMeaning", "NewSegment": "SegmentMeaning", "NewData": 
 
 
 def meaning(call, value, listed):
-    said = call.applied(value, "", listed)
-    return MEANINGS[call.name] + said.removeprefix(call.name) if call.name in MEANINGS else f"Other ({said})" if call.fields else f"Other {said}"
+    said = call.applied(value, listed=listed)
+    return MEANINGS[call.name] + said.removeprefix(f"call.{call.name}") if call.name in MEANINGS else f"Other ({said})" if call.fields else f"Other {said}"
 
 
 def bound(part):
@@ -483,7 +456,7 @@ def meanings(its):
 
 def meaning_lemma(its):
     type = "(call : Call) → WritesOperands words call → beside calls_named (command_word call) ≡ Some (call_meaning call)"
-    lines = [filled(f"call_is {it.pattern('')} w = {equal_value(it)}", 2) for it in its]
+    lines = [filled(f"call_is {it.pattern()} w = {equal_value(it)}", 2) for it in its]
     return definition("operands that write a call give what the call says, beside its word", "call_is", type, ["  unfolding IsName\n", *lines], "", 2)
 
 
@@ -580,6 +553,20 @@ READ = {
 }
 
 
+def constant(name):
+    """The name of a call in capitals."""
+    return re.sub(r"(?<=.)([A-Z])", r"_\1", name).upper()
+
+
+def kinds(its):
+    """The kinds of which the rows have what the header says."""
+    rows = sorted((it for it in its if "header" in it.row), key=lambda it: it.row["kind"])
+    lines = [f"    WASMI_CALL_{constant(it.name)} = {it.row['kind']}{',' if it is not rows[-1] else ''}" for it in rows]
+    width = max(map(len, lines)) + 1
+    above = lambda it: filled(f"/* {it.row['above']} */", 4, 0) if "above" in it.row else ""
+    return "".join(f"{above(it)}{line:{width}}/* {it.row['header']} */\n" for it, line in zip(rows, lines))
+
+
 def unnamed(header):
     """The members that a kind of call reads and that the comment of the header doesn't name: the one behind the kind, or else above it."""
     above, said = "", {}
@@ -592,6 +579,40 @@ def unnamed(header):
         lacks = [it for it in members.split() if not re.search(rf"\b{it}\b", said.get(str(call.row["kind"]), ""))]
         if lacks:
             yield f"include/wasmi_machine.h: the comment of call {call.row['kind']}, {call.name}, doesn't name {', '.join(lacks)}, which it reads"
+
+
+# ---- rust/tests/scripts/bad_lines.rs
+
+# Of what isn't a number alone: words that write one, and how many bits the number of each has, or `-`.
+WRITTEN = {"reference": ("func 0", "- 32"), "memory_type": ("0 none 16 32", "64 - - -"), "table_type": ("func 0 none 32", "- 64 - -")}
+
+
+def example(part, type):
+    """Words that write a part, and their bits."""
+    if part.kind in ("number", "low"):
+        return "0", re.search(r"WritesNumber (\d+)", " ".join(part.conditions))[1]
+    if part.kind in ("op", "lane_op"):
+        names = next(rows for enum, rows in numbering.lists().values() if enum in (type, type.replace("Op", "Kind")))
+        return names[0][1], "-"
+    first = {"value_word": "i32", "mutability_word": "var", "reference_word": "func"}
+    return WRITTEN.get(part.kind) or (first[part.lookup] if part.kind == "named" else part.term.strip("'"), "-")
+
+
+def lines(its):
+    """A line of each command, without the numbers that may follow, with the bits of its words."""
+    made = ""
+    for call in its:
+        words = [(part.word, *example(part, call.types.get(part.term, ""))) for part in call.parts]
+        words += [(call.lane, "0", "8")] if call.lane is not None else []
+        line, bits = (" ".join(it[k] for it in sorted(words)) for k in (1, 2))
+        if call.list and call.list[1].startswith("["):
+            count = int(re.search(r"; (\d+)\]", call.list[1])[1])
+            line, bits = line + " 0" * count, bits + " 5" * count
+        bits += " .." if call.list and call.list[1].startswith("Vec") else ""
+        command = " ".join([call.row["word"], *line.split()])
+        row = f'    ("{command}", "{bits.strip()}"),'
+        made += row + "\n" if len(row) - len("    (),") <= 60 else "    (\n" + "".join(f"        {it},\n" for it in re.findall(r'"[^"]*"', row)) + "    ),\n"
+    return f"static COMMANDS: [(&str, &str); {len(its)}] = [\n{made}];\n"
 
 
 # ---- docs/SCRIPT.md
@@ -625,18 +646,12 @@ FILES = {
     "crates/wasmi_grammar/proofs/CommandsLemmas.antt": [(forms, form_lemma)],
     "crates/wasmi_grammar/proofs/MeaningLemmas.antt": [(meanings, meaning_lemma)],
     "crates/wasmi_c/specs/Machine/CallStructs.antt": [(decoding,)],
+    "rust/tests/scripts/bad_lines.rs": [(lines,)],
+    "include/wasmi_machine.h": [(kinds,), (lambda its: errors.enumerators(errors.errors()),)],
     "crates/wasmi_c/src/machine/call_struct.rt": [(arms("call_of"),), (arms("range_call"),), (arms("table_call"),), (arms("value_call"),)],
 }
 
 
 def texts():
     """The files as they are to be."""
-    its = calls()
-    for name, parts in FILES.items():
-        path = TOP / name
-        pieces = re.split(rf"^( *(?:--|//) {BEGINS}\n).*?^( *(?:--|//) {ENDS}\n)", path.read_text(), flags=re.M | re.S)
-        if len(pieces) != 3 * len(parts) + 1:
-            raise SystemExit(f"{name} has {len(pieces) // 3} parts between the comments, and not {len(parts)}")
-        for k, makers in enumerate(parts):
-            pieces[3 * k + 1] += "\n".join(make(its) for make in makers) + "\n" * (path.suffix == ".antt")
-        yield path, "".join(pieces)
+    return regions.texts(FILES, calls())

@@ -12,6 +12,8 @@ OTHERS = re.compile(r"wasmi_(c|c_lib|replay|\w+_tests|tests|example_\w+)$")
 COULD_SAY = re.compile(
     r"\b(Alloc(Error|Failed)|(Memory|Table|Segment|FuncType|Line|Parse|Pool|Add|Reserve|RunInto)Error|Reply|TooManyCalls|Ran|Status|Replayed)\b")
 TYPE = re.compile(r"^impl(?:<.*?>)? (?:\w+(?:<.*>)? for )?(\w+)")
+# A contract none of whose refusals is want of memory.
+WRITES = re.compile(r" ensures(?: \w+)? \{ Writes(MemoryRange|Table)\b")
 FUNCTION = re.compile(r"^ *pub (?:const )?fn (\w+)")
 SAID_IN_C = re.compile(r"\bNO_ROOM|OUT_OF_MEMORY|out of memory")
 PROTOTYPE = re.compile(r"^\w[\w ]*?\*? ?(wasmi_\w+)\(", re.M)
@@ -20,7 +22,7 @@ CALLS, REFUSED, NEVER, OF_C = ("Calls of a machine", "Functions that may be refu
 
 
 def heads(text):
-    """Each public function of a source, with its type before its name where it has one, and its head in one line."""
+    """Each public function of a source, with its type before its name where it has one, its head in one line, and whether its contract is a write."""
     type, lines = None, text.split("\n")
     for number, line in enumerate(lines):
         if found := TYPE.match(line):
@@ -29,15 +31,16 @@ def heads(text):
             type = None
         if found := FUNCTION.match(line):
             head = " ".join(" ".join(lines[number:number + 16]).split())
-            yield f"{type}::{found[1]}" if type else found[1], re.split(r" ensures| requires| \{|;", head)[0]
+            own = re.split(r" (?:pub|fn|///) ", head.partition(found[1])[2])[0]
+            yield f"{type}::{found[1]}" if type else found[1], re.split(r" ensures| requires| \{|;", head)[0], bool(WRITES.search(own))
 
 
 def functions():
-    """The public functions, by crate, that take an allocator or whose result could say that memory was refused."""
+    """The public functions, by crate, that take an allocator or whose result could say that memory was refused, unless their contract says otherwise."""
     for path in sorted((TOP / "crates").glob("*/src/**/*.rt")):
         crate = path.relative_to(TOP / "crates").parts[0]
-        for name, head in heads(path.read_text()) if not OTHERS.match(crate) else ():
-            if re.search(r"\balloc: ", head) or COULD_SAY.search(head.rpartition("->")[2] if "->" in head else ""):
+        for name, head, writes in heads(path.read_text()) if not OTHERS.match(crate) else ():
+            if not writes and (re.search(r"\balloc: ", head) or COULD_SAY.search(head.rpartition("->")[2] if "->" in head else "")):
                 yield crate, name
 
 

@@ -24,7 +24,7 @@ pub struct Memory(Proved<'static>);
 impl UnwindSafe for Memory {}
 
 impl Memory {
-    methods!(store LinearMemory: ty dynamic_ty size data data_mut data_size read write init grow fill copy_within copy new new_static);
+    methods!(store LinearMemory: ..);
 
     /// A pointer to the first byte, to be read through until the memory grows or is changed.
     ///

@@ -14,7 +14,7 @@ USE = re.compile(r"(?:ghost |pub )?use Rattle\.(\w+)\.specs\.?([\w.]*?)(?:\.?\{(
 DECLARED = re.compile(rf"^(?: *(?:(?:abbrev|unfoldable|opaque|pub|record|data) )+| +(?=[A-Z]\w* : ))({NAME})(?= |$)", re.M)
 NAMED = re.compile(r"docs!\((\w+) ([\w.]+)\)")
 # The functions of a type in rust/src that pass on to the proved ones, and the head of one of these.
-METHODS = re.compile(r"methods!\((\w+) (\w+):([\w\s]+)\);")
+METHODS = re.compile(r"methods!\((\w+) (\w+):([\w\s]+|\s*\.\.)\);")
 METHOD = re.compile(r"pub fn \w+(?:<.*?>)?\(([^)]*)\)((?: -> .*)?)$")
 GIVEN = re.compile(r"(\w+): ([^,]+)")
 BORROWED = re.compile(r"\b(ElementSegmentRef|ResourceLimiterRef)\b(?:<L>)?")
@@ -150,10 +150,19 @@ def passed_on(crates, standard, part, item, name):
 """
 
 
+def all_methods(text, item):
+    """The public functions of a type, but for the forms of others that take a meter, or a limiter that is lent."""
+    impls = re.findall(rf"^( *)impl\b[^{{]*\b{item}(?:<[^>]*>)? \{{\n(.*?)^\1\}}$", text, re.M | re.S)
+    names = [name for _, body in impls for name in re.findall(r"^ *pub (?:const )?fn (\w+)", body, re.M)]
+    return " ".join(name for name in names if not name.endswith(("_metered", "_lending")))
+
+
 def included(crates, api, standard):
     """The text of docs.rs: an arm of the macro `docs` for each item that the files of the API name, and the methods that pass on."""
     texts = [path.read_text() for path in sorted(api.glob("*.rs"))]
-    passing = [(part, item, name) for text in texts for part, item, names in METHODS.findall(text) for name in names.split()]
+    lists = [(part, item, names.strip()) for text in texts for part, item, names in METHODS.findall(text)]
+    whole = {(part, item): all_methods(crates[part], item) for part, item, names in lists if names == ".."}
+    passing = [(part, item, name) for part, item, names in lists for name in whole.get((part, item), names).split()]
     named = [it for text in texts for it in NAMED.findall(text)] + [(part, f"{item}.{name}") for part, item, name in passing]
     named += [(part, name) for part, _, functions in instructions(crates, api) for name, given, _ in functions if "ImmLaneIdx" in given]
     arms = [f'    ({part} {name}) => {{ r####"{docs_of(crates[part], name)}\n"#### }};\n' for part, name in sorted(set(named))]
@@ -163,6 +172,7 @@ macro_rules! docs {{
 
 /// Functions of a type that pass on to those of the proved one, `Proved`, which is its field `0`.
 macro_rules! methods {{
+{"".join(f"    ({part} {item}: ..) => {{ methods! {{ {part} {item}: {names} }} }};{chr(10)}" for (part, item), names in sorted(whole.items()))}\
     ($part:ident $item:ident: $($name:ident)*) => {{ $(methods! {{ $part $item $name }})* }};
 {"".join(passed_on(crates, standard, *it) for it in sorted(passing))}}}
 """

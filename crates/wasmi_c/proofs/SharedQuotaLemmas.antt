@@ -218,7 +218,7 @@ pub length_grown : (xs : List ℕ) (n y : ℕ) → length (xs ++ replicate n y) 
 length_grown xs n y = omega (arith, length-append xs (replicate n y), length-replicate {A = ℕ} n y)
 
 -- no error of a memory has the status of a call that is done
-refused_status : (e : MemoryError) → nat_eq (memory_status e) 0 ≡ false
+pub refused_status : (e : MemoryError) → nat_eq (memory_status e) 0 ≡ false
 refused_status (memory_error.OutOfFuel required) = refl
 refused_status other = refl
 

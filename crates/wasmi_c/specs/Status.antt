@@ -12,6 +12,7 @@ use Rattle.wasmi_store.specs.declared.table.element.SegmentError.{SegmentError}
 use Rattle.wasmi_store.specs.declared.table.element.SegmentError.TheVariants as segment
 use Rattle.wasmi_c.specs.declared.status.TheConstants as status
 
+-- What tools/generate writes begins.
 -- the status of a refused call on a memory
 abbrev pub memory_status : MemoryError → ℕ
 memory_status memory.OutOfSystemMemory = status.MEMORY_OUT_OF_MEMORY
@@ -37,6 +38,8 @@ table_status table.SetOutOfBounds = status.TABLE_SET
 table_status table.CopyOutOfBounds = status.TABLE_COPY
 table_status table.ElementTypeMismatch = status.TABLE_TYPE
 table_status (table.OutOfFuel required) = status.TABLE_OUT_OF_FUEL
+
+-- What tools/generate writes ends.
 
 -- the status of a refused call on a meter
 abbrev pub fuel_status : FuelError → ℕ

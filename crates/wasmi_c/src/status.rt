@@ -40,6 +40,7 @@ pub const NO_POOL: u8 = 27;
 pub const HAS_POOL: u8 = 28;
 /// No tenant of the pool has the index.
 pub const NO_TENANT: u8 = 29;
+// What tools/generate writes begins.
 /// The system refused memory. No memory on a region takes any.
 pub const MEMORY_OUT_OF_MEMORY: u8 = 32;
 /// A growth above the maximum or what addresses reach, or one that the limiter says no to.
@@ -80,6 +81,7 @@ pub const TABLE_COPY: u8 = 56;
 pub const TABLE_TYPE: u8 = 57;
 /// A call on a table costs more fuel than is left.
 pub const TABLE_OUT_OF_FUEL: u8 = 58;
+// What tools/generate writes ends.
 /// The meter is off.
 pub const METERING_DISABLED: u8 = 64;
 /// Less fuel is left than was asked for.
@@ -112,6 +114,7 @@ pub fn memory_status(error: MemoryError) -> u8
     ensures { result ≡ memory_status error }
 {
     match error {
+        // What tools/generate writes begins.
         MemoryError::OutOfSystemMemory => MEMORY_OUT_OF_MEMORY,
         MemoryError::OutOfBoundsGrowth => MEMORY_GROWTH,
         MemoryError::OutOfBoundsAccess => MEMORY_ACCESS,
@@ -121,6 +124,7 @@ pub fn memory_status(error: MemoryError) -> u8
         MemoryError::MinimumSizeOverflow => MEMORY_SIZE_OVERFLOW,
         MemoryError::MaximumSizeOverflow => MEMORY_MAXIMUM_OVERFLOW,
         MemoryError::OutOfFuel { required_fuel: _ } => MEMORY_OUT_OF_FUEL,
+        // What tools/generate writes ends.
     }
 }
 
@@ -129,6 +133,7 @@ pub fn table_status(error: TableError) -> u8
     ensures { result ≡ table_status error }
 {
     match error {
+        // What tools/generate writes begins.
         TableError::OutOfSystemMemory => TABLE_OUT_OF_MEMORY,
         TableError::MinimumSizeOverflow => TABLE_MINIMUM_OVERFLOW,
         TableError::MaximumSizeOverflow => TABLE_MAXIMUM_OVERFLOW,
@@ -140,6 +145,7 @@ pub fn table_status(error: TableError) -> u8
         TableError::CopyOutOfBounds => TABLE_COPY,
         TableError::ElementTypeMismatch => TABLE_TYPE,
         TableError::OutOfFuel { required_fuel: _ } => TABLE_OUT_OF_FUEL,
+        // What tools/generate writes ends.
     }
 }
 

@@ -25,7 +25,7 @@ use Rattle.wasmi_ops.specs.VectorOps.{make_name, unary_name, binary_name, ternar
 use Rattle.wasmi_ops.specs.LaneOps.{extract_name, extract_op, replace_name, replace_op, load_lane_name, load_lane_op, store_lane_name, store_lane_op}
 use Rattle.wasmi_machine.specs.declared.calls.Call.{Call}
 use Rattle.wasmi_machine.specs.declared.slots.SlotCounts.{SlotCounts}
-use Rattle.wasmi_machine.specs.declared.calls.Call.TheVariants.{SetFuel, GetFuel, NewMemory, NewLentMemory, GrowMemory, DropMemory, Read, Write, Load, Store, FillMemory, CopyMemory, InitMemory, NewTable, GrowTable, DropTable, GetElement, SetElement, InitTable, CopyTable, FillTable, NewSegment, DropItems, NewData, DropData, NewGlobal, SetGlobal, GetGlobal, SetRegister, GetRegister, Make, Unary, Binary, Ternary, Shift, Test, Extract, Replace, Shuffle, VectorLoad, LoadLane, VectorStore, StoreLane}
+use Rattle.wasmi_machine.specs.declared.calls.Call.TheVariants as call
 use Rattle.wasmi_grammar.specs.declared.script.Line.{Line}
 use Rattle.wasmi_grammar.specs.declared.script.Line.TheVariants.{Meter, Limiter, Region, Reserve, As, Call as Command}
 use Rattle.wasmi_grammar.specs.Lines.{NamesLine, AddsLine, AddsWords}
@@ -96,104 +96,112 @@ module _ (words : LineWords) where
   -- what is dropped, by the word after
   abbrev drops_named : List (List ℕ × Option CallMeaning)
   drops_named =
-      (codes "memory", Some (Other (DropMemory (number 1)))) ∷ (codes "table", Some (Other (DropTable (number 1)))) ∷ []
+      (codes "memory", Some (Other (call.DropMemory (number 1)))) ∷ (codes "table", Some (Other (call.DropTable (number 1)))) ∷ []
 
   -- What tools/generate writes begins.
   -- the call that operands write, by the word before them
   abbrev calls_named : List (List ℕ × Option CallMeaning)
   calls_named =
-      (codes "fuel", Some (Other (SetFuel (number 0)))) ∷
-      (codes "left", Some (Other GetFuel)) ∷
-      (codes "memory", option_map (λ ty. Other (NewMemory ty)) (memory_named (word 0) (word 1) (word 2) (word 3))) ∷
-      (codes "lent", option_map (λ ty. Other (NewLentMemory ty)) (memory_named (word 0) (word 1) (word 2) (word 3))) ∷
-      (codes "grow", Some (Other (GrowMemory (number 0) (number 1)))) ∷
+      (codes "fuel", Some (Other (call.SetFuel (number 0)))) ∷
+      (codes "left", Some (Other call.GetFuel)) ∷ (
+        codes "memory",
+        option_map (λ ty. Other (call.NewMemory ty)) (memory_named (word 0) (word 1) (word 2) (word 3)),
+      ) ∷ (
+        codes "lent",
+        option_map (λ ty. Other (call.NewLentMemory ty)) (memory_named (word 0) (word 1) (word 2) (word 3)),
+      ) ∷
+      (codes "grow", Some (Other (call.GrowMemory (number 0) (number 1)))) ∷
       (codes "drop", beside drops_named (word 0)) ∷
-      (codes "read", Some (Other (Read (number 0) (number 1) (number 2)))) ∷
+      (codes "read", Some (Other (call.Read (number 0) (number 1) (number 2)))) ∷
       (codes "write", Some (WriteMeaning (number 0) (number 1) (numbers_in (drop 2 words)))) ∷ (
         codes "load",
-        option_map (λ op. Other (Load op (number 1) (number 2) (number 3))) (named load.enum tt load_name (word 0)),
+        option_map (λ op. Other (call.Load op (number 1) (number 2) (number 3)))
+            (named load.enum tt load_name (word 0)),
       ) ∷ (
         codes "store",
-        option_map (λ op. Other (Store op (number 1) (number 2) (number 3) (raw_of (number 4))))
+        option_map (λ op. Other (call.Store op (number 1) (number 2) (number 3) (raw_of (number 4))))
             (named store.enum tt store_name (word 0)),
       ) ∷
-      (codes "mfill", Some (Other (FillMemory (number 0) (number 1) (number 2) (number 3)))) ∷
-      (codes "mcopy", Some (Other (CopyMemory (number 0) (number 1) (number 2) (number 3) (number 4)))) ∷
-      (codes "minit", Some (Other (InitMemory (number 0) (number 1) (number 2) (number 3) (number 4)))) ∷ (
+      (codes "mfill", Some (Other (call.FillMemory (number 0) (number 1) (number 2) (number 3)))) ∷
+      (codes "mcopy", Some (Other (call.CopyMemory (number 0) (number 1) (number 2) (number 3) (number 4)))) ∷
+      (codes "minit", Some (Other (call.InitMemory (number 0) (number 1) (number 2) (number 3) (number 4)))) ∷ (
         codes "table",
-        option_and_then (λ ty. option_map (λ init. Other (NewTable ty init)) (reference_named (word 4) (word 5)))
+        option_and_then (λ ty. option_map (λ init. Other (call.NewTable ty init)) (reference_named (word 4) (word 5)))
             (table_named (word 0) (word 1) (word 2) (word 3)),
       ) ∷ (
         codes "tgrow",
-        option_map (λ init. Other (GrowTable (number 0) (number 1) init)) (reference_named (word 2) (word 3)),
+        option_map (λ init. Other (call.GrowTable (number 0) (number 1) init)) (reference_named (word 2) (word 3)),
       ) ∷
-      (codes "get", Some (Other (GetElement (number 0) (number 1)))) ∷ (
+      (codes "get", Some (Other (call.GetElement (number 0) (number 1)))) ∷ (
         codes "tset",
-        option_map (λ value. Other (SetElement (number 0) (number 1) value)) (reference_named (word 2) (word 3)),
+        option_map (λ value. Other (call.SetElement (number 0) (number 1) value)) (reference_named (word 2) (word 3)),
       ) ∷
-      (codes "init", Some (Other (InitTable (number 0) (number 1) (number 2) (number 3) (number 4)))) ∷
-      (codes "copy", Some (Other (CopyTable (number 0) (number 1) (number 2) (number 3) (number 4)))) ∷ (
+      (codes "init", Some (Other (call.InitTable (number 0) (number 1) (number 2) (number 3) (number 4)))) ∷
+      (codes "copy", Some (Other (call.CopyTable (number 0) (number 1) (number 2) (number 3) (number 4)))) ∷ (
         codes "fill",
-        option_map (λ value. Other (FillTable (number 0) (number 1) value (number 4)))
+        option_map (λ value. Other (call.FillTable (number 0) (number 1) value (number 4)))
             (reference_named (word 2) (word 3)),
       ) ∷ (
         codes "segment",
         option_map (λ ty. SegmentMeaning ty (numbers_in (drop 1 words)))
             (named reference_type.enum tt reference_word (word 0)),
       ) ∷
-      (codes "empty", Some (Other (DropItems (number 0)))) ∷
+      (codes "empty", Some (Other (call.DropItems (number 0)))) ∷
       (codes "data", Some (DataMeaning (numbers_in words))) ∷
-      (codes "dempty", Some (Other (DropData (number 0)))) ∷ (
+      (codes "dempty", Some (Other (call.DropData (number 0)))) ∷ (
         codes "global",
-        option_and_then (λ content. option_map (λ mutability. Other (NewGlobal (record { lo = number 2; hi = number 3 })
-            (record { content = content; mutability = mutability })))
+        option_and_then (λ content. option_map (λ mutability. Other (call.NewGlobal
+            (record { lo = number 2; hi = number 3 }) (record { content = content; mutability = mutability })))
             (named mutability.enum tt mutability_word (word 1))) (named value_type.enum tt value_word (word 0)),
       ) ∷ (
         codes "gset",
-        option_map (λ ty. Other (SetGlobal (number 0)
+        option_map (λ ty. Other (call.SetGlobal (number 0)
             (record { ty = ty; raw = record { lo = number 2; hi = number 3 } })))
             (named value_type.enum tt value_word (word 1)),
       ) ∷
-      (codes "gget", Some (Other (GetGlobal (number 0)))) ∷
-      (codes "set", Some (Other (SetRegister (number 0) (record { lo = number 1; hi = number 2 })))) ∷
-      (codes "show", Some (Other (GetRegister (number 0)))) ∷
-      (codes "make", option_map (λ op. Other (Make op (number 1) (number 2))) (named make.enum tt make_name (word 0))) ∷ (
+      (codes "gget", Some (Other (call.GetGlobal (number 0)))) ∷
+      (codes "set", Some (Other (call.SetRegister (number 0) (record { lo = number 1; hi = number 2 })))) ∷
+      (codes "show", Some (Other (call.GetRegister (number 0)))) ∷ (
+        codes "make",
+        option_map (λ op. Other (call.Make op (number 1) (number 2))) (named make.enum tt make_name (word 0)),
+      ) ∷ (
         codes "unary",
-        option_map (λ op. Other (Unary op (number 1) (number 2))) (named unary.enum tt unary_name (word 0)),
+        option_map (λ op. Other (call.Unary op (number 1) (number 2))) (named unary.enum tt unary_name (word 0)),
       ) ∷ (
         codes "binary",
-        option_map (λ op. Other (Binary op (number 1) (number 2) (number 3)))
+        option_map (λ op. Other (call.Binary op (number 1) (number 2) (number 3)))
             (named binary.enum tt binary_name (word 0)),
       ) ∷ (
         codes "ternary",
-        option_map (λ op. Other (Ternary op (number 1) (number 2) (number 3) (number 4)))
+        option_map (λ op. Other (call.Ternary op (number 1) (number 2) (number 3) (number 4)))
             (named ternary.enum tt ternary_name (word 0)),
       ) ∷ (
         codes "shift",
-        option_map (λ op. Other (Shift op (number 1) (number 2) (number 3))) (named shift.enum tt shift_name (word 0)),
+        option_map (λ op. Other (call.Shift op (number 1) (number 2) (number 3)))
+            (named shift.enum tt shift_name (word 0)),
       ) ∷
-      (codes "test", option_map (λ op. Other (Test op (number 1))) (named test.enum tt test_name (word 0))) ∷ (
+      (codes "test", option_map (λ op. Other (call.Test op (number 1))) (named test.enum tt test_name (word 0))) ∷ (
         codes "extract",
-        option_map (λ op. Other (Extract op (number 1)))
+        option_map (λ op. Other (call.Extract op (number 1)))
             (lane_named extract.enum tt extract_name extract_op (word 0) (word 2)),
       ) ∷ (
         codes "replace",
-        option_map (λ op. Other (Replace op (number 1) (number 2) (number 4)))
+        option_map (λ op. Other (call.Replace op (number 1) (number 2) (number 4)))
             (lane_named replace.enum tt replace_name replace_op (word 0) (word 3)),
       ) ∷
-      (codes "shuffle", Some (Other (Shuffle (number 0) (number 1) (number 2) (numbers_in (drop 3 words))))) ∷ (
+      (codes "shuffle", Some (Other (call.Shuffle (number 0) (number 1) (number 2) (numbers_in (drop 3 words))))) ∷ (
         codes "vload",
-        option_map (λ op. Other (VectorLoad op (number 1) (number 2) (number 3) (number 4)))
+        option_map (λ op. Other (call.VectorLoad op (number 1) (number 2) (number 3) (number 4)))
             (named vector_load.enum tt vector_load_name (word 0)),
       ) ∷ (
         codes "vloadlane",
-        option_map (λ op. Other (LoadLane op (number 1) (number 2) (number 4) (number 5) (number 6))) (lane_named
+        option_map (λ op. Other (call.LoadLane op (number 1) (number 2) (number 4) (number 5) (number 6))) (lane_named
             load_lane.enum tt load_lane_name load_lane_op (word 0) (word 3)),
       ) ∷
-      (codes "vstore", Some (Other (VectorStore (number 0) (number 1) (number 2) (number 3)))) ∷ (
+      (codes "vstore", Some (Other (call.VectorStore (number 0) (number 1) (number 2) (number 3)))) ∷ (
         codes "vstorelane",
-        option_map (λ op. Other (StoreLane op (number 1) (number 3) (number 4) (number 5))) (lane_named store_lane.enum
-            tt store_lane_name store_lane_op (word 0) (word 2)),
+        option_map (λ op. Other (call.StoreLane op (number 1) (number 3) (number 4) (number 5))) (lane_named
+            store_lane.enum tt store_lane_name store_lane_op (word 0) (word 2)),
       ) ∷
       []
 
@@ -201,89 +209,91 @@ module _ (words : LineWords) where
   call_is : (call : Call) → WritesOperands words call → beside calls_named (command_word call) ≡ Some
       (call_meaning call)
   unfolding IsName
-  call_is (SetFuel fuel) w = λ i. Some (Other (SetFuel (sym w.1.1 i)))
-  call_is GetFuel w = refl
-  call_is (NewMemory ty) w = λ i. option_map (λ ty. Other (NewMemory ty))
+  call_is (call.SetFuel fuel) w = λ i. Some (Other (call.SetFuel (sym w.1.1 i)))
+  call_is call.GetFuel w = refl
+  call_is (call.NewMemory ty) w = λ i. option_map (λ ty. Other (call.NewMemory ty))
       (memory_is (word 0) (word 1) (word 2) (word 3) ty w.1 i)
-  call_is (NewLentMemory ty) w = λ i. option_map (λ ty. Other (NewLentMemory ty))
+  call_is (call.NewLentMemory ty) w = λ i. option_map (λ ty. Other (call.NewLentMemory ty))
       (memory_is (word 0) (word 1) (word 2) (word 3) ty w.1 i)
-  call_is (GrowMemory memory pages) w = λ i. Some (Other (GrowMemory (sym w.1.1 i) (sym w.2.1 i)))
-  call_is (DropMemory memory) w = ap (beside drops_named) w.1 ∙ (λ i. Some (Other (DropMemory (sym w.2.1 i))))
-  call_is (Read memory offset len) w = λ i. Some (Other (Read (sym w.1.1 i) (sym w.2.1 i) (sym w.3.1 i)))
-  call_is (Write memory offset bytes) w = λ i. Some (WriteMeaning (sym w.0.1.1 i) (sym w.0.2.1 i)
+  call_is (call.GrowMemory memory pages) w = λ i. Some (Other (call.GrowMemory (sym w.1.1 i) (sym w.2.1 i)))
+  call_is (call.DropMemory memory) w = ap (beside drops_named) w.1 ∙ (λ i. Some (Other (call.DropMemory (sym w.2.1 i))))
+  call_is (call.Read memory offset len) w = λ i. Some (Other (call.Read (sym w.1.1 i) (sym w.2.1 i) (sym w.3.1 i)))
+  call_is (call.Write memory offset bytes) w = λ i. Some (WriteMeaning (sym w.0.1.1 i) (sym w.0.2.1 i)
       (numbers_is 8 (drop 2 words) bytes.items w.1 i))
-  call_is (Load op memory ptr offset) w = λ i. option_map
-      (λ op. Other (Load op (sym w.2.1 i) (sym w.3.1 i) (sym w.4.1 i)))
+  call_is (call.Load op memory ptr offset) w = λ i. option_map
+      (λ op. Other (call.Load op (sym w.2.1 i) (sym w.3.1 i) (sym w.4.1 i)))
       (named_is load.enum tt load_name refl (word 0) op w.1 i)
-  call_is (Store op memory ptr offset value) w = λ i. option_map (λ op. Other (Store op (sym w.2.1 i) (sym w.3.1 i)
-      (sym w.4.1 i) (sym (w.7 ∙ ap raw_of w.6.1) i))) (named_is store.enum tt store_name refl (word 0) op w.1 i)
-  call_is (FillMemory memory dst value len) w = λ i. Some (Other
-      (FillMemory (sym w.1.1 i) (sym w.2.1 i) (sym w.3.1 i) (sym w.4.1 i)))
-  call_is (CopyMemory dst_memory dst src_memory src len) w = λ i. Some (Other (CopyMemory (sym w.1.1 i) (sym w.2.1 i)
+  call_is (call.Store op memory ptr offset value) w = λ i. option_map (λ op. Other (call.Store op (sym w.2.1 i)
+      (sym w.3.1 i) (sym w.4.1 i) (sym (w.7 ∙ ap raw_of w.6.1) i)))
+      (named_is store.enum tt store_name refl (word 0) op w.1 i)
+  call_is (call.FillMemory memory dst value len) w = λ i. Some (Other
+      (call.FillMemory (sym w.1.1 i) (sym w.2.1 i) (sym w.3.1 i) (sym w.4.1 i)))
+  call_is (call.CopyMemory dst_memory dst src_memory src len) w = λ i. Some (Other (call.CopyMemory (sym w.1.1 i)
+      (sym w.2.1 i) (sym w.3.1 i) (sym w.4.1 i) (sym w.5.1 i)))
+  call_is (call.InitMemory memory segment dst src len) w = λ i. Some (Other (call.InitMemory (sym w.1.1 i) (sym w.2.1 i)
       (sym w.3.1 i) (sym w.4.1 i) (sym w.5.1 i)))
-  call_is (InitMemory memory segment dst src len) w = λ i. Some (Other (InitMemory (sym w.1.1 i) (sym w.2.1 i)
-      (sym w.3.1 i) (sym w.4.1 i) (sym w.5.1 i)))
-  call_is (NewTable ty init) w = λ i. option_and_then (λ ty. option_map (λ init. Other (NewTable ty init))
+  call_is (call.NewTable ty init) w = λ i. option_and_then (λ ty. option_map (λ init. Other (call.NewTable ty init))
       (reference_is (word 4) (word 5) init w.2 i)) (table_is (word 0) (word 1) (word 2) (word 3) ty w.1 i)
-  call_is (GrowTable table delta init) w = λ i. option_map (λ init. Other (GrowTable (sym w.1.1 i) (sym w.2.1 i) init))
-      (reference_is (word 2) (word 3) init w.3 i)
-  call_is (DropTable table) w = ap (beside drops_named) w.1 ∙ (λ i. Some (Other (DropTable (sym w.2.1 i))))
-  call_is (GetElement table index) w = λ i. Some (Other (GetElement (sym w.1.1 i) (sym w.2.1 i)))
-  call_is (SetElement table index value) w = λ i. option_map
-      (λ value. Other (SetElement (sym w.1.1 i) (sym w.2.1 i) value)) (reference_is (word 2) (word 3) value w.3 i)
-  call_is (InitTable table segment dst src len) w = λ i. Some (Other (InitTable (sym w.1.1 i) (sym w.2.1 i)
+  call_is (call.GrowTable table delta init) w = λ i. option_map
+      (λ init. Other (call.GrowTable (sym w.1.1 i) (sym w.2.1 i) init)) (reference_is (word 2) (word 3) init w.3 i)
+  call_is (call.DropTable table) w = ap (beside drops_named) w.1 ∙ (λ i. Some (Other (call.DropTable (sym w.2.1 i))))
+  call_is (call.GetElement table index) w = λ i. Some (Other (call.GetElement (sym w.1.1 i) (sym w.2.1 i)))
+  call_is (call.SetElement table index value) w = λ i. option_map
+      (λ value. Other (call.SetElement (sym w.1.1 i) (sym w.2.1 i) value)) (reference_is (word 2) (word 3) value w.3 i)
+  call_is (call.InitTable table segment dst src len) w = λ i. Some (Other (call.InitTable (sym w.1.1 i) (sym w.2.1 i)
       (sym w.3.1 i) (sym w.4.1 i) (sym w.5.1 i)))
-  call_is (CopyTable dst_table dst src_table src len) w = λ i. Some (Other (CopyTable (sym w.1.1 i) (sym w.2.1 i)
-      (sym w.3.1 i) (sym w.4.1 i) (sym w.5.1 i)))
-  call_is (FillTable table dst value len) w = λ i. option_map (λ value. Other
-      (FillTable (sym w.1.1 i) (sym w.2.1 i) value (sym w.4.1 i))) (reference_is (word 2) (word 3) value w.3 i)
-  call_is (NewSegment ty items) w = λ i. option_map
+  call_is (call.CopyTable dst_table dst src_table src len) w = λ i. Some (Other (call.CopyTable (sym w.1.1 i)
+      (sym w.2.1 i) (sym w.3.1 i) (sym w.4.1 i) (sym w.5.1 i)))
+  call_is (call.FillTable table dst value len) w = λ i. option_map (λ value. Other
+      (call.FillTable (sym w.1.1 i) (sym w.2.1 i) value (sym w.4.1 i))) (reference_is (word 2) (word 3) value w.3 i)
+  call_is (call.NewSegment ty items) w = λ i. option_map
       (λ ty. SegmentMeaning ty (numbers_is 32 (drop 1 words) items.items w.1 i))
       (named_is reference_type.enum tt reference_word refl (word 0) ty w.0.1 i)
-  call_is (DropItems segment) w = λ i. Some (Other (DropItems (sym w.1.1 i)))
-  call_is (NewData bytes) w = λ i. Some (DataMeaning (numbers_is 8 words bytes.items w i))
-  call_is (DropData segment) w = λ i. Some (Other (DropData (sym w.1.1 i)))
-  call_is (NewGlobal value ty) w = λ i. option_and_then (λ content. option_map (λ mutability. Other (NewGlobal
+  call_is (call.DropItems segment) w = λ i. Some (Other (call.DropItems (sym w.1.1 i)))
+  call_is (call.NewData bytes) w = λ i. Some (DataMeaning (numbers_is 8 words bytes.items w i))
+  call_is (call.DropData segment) w = λ i. Some (Other (call.DropData (sym w.1.1 i)))
+  call_is (call.NewGlobal value ty) w = λ i. option_and_then (λ content. option_map (λ mutability. Other (call.NewGlobal
       (record { lo = sym w.3.1 i; hi = sym w.4.1 i }) (record { content = content; mutability = mutability })))
       (named_is mutability.enum tt mutability_word refl (word 1) ty.mutability w.2 i))
       (named_is value_type.enum tt value_word refl (word 0) ty.content w.1 i)
-  call_is (SetGlobal global value) w = λ i. option_map (λ ty. Other (SetGlobal (sym w.1.1 i)
+  call_is (call.SetGlobal global value) w = λ i. option_map (λ ty. Other (call.SetGlobal (sym w.1.1 i)
       (record { ty = ty; raw = record { lo = sym w.3.1 i; hi = sym w.4.1 i } })))
       (named_is value_type.enum tt value_word refl (word 1) value.ty w.2 i)
-  call_is (GetGlobal global) w = λ i. Some (Other (GetGlobal (sym w.1.1 i)))
-  call_is (SetRegister dst value) w = λ i. Some (Other
-      (SetRegister (sym w.1.1 i) (record { lo = sym w.2.1 i; hi = sym w.3.1 i })))
-  call_is (GetRegister a) w = λ i. Some (Other (GetRegister (sym w.1.1 i)))
-  call_is (Make op dst a) w = λ i. option_map (λ op. Other (Make op (sym w.2.1 i) (sym w.3.1 i)))
+  call_is (call.GetGlobal global) w = λ i. Some (Other (call.GetGlobal (sym w.1.1 i)))
+  call_is (call.SetRegister dst value) w = λ i. Some (Other (call.SetRegister (sym w.1.1 i)
+      (record { lo = sym w.2.1 i; hi = sym w.3.1 i })))
+  call_is (call.GetRegister a) w = λ i. Some (Other (call.GetRegister (sym w.1.1 i)))
+  call_is (call.Make op dst a) w = λ i. option_map (λ op. Other (call.Make op (sym w.2.1 i) (sym w.3.1 i)))
       (named_is make.enum tt make_name refl (word 0) op w.1 i)
-  call_is (Unary op dst a) w = λ i. option_map (λ op. Other (Unary op (sym w.2.1 i) (sym w.3.1 i)))
+  call_is (call.Unary op dst a) w = λ i. option_map (λ op. Other (call.Unary op (sym w.2.1 i) (sym w.3.1 i)))
       (named_is unary.enum tt unary_name refl (word 0) op w.1 i)
-  call_is (Binary op dst a b) w = λ i. option_map (λ op. Other (Binary op (sym w.2.1 i) (sym w.3.1 i) (sym w.4.1 i)))
+  call_is (call.Binary op dst a b) w = λ i. option_map
+      (λ op. Other (call.Binary op (sym w.2.1 i) (sym w.3.1 i) (sym w.4.1 i)))
       (named_is binary.enum tt binary_name refl (word 0) op w.1 i)
-  call_is (Ternary op dst a b c) w = λ i. option_map (λ op. Other
-      (Ternary op (sym w.2.1 i) (sym w.3.1 i) (sym w.4.1 i) (sym w.5.1 i)))
+  call_is (call.Ternary op dst a b c) w = λ i. option_map (λ op. Other
+      (call.Ternary op (sym w.2.1 i) (sym w.3.1 i) (sym w.4.1 i) (sym w.5.1 i)))
       (named_is ternary.enum tt ternary_name refl (word 0) op w.1 i)
-  call_is (Shift op dst a amount) w = λ i. option_map (λ op. Other (Shift op (sym w.2.1 i) (sym w.3.1 i) (sym w.4.1 i)))
+  call_is (call.Shift op dst a amount) w = λ i. option_map
+      (λ op. Other (call.Shift op (sym w.2.1 i) (sym w.3.1 i) (sym w.4.1 i)))
       (named_is shift.enum tt shift_name refl (word 0) op w.1 i)
-  call_is (Test op a) w = λ i. option_map (λ op. Other (Test op (sym w.2.1 i)))
+  call_is (call.Test op a) w = λ i. option_map (λ op. Other (call.Test op (sym w.2.1 i)))
       (named_is test.enum tt test_name refl (word 0) op w.1 i)
-  call_is (Extract op a) w = λ i. option_map (λ op. Other (Extract op (sym w.2.1 i))) (lane_is extract.enum tt
+  call_is (call.Extract op a) w = λ i. option_map (λ op. Other (call.Extract op (sym w.2.1 i))) (lane_is extract.enum tt
       extract_name extract_op (word 0) (word 2) refl op w.1 i)
-  call_is (Replace op dst a item) w = λ i. option_map
-      (λ op. Other (Replace op (sym w.2.1 i) (sym w.3.1 i) (sym w.4.1 i))) (lane_is replace.enum tt replace_name
+  call_is (call.Replace op dst a item) w = λ i. option_map
+      (λ op. Other (call.Replace op (sym w.2.1 i) (sym w.3.1 i) (sym w.4.1 i))) (lane_is replace.enum tt replace_name
       replace_op (word 0) (word 3) refl op w.1 i)
-  call_is (Shuffle dst a b lanes) w = λ i. Some (Other (Shuffle (sym w.0.1.1 i) (sym w.0.2.1 i) (sym w.0.3.1 i)
-      (numbers_is 5 (drop 3 words) lanes w.1.written i)))
-  call_is (VectorLoad op dst memory ptr offset) w = λ i. option_map (λ op. Other
-      (VectorLoad op (sym w.2.1 i) (sym w.3.1 i) (sym w.4.1 i) (sym w.5.1 i)))
-      (named_is vector_load.enum tt vector_load_name refl (word 0) op w.1 i)
-  call_is (LoadLane op dst a memory ptr offset) w = λ i. option_map (λ op. Other (LoadLane op (sym w.2.1 i)
+  call_is (call.Shuffle dst a b lanes) w = λ i. Some (Other (call.Shuffle (sym w.0.1.1 i) (sym w.0.2.1 i)
+      (sym w.0.3.1 i) (numbers_is 5 (drop 3 words) lanes w.1.written i)))
+  call_is (call.VectorLoad op dst memory ptr offset) w = λ i. option_map (λ op. Other (call.VectorLoad op (sym w.2.1 i)
+      (sym w.3.1 i) (sym w.4.1 i) (sym w.5.1 i))) (named_is vector_load.enum tt vector_load_name refl (word 0) op w.1 i)
+  call_is (call.LoadLane op dst a memory ptr offset) w = λ i. option_map (λ op. Other (call.LoadLane op (sym w.2.1 i)
       (sym w.3.1 i) (sym w.4.1 i) (sym w.5.1 i) (sym w.6.1 i))) (lane_is load_lane.enum tt load_lane_name load_lane_op
       (word 0) (word 3) refl op w.1 i)
-  call_is (VectorStore a memory ptr offset) w = λ i. Some (Other
-      (VectorStore (sym w.1.1 i) (sym w.2.1 i) (sym w.3.1 i) (sym w.4.1 i)))
-  call_is (StoreLane op a memory ptr offset) w = λ i. option_map (λ op. Other
-      (StoreLane op (sym w.2.1 i) (sym w.3.1 i) (sym w.4.1 i) (sym w.5.1 i))) (lane_is store_lane.enum tt
+  call_is (call.VectorStore a memory ptr offset) w = λ i. Some (Other
+      (call.VectorStore (sym w.1.1 i) (sym w.2.1 i) (sym w.3.1 i) (sym w.4.1 i)))
+  call_is (call.StoreLane op a memory ptr offset) w = λ i. option_map (λ op. Other
+      (call.StoreLane op (sym w.2.1 i) (sym w.3.1 i) (sym w.4.1 i) (sym w.5.1 i))) (lane_is store_lane.enum tt
       store_lane_name store_lane_op (word 0) (word 2) refl op w.1 i)
 
   -- What tools/generate writes ends.
@@ -360,7 +370,7 @@ module _ (words : LineWords) where
 
   -- a command's word is the word of no other line
   told_by_call : (call : Call) (other : Option LineMeaning) → found_or lines_named (command_word call) other ≡ other
-  told_by_call GetFuel other = refl
+  told_by_call call.GetFuel other = refl
   told_by_call call other = refl
 
   -- a first word and operands that say a line give what it says

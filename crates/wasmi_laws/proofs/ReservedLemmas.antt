@@ -27,15 +27,16 @@ use Rattle.wasmi_store.proofs.GrowthLemmas.{on_test}
 use Rattle.wasmi_store.proofs.WriteLemmas.{write_ends}
 use Rattle.wasmi_store.specs.Buffer.{LacksMemory, Lent, Owned, Room, fits_room, room_after}
 use Rattle.wasmi_store.specs.Growth.{metered, metered_value}
-use Rattle.wasmi_store.specs.Memory.{GrowsMemoryCharging, MakesMemory, MemoryTypeValue, MemoryValue, MemoryWrite, WritesMemory, bytes_write, in_bounds, minimum_bytes, new_memory, page_bytes, pages_of}
+use Rattle.wasmi_store.specs.Memory.{GrowsMemoryCharging, MakesMemory, MemoryTypeValue, MemoryValue, MemoryWrite, WritesMemory, in_bounds, minimum_bytes, new_memory, page_bytes, pages_of}
 use Rattle.wasmi_store.specs.Segment.{SegmentValue}
 use Rattle.wasmi_store.specs.declared.table.element.SegmentError.{SegmentError}
 use Rattle.wasmi_store.specs.Table.{GrowsTableCharging, SetsTable, TableValue, TableWrite, elements_write, is_indexable, is_within_maximum, same_type, size_of, with_elements, with_elements_reserved}
 use Rattle.wasmi_store.specs.Write.{EndsBy, IsRefusedFor, MeteredWrite, WritesCharging, copied, filled, write_due}
-use Rattle.wasmi_machine.proofs.EffectLemmas.{both_live, on_live}
+use Rattle.wasmi_machine.proofs.EffectLemmas.{both_live, on_live, on_live_too}
+use Rattle.wasmi_machine.proofs.RangeLemmas.{WritesBytes, source_writes}
 use Rattle.wasmi_machine.specs.Determinism.{IsNotOutOfMemory}
 use Rattle.wasmi_machine.specs.Effects.{ActsAt, AddsEntry, AddsItem, ChangesFound, Creates, DropsAt, IfNoRoom, MeteredSlots, OnLive, WritesRangeAt, reply_of, ChangesAt}
-use Rattle.wasmi_machine.specs.MemoryEffects.{ByteSource, CreatesLent, OfByte, OfBytes, ReadsBytes, byte_write_of}
+use Rattle.wasmi_machine.specs.MemoryEffects.{ByteSource, CreatesLent, ReadsBytes, byte_write_of}
 use Rattle.wasmi_machine.specs.RegisterEffects.{SetsAt, StoresVectorAt, vector_at}
 use Rattle.wasmi_machine.specs.State.{MemoryPart, State, Turn, World, byte_count, live_at, memory_part, live_value, reserved_for, with_reserved, with_tables}
 use Rattle.wasmi_machine.specs.Steps.{BytesRead, BytesStored, BytesWritten, Change, Changed, DataDropped, DataMade, Effect, ElementSet, FuelSet, GlobalMade, GlobalSet, HasChange, HasEffect, IsRunOf, ItemsDropped, LacksSlot, LentMemoryMade, MemoryDropped, MemoryGrown, MemoryMade, MemoryWritten, RangeWritten, RegisterSet, Run, SegmentMade, Step, TableDropped, TableGrown, TableMade, TableWritten, Told, effect_of}
@@ -138,10 +139,10 @@ module _ {V E : Type 0} (refusal : E → Reply) (w : MeteredWrite V E) (no : Wri
       (λ unpaid. cause_told (w.unpaid (write_due w s)) (no.unpaid (write_due w s)) unpaid)
 
 -- a write to a memory
-memory_write_told : (x : MemoryValue) (written : Option (List ℕ)) (paid : ℕ)
-    → WritesWithoutWant replied.Memory (bytes_write x written paid)
-memory_write_told x written paid =
-    record { early = λ cause is. absurd (none-some cause is); outside = tt; unpaid = λ amount. tt }
+memory_write_told : (len : ℕ) (write : MemoryValue → MemoryWrite) → WritesBytes len write → (x : MemoryValue)
+    → WritesWithoutWant replied.Memory (write x)
+memory_write_told len write w x = subst (WritesWithoutWant replied.Memory) (sym (w.is x))
+    (record { early = w.told x.ty; outside = tt; unpaid = λ amount. tt })
 
 -- a write to a table
 table_write_told : (x : TableValue) (typed : Bool) (written : Option (List ℕ)) (outside : TableError) (paid : Option ℕ)
@@ -155,9 +156,8 @@ table_write_told x typed written outside paid other = record {
 -- each write to a memory, by its source
 bytes_told : (source : ByteSource) (dst len : ℕ) → OnLive (byte_write_of source dst len) (Unit {0})
     (λ w. (x : MemoryValue) → WritesWithoutWant replied.Memory (w x))
-bytes_told (OfByte value) dst len = λ x. memory_write_told x (filled x.bytes dst value len) len
-bytes_told (OfBytes None src) dst len = tt
-bytes_told (OfBytes (Some source) src) dst len = λ x. memory_write_told x (copied x.bytes dst source src len) len
+bytes_told source dst len = on_live_too (byte_write_of source dst len) _ _ _ _ (λ missing. missing)
+    (memory_write_told len) (source_writes source dst len)
 
 -- each write to a table, by its source
 elements_told : (source : Source) (dst len : ℕ) → OnLive (write_of source dst len) (Unit {0})
@@ -577,9 +577,9 @@ grown_lent rules pages s s' result charge lent (inr some) =
 -- each write to a memory, by its source
 range_lent : (source : ByteSource) (dst len : ℕ) → OnLive (byte_write_of source dst len) (Unit {0})
     (λ w. (x x' : MemoryValue) → (w x).written ≡ Some x' → IsLent x → IsLent x')
-range_lent (OfByte value) dst len = λ x x' is. bytes_lent x (filled x.bytes dst value len) x' is
-range_lent (OfBytes None src) dst len = tt
-range_lent (OfBytes (Some source) src) dst len = λ x x' is. bytes_lent x (copied x.bytes dst source src len) x' is
+range_lent source dst len = on_live_too (byte_write_of source dst len) _ _ _ _ (λ missing. missing)
+    (λ write w x x' is. bytes_lent x (w.written x.bytes) x' (ap (λ (v : MemoryWrite). v.written) (sym (w.is x)) ∙ is))
+    (source_writes source dst len)
 
 -- a write to a memory, also where it is refused
 charged_lent : (w : MemoryValue → MemoryWrite) → ((x x' : MemoryValue) → (w x).written ≡ Some x' → IsLent x → IsLent x')

@@ -15,7 +15,9 @@ use Rattle.wasmi_machine.specs.declared.calls.Call.TheVariants.{SetFuel, GetFuel
 use Rattle.wasmi_machine.specs.declared.calls.Reply.TheVariants.{Memory, Table}
 use Rattle.wasmi_machine.specs.Account.{SetsNoFuel}
 use Rattle.wasmi_machine.specs.Determinism.{AcceptsNotices}
+use Rattle.wasmi_meter.specs.declared.error.MemoryError.{MemoryError}
 use Rattle.wasmi_meter.specs.declared.error.MemoryError.TheVariants as memory
+use Rattle.wasmi_meter.specs.declared.error.TableError.{TableError}
 use Rattle.wasmi_meter.specs.declared.error.TableError.TheVariants as table
 use Rattle.wasmi_machine.specs.declared.calls.Reply.TheVariants as reply
 
@@ -26,9 +28,38 @@ pub record IsRunInTwo {S : Type 0} (rules : Rules S) (first rest : List Call) (u
   pub first_run : IsRunOf rules first u (take (length first) replies) between
   pub rest_run : IsRunOf rules rest between (drop (length first) replies) w
 
+-- What tools/generate writes begins.
+-- the error of a memory is found before the limiter is asked and before anything is charged
+abbrev pub IsPlainMemoryError : MemoryError → Type 0
+IsPlainMemoryError memory.OutOfSystemMemory = ⊥
+IsPlainMemoryError memory.OutOfBoundsGrowth = ⊥
+IsPlainMemoryError memory.OutOfBoundsAccess = Unit {0}
+IsPlainMemoryError memory.InvalidMemoryType = ⊥
+IsPlainMemoryError memory.InvalidStaticBufferSize = ⊥
+IsPlainMemoryError memory.ResourceLimiterDeniedAllocation = ⊥
+IsPlainMemoryError memory.MinimumSizeOverflow = ⊥
+IsPlainMemoryError memory.MaximumSizeOverflow = ⊥
+IsPlainMemoryError (memory.OutOfFuel required) = ⊥
+
+-- the error of a table is found before the limiter is asked and before anything is charged
+abbrev pub IsPlainTableError : TableError → Type 0
+IsPlainTableError table.OutOfSystemMemory = ⊥
+IsPlainTableError table.MinimumSizeOverflow = ⊥
+IsPlainTableError table.MaximumSizeOverflow = ⊥
+IsPlainTableError table.ResourceLimiterDeniedAllocation = ⊥
+IsPlainTableError table.GrowOutOfBounds = ⊥
+IsPlainTableError table.InitOutOfBounds = Unit {0}
+IsPlainTableError table.FillOutOfBounds = Unit {0}
+IsPlainTableError table.SetOutOfBounds = Unit {0}
+IsPlainTableError table.CopyOutOfBounds = Unit {0}
+IsPlainTableError table.ElementTypeMismatch = Unit {0}
+IsPlainTableError (table.OutOfFuel required) = ⊥
+
+-- What tools/generate writes ends.
+
 -- The reply is a refusal that is found before the limiter is asked and before anything is charged: a trap, an index
 -- that names nothing, an access past the end, another type, metering that is off, or no place for a new slot. Each reply
--- has a line, and so has each error of a memory or a table.
+-- has a line.
 abbrev pub IsPlainRefusal : Reply → Type 0
 IsPlainRefusal reply.Done = ⊥
 IsPlainRefusal (reply.Made index) = ⊥
@@ -36,26 +67,8 @@ IsPlainRefusal (reply.Value value) = ⊥
 IsPlainRefusal (reply.Number number) = ⊥
 IsPlainRefusal (reply.Bytes bytes) = ⊥
 IsPlainRefusal (reply.Reference value) = ⊥
-IsPlainRefusal (reply.Memory memory.OutOfSystemMemory) = ⊥
-IsPlainRefusal (reply.Memory memory.OutOfBoundsGrowth) = ⊥
-IsPlainRefusal (reply.Memory memory.OutOfBoundsAccess) = Unit {0}
-IsPlainRefusal (reply.Memory memory.InvalidMemoryType) = ⊥
-IsPlainRefusal (reply.Memory memory.InvalidStaticBufferSize) = ⊥
-IsPlainRefusal (reply.Memory memory.ResourceLimiterDeniedAllocation) = ⊥
-IsPlainRefusal (reply.Memory memory.MinimumSizeOverflow) = ⊥
-IsPlainRefusal (reply.Memory memory.MaximumSizeOverflow) = ⊥
-IsPlainRefusal (reply.Memory (memory.OutOfFuel required)) = ⊥
-IsPlainRefusal (reply.Table table.OutOfSystemMemory) = ⊥
-IsPlainRefusal (reply.Table table.MinimumSizeOverflow) = ⊥
-IsPlainRefusal (reply.Table table.MaximumSizeOverflow) = ⊥
-IsPlainRefusal (reply.Table table.ResourceLimiterDeniedAllocation) = ⊥
-IsPlainRefusal (reply.Table table.GrowOutOfBounds) = ⊥
-IsPlainRefusal (reply.Table table.InitOutOfBounds) = Unit {0}
-IsPlainRefusal (reply.Table table.FillOutOfBounds) = Unit {0}
-IsPlainRefusal (reply.Table table.SetOutOfBounds) = Unit {0}
-IsPlainRefusal (reply.Table table.CopyOutOfBounds) = Unit {0}
-IsPlainRefusal (reply.Table table.ElementTypeMismatch) = Unit {0}
-IsPlainRefusal (reply.Table (table.OutOfFuel required)) = ⊥
+IsPlainRefusal (reply.Memory error) = IsPlainMemoryError error
+IsPlainRefusal (reply.Table error) = IsPlainTableError error
 IsPlainRefusal (reply.Fuel error) = Unit {0}
 IsPlainRefusal (reply.Global error) = Unit {0}
 IsPlainRefusal (reply.Segment error) = Unit {0}

@@ -8,7 +8,7 @@ use Rattle.std.specs.Prelude.{if◌then◌else◌, is_none, nat_le, ◌&&◌}
 use Rattle.wasmi_machine.proofs.EffectLemmas.{on_live}
 use Rattle.wasmi_machine.proofs.RangeLemmas.{range_facts}
 use Rattle.wasmi_machine.proofs.StepsLemmas.{change_facts}
-use Rattle.wasmi_machine.specs.Account.{Account, Balances, ChangesMeter, PaysCharge, account_after, charged_by, opened}
+use Rattle.wasmi_machine.specs.Account.{Account, Balances, ChangesMeter, account_after, charged_by, opened}
 use Rattle.wasmi_machine.specs.Effects.{ActsAt, reply_of}
 use Rattle.wasmi_machine.specs.Steps.{Run, Changed, Effect, FuelSet, MemoryGrown, HasRangeWrite, RangeWrite, RangeWritten, Step, TableGrown, HasEffect, effect_of}
 use Rattle.wasmi_machine.specs.State.{State, live_at, Turn, World}
@@ -20,7 +20,7 @@ use Rattle.wasmi_machine.specs.declared.slots.Slot.{Slot}
 use Rattle.wasmi_meter.specs.Attempt.{Attempt, Denied, Request, Failed, AttemptOutcome, Met, MeteredValue, Unasked, optional_due, covers, with_value}
 use Rattle.wasmi_meter.specs.Limiter.{Rules}
 use Rattle.wasmi_meter.proofs.AttemptLemmas.{meter_after_nothing}
-use Rattle.wasmi_meter.specs.Meter.{Meter, amount_left, due, meter_after, meter_set}
+use Rattle.wasmi_meter.specs.Meter.{Meter, amount_left, due, meter_after, meter_set, PaysCharge}
 use Rattle.wasmi_meter.specs.declared.error.TableError.{TableError}
 use Rattle.wasmi_store.proofs.GrowthLemmas.{on_test}
 use Rattle.wasmi_store.specs.Memory.{GrowsMemoryCharging, MemoryValue, pages_of}

@@ -6,10 +6,11 @@ use Rattle.std.proofs.lemmas.Option.{none-some, same_Some, slice_get-map}
 use Rattle.std.specs.Option.{option_and_then, option_map}
 use Rattle.std.specs.Prelude.{MatchBool, MatchOption, if◌then◌else◌, is_none, slice_get, slice_set, ◌&&◌}
 use Rattle.std.specs.Result.{result_map_both}
-use Rattle.wasmi_machine.proofs.EffectLemmas.{both_live, no_room_too, on_test_too}
+use Rattle.wasmi_machine.proofs.EffectLemmas.{both_live, no_room_too, on_live_too, on_test_too}
+use Rattle.wasmi_machine.proofs.RangeLemmas.{WritesBytes, source_writes}
 use Rattle.wasmi_machine.proofs.StoreLemmas.{acts_too, asks_too, changes_too}
 use Rattle.wasmi_machine.specs.LentMemory.{FitsRegions, FitsRoom, RunInRegions, owned, owned_memory, owned_slot, owned_world, unlent_world}
-use Rattle.wasmi_machine.specs.MemoryEffects.{ByteSource, OfByte, OfBytes, StoresMemoryAt, WritesMemoryAt, byte_write_of, bytes_appended, bytes_in, load_reply}
+use Rattle.wasmi_machine.specs.MemoryEffects.{ByteSource, OfBytes, StoresMemoryAt, WritesMemoryAt, byte_write_of, bytes_appended, bytes_in, load_reply}
 use Rattle.wasmi_machine.specs.RegisterEffects.{StoresVectorAt, lane_loaded, vector_at, vector_loaded}
 use Rattle.wasmi_machine.specs.Effects.{ActsAt, AddsEntry, ChangesAt, Creates, DropsAt, IfNoRoom, IsNoSuch, MeteredSlots, OnLive, WritesAt, WritesRangeAt, reply_of}
 use Rattle.wasmi_machine.specs.Steps.{Run, BytesRead, BytesStored, BytesWritten, Change, Changed, Effect, FuelSet, LacksSlot, LentMemoryMade, MemoryDropped, MemoryGrown, MemoryMade, RangeWritten, RegisterSet, Step, TableGrown, MemoryWritten, TableWritten, TableMade, HasChange, HasEffect, Told, effect_of}
@@ -24,9 +25,9 @@ use Rattle.wasmi_meter.specs.Limiter.{Rules}
 use Rattle.wasmi_meter.specs.Meter.{Meter, meter_after}
 use Rattle.wasmi_meter.specs.declared.error.MemoryError.{MemoryError}
 use Rattle.wasmi_store.specs.Growth.{IsDenied, metered}
-use Rattle.wasmi_store.specs.Write.{Writes, copied, filled, item_price, write_charge}
+use Rattle.wasmi_store.specs.Write.{Writes, item_price, write_charge}
 use Rattle.wasmi_store.specs.Buffer.{LacksMemory, Lent, Owned, Room, fits_room}
-use Rattle.wasmi_store.specs.Memory.{GrowsMemory, GrowsMemoryCharging, MakesMemory, MemoryValue, WritesMemory, bytes_write, new_memory, pages_of, MemoryTypeValue, in_bounds, minimum_bytes, page_bytes}
+use Rattle.wasmi_store.specs.Memory.{GrowsMemory, GrowsMemoryCharging, MakesMemory, MemoryValue, MemoryWrite, WritesMemory, bytes_write, new_memory, pages_of, MemoryTypeValue, in_bounds, minimum_bytes, page_bytes}
 use Rattle.wasmi_store.specs.Memory as memory
 use Rattle.wasmi_machine.specs.declared.calls.Reply.TheVariants as replied
 
@@ -270,15 +271,19 @@ growth_owned {S} rules k pages s s' reply charge fits acts =
 
 -- a write over bytes
 bytes_owned : (x : MemoryValue) (m : Option Meter) (result : Result (Unit {0}) MemoryError) (x' : MemoryValue)
-    (m' : Option Meter) (paid : ℕ) (written : Option (List ℕ))
-    → Writes (bytes_write x written paid) (metered x m) result (metered x' m')
-    → Writes (bytes_write (owned_memory x) written paid) (metered (owned_memory x) m) result
+    (m' : Option Meter) (paid : ℕ) (early : Option MemoryError) (written : Option (List ℕ))
+    → Writes (bytes_write x early written paid) (metered x m) result (metered x' m')
+    → Writes (bytes_write (owned_memory x) early written paid) (metered (owned_memory x) m) result
     (metered (owned_memory x') m')
-bytes_owned x m result x' m' paid None writes = (
+bytes_owned x m result x' m' paid (Some cause) written writes = (
   writes.0,
   ap (λ (s : MeteredValue MemoryValue (Unit {0})). metered (owned_memory s.value) s.meter) writes.1,
 )
-bytes_owned x m result x' m' paid (Some bytes) writes =
+bytes_owned x m result x' m' paid None None writes = (
+  writes.0,
+  ap (λ (s : MeteredValue MemoryValue (Unit {0})). metered (owned_memory s.value) s.meter) writes.1,
+)
+bytes_owned x m result x' m' paid None (Some bytes) writes =
     let due = optional_due m (Some (item_price 1 paid)) in
     let left = option_map (λ m. meter_after m due) m in
     let own = λ (s : MeteredValue MemoryValue (Unit {0})). metered (owned_memory s.value) s.meter in
@@ -289,12 +294,32 @@ bytes_owned x m result x' m' paid (Some bytes) writes =
     ((result ≡ Err (MemoryError.OutOfFuel due)) × (metered (owned_memory x') m' ≡ metered (owned_memory x) m))
     (λ h. (h.0, ap own h.1)) (λ h. (h.0, ap own h.1)) writes
 
+module _ (len : ℕ) (write : MemoryValue → MemoryWrite) (w : WritesBytes len write) (x : MemoryValue) (m : Option Meter)
+    (result : Result (Unit {0}) MemoryError) where
+  -- a write has the same charge over an owned memory
+  charge_owned : (result : Result (Unit {0}) MemoryError) → write_charge (write x) (metered x m) result
+      ≡ write_charge (write (owned_memory x)) (metered (owned_memory x) m) result
+  charge_owned (Ok done) = ap (λ (v : MemoryWrite). optional_due m v.price) (w.is x)
+      ∙ sym (ap (λ (v : MemoryWrite). optional_due m v.price) (w.is (owned_memory x)))
+  charge_owned (Err error) = refl
+
+  -- it writes the same
+  writing_owned : (x' : MemoryValue) (m' : Option Meter) → Writes (write x) (metered x m) result (metered x' m')
+      → Writes (write (owned_memory x)) (metered (owned_memory x) m) result (metered (owned_memory x') m')
+  writing_owned x' m' writes =
+      subst (λ v. Writes v (metered (owned_memory x) m) result (metered (owned_memory x') m'))
+      (sym (w.is (owned_memory x)))
+      (bytes_owned x m result x' m' len (w.early x.ty) (w.written x.bytes)
+      (subst (λ v. Writes v (metered x m) result (metered x' m')) (w.is x) writes))
+
 -- a write over a range of a memory
 memory_write_owned : (source : ByteSource) (k dst len : ℕ) (s s' : MeteredSlots MemoryValue) (reply : Reply)
     (charge : ℕ) → WritesRangeAt replied.Memory k (byte_write_of source dst len) s reply charge s'
     → WritesRangeAt replied.Memory k (byte_write_of source dst len)
     (with_value s (map owned_slot s.value)) reply charge (with_value s' (map owned_slot s'.value))
-memory_write_owned source k dst len s s' reply charge = by_source source
+memory_write_owned source k dst len s s' reply charge writes =
+    on_live_too (byte_write_of source dst len) _ _ _ _ (λ h. missing h.1) (λ write h. at_index write h.0 h.1)
+    (both_live (byte_write_of source dst len) _ _ _ _ (source_writes source dst len) writes)
   where
     -- where the index or the source names nothing
     missing : IsNoSuch s reply charge s'
@@ -302,35 +327,20 @@ memory_write_owned source k dst len s s' reply charge = by_source source
     missing h = (h.0, h.1, ap (λ (t : MeteredSlots MemoryValue). with_value t (map owned_slot t.value)) h.2)
 
     -- at an index, by what is written to each memory
-    at_index : (written : List ℕ → Option (List ℕ))
-        → WritesAt replied.Memory k (λ x. bytes_write x (written x.bytes) len) s reply charge s'
-        → WritesAt replied.Memory k (λ x. bytes_write x (written x.bytes) len)
-        (with_value s (map owned_slot s.value)) reply charge (with_value s' (map owned_slot s'.value))
-    at_index written writes = on_owned s.value k _ _ _ _ writes missing (λ x h. (
+    at_index : (write : MemoryValue → MemoryWrite) → WritesBytes len write
+        → WritesAt replied.Memory k write s reply charge s'
+        → WritesAt replied.Memory k write (with_value s (map owned_slot s.value)) reply charge
+        (with_value s' (map owned_slot s'.value))
+    at_index write w writes = on_owned s.value k _ _ _ _ writes missing (λ x h. (
       h.0,
       owned_memory h.1,
       record {
-        writes = bytes_owned x s.meter h.0 h.1 s'.meter len (written x.bytes) h.2.writes;
-        charged = h.2.charged ∙ same_charge x h.0;
+        writes = writing_owned len write w x s.meter h.0 h.1 s'.meter h.2.writes;
+        charged = h.2.charged ∙ charge_owned len write w x s.meter h.0 h.0;
       },
       h.3,
       put_owned s.value k s'.value (Live h.1) h.4,
     ))
-      where
-        same_charge : (x : MemoryValue) (result : Result (Unit {0}) MemoryError)
-            → write_charge (bytes_write x (written x.bytes) len) (metered x s.meter) result
-            ≡ write_charge (bytes_write (owned_memory x) (written x.bytes) len) (metered (owned_memory x) s.meter)
-            result
-        same_charge x (Ok done) = refl
-        same_charge x (Err error) = refl
-
-    -- by the source
-    by_source : (source : ByteSource) → WritesRangeAt replied.Memory k (byte_write_of source dst len) s reply charge s'
-        → WritesRangeAt replied.Memory k (byte_write_of source dst len)
-        (with_value s (map owned_slot s.value)) reply charge (with_value s' (map owned_slot s'.value))
-    by_source (OfByte value) = at_index (λ bytes. filled bytes dst value len)
-    by_source (OfBytes None src) = missing
-    by_source (OfBytes (Some source) src) = at_index (λ bytes. copied bytes dst source src len)
 
 -- a memory is made in a slot
 appends_owned : (result : Result MemoryValue MemoryError) (slots : List (Slot MemoryValue)) (reply : Reply)

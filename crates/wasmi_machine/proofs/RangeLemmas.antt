@@ -15,20 +15,21 @@ use Rattle.wasmi_meter.specs.declared.fuel.CustomFuelCosts.{CustomFuelCosts}
 use Rattle.wasmi_meter.specs.Attempt.{MeteredValue, covers, optional_due, with_value}
 use Rattle.wasmi_meter.specs.Meter.{Meter, amount_left, cut_product, meter_after}
 use Rattle.wasmi_store.specs.Growth.{metered}
-use Rattle.wasmi_store.specs.Write.{MeteredWrite, WritesCharging, item_price}
-use Rattle.wasmi_store.specs.Memory.{IsValidMemory, MemoryValue}
+use Rattle.wasmi_store.specs.Write.{MeteredWrite, WritesCharging, copied, filled, item_price}
+use Rattle.wasmi_store.specs.Memory.{IsValidMemory, MemoryTypeValue, MemoryValue, MemoryWrite, bytes_write}
 use Rattle.wasmi_store.specs.Table.{IsValidTable, TableValue, element_price, size_of, with_elements}
 use Rattle.wasmi_store.proofs.WriteLemmas.{PaidWrite, RefusedWrite, write_ends, writes_once}
 use Rattle.wasmi_machine.specs.declared.calls.Reply.{Reply}
 use Rattle.wasmi_machine.specs.declared.slots.Slot.{Slot}
 use Rattle.wasmi_machine.specs.declared.slots.Slot.TheVariants.{Live, Gone}
+use Rattle.wasmi_machine.specs.Determinism.{IsNotOutOfMemory}
 use Rattle.wasmi_machine.specs.Effects.{ActsMeteredUnasked, MeteredSlots, OnLive, WritesAt, WritesFrom, WritesRangeAt, item_bytes, reply_of}
 use Rattle.wasmi_machine.specs.Exchange.{NothingGrows, writing_charge}
 use Rattle.wasmi_machine.specs.State.{IsRefusal, IsValid, State, Turn, World, byte_count, live_at, sizes, with_memories, with_tables, live_value}
 use Rattle.wasmi_machine.specs.Steps.{HasRangeWrite, MemoryWritten, RangeWrite, TableWritten}
 use Rattle.wasmi_machine.specs.MemoryEffects.{ByteSource, OfByte, OfBytes, WritesMemoryFrom, byte_write_of, bytes_in, memory_copy_of}
 use Rattle.wasmi_machine.specs.TableEffects.{OfReference, OfSegment, OfTable, Source, write_of}
-use Rattle.wasmi_machine.proofs.EffectLemmas.{HasOneEnding, acts_same, live_valid, on_both, on_live, put_back, put_valid}
+use Rattle.wasmi_machine.proofs.EffectLemmas.{HasOneEnding, acts_same, live_valid, on_both, on_live, on_live_too, put_back, put_valid}
 use Rattle.wasmi_machine.proofs.MemoryEffectsLemmas.{memory_as_long, overwrite_length}
 use Rattle.wasmi_machine.proofs.StepsLemmas.{KeepsMemories, KeepsTables, PartOf, the_memories, the_tables}
 use Rattle.wasmi_machine.proofs.TableEffectsLemmas.{table_as_long}
@@ -429,31 +430,64 @@ memory_range s = record {
 }
 
 -- what is written over the bytes of a memory keeps the type and the size
-bytes_kept : (x : MemoryValue) (dst : ℕ) (part written : Option (List ℕ)) (x' : MemoryValue)
-    → written ≡ option_and_then (λ ys. overwrite x.bytes dst ys) part
+bytes_kept : (x : MemoryValue) (written : Option (List ℕ)) (x' : MemoryValue)
+    → ((bytes : List ℕ) → written ≡ Some bytes → length bytes ≡ length x.bytes)
     → option_map (λ bytes. record x { bytes = bytes }) written ≡ Some x' → KeepsMemory x x'
-bytes_kept x dst None written x' is some = absurd (none-some x' (rw is at some))
-bytes_kept x dst (Some part) None x' is some = absurd (none-some x' some)
-bytes_kept x dst (Some part) (Some bytes) x' is some =
-    let same = same_Some (record x { bytes = bytes }) x' some in (
-      ap (λ (t : MemoryValue). t.ty) (sym same),
-      ap byte_count (sym same) ∙ overwrite_length x.bytes part bytes dst (sym is),
-    )
+bytes_kept x None x' long some = absurd (none-some x' some)
+bytes_kept x (Some bytes) x' long some =
+    let same = same_Some (record x { bytes = bytes }) x' some in
+    (ap (λ (t : MemoryValue). t.ty) (sym same), ap byte_count (sym same) ∙ long bytes refl)
+
+-- A write over so many bytes: what stands before it depends on the type of the memory, and isn't want of memory; what
+-- it writes depends on the bytes, and is as long.
+pub record WritesBytes (len : ℕ) (write : MemoryValue → MemoryWrite) : Type 0 where
+  pub early : MemoryTypeValue → Option MemoryError
+  pub written : List ℕ → Option (List ℕ)
+  pub is : (x : MemoryValue) → write x ≡ bytes_write x (early x.ty) (written x.bytes) len
+  pub told : (ty : MemoryTypeValue) (cause : MemoryError) → early ty ≡ Some cause
+      → IsNotOutOfMemory (replied.Memory cause)
+  pub long : (bytes bytes' : List ℕ) → written bytes ≡ Some bytes' → length bytes' ≡ length bytes
+
+-- bytes that are written over with a part are as many
+part_long : (dst : ℕ) (part : Option (List ℕ)) (bytes bytes' : List ℕ)
+    → option_and_then (λ ys. overwrite bytes dst ys) part ≡ Some bytes' → length bytes' ≡ length bytes
+part_long dst None bytes bytes' is = absurd (none-some bytes' is)
+part_long dst (Some part) bytes bytes' is = overwrite_length bytes part bytes' dst is
 
 -- what each source of bytes writes
+pub source_writes : (source : ByteSource) (dst len : ℕ)
+    → OnLive (byte_write_of source dst len) (Unit {0}) (WritesBytes len)
+source_writes (OfByte value) dst len = record {
+  early = λ ty. None;
+  written = λ bytes. filled bytes dst value len;
+  is = λ x. refl;
+  told = λ ty cause is. absurd (none-some cause is);
+  long = part_long dst (Some (replicate len value));
+}
+source_writes (OfBytes None src) dst len = tt
+source_writes (OfBytes (Some source) src) dst len = record {
+  early = λ ty. None;
+  written = λ bytes. copied bytes dst source src len;
+  is = λ x. refl;
+  told = λ ty cause is. absurd (none-some cause is);
+  long = part_long dst (at source src len);
+}
+
+-- what such a write keeps and costs
+range_of_writing : (len : ℕ) (write : MemoryValue → MemoryWrite) → WritesBytes len write
+    → IsRange KeepsMemory (Some (item_price 1 len)) memory_error.OutOfFuel write
+range_of_writing len write w = record {
+  keeps = λ x x' is. bytes_kept x (w.written x.bytes) x' (w.long x.bytes)
+      (ap (λ (v : MemoryWrite). v.written) (sym (w.is x)) ∙ is);
+  priced = λ x. ap (λ (v : MemoryWrite). v.price) (w.is x);
+  unpaid_is = λ x. ap (λ (v : MemoryWrite). v.unpaid) (w.is x);
+}
+
+-- what a write with what a source has keeps and costs
 pub byte_range : (source : ByteSource) (dst len : ℕ) → OnLive (byte_write_of source dst len) (Unit {0})
     (IsRange KeepsMemory (Some (item_price 1 len)) memory_error.OutOfFuel)
-byte_range (OfByte value) dst len = record {
-  keeps = λ x x' is. bytes_kept x dst (Some (replicate len value)) _ x' refl is;
-  priced = λ x. refl;
-  unpaid_is = λ x. refl;
-}
-byte_range (OfBytes None src) dst len = tt
-byte_range (OfBytes (Some source) src) dst len = record {
-  keeps = λ x x' is. bytes_kept x dst (at source src len) _ x' refl is;
-  priced = λ x. refl;
-  unpaid_is = λ x. refl;
-}
+byte_range source dst len = on_live_too (byte_write_of source dst len) _ _ _ _ (λ missing. missing)
+    (range_of_writing len) (source_writes source dst len)
 
 -- what a write over a range costs, if it costs anything
 abbrev pub range_price : RangeWrite → Option (CustomFuelCosts → ℕ)

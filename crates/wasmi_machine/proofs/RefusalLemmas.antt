@@ -10,7 +10,7 @@ use Rattle.wasmi_machine.proofs.StepsLemmas.{change_facts}
 use Rattle.wasmi_machine.proofs.RangeLemmas.{range_back, refused_writing}
 use Rattle.wasmi_machine.proofs.TableEffectsLemmas.{table_growth_back}
 use Rattle.wasmi_machine.proofs.StoreLemmas.{each_turn}
-use Rattle.wasmi_machine.specs.Account.{ChangesMeter, PaysCharge}
+use Rattle.wasmi_machine.specs.Account.{ChangesMeter}
 use Rattle.wasmi_machine.specs.Exchange.{AsksFor, At, Denial, Exchange, Exchanges, New, Nothing, Notice, Nowhere, Passes, Permission, Place, RepliesTo, charge_at, writing_price, growth_charge, growth_due, place_of, question_of, writing_charge}
 use Rattle.wasmi_machine.specs.Laws.{Keeps, KeepsMeter, KeepsSpare, RefusalsInRunsKeepContents, SameContents}
 use Rattle.wasmi_machine.specs.MemoryEffects.{spare_after}
@@ -21,7 +21,7 @@ use Rattle.wasmi_machine.specs.declared.calls.Call.TheVariants.{NewLentMemory, S
 use Rattle.wasmi_machine.specs.declared.calls.Reply.{Reply}
 use Rattle.wasmi_meter.proofs.AttemptLemmas.{meter_after_nothing}
 use Rattle.wasmi_meter.specs.Limiter.{Rules}
-use Rattle.wasmi_meter.specs.Meter.{Meter, meter_after, meter_set}
+use Rattle.wasmi_meter.specs.Meter.{Meter, meter_after, meter_set, PaysCharge}
 use Rattle.wasmi_meter.specs.declared.fuel.CustomFuelCosts.{CustomFuelCosts}
 use Rattle.wasmi_meter.specs.declared.fuel.FuelError.TheVariants.{FuelMeteringDisabled}
 use Rattle.wasmi_store.specs.Buffer.{Owned}

@@ -12,7 +12,7 @@ use Rattle.wasmi_machine.proofs.EffectLemmas.{on_live}
 use Rattle.wasmi_machine.proofs.RangeLemmas.{IsPriced, range_facts, range_price}
 use Rattle.wasmi_machine.proofs.StepsLemmas.{change_facts}
 use Rattle.wasmi_machine.specs.MemoryEffects.{bytes_appended}
-use Rattle.wasmi_machine.specs.Account.{PaysCharge, IsBounded, amount_set, amounts_set, bytes_written, charges_for_writing, has_written, is_accepted, writing_turns}
+use Rattle.wasmi_machine.specs.Account.{IsBounded, amount_set, amounts_set, bytes_written, charges_for_writing, has_written, is_accepted, writing_turns}
 use Rattle.wasmi_machine.specs.Effects.{ActsAt, reply_of}
 use Rattle.wasmi_machine.specs.Steps.{Run, Changed, Effect, FuelSet, MemoryGrown, HasRangeWrite, RangeWrite, RangeWritten, TableGrown, HasEffect, effect_of, is_charged}
 use Rattle.wasmi_machine.specs.State.{IsRefusal, State, live_at, Turn, World}
@@ -23,7 +23,7 @@ use Rattle.wasmi_machine.specs.declared.calls.Call.TheVariants.{SetFuel}
 use Rattle.wasmi_machine.specs.declared.calls.Reply.{Reply}
 use Rattle.wasmi_machine.specs.declared.slots.Slot.{Slot}
 use Rattle.wasmi_meter.specs.Attempt.{Denied, Failed, AttemptOutcome, MayEnd, Met, MeteredValue, Unasked, optional_due, answer_of, outcome_charge}
-use Rattle.wasmi_meter.specs.Meter.{copy_cost, cut_product, Meter, due, meter_after, meter_set}
+use Rattle.wasmi_meter.specs.Meter.{copy_cost, cut_product, Meter, due, meter_after, meter_set, PaysCharge}
 use Rattle.wasmi_meter.specs.Limiter.{Rules}
 use Rattle.wasmi_meter.specs.declared.error.MemoryError.{MemoryError}
 use Rattle.wasmi_meter.specs.declared.error.TableError.{TableError}

@@ -1,6 +1,6 @@
 -- What a meter was given, what was taken of it, and what was written for that.
 use Rattle.std.specs.Prelude.{◌≡◌, ◌+◌, ◌≤◌, ℕ, Some, List, fold, sum_by, ◌-◌, ◌*◌, ◌<◌, Bool, true, false, ◌&&◌, if◌then◌else◌, count_by}
-use Rattle.wasmi_meter.specs.Meter.{Meter, amount_left, meter_after, meter_set}
+use Rattle.wasmi_meter.specs.Meter.{Meter, meter_set, PaysCharge}
 use Rattle.wasmi_machine.specs.declared.calls.Call.{Call}
 use Rattle.wasmi_machine.specs.declared.calls.Call.TheVariants.{SetFuel}
 use Rattle.wasmi_machine.specs.State.{Turn}
@@ -29,10 +29,6 @@ account_after account turns = fold (λ a turn. charged_by a turn.call turn.charg
 -- metering is on, and what is left and what was charged are what was granted
 abbrev pub Balances : Account → Meter → Type 0
 Balances account m = (left : ℕ) × (m.left ≡ Some left) × (left + account.charged ≡ account.granted)
-
--- a charge is at most what was left of a meter, and is taken of the meter
-abbrev pub PaysCharge : Meter → ℕ → Meter → Type 0
-PaysCharge m charge m' = (charge ≤ amount_left m) × (m' ≡ meter_after m charge)
 
 -- what a call with a charge makes of the meter: one that sets the fuel sets it, and each other one takes its charge
 abbrev pub ChangesMeter : Call → Meter → ℕ → Meter → Type 0

@@ -1,6 +1,7 @@
 -- What holds of all turns and runs of a machine.
 use Rattle.std.specs.Prelude.{◌≡◌, ◌⊎◌, ◌<◌, ◌≤◌, ◌+◌, ◌*◌, ◌++◌, ℕ, true, Option, Some, Result, Ok, List, length, map, All}
 use Rattle.wasmi_meter.specs.declared.holdings.Holdings.{Holdings}
+use Rattle.wasmi_meter.specs.Meter.{PaysCharge}
 use Rattle.wasmi_meter.specs.Limiter.{Question, Rules, Failure, NoticeAnswer, optional_rules}
 use Rattle.wasmi_meter.specs.Attempt.{MeteredValue, optional_due, covers}
 use Rattle.wasmi_meter.specs.declared.error.MemoryError.{MemoryError}
@@ -15,7 +16,7 @@ use Rattle.wasmi_machine.specs.declared.calls.Reply.{Reply}
 use Rattle.wasmi_machine.specs.State.{State, World, Turn, world, IsValid, IsValidCall, HoldsTotals}
 pub use Rattle.wasmi_machine.specs.State.{IsRefusal}
 use Rattle.wasmi_machine.specs.Steps.{Step, Sequence, Run, IsRunOf}
-use Rattle.wasmi_machine.specs.Account.{opened, account_after, Balances, PaysCharge, SetsNoFuel, IsBounded, IsSpent}
+use Rattle.wasmi_machine.specs.Account.{opened, account_after, Balances, SetsNoFuel, IsBounded, IsSpent}
 use Rattle.wasmi_machine.specs.Exchange.{Notice, Passes, At, place_of, question_of, failed_reply, growth_due, Exchanges}
 use Rattle.wasmi_machine.specs.MemoryEffects.{spare_after}
 use Rattle.wasmi_machine.specs.Determinism.{IsDeterministic, AcceptsNotices, IsOtherFailure, never_out_of_memory, IsNotOutOfMemory, AreNotOutOfMemory, permitting, TellsNoDenial}

@@ -22,9 +22,11 @@ use Rattle.wasmi_machine.specs.State.{World, Turn, world, State, live_at, with_m
 use Rattle.wasmi_machine.specs.Effects.{reply_of, AddsItem, Creates, DropsAt, ActsAt, ChangesPart, OnlyReplies, Changes, Asks, ActsMetered, ActsMeteredUnasked, WritesRangeAt, item_bytes}
 use Rattle.wasmi_ops.specs.LoadStoreOps.{stored_bytes}
 use Rattle.wasmi_machine.specs.ValueEffects.{SetsFuel, get_fuel_reply, CreatesSegment, DropsItemsAt, DropsDataAt, SetsGlobalAt, global_reply}
-use Rattle.wasmi_machine.specs.MemoryEffects.{ByteSource, OfByte, OfBytes, byte_write_of, bytes_in, bytes_appended, CreatesLent, ReadsMemoryAt, WritesMemoryAt, load_reply}
-use Rattle.wasmi_machine.specs.TableEffects.{Source, OfReference, OfTable, OfSegment, element_reply, SetsElementAt, write_of, element_bytes}
+use Rattle.wasmi_machine.specs.MemoryEffects.{ByteSource, byte_write_of, bytes_in, bytes_appended, CreatesLent, ReadsMemoryAt, WritesMemoryAt, load_reply}
+use Rattle.wasmi_machine.specs.TableEffects.{Source, element_reply, SetsElementAt, write_of, element_bytes}
 use Rattle.wasmi_machine.specs.RegisterEffects.{SetsRegister, StoresVectorAt, given_vector, of_one, of_two, of_three, vector_loaded, lane_loaded, raw_reply, vector_at}
+use Rattle.wasmi_machine.specs.MemoryEffects as byte_source
+use Rattle.wasmi_machine.specs.TableEffects as element_source
 use Rattle.wasmi_machine.specs.declared.calls.Call.TheVariants as call
 use Rattle.wasmi_machine.specs.declared.calls.Reply.TheVariants as reply
 
@@ -160,21 +162,23 @@ effect_of s (call.Write memory offset bytes) = Changed (BytesWritten memory offs
 effect_of s (call.Load op memory ptr offset) = Told (load_reply op (ptr + offset) (live_at s.memories memory))
 effect_of s (call.Store op memory ptr offset value) = Changed
     (BytesStored memory (ptr + offset) (Some (stored_bytes op value)))
-effect_of s (call.FillMemory memory dst value len) = RangeWritten (MemoryWritten memory (OfByte value) dst len)
+effect_of s (call.FillMemory memory dst value len) = RangeWritten
+    (MemoryWritten memory (byte_source.OfByte value) dst len)
 effect_of s (call.CopyMemory dst_memory dst src_memory src len) = RangeWritten (MemoryWritten dst_memory
-    (OfBytes (bytes_in (live_at s.memories src_memory)) src) dst len)
+    (byte_source.OfBytes (bytes_in (live_at s.memories src_memory)) src) dst len)
 effect_of s (call.InitMemory memory segment dst src len) = RangeWritten (MemoryWritten memory
-    (OfBytes (slice_get s.data_segments segment) src) dst len)
+    (byte_source.OfBytes (slice_get s.data_segments segment) src) dst len)
 effect_of s (call.NewTable ty init) = TableMade ty init
 effect_of s (call.GrowTable table delta init) = TableGrown table delta init
 effect_of s (call.DropTable table) = Changed (TableDropped table)
 effect_of s (call.GetElement table index) = Told (element_reply index (live_at s.tables table))
 effect_of s (call.SetElement table index value) = Changed (ElementSet table index value)
-effect_of s (call.InitTable table segment dst src len) = RangeWritten
-    (TableWritten table (OfSegment (slice_get s.segments segment) src) dst len)
-effect_of s (call.CopyTable dst_table dst src_table src len) = RangeWritten
-    (TableWritten dst_table (OfTable (live_at s.tables src_table) src) dst len)
-effect_of s (call.FillTable table dst value len) = RangeWritten (TableWritten table (OfReference value) dst len)
+effect_of s (call.InitTable table segment dst src len) = RangeWritten (TableWritten table
+    (element_source.OfSegment (slice_get s.segments segment) src) dst len)
+effect_of s (call.CopyTable dst_table dst src_table src len) = RangeWritten (TableWritten dst_table
+    (element_source.OfTable (live_at s.tables src_table) src) dst len)
+effect_of s (call.FillTable table dst value len) = RangeWritten
+    (TableWritten table (element_source.OfReference value) dst len)
 effect_of s (call.NewSegment ty items) = Changed (SegmentMade ty items.items)
 effect_of s (call.DropItems segment) = Changed (ItemsDropped segment)
 effect_of s (call.NewData bytes) = Changed (DataMade bytes.items)

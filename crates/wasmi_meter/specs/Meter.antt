@@ -49,9 +49,13 @@ pub record ConsumesFuel {T : Type 0} (m : Meter) (amount : ℕ) (value : T) (res
 abbrev pub due : Meter → (CustomFuelCosts → ℕ) → ℕ
 due m price = if is_some m.left then price m.costs else 0
 
+-- a charge is at most what was left of a meter, and is taken of the meter
+abbrev pub PaysCharge : Meter → ℕ → Meter → Type 0
+PaysCharge m charge m' = (charge ≤ amount_left m) × (m' ≡ meter_after m charge)
+
 -- a charge is taken where that much is left, and refused else with what it needs
 abbrev pub Charges : Meter → ℕ → Result (Unit {0}) ℕ → Meter → Type 0
-Charges m amount (Ok _) m' = (amount ≤ amount_left m) × (m' ≡ meter_after m amount)
+Charges m amount (Ok _) m' = PaysCharge m amount m'
 Charges m amount (Err required) m' = (amount_left m < amount) × (required ≡ amount) × (m' ≡ m)
 
 -- too little fuel is an error of a table; that a meter is off is none, and is handed back

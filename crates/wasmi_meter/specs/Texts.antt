@@ -24,6 +24,7 @@ abbrev pub fuel_error_text : FuelError → List ℕ
 fuel_error_text fuel.FuelMeteringDisabled = codes "fuel metering is disabled"
 fuel_error_text (fuel.OutOfFuel required) = codes "ouf of fuel. required=" ++ decimal required
 
+-- What tools/generate writes begins.
 -- the text of an error of a memory
 abbrev pub memory_error_text : MemoryError → List ℕ
 memory_error_text memory.OutOfSystemMemory = codes "tried to allocate more virtual memory than available on the system"
@@ -52,3 +53,5 @@ table_error_text table.SetOutOfBounds = codes "out of bounds table access: `tabl
 table_error_text table.CopyOutOfBounds = codes "out of bounds table access: `table.copy`"
 table_error_text table.ElementTypeMismatch = codes "encountered mismatching table element type"
 table_error_text (table.OutOfFuel required) = codes "not enough fuel: required=" ++ decimal required
+
+-- What tools/generate writes ends.

@@ -66,7 +66,7 @@ writes_elements x typed written outside paid m result xs' m' same writes = rw sa
 pub writes_bytes : (x : MemoryValue) (written : Option (List ℕ)) (paid : ℕ) (m : Option Meter)
     (result : Result (Unit {0}) MemoryError) (bytes : List ℕ) (m' : Option Meter)
     → BulkWrites written paid (metered x.bytes m) result (metered bytes m')
-    → Writes (bytes_write x written paid) (metered x m) result (metered (record x { bytes = bytes }) m')
+    → Writes (bytes_write x None written paid) (metered x m) result (metered (record x { bytes = bytes }) m')
 writes_bytes x written paid m result bytes m' writes =
     writes_put (λ bytes. record x { bytes = bytes }) memory.OutOfBoundsAccess (Some (item_price 1 paid))
     memory.OutOfFuel x.bytes m result bytes m' written writes

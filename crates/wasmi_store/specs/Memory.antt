@@ -195,11 +195,11 @@ WritesMemory x offset source (Err error) x' =
 abbrev pub MemoryWrite : Type 0
 MemoryWrite = MeteredWrite MemoryValue MemoryError
 
--- the bytes of a memory are written over: what they become, or none where a range ends past its list, and how many of
--- them are paid for
-abbrev pub bytes_write : MemoryValue → Option (List ℕ) → ℕ → MemoryWrite
-bytes_write x written paid = record {
-  early = None;
+-- the bytes of a memory are written over: the error of what stands before it, if anything does; what they become, or
+-- none where a range ends past its list; and how many of them are paid for
+abbrev pub bytes_write : MemoryValue → Option MemoryError → Option (List ℕ) → ℕ → MemoryWrite
+bytes_write x early written paid = record {
+  early = early;
   written = option_map (λ bytes. record x { bytes = bytes }) written;
   outside = OutOfBoundsAccess;
   price = Some (item_price 1 paid);
@@ -208,11 +208,11 @@ bytes_write x written paid = record {
 
 -- so many bytes from dst on are filled with a value
 abbrev pub byte_filling_of : ℕ → ℕ → ℕ → MemoryValue → MemoryWrite
-byte_filling_of dst value len x = bytes_write x (filled x.bytes dst value len) len
+byte_filling_of dst value len x = bytes_write x None (filled x.bytes dst value len) len
 
 -- so many bytes of a source from src on, perhaps those of the memory itself, are copied over the bytes from dst on
 abbrev pub byte_copy_of : ℕ → ℕ → ℕ → List ℕ → MemoryValue → MemoryWrite
-byte_copy_of dst src len source x = bytes_write x (copied x.bytes dst source src len) len
+byte_copy_of dst src len source x = bytes_write x None (copied x.bytes dst source src len) len
 
 -- a range of a memory is written over, and its type and its room stay
 abbrev pub WritesMemoryRange : (MemoryValue → MemoryWrite) → MeteredValue MemoryValue (Unit {0})

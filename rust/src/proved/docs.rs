@@ -1109,6 +1109,7 @@ Definitions: [`IsStore`](crate::specs::accesses::LoadStoreSpecs#IsStore), [`le_b
 
 /// Functions of a type that pass on to those of the proved one, `Proved`, which is its field `0`.
 macro_rules! methods {
+    (store LinearMemory: ..) => { methods! { store LinearMemory: new new_static ty dynamic_ty size data_size data data_mut grow read write fill copy_within copy init } };
     ($part:ident $item:ident: $($name:ident)*) => { $(methods! { $part $item $name })* };
     (store ElementSegment as_ref) => {
         #[doc = docs!(store ElementSegment.as_ref)]

@@ -2709,6 +2709,7 @@ abbrev pub <b id="fuel_error_text">fuel_error_text</b> : FuelError → List ℕ
 <a href="../../meter/TextsSpecs/index.html#fuel_error_text">fuel_error_text</a> fuel.FuelMeteringDisabled = codes "fuel metering is disabled"
 <a href="../../meter/TextsSpecs/index.html#fuel_error_text">fuel_error_text</a> (fuel.OutOfFuel required) = codes "ouf of fuel. required=" ++ decimal required
 
+-- What tools/generate writes begins.
 -- the text of an error of a memory
 abbrev pub <b id="memory_error_text">memory_error_text</b> : MemoryError → List ℕ
 <a href="../../meter/TextsSpecs/index.html#memory_error_text">memory_error_text</a> memory.OutOfSystemMemory = codes "tried to allocate more virtual memory than available on the system"
@@ -2737,6 +2738,8 @@ abbrev pub <b id="table_error_text">table_error_text</b> : TableError → List �
 <a href="../../meter/TextsSpecs/index.html#table_error_text">table_error_text</a> table.CopyOutOfBounds = codes "out of bounds table access: `table.copy`"
 <a href="../../meter/TextsSpecs/index.html#table_error_text">table_error_text</a> table.ElementTypeMismatch = codes "encountered mismatching table element type"
 <a href="../../meter/TextsSpecs/index.html#table_error_text">table_error_text</a> (table.OutOfFuel required) = codes "not enough fuel: required=" ++ decimal required
+
+-- What tools/generate writes ends.
 </code></pre>
 "####]
     pub mod TextsSpecs {}
@@ -3088,11 +3091,11 @@ abbrev pub <b id="WritesMemory">WritesMemory</b> : <a href="../../store/MemorySp
 abbrev pub <b id="MemoryWrite">MemoryWrite</b> : Type 0
 <a href="../../store/MemorySpecs/index.html#MemoryWrite">MemoryWrite</a> = <a href="../../store/WriteSpecs/index.html#MeteredWrite">MeteredWrite</a> <a href="../../store/MemorySpecs/index.html#MemoryValue">MemoryValue</a> MemoryError
 
--- the bytes of a memory are written over: what they become, or none where a range ends past its list, and how many of
--- them are paid for
-abbrev pub <b id="bytes_write">bytes_write</b> : <a href="../../store/MemorySpecs/index.html#MemoryValue">MemoryValue</a> → Option (List ℕ) → ℕ → <a href="../../store/MemorySpecs/index.html#MemoryWrite">MemoryWrite</a>
-<a href="../../store/MemorySpecs/index.html#bytes_write">bytes_write</a> x written paid = record {
-  early = None;
+-- the bytes of a memory are written over: the error of what stands before it, if anything does; what they become, or
+-- none where a range ends past its list; and how many of them are paid for
+abbrev pub <b id="bytes_write">bytes_write</b> : <a href="../../store/MemorySpecs/index.html#MemoryValue">MemoryValue</a> → Option MemoryError → Option (List ℕ) → ℕ → <a href="../../store/MemorySpecs/index.html#MemoryWrite">MemoryWrite</a>
+<a href="../../store/MemorySpecs/index.html#bytes_write">bytes_write</a> x early written paid = record {
+  early = early;
   written = option_map (λ <a href="../../store/MemorySpecs/index.html#bytes">bytes</a>. record x { <a href="../../store/MemorySpecs/index.html#bytes">bytes</a> = <a href="../../store/MemorySpecs/index.html#bytes">bytes</a> }) written;
   outside = OutOfBoundsAccess;
   price = Some (<a href="../../store/WriteSpecs/index.html#item_price">item_price</a> 1 paid);
@@ -3101,11 +3104,11 @@ abbrev pub <b id="bytes_write">bytes_write</b> : <a href="../../store/MemorySpec
 
 -- so many bytes from dst on are filled with a value
 abbrev pub <b id="byte_filling_of">byte_filling_of</b> : ℕ → ℕ → ℕ → <a href="../../store/MemorySpecs/index.html#MemoryValue">MemoryValue</a> → <a href="../../store/MemorySpecs/index.html#MemoryWrite">MemoryWrite</a>
-<a href="../../store/MemorySpecs/index.html#byte_filling_of">byte_filling_of</a> dst value len x = <a href="../../store/MemorySpecs/index.html#bytes_write">bytes_write</a> x (<a href="../../store/WriteSpecs/index.html#filled">filled</a> x.bytes dst value len) len
+<a href="../../store/MemorySpecs/index.html#byte_filling_of">byte_filling_of</a> dst value len x = <a href="../../store/MemorySpecs/index.html#bytes_write">bytes_write</a> x None (<a href="../../store/WriteSpecs/index.html#filled">filled</a> x.bytes dst value len) len
 
 -- so many bytes of a source from src on, perhaps those of the memory itself, are copied over the bytes from dst on
 abbrev pub <b id="byte_copy_of">byte_copy_of</b> : ℕ → ℕ → ℕ → List ℕ → <a href="../../store/MemorySpecs/index.html#MemoryValue">MemoryValue</a> → <a href="../../store/MemorySpecs/index.html#MemoryWrite">MemoryWrite</a>
-<a href="../../store/MemorySpecs/index.html#byte_copy_of">byte_copy_of</a> dst src len source x = <a href="../../store/MemorySpecs/index.html#bytes_write">bytes_write</a> x (<a href="../../store/WriteSpecs/index.html#copied">copied</a> x.bytes dst source src len) len
+<a href="../../store/MemorySpecs/index.html#byte_copy_of">byte_copy_of</a> dst src len source x = <a href="../../store/MemorySpecs/index.html#bytes_write">bytes_write</a> x None (<a href="../../store/WriteSpecs/index.html#copied">copied</a> x.bytes dst source src len) len
 
 -- a range of a memory is written over, and its type and its room stay
 abbrev pub <b id="WritesMemoryRange">WritesMemoryRange</b> : (<a href="../../store/MemorySpecs/index.html#MemoryValue">MemoryValue</a> → <a href="../../store/MemorySpecs/index.html#MemoryWrite">MemoryWrite</a>) → <a href="../../meter/AttemptSpecs/index.html#MeteredValue">MeteredValue</a> <a href="../../store/MemorySpecs/index.html#MemoryValue">MemoryValue</a> (Unit {0})
@@ -4780,9 +4783,11 @@ use Rattle.wasmi_machine.specs.State.{<a href="../../machine/StateSpecs/index.ht
 use Rattle.wasmi_machine.specs.Effects.{<a href="../../machine/EffectsSpecs/index.html#reply_of">reply_of</a>, <a href="../../machine/EffectsSpecs/index.html#AddsItem">AddsItem</a>, <a href="../../machine/EffectsSpecs/index.html#Creates">Creates</a>, <a href="../../machine/EffectsSpecs/index.html#DropsAt">DropsAt</a>, <a href="../../machine/EffectsSpecs/index.html#ActsAt">ActsAt</a>, <a href="../../machine/EffectsSpecs/index.html#ChangesPart">ChangesPart</a>, <a href="../../machine/EffectsSpecs/index.html#OnlyReplies">OnlyReplies</a>, <a href="../../machine/EffectsSpecs/index.html#Changes">Changes</a>, <a href="../../machine/EffectsSpecs/index.html#Asks">Asks</a>, <a href="../../machine/EffectsSpecs/index.html#ActsMetered">ActsMetered</a>, <a href="../../machine/EffectsSpecs/index.html#ActsMeteredUnasked">ActsMeteredUnasked</a>, <a href="../../machine/EffectsSpecs/index.html#WritesRangeAt">WritesRangeAt</a>, <a href="../../machine/EffectsSpecs/index.html#item_bytes">item_bytes</a>}
 use Rattle.wasmi_ops.specs.LoadStoreOps.{<a href="../../ops/LoadStoreOpsSpecs/index.html#stored_bytes">stored_bytes</a>}
 use Rattle.wasmi_machine.specs.ValueEffects.{<a href="../../machine/ValueEffectsSpecs/index.html#SetsFuel">SetsFuel</a>, <a href="../../machine/ValueEffectsSpecs/index.html#get_fuel_reply">get_fuel_reply</a>, <a href="../../machine/ValueEffectsSpecs/index.html#CreatesSegment">CreatesSegment</a>, <a href="../../machine/ValueEffectsSpecs/index.html#DropsItemsAt">DropsItemsAt</a>, <a href="../../machine/ValueEffectsSpecs/index.html#DropsDataAt">DropsDataAt</a>, <a href="../../machine/ValueEffectsSpecs/index.html#SetsGlobalAt">SetsGlobalAt</a>, <a href="../../machine/ValueEffectsSpecs/index.html#global_reply">global_reply</a>}
-use Rattle.wasmi_machine.specs.MemoryEffects.{<a href="../../machine/MemoryEffectsSpecs/index.html#ByteSource">ByteSource</a>, <a href="../../machine/MemoryEffectsSpecs/index.html#OfByte">OfByte</a>, <a href="../../machine/MemoryEffectsSpecs/index.html#OfBytes">OfBytes</a>, <a href="../../machine/MemoryEffectsSpecs/index.html#byte_write_of">byte_write_of</a>, <a href="../../machine/MemoryEffectsSpecs/index.html#bytes_in">bytes_in</a>, <a href="../../machine/MemoryEffectsSpecs/index.html#bytes_appended">bytes_appended</a>, <a href="../../machine/MemoryEffectsSpecs/index.html#CreatesLent">CreatesLent</a>, <a href="../../machine/MemoryEffectsSpecs/index.html#ReadsMemoryAt">ReadsMemoryAt</a>, <a href="../../machine/MemoryEffectsSpecs/index.html#WritesMemoryAt">WritesMemoryAt</a>, <a href="../../machine/MemoryEffectsSpecs/index.html#load_reply">load_reply</a>}
-use Rattle.wasmi_machine.specs.TableEffects.{<a href="../../machine/TableEffectsSpecs/index.html#Source">Source</a>, <a href="../../machine/TableEffectsSpecs/index.html#OfReference">OfReference</a>, <a href="../../machine/TableEffectsSpecs/index.html#OfTable">OfTable</a>, <a href="../../machine/TableEffectsSpecs/index.html#OfSegment">OfSegment</a>, <a href="../../machine/TableEffectsSpecs/index.html#element_reply">element_reply</a>, <a href="../../machine/TableEffectsSpecs/index.html#SetsElementAt">SetsElementAt</a>, <a href="../../machine/TableEffectsSpecs/index.html#write_of">write_of</a>, <a href="../../machine/TableEffectsSpecs/index.html#element_bytes">element_bytes</a>}
+use Rattle.wasmi_machine.specs.MemoryEffects.{<a href="../../machine/MemoryEffectsSpecs/index.html#ByteSource">ByteSource</a>, <a href="../../machine/MemoryEffectsSpecs/index.html#byte_write_of">byte_write_of</a>, <a href="../../machine/MemoryEffectsSpecs/index.html#bytes_in">bytes_in</a>, <a href="../../machine/MemoryEffectsSpecs/index.html#bytes_appended">bytes_appended</a>, <a href="../../machine/MemoryEffectsSpecs/index.html#CreatesLent">CreatesLent</a>, <a href="../../machine/MemoryEffectsSpecs/index.html#ReadsMemoryAt">ReadsMemoryAt</a>, <a href="../../machine/MemoryEffectsSpecs/index.html#WritesMemoryAt">WritesMemoryAt</a>, <a href="../../machine/MemoryEffectsSpecs/index.html#load_reply">load_reply</a>}
+use Rattle.wasmi_machine.specs.TableEffects.{<a href="../../machine/TableEffectsSpecs/index.html#Source">Source</a>, <a href="../../machine/TableEffectsSpecs/index.html#element_reply">element_reply</a>, <a href="../../machine/TableEffectsSpecs/index.html#SetsElementAt">SetsElementAt</a>, <a href="../../machine/TableEffectsSpecs/index.html#write_of">write_of</a>, <a href="../../machine/TableEffectsSpecs/index.html#element_bytes">element_bytes</a>}
 use Rattle.wasmi_machine.specs.RegisterEffects.{<a href="../../machine/RegisterEffectsSpecs/index.html#SetsRegister">SetsRegister</a>, <a href="../../machine/RegisterEffectsSpecs/index.html#StoresVectorAt">StoresVectorAt</a>, <a href="../../machine/RegisterEffectsSpecs/index.html#given_vector">given_vector</a>, <a href="../../machine/RegisterEffectsSpecs/index.html#of_one">of_one</a>, <a href="../../machine/RegisterEffectsSpecs/index.html#of_two">of_two</a>, <a href="../../machine/RegisterEffectsSpecs/index.html#of_three">of_three</a>, <a href="../../machine/RegisterEffectsSpecs/index.html#vector_loaded">vector_loaded</a>, <a href="../../machine/RegisterEffectsSpecs/index.html#lane_loaded">lane_loaded</a>, <a href="../../machine/RegisterEffectsSpecs/index.html#raw_reply">raw_reply</a>, <a href="../../machine/RegisterEffectsSpecs/index.html#vector_at">vector_at</a>}
+use Rattle.wasmi_machine.specs.MemoryEffects as byte_source
+use Rattle.wasmi_machine.specs.TableEffects as element_source
 use Rattle.wasmi_machine.specs.declared.calls.Call.TheVariants as call
 use Rattle.wasmi_machine.specs.declared.calls.Reply.TheVariants as reply
 
@@ -4918,21 +4923,23 @@ abbrev pub <b id="effect_of">effect_of</b> : <a href="../../machine/StateSpecs/i
 <a href="../../machine/StepsSpecs/index.html#effect_of">effect_of</a> s (call.Load op memory ptr offset) = <a href="../../machine/StepsSpecs/index.html#Told">Told</a> (<a href="../../machine/MemoryEffectsSpecs/index.html#load_reply">load_reply</a> op (ptr + offset) (<a href="../../machine/StateSpecs/index.html#live_at">live_at</a> s.memories memory))
 <a href="../../machine/StepsSpecs/index.html#effect_of">effect_of</a> s (call.Store op memory ptr offset value) = <a href="../../machine/StepsSpecs/index.html#Changed">Changed</a>
     (<a href="../../machine/StepsSpecs/index.html#BytesStored">BytesStored</a> memory (ptr + offset) (Some (<a href="../../ops/LoadStoreOpsSpecs/index.html#stored_bytes">stored_bytes</a> op value)))
-<a href="../../machine/StepsSpecs/index.html#effect_of">effect_of</a> s (call.FillMemory memory dst value len) = <a href="../../machine/StepsSpecs/index.html#RangeWritten">RangeWritten</a> (<a href="../../machine/StepsSpecs/index.html#MemoryWritten">MemoryWritten</a> memory (<a href="../../machine/MemoryEffectsSpecs/index.html#OfByte">OfByte</a> value) dst len)
+<a href="../../machine/StepsSpecs/index.html#effect_of">effect_of</a> s (call.FillMemory memory dst value len) = <a href="../../machine/StepsSpecs/index.html#RangeWritten">RangeWritten</a>
+    (<a href="../../machine/StepsSpecs/index.html#MemoryWritten">MemoryWritten</a> memory (<a href="../../machine/MemoryEffectsSpecs/index.html#OfByte">byte_source.OfByte</a> value) dst len)
 <a href="../../machine/StepsSpecs/index.html#effect_of">effect_of</a> s (call.CopyMemory dst_memory dst src_memory src len) = <a href="../../machine/StepsSpecs/index.html#RangeWritten">RangeWritten</a> (<a href="../../machine/StepsSpecs/index.html#MemoryWritten">MemoryWritten</a> dst_memory
-    (<a href="../../machine/MemoryEffectsSpecs/index.html#OfBytes">OfBytes</a> (<a href="../../machine/MemoryEffectsSpecs/index.html#bytes_in">bytes_in</a> (<a href="../../machine/StateSpecs/index.html#live_at">live_at</a> s.memories src_memory)) src) dst len)
+    (<a href="../../machine/MemoryEffectsSpecs/index.html#OfBytes">byte_source.OfBytes</a> (<a href="../../machine/MemoryEffectsSpecs/index.html#bytes_in">bytes_in</a> (<a href="../../machine/StateSpecs/index.html#live_at">live_at</a> s.memories src_memory)) src) dst len)
 <a href="../../machine/StepsSpecs/index.html#effect_of">effect_of</a> s (call.InitMemory memory segment dst src len) = <a href="../../machine/StepsSpecs/index.html#RangeWritten">RangeWritten</a> (<a href="../../machine/StepsSpecs/index.html#MemoryWritten">MemoryWritten</a> memory
-    (<a href="../../machine/MemoryEffectsSpecs/index.html#OfBytes">OfBytes</a> (slice_get s.data_segments segment) src) dst len)
+    (<a href="../../machine/MemoryEffectsSpecs/index.html#OfBytes">byte_source.OfBytes</a> (slice_get s.data_segments segment) src) dst len)
 <a href="../../machine/StepsSpecs/index.html#effect_of">effect_of</a> s (call.NewTable ty init) = <a href="../../machine/StepsSpecs/index.html#TableMade">TableMade</a> ty init
 <a href="../../machine/StepsSpecs/index.html#effect_of">effect_of</a> s (call.GrowTable table delta init) = <a href="../../machine/StepsSpecs/index.html#TableGrown">TableGrown</a> table delta init
 <a href="../../machine/StepsSpecs/index.html#effect_of">effect_of</a> s (call.DropTable table) = <a href="../../machine/StepsSpecs/index.html#Changed">Changed</a> (<a href="../../machine/StepsSpecs/index.html#TableDropped">TableDropped</a> table)
 <a href="../../machine/StepsSpecs/index.html#effect_of">effect_of</a> s (call.GetElement table index) = <a href="../../machine/StepsSpecs/index.html#Told">Told</a> (<a href="../../machine/TableEffectsSpecs/index.html#element_reply">element_reply</a> index (<a href="../../machine/StateSpecs/index.html#live_at">live_at</a> s.tables table))
 <a href="../../machine/StepsSpecs/index.html#effect_of">effect_of</a> s (call.SetElement table index value) = <a href="../../machine/StepsSpecs/index.html#Changed">Changed</a> (<a href="../../machine/StepsSpecs/index.html#ElementSet">ElementSet</a> table index value)
-<a href="../../machine/StepsSpecs/index.html#effect_of">effect_of</a> s (call.InitTable table segment dst src len) = <a href="../../machine/StepsSpecs/index.html#RangeWritten">RangeWritten</a>
-    (<a href="../../machine/StepsSpecs/index.html#TableWritten">TableWritten</a> table (<a href="../../machine/TableEffectsSpecs/index.html#OfSegment">OfSegment</a> (slice_get s.segments segment) src) dst len)
-<a href="../../machine/StepsSpecs/index.html#effect_of">effect_of</a> s (call.CopyTable dst_table dst src_table src len) = <a href="../../machine/StepsSpecs/index.html#RangeWritten">RangeWritten</a>
-    (<a href="../../machine/StepsSpecs/index.html#TableWritten">TableWritten</a> dst_table (<a href="../../machine/TableEffectsSpecs/index.html#OfTable">OfTable</a> (<a href="../../machine/StateSpecs/index.html#live_at">live_at</a> s.tables src_table) src) dst len)
-<a href="../../machine/StepsSpecs/index.html#effect_of">effect_of</a> s (call.FillTable table dst value len) = <a href="../../machine/StepsSpecs/index.html#RangeWritten">RangeWritten</a> (<a href="../../machine/StepsSpecs/index.html#TableWritten">TableWritten</a> table (<a href="../../machine/TableEffectsSpecs/index.html#OfReference">OfReference</a> value) dst len)
+<a href="../../machine/StepsSpecs/index.html#effect_of">effect_of</a> s (call.InitTable table segment dst src len) = <a href="../../machine/StepsSpecs/index.html#RangeWritten">RangeWritten</a> (<a href="../../machine/StepsSpecs/index.html#TableWritten">TableWritten</a> table
+    (<a href="../../machine/TableEffectsSpecs/index.html#OfSegment">element_source.OfSegment</a> (slice_get s.segments segment) src) dst len)
+<a href="../../machine/StepsSpecs/index.html#effect_of">effect_of</a> s (call.CopyTable dst_table dst src_table src len) = <a href="../../machine/StepsSpecs/index.html#RangeWritten">RangeWritten</a> (<a href="../../machine/StepsSpecs/index.html#TableWritten">TableWritten</a> dst_table
+    (<a href="../../machine/TableEffectsSpecs/index.html#OfTable">element_source.OfTable</a> (<a href="../../machine/StateSpecs/index.html#live_at">live_at</a> s.tables src_table) src) dst len)
+<a href="../../machine/StepsSpecs/index.html#effect_of">effect_of</a> s (call.FillTable table dst value len) = <a href="../../machine/StepsSpecs/index.html#RangeWritten">RangeWritten</a>
+    (<a href="../../machine/StepsSpecs/index.html#TableWritten">TableWritten</a> table (<a href="../../machine/TableEffectsSpecs/index.html#OfReference">element_source.OfReference</a> value) dst len)
 <a href="../../machine/StepsSpecs/index.html#effect_of">effect_of</a> s (call.NewSegment ty items) = <a href="../../machine/StepsSpecs/index.html#Changed">Changed</a> (<a href="../../machine/StepsSpecs/index.html#SegmentMade">SegmentMade</a> ty items.items)
 <a href="../../machine/StepsSpecs/index.html#effect_of">effect_of</a> s (call.DropItems segment) = <a href="../../machine/StepsSpecs/index.html#Changed">Changed</a> (<a href="../../machine/StepsSpecs/index.html#ItemsDropped">ItemsDropped</a> segment)
 <a href="../../machine/StepsSpecs/index.html#effect_of">effect_of</a> s (call.NewData bytes) = <a href="../../machine/StepsSpecs/index.html#Changed">Changed</a> (<a href="../../machine/StepsSpecs/index.html#DataMade">DataMade</a> bytes.items)
@@ -5719,7 +5726,9 @@ use Rattle.wasmi_machine.specs.declared.calls.Call.TheVariants.{SetFuel, GetFuel
 use Rattle.wasmi_machine.specs.declared.calls.Reply.TheVariants.{Memory, Table}
 use Rattle.wasmi_machine.specs.Account.{<a href="../../machine/AccountSpecs/index.html#SetsNoFuel">SetsNoFuel</a>}
 use Rattle.wasmi_machine.specs.Determinism.{<a href="../../machine/DeterminismSpecs/index.html#AcceptsNotices">AcceptsNotices</a>}
+use Rattle.wasmi_meter.specs.declared.error.MemoryError.{MemoryError}
 use Rattle.wasmi_meter.specs.declared.error.MemoryError.TheVariants as memory
+use Rattle.wasmi_meter.specs.declared.error.TableError.{TableError}
 use Rattle.wasmi_meter.specs.declared.error.TableError.TheVariants as table
 use Rattle.wasmi_machine.specs.declared.calls.Reply.TheVariants as reply
 
@@ -5730,9 +5739,38 @@ pub record <b id="IsRunInTwo">IsRunInTwo</b> {S : Type 0} (rules : <a href="../.
   pub <b id="first_run">first_run</b> : <a href="../../machine/StepsSpecs/index.html#IsRunOf">IsRunOf</a> rules first u (take (length first) replies) <a href="../../laws/RunsSpecs/index.html#between">between</a>
   pub <b id="rest_run">rest_run</b> : <a href="../../machine/StepsSpecs/index.html#IsRunOf">IsRunOf</a> rules rest <a href="../../laws/RunsSpecs/index.html#between">between</a> (drop (length first) replies) w
 
+-- What tools/generate writes begins.
+-- the error of a memory is found before the limiter is asked and before anything is charged
+abbrev pub <b id="IsPlainMemoryError">IsPlainMemoryError</b> : MemoryError → Type 0
+<a href="../../laws/RunsSpecs/index.html#IsPlainMemoryError">IsPlainMemoryError</a> memory.OutOfSystemMemory = ⊥
+<a href="../../laws/RunsSpecs/index.html#IsPlainMemoryError">IsPlainMemoryError</a> memory.OutOfBoundsGrowth = ⊥
+<a href="../../laws/RunsSpecs/index.html#IsPlainMemoryError">IsPlainMemoryError</a> memory.OutOfBoundsAccess = Unit {0}
+<a href="../../laws/RunsSpecs/index.html#IsPlainMemoryError">IsPlainMemoryError</a> memory.InvalidMemoryType = ⊥
+<a href="../../laws/RunsSpecs/index.html#IsPlainMemoryError">IsPlainMemoryError</a> memory.InvalidStaticBufferSize = ⊥
+<a href="../../laws/RunsSpecs/index.html#IsPlainMemoryError">IsPlainMemoryError</a> memory.ResourceLimiterDeniedAllocation = ⊥
+<a href="../../laws/RunsSpecs/index.html#IsPlainMemoryError">IsPlainMemoryError</a> memory.MinimumSizeOverflow = ⊥
+<a href="../../laws/RunsSpecs/index.html#IsPlainMemoryError">IsPlainMemoryError</a> memory.MaximumSizeOverflow = ⊥
+<a href="../../laws/RunsSpecs/index.html#IsPlainMemoryError">IsPlainMemoryError</a> (memory.OutOfFuel required) = ⊥
+
+-- the error of a table is found before the limiter is asked and before anything is charged
+abbrev pub <b id="IsPlainTableError">IsPlainTableError</b> : TableError → Type 0
+<a href="../../laws/RunsSpecs/index.html#IsPlainTableError">IsPlainTableError</a> table.OutOfSystemMemory = ⊥
+<a href="../../laws/RunsSpecs/index.html#IsPlainTableError">IsPlainTableError</a> table.MinimumSizeOverflow = ⊥
+<a href="../../laws/RunsSpecs/index.html#IsPlainTableError">IsPlainTableError</a> table.MaximumSizeOverflow = ⊥
+<a href="../../laws/RunsSpecs/index.html#IsPlainTableError">IsPlainTableError</a> table.ResourceLimiterDeniedAllocation = ⊥
+<a href="../../laws/RunsSpecs/index.html#IsPlainTableError">IsPlainTableError</a> table.GrowOutOfBounds = ⊥
+<a href="../../laws/RunsSpecs/index.html#IsPlainTableError">IsPlainTableError</a> table.InitOutOfBounds = Unit {0}
+<a href="../../laws/RunsSpecs/index.html#IsPlainTableError">IsPlainTableError</a> table.FillOutOfBounds = Unit {0}
+<a href="../../laws/RunsSpecs/index.html#IsPlainTableError">IsPlainTableError</a> table.SetOutOfBounds = Unit {0}
+<a href="../../laws/RunsSpecs/index.html#IsPlainTableError">IsPlainTableError</a> table.CopyOutOfBounds = Unit {0}
+<a href="../../laws/RunsSpecs/index.html#IsPlainTableError">IsPlainTableError</a> table.ElementTypeMismatch = Unit {0}
+<a href="../../laws/RunsSpecs/index.html#IsPlainTableError">IsPlainTableError</a> (table.OutOfFuel required) = ⊥
+
+-- What tools/generate writes ends.
+
 -- The reply is a refusal that is found before the limiter is asked and before anything is charged: a trap, an index
 -- that names nothing, an access past the end, another type, metering that is off, or no place for a new slot. Each reply
--- has a line, and so has each error of a memory or a table.
+-- has a line.
 abbrev pub <b id="IsPlainRefusal">IsPlainRefusal</b> : Reply → Type 0
 <a href="../../laws/RunsSpecs/index.html#IsPlainRefusal">IsPlainRefusal</a> reply.Done = ⊥
 <a href="../../laws/RunsSpecs/index.html#IsPlainRefusal">IsPlainRefusal</a> (reply.Made index) = ⊥
@@ -5740,26 +5778,8 @@ abbrev pub <b id="IsPlainRefusal">IsPlainRefusal</b> : Reply → Type 0
 <a href="../../laws/RunsSpecs/index.html#IsPlainRefusal">IsPlainRefusal</a> (reply.Number number) = ⊥
 <a href="../../laws/RunsSpecs/index.html#IsPlainRefusal">IsPlainRefusal</a> (reply.Bytes bytes) = ⊥
 <a href="../../laws/RunsSpecs/index.html#IsPlainRefusal">IsPlainRefusal</a> (reply.Reference value) = ⊥
-<a href="../../laws/RunsSpecs/index.html#IsPlainRefusal">IsPlainRefusal</a> (reply.Memory memory.OutOfSystemMemory) = ⊥
-<a href="../../laws/RunsSpecs/index.html#IsPlainRefusal">IsPlainRefusal</a> (reply.Memory memory.OutOfBoundsGrowth) = ⊥
-<a href="../../laws/RunsSpecs/index.html#IsPlainRefusal">IsPlainRefusal</a> (reply.Memory memory.OutOfBoundsAccess) = Unit {0}
-<a href="../../laws/RunsSpecs/index.html#IsPlainRefusal">IsPlainRefusal</a> (reply.Memory memory.InvalidMemoryType) = ⊥
-<a href="../../laws/RunsSpecs/index.html#IsPlainRefusal">IsPlainRefusal</a> (reply.Memory memory.InvalidStaticBufferSize) = ⊥
-<a href="../../laws/RunsSpecs/index.html#IsPlainRefusal">IsPlainRefusal</a> (reply.Memory memory.ResourceLimiterDeniedAllocation) = ⊥
-<a href="../../laws/RunsSpecs/index.html#IsPlainRefusal">IsPlainRefusal</a> (reply.Memory memory.MinimumSizeOverflow) = ⊥
-<a href="../../laws/RunsSpecs/index.html#IsPlainRefusal">IsPlainRefusal</a> (reply.Memory memory.MaximumSizeOverflow) = ⊥
-<a href="../../laws/RunsSpecs/index.html#IsPlainRefusal">IsPlainRefusal</a> (reply.Memory (memory.OutOfFuel required)) = ⊥
-<a href="../../laws/RunsSpecs/index.html#IsPlainRefusal">IsPlainRefusal</a> (reply.Table table.OutOfSystemMemory) = ⊥
-<a href="../../laws/RunsSpecs/index.html#IsPlainRefusal">IsPlainRefusal</a> (reply.Table table.MinimumSizeOverflow) = ⊥
-<a href="../../laws/RunsSpecs/index.html#IsPlainRefusal">IsPlainRefusal</a> (reply.Table table.MaximumSizeOverflow) = ⊥
-<a href="../../laws/RunsSpecs/index.html#IsPlainRefusal">IsPlainRefusal</a> (reply.Table table.ResourceLimiterDeniedAllocation) = ⊥
-<a href="../../laws/RunsSpecs/index.html#IsPlainRefusal">IsPlainRefusal</a> (reply.Table table.GrowOutOfBounds) = ⊥
-<a href="../../laws/RunsSpecs/index.html#IsPlainRefusal">IsPlainRefusal</a> (reply.Table table.InitOutOfBounds) = Unit {0}
-<a href="../../laws/RunsSpecs/index.html#IsPlainRefusal">IsPlainRefusal</a> (reply.Table table.FillOutOfBounds) = Unit {0}
-<a href="../../laws/RunsSpecs/index.html#IsPlainRefusal">IsPlainRefusal</a> (reply.Table table.SetOutOfBounds) = Unit {0}
-<a href="../../laws/RunsSpecs/index.html#IsPlainRefusal">IsPlainRefusal</a> (reply.Table table.CopyOutOfBounds) = Unit {0}
-<a href="../../laws/RunsSpecs/index.html#IsPlainRefusal">IsPlainRefusal</a> (reply.Table table.ElementTypeMismatch) = Unit {0}
-<a href="../../laws/RunsSpecs/index.html#IsPlainRefusal">IsPlainRefusal</a> (reply.Table (table.OutOfFuel required)) = ⊥
+<a href="../../laws/RunsSpecs/index.html#IsPlainRefusal">IsPlainRefusal</a> (reply.Memory error) = <a href="../../laws/RunsSpecs/index.html#IsPlainMemoryError">IsPlainMemoryError</a> error
+<a href="../../laws/RunsSpecs/index.html#IsPlainRefusal">IsPlainRefusal</a> (reply.Table error) = <a href="../../laws/RunsSpecs/index.html#IsPlainTableError">IsPlainTableError</a> error
 <a href="../../laws/RunsSpecs/index.html#IsPlainRefusal">IsPlainRefusal</a> (reply.Fuel error) = Unit {0}
 <a href="../../laws/RunsSpecs/index.html#IsPlainRefusal">IsPlainRefusal</a> (reply.Global error) = Unit {0}
 <a href="../../laws/RunsSpecs/index.html#IsPlainRefusal">IsPlainRefusal</a> (reply.Segment error) = Unit {0}

@@ -1,26 +1,73 @@
 //! Lines that are no commands.
 use super::prints;
 use super::streams::Source;
+use wasmi_core_proved::grammar::parse;
 use wasmi_core_proved::script::Status;
 
+/// A line of each command, and of each word after the first how many bits its number has, or `-`.
+/// `..` stands for any number of words.
+// What tools/generate writes begins.
+static COMMANDS: [(&str, &str); 43] = [
+    ("fuel 0", "64"),
+    ("left", ""),
+    ("memory 0 none 16 32", "64 - - -"),
+    ("lent 0 none 16 32", "64 - - -"),
+    ("grow 0 0", "64 64"),
+    ("drop memory 0", "- 64"),
+    ("read 0 0 0", "64 64 64"),
+    ("write 0 0", "64 64 .."),
+    ("load i32_load8_s 0 0 0", "- 64 64 64"),
+    ("store i32_store8 0 0 0 0", "- 64 64 64 64"),
+    ("mfill 0 0 0 0", "64 64 8 64"),
+    ("mcopy 0 0 0 0 0", "64 64 64 64 64"),
+    ("minit 0 0 0 0 0", "64 64 64 32 32"),
+    ("table func 0 none 32 func 0", "- 64 - - - 32"),
+    ("tgrow 0 0 func 0", "64 64 - 32"),
+    ("drop table 0", "- 64"),
+    ("get 0 0", "64 64"),
+    ("tset 0 0 func 0", "64 64 - 32"),
+    ("init 0 0 0 0 0", "64 64 64 32 32"),
+    ("copy 0 0 0 0 0", "64 64 64 64 64"),
+    ("fill 0 0 func 0 0", "64 64 - 32 64"),
+    ("segment func", "- .."),
+    ("empty 0", "64"),
+    ("data", ".."),
+    ("dempty 0", "64"),
+    ("global i32 var 0 0", "- - 64 64"),
+    ("gset 0 i32 0 0", "64 - 64 64"),
+    ("gget 0", "64"),
+    ("set 0 0 0", "8 64 64"),
+    ("show 0", "8"),
+    ("make i8x16_splat 0 0", "- 8 8"),
+    ("unary v128_not 0 0", "- 8 8"),
+    ("binary i8x16_add 0 0 0", "- 8 8 8"),
+    ("ternary v128_bitselect 0 0 0 0", "- 8 8 8 8"),
+    ("shift i8x16_shl 0 0 0", "- 8 8 32"),
+    ("test i8x16_all_true 0", "- 8"),
+    ("extract i8x16_extract_lane_s 0 0", "- 8 8"),
+    ("replace i8x16_replace_lane 0 0 0 0", "- 8 8 8 8"),
+    (
+        "shuffle 0 0 0 0 0 0 0 0 0 0 0 0 0 0 0 0 0 0 0",
+        "8 8 8 5 5 5 5 5 5 5 5 5 5 5 5 5 5 5 5",
+    ),
+    ("vload v128_load 0 0 0 0", "- 8 64 64 64"),
+    ("vloadlane v128_load8_lane 0 0 0 0 0 0", "- 8 8 8 64 64 64"),
+    ("vstore 0 0 0 0", "8 64 64 64"),
+    ("vstorelane v128_store8_lane 0 0 0 0 0", "- 8 8 64 64 64"),
+];
+// What tools/generate writes ends.
+
 /// No line but the script's only one, which is no command.
-static BAD_LINES: [&[u8]; 26] = [
-    b"fuel",
+static BAD_LINES: [&[u8]; 19] = [
     b"fuel +1",
-    b"fuel -1",
-    b"fuel 1 2",
-    b"fuel 18446744073709551616",
     b"fuels 1",
     b"Fuel 1",
-    b"left 0",
     b"memory 2 1 16 32",
     b"memory 0 none 1 32",
     b"memory 65537 none 16 32",
     b"memory 1 none 16 064",
     b"memory 1 None 16 32",
     b"write 0 0 256",
-    b"write 0",
-    b"read 0 0",
     b"meter on",
     b"meter on 4294967296",
     b"meter",
@@ -34,7 +81,7 @@ static BAD_LINES: [&[u8]; 26] = [
 ];
 
 /// More of them: numbers that are none or too large, words too many or too few.
-static MORE_BAD_LINES: [&[u8]; 53] = [
+static MORE_BAD_LINES: [&[u8]; 36] = [
     b"fuel 99999999999999999999",
     b"fuel 184467440737095516150",
     b"fuel 0x10",
@@ -42,25 +89,9 @@ static MORE_BAD_LINES: [&[u8]; 53] = [
     b"fuel \xd9\xa3",
     b"memory 281474976710657 none 16 64",
     b"memory 4294967297 none 0 32",
-    b"memory 1 none 16",
-    b"memory 1 none 16 32 0",
-    b"grow 0 1 2",
-    b"grow 18446744073709551616 1",
-    b"read 0 0 1 2",
-    b"mfill 0 0 256 1",
-    b"mfill 0 0 1",
-    b"mfill 0 0 1 1 1",
-    b"mcopy 0 0 0 0",
-    b"mcopy 0 0 0 0 18446744073709551616",
-    b"minit 0 0 0 4294967296 0",
-    b"minit 0 0 0 0 4294967296",
-    b"minit 0 0 0 0",
-    b"minit 0 0 0 0 0 0",
     b"data 256",
     b"data 1 -2",
     b"data func",
-    b"dempty",
-    b"dempty 0 0",
     b"write 0 0 -1",
     b"meter off 1",
     b"meter on 1 2",
@@ -72,7 +103,6 @@ static MORE_BAD_LINES: [&[u8]; 53] = [
     b"load i32_load32_s 0 0 0",
     b"load i32_store8 0 0 0",
     b"store i32_load8_u 0 0 0 0",
-    b"lent 1 none 16",
     b"lent 2 1 16 32",
     b"region 1",
     b"region 1 256",
@@ -91,10 +121,8 @@ static MORE_BAD_LINES: [&[u8]; 53] = [
 ];
 
 /// Lines of tables, element segments and globals.
-static BAD_LINES_OF_TABLES: [&[u8]; 48] = [
+static BAD_LINES_OF_TABLES: [&[u8]; 20] = [
     b"table",
-    b"table func 0 none 32 func",
-    b"table func 0 none 32 func 0 0",
     b"table funcref 0 none 32 func 0",
     b"table func 0 none 16 func 0",
     b"table func none none 32 func 0",
@@ -103,65 +131,23 @@ static BAD_LINES_OF_TABLES: [&[u8]; 48] = [
     b"table func 2 1 64 func 0",
     b"table func 18446744073709551616 none 64 func 0",
     b"table func 0 18446744073709551616 64 func 0",
-    b"table func 0 none 32 func 4294967296",
-    b"tgrow 0 18446744073709551616 func 0",
     b"tgrow 0 1 0",
-    b"get 0",
-    b"get 0 1 2",
-    b"get 18446744073709551616 0",
-    b"tset 0 0 func",
     b"tset 0 0 none 0",
-    b"init 0 0 0 4294967296 0",
-    b"init 0 0 0 0 4294967296",
-    b"init 0 0 0 0",
-    b"copy 0 0 0 0 18446744073709551616",
-    b"copy 0 0 0 0",
-    b"fill 0 0 func 0",
-    b"fill 0 0 func 0 0 0",
-    b"segment",
     b"segment 1 2",
     b"segment func 1 -2",
     b"segment func 4294967296",
-    b"empty",
-    b"empty 0 0",
     b"drop",
-    b"drop memory",
     b"drop 0",
     b"drop segment 0",
-    b"drop memory 0 0",
-    b"drop table 18446744073709551616",
     b"global i32 mut 0 0",
     b"global i8 var 0 0",
-    b"global i32 var 0",
-    b"global i32 var 0 0 0",
-    b"global i32 var 18446744073709551616 0",
-    b"gset 0 i32 0",
     b"gset 0 const 0 0",
-    b"gset 0 i32 0 18446744073709551616",
-    b"gget",
-    b"gget 0 0",
 ];
 
 /// Lines of registers and of vector instructions on them.
-static BAD_LINES_OF_REGISTERS: [&[u8]; 38] = [
-    b"set 0 1",
-    b"set 0 1 2 3",
-    b"set 256 0 0",
-    b"set -1 0 0",
-    b"set 0 18446744073709551616 0",
-    b"set 0 0 18446744073709551616",
-    b"show",
-    b"show 256",
-    b"show 0 0",
-    b"make i8x16_splat 0",
-    b"make i8x16_splat 0 0 0",
+static BAD_LINES_OF_REGISTERS: [&[u8]; 16] = [
     b"make v128_not 0 0",
-    b"make i8x16_splat 256 0",
-    b"make i8x16_splat 0 256",
     b"unary i32x4_add 0 0",
-    b"unary v128_not 0",
-    b"unary v128_not 0 0 0",
-    b"unary v128_not 256 0",
     b"unary V128_not 0 0",
     b"unary  0 0",
     b"binary v128_not 0 0 0",
@@ -170,13 +156,7 @@ static BAD_LINES_OF_REGISTERS: [&[u8]; 38] = [
     b"binary i32x4_add 0 0 256",
     b"binary i32x4_added 0 0 0",
     b"binary i32x4 0 0 0",
-    b"ternary v128_bitselect 0 0 0",
-    b"ternary v128_bitselect 0 0 0 0 0",
     b"ternary v128_and 0 0 0 0",
-    b"ternary v128_bitselect 0 0 0 256",
-    b"shift i8x16_shl 0 0",
-    b"shift i8x16_shl 0 0 0 0",
-    b"shift i8x16_shl 0 0 4294967296",
     b"shift i8x16_shr 0 0 1",
     b"test v128_any_true",
     b"test v128_any_true 0 0",
@@ -185,7 +165,7 @@ static BAD_LINES_OF_REGISTERS: [&[u8]; 38] = [
 ];
 
 /// Lines of lanes, of which there is none with that index, and of shuffles.
-static BAD_LINES_OF_LANES: [&[u8]; 22] = [
+static BAD_LINES_OF_LANES: [&[u8]; 17] = [
     b"extract i8x16_extract_lane_u 0 16",
     b"extract i16x8_extract_lane_s 0 8",
     b"extract i32x4_extract_lane 0 4",
@@ -201,33 +181,21 @@ static BAD_LINES_OF_LANES: [&[u8]; 22] = [
     b"replace i64x2_replace_lane 0 0 0",
     b"replace i64x2_replace_lane 0 0 0 256",
     b"replace i64x2_extract_lane 0 0 0 0",
-    b"shuffle 0 0 0 0 0 0 0 0 0 0 0 0 0 0 0 0 0 0",
-    b"shuffle 0 0 0 0 0 0 0 0 0 0 0 0 0 0 0 0 0 0 0 0",
-    b"shuffle 0 0 0 0 0 0 0 0 0 0 0 0 0 0 0 0 0 0 32",
-    b"shuffle 0 0 0 32 0 0 0 0 0 0 0 0 0 0 0 0 0 0 0",
     b"shuffle 0 0 0 0 0 0 0 0 0 0 0 0 x 0 0 0 0 0 0",
     b"shuffle 0 0",
-    b"shuffle 256 0 0 0 0 0 0 0 0 0 0 0 0 0 0 0 0 0 0",
 ];
 
 /// Lines of vectors and their lanes in memories.
-static BAD_LINES_OF_VECTOR_ACCESSES: [&[u8]; 23] = [
-    b"vload v128_load 0 0 0",
-    b"vload v128_load 0 0 0 0 0",
+static BAD_LINES_OF_VECTOR_ACCESSES: [&[u8]; 16] = [
     b"vload load_u32 0 0 0 0",
     b"vload v128_load_at 0 0 0 0",
-    b"vload v128_load 256 0 0 0",
-    b"vload v128_load 0 0 0 18446744073709551616",
     b"vloadlane v128_load8_lane 0 0 16 0 0 0",
     b"vloadlane v128_load16_lane 0 0 8 0 0 0",
     b"vloadlane v128_load32_lane 0 0 4 0 0 0",
     b"vloadlane v128_load64_lane 0 0 2 0 0 0",
     b"vloadlane v128_load64_lane 0 0 0 0 0",
     b"vloadlane v128_store64_lane 0 0 0 0 0 0",
-    b"vstore 0 0 0",
-    b"vstore 0 0 0 0 0",
     b"vstore v128_store 0 0 0 0",
-    b"vstore 256 0 0 0",
     b"vstorelane v128_store8_lane 0 16 0 0 0",
     b"vstorelane v128_store16_lane 0 8 0 0 0",
     b"vstorelane v128_store32_lane 0 4 0 0 0",
@@ -239,6 +207,33 @@ static BAD_LINES_OF_VECTOR_ACCESSES: [&[u8]; 23] = [
 
 fn is_bad(script: &[u8], printed: &str) {
     prints(&mut Source::of(script), printed, Status::BadScript);
+}
+
+/// A line with another word at a place.
+fn with_word(line: &str, place: usize, word: &str) -> String {
+    let mut words: Vec<&str> = line.split(' ').collect();
+    words[place] = word;
+    words.join(" ")
+}
+
+#[test]
+fn takes_as_many_words_as_a_command_has_and_numbers_of_as_many_bits() {
+    for (line, bits) in COMMANDS {
+        assert!(parse(line.as_bytes()).is_ok(), "{line}");
+        let is_bad_line = |line: &str| is_bad(line.as_bytes(), "line 1: bad command\n");
+        if !bits.ends_with("..") {
+            is_bad_line(&format!("{line} 0"));
+        }
+        if let Some((fewer, _)) = line.rsplit_once(' ') {
+            is_bad_line(fewer);
+        }
+        for (before, bits) in bits.split(' ').enumerate() {
+            if let Ok(bits) = bits.parse::<u32>() {
+                is_bad_line(&with_word(line, before + 1, &(1u128 << bits).to_string()));
+                is_bad_line(&with_word(line, before + 1, "-1"));
+            }
+        }
+    }
 }
 
 /// Lines, each of which is a script's only one and no command.

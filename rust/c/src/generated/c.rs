@@ -5239,6 +5239,7 @@ pub mod status {
     pub const HAS_POOL: u8 = 28;
     /// No tenant of the pool has the index.
     pub const NO_TENANT: u8 = 29;
+    // What tools/generate writes begins.
     /// The system refused memory. No memory on a region takes any.
     pub const MEMORY_OUT_OF_MEMORY: u8 = 32;
     /// A growth above the maximum or what addresses reach, or one that the limiter says no to.
@@ -5279,6 +5280,7 @@ pub mod status {
     pub const TABLE_TYPE: u8 = 57;
     /// A call on a table costs more fuel than is left.
     pub const TABLE_OUT_OF_FUEL: u8 = 58;
+    // What tools/generate writes ends.
     /// The meter is off.
     pub const METERING_DISABLED: u8 = 64;
     /// Less fuel is left than was asked for.
@@ -5317,6 +5319,7 @@ pub mod status {
     #[inline]
     pub fn memory_status(error: MemoryError) -> u8 {
         match error {
+            // What tools/generate writes begins.
             MemoryError::OutOfSystemMemory => MEMORY_OUT_OF_MEMORY,
             MemoryError::OutOfBoundsGrowth => MEMORY_GROWTH,
             MemoryError::OutOfBoundsAccess => MEMORY_ACCESS,
@@ -5326,6 +5329,7 @@ pub mod status {
             MemoryError::MinimumSizeOverflow => MEMORY_SIZE_OVERFLOW,
             MemoryError::MaximumSizeOverflow => MEMORY_MAXIMUM_OVERFLOW,
             MemoryError::OutOfFuel { required_fuel: _ } => MEMORY_OUT_OF_FUEL,
+            // What tools/generate writes ends.
         }
     }
 
@@ -5340,6 +5344,7 @@ pub mod status {
     #[inline]
     pub fn table_status(error: TableError) -> u8 {
         match error {
+            // What tools/generate writes begins.
             TableError::OutOfSystemMemory => TABLE_OUT_OF_MEMORY,
             TableError::MinimumSizeOverflow => TABLE_MINIMUM_OVERFLOW,
             TableError::MaximumSizeOverflow => TABLE_MAXIMUM_OVERFLOW,
@@ -5351,6 +5356,7 @@ pub mod status {
             TableError::CopyOutOfBounds => TABLE_COPY,
             TableError::ElementTypeMismatch => TABLE_TYPE,
             TableError::OutOfFuel { required_fuel: _ } => TABLE_OUT_OF_FUEL,
+            // What tools/generate writes ends.
         }
     }
 

@@ -1,28 +1,12 @@
-use Rattle.std.proofs.Common.{◌≡◌, false, inr, refl, arith, Ok, Err}
-use Rattle.std.specs.Prelude.{nat_eq}
-use Rattle.wasmi_meter.specs.declared.error.MemoryError.{MemoryError}
-use Rattle.wasmi_meter.specs.declared.error.MemoryError.TheVariants as error
+use Rattle.std.proofs.Common.{inr, refl, arith, Ok, Err}
 use Rattle.wasmi_store.specs.Buffer.{Lent}
 use Rattle.wasmi_store.specs.Memory.{creation_of, new_memory}
 use Rattle.wasmi_region.specs.Memory.{zeroed}
 use Rattle.wasmi_region.proofs.MemoryLemmas.{zeroed_length, zeroed_rest}
 use Rattle.wasmi_c.specs.Numbers.{IsState}
-use Rattle.wasmi_c.specs.Status.{memory_status}
-use Rattle.wasmi_c.specs.declared.status.TheConstants.{DONE}
 use Rattle.wasmi_c.proofs.PlacementLemmas.{made_by_quota}
+use Rattle.wasmi_c.proofs.SharedQuotaLemmas.{refused_status}
 use Rattle.wasmi_c.proofs.memory.make_zeroed.Goals as goal
-
--- no refusal has the status of a call that was done
-is_refusal : (e : MemoryError) → nat_eq (memory_status e) DONE ≡ false
-is_refusal error.OutOfSystemMemory = refl
-is_refusal error.OutOfBoundsGrowth = refl
-is_refusal error.OutOfBoundsAccess = refl
-is_refusal error.InvalidMemoryType = refl
-is_refusal error.InvalidStaticBufferSize = refl
-is_refusal error.ResourceLimiterDeniedAllocation = refl
-is_refusal error.MinimumSizeOverflow = refl
-is_refusal error.MaximumSizeOverflow = refl
-is_refusal (error.OutOfFuel required) = refl
 
 pub returns-in-Ok-clause-made : goal.returns-in-Ok-clause-made
 returns-in-Ok-clause-made c =
@@ -57,6 +41,6 @@ returns-in-Err-clause-made c =
         result = Err c.in-Err.error;
         makes = made_by_quota (creation_of room ty) (new_memory room ty) _ _ c.in-Err.ensures.made;
         status_is = c.memory_status.ensures;
-        left = rw (c.memory_status.ensures, is_refusal c.in-Err.error) refl;
+        left = rw (c.memory_status.ensures, refused_status c.in-Err.error) refl;
       },
     )
