@@ -1,16 +1,19 @@
-//! What words write as the operands of a command: one to five words, or a list.
+//! The words of a line, and what they write: numbers, and the operands of a command.
 #![tactic(auto, using(crate::proofs::OpNamesLemmas::op_names))]
 
-ghost use Rattle.std.specs.Prelude.{◌≡◌, ℕ, List, length, map};
+ghost use Rattle.std.specs.Char.{digit_value};
+ghost use Rattle.std.specs.Int.{IsInRange};
+ghost use Rattle.std.specs.Option.{SomeIff};
+ghost use Rattle.std.specs.Prelude.{◌≡◌, ◌+◌, ◌*◌, ◌<◌, ◌^◌, ℕ, Err, IfErr, IfOk, List, Ok, OnOk, length, map};
+ghost use Rattle.std.specs.Result.{OkIff};
 ghost use Rattle.wasmi_operands.specs.Names.{WritesAnswer, IsName, IsNamed, mutability_word, reference_word, value_word, width_word};
-ghost use Rattle.wasmi_operands.specs.LineWords.{Accepts, AcceptsWithMemory, WritesNumber, WritesLimit, WritesEach, word_at};
+ghost use Rattle.wasmi_operands.specs.LineWords.{Accepts, AcceptsWithMemory, IsDecimal, WritesNumber, WritesLimit, WritesEach, decimal_value, word_at, words_in};
 ghost use Rattle.wasmi_ops.specs.LoadStoreOps.{load_name, store_name};
 ghost use Rattle.wasmi_ops.specs.VectorOps.{vector_load_name, binary_name, make_name, shift_name, ternary_name, test_name, unary_name};
 ghost use Rattle.wasmi_ops.specs.LaneOps.{extract_name, load_lane_name, replace_name, store_lane_name};
 
-use crate::decimal::number;
 use crate::error::LineError;
-use std::alloc::Global;
+use std::alloc::{AllocError, Global};
 use wasmi_lanes::ImmLaneIdx32;
 use wasmi_meter::LimiterAnswer;
 use wasmi_ops::{
@@ -21,6 +24,63 @@ use wasmi_ops::{
 use wasmi_raw::RawRef;
 use wasmi_typed::Mutability;
 use wasmi_types::{IndexType, RefType, ValType};
+
+/// Puts the words of a line, which spaces alone separate, in place of those of the line before.
+pub fn read_words<'a>(line: &'a str, words: &mut Vec<&'a str>) -> Result<(), AllocError>
+    ensures { OnOk result (map (λ word. word.now) words.new.items ≡ words_in line.now) }
+{
+    words.clear();
+    for word in line.split(' ') {
+        if !word.is_empty() {
+            words.push(word)?;
+        }
+    }
+    Ok(())
+}
+
+/// The number that a word writes in decimal digits, if it fits its type. Leading zeros are allowed,
+/// a sign isn't.
+pub fn number<T: TryFrom<u64>>(word: &str) -> Result<T, LineError>
+where
+    T::Error: Drop,
+    ensures digits { IfOk result (λ _. IsDecimal word.now) }
+    ensures value { IfOk result (λ number. T.try_from_gives (decimal_value word.now) (Ok number)) }
+    ensures refused { IfErr result (λ error. error ≡ LineError.BadCommand) }
+    ensures unfit { IfErr result (λ _. IsDecimal word.now → decimal_value word.now < 2 ^ 64
+        → (error : T.Error) × T.try_from_gives (decimal_value word.now) (Err error)) }
+{
+    T::try_from(decimal(word)?).map_err(|_| LineError::BadCommand)
+}
+
+/// The number that a word writes in decimal digits, if it is below 2^64.
+fn decimal(word: &str) -> Result<u64, LineError>
+    ensures value { OkIff result (IsDecimal word.now × (decimal_value word.now < 2 ^ 64))
+        (decimal_value word.now) }
+    ensures refused { IfErr result (λ error. error ≡ LineError.BadCommand) }
+{
+    if word.is_empty() {
+        return Err(LineError::BadCommand);
+    }
+    let mut number = 0;
+    for digit in word.as_bytes() {
+        number = appended(number, *digit).ok_or(LineError::BadCommand)?;
+    }
+    Ok(number)
+}
+
+/// The number with one more digit, if the byte is a digit and the result is below 2^64.
+#[inline(always)]
+fn appended(number: u64, byte: u8) -> Option<u64>
+    ensures { SomeIff result
+        (IsInRange 48 57 byte × (number * 10 + digit_value byte < 2 ^ 64))
+        (number * 10 + digit_value byte) }
+{
+    let digit = byte.wrapping_sub(b'0');
+    if digit > 9 {
+        return None;
+    }
+    number.checked_mul(10)?.checked_add(digit as u64)
+}
 
 /// What one word of a command can write.
 pub trait Operand: Copy {

@@ -1,73 +1,4 @@
 //! The words of a script's line, and what they write: numbers, types, instructions and operands.
-mod decimal {
-    //! Words as numbers in decimal digits.
-
-    use crate::proved::operands::error::LineError;
-
-    /// The number that a word writes in decimal digits, if it fits its type. Leading zeros are allowed,
-    /// a sign isn't.
-    ///
-    /// # Contract
-    ///
-    /// ```text
-    /// ensures digits: IfOk result (λ _. IsDecimal word.now)
-    /// ensures value: IfOk result (λ number. T.try_from_gives (decimal_value word.now) (Ok number))
-    /// ensures refused: IfErr result (λ error. error ≡ LineError.BadCommand)
-    /// ensures unfit: IfErr result (λ _. IsDecimal word.now → decimal_value word.now < 2 ^ 64
-    ///     → (error : T.Error) × T.try_from_gives (decimal_value word.now) (Err error))
-    /// ```
-    ///
-    /// Definitions: [`IsDecimal`](crate::specs::operands::LineWordsSpecs#IsDecimal), [`decimal_value`](crate::specs::operands::LineWordsSpecs#decimal_value).
-    ///
-    /// `T` is a type with the trait `TryFrom`.
-    #[inline]
-    pub fn number<T: TryFrom<u64>>(word: &str) -> Result<T, LineError> {
-        T::try_from(decimal(word)?).map_err(|_| LineError::BadCommand)
-    }
-
-    /// The number that a word writes in decimal digits, if it is below 2^64.
-    ///
-    /// # Contract
-    ///
-    /// ```text
-    /// ensures value: OkIff result (IsDecimal word.now × (decimal_value word.now < 2 ^ 64))
-    ///     (decimal_value word.now)
-    /// ensures refused: IfErr result (λ error. error ≡ LineError.BadCommand)
-    /// ```
-    ///
-    /// Definitions: [`IsDecimal`](crate::specs::operands::LineWordsSpecs#IsDecimal), [`decimal_value`](crate::specs::operands::LineWordsSpecs#decimal_value).
-    #[inline]
-    fn decimal(word: &str) -> Result<u64, LineError> {
-        if word.is_empty() {
-            return Err(LineError::BadCommand);
-        }
-        let mut number = 0;
-        for digit in word.as_bytes() {
-            number = appended(number, *digit).ok_or(LineError::BadCommand)?;
-        }
-        Ok(number)
-    }
-
-    /// The number with one more digit, if the byte is a digit and the result is below 2^64.
-    ///
-    /// # Contract
-    ///
-    /// ```text
-    /// ensures: SomeIff result
-    ///     (IsInRange 48 57 byte × (number * 10 + digit_value byte < 2 ^ 64))
-    ///     (number * 10 + digit_value byte)
-    /// ```
-    ///
-    /// Definitions: [`IsInRange`](crate::specs::raw::NumberSpecs#IsInRange).
-    #[inline(always)]
-    fn appended(number: u64, byte: u8) -> Option<u64> {
-        let digit = byte.wrapping_sub(b'0');
-        if digit > 9 {
-            return None;
-        }
-        number.checked_mul(10)?.checked_add(digit as u64)
-    }
-}
 mod error {
     //! Why a line isn't taken.
 
@@ -169,11 +100,10 @@ pub mod lane {
     }
 }
 pub mod operand {
-    //! What words write as the operands of a command: one to five words, or a list.
+    //! The words of a line, and what they write: numbers, and the operands of a command.
 
     use crate::proved::lanes::ImmLaneIdx32;
     use crate::proved::meter::LimiterAnswer;
-    use crate::proved::operands::decimal::number;
     use crate::proved::operands::error::LineError;
     use crate::proved::ops::{
         BINARIES, BinaryOp, EXTRACTIONS, ExtractKind, LANE_LOADS, LANE_STORES, LOADS, LoadLaneKind,
@@ -184,6 +114,91 @@ pub mod operand {
     use crate::proved::typed::Mutability;
     use crate::proved::types::{IndexType, RefType, ValType};
     use crate::rattle::Vec;
+    use crate::rattle::alloc::AllocError;
+
+    /// Puts the words of a line, which spaces alone separate, in place of those of the line before.
+    ///
+    /// # Contract
+    ///
+    /// ```text
+    /// ensures: OnOk result (map (λ word. word.now) words.new.items ≡ words_in line.now)
+    /// ```
+    ///
+    /// Definitions: [`words_in`](crate::specs::operands::LineWordsSpecs#words_in).
+    #[inline]
+    pub fn read_words<'a>(line: &'a str, words: &mut Vec<&'a str>) -> Result<(), AllocError> {
+        words.clear();
+        for word in crate::rattle::between_spaces(line) {
+            if !word.is_empty() {
+                words.push(word)?;
+            }
+        }
+        Ok(())
+    }
+
+    /// The number that a word writes in decimal digits, if it fits its type. Leading zeros are allowed,
+    /// a sign isn't.
+    ///
+    /// # Contract
+    ///
+    /// ```text
+    /// ensures digits: IfOk result (λ _. IsDecimal word.now)
+    /// ensures value: IfOk result (λ number. T.try_from_gives (decimal_value word.now) (Ok number))
+    /// ensures refused: IfErr result (λ error. error ≡ LineError.BadCommand)
+    /// ensures unfit: IfErr result (λ _. IsDecimal word.now → decimal_value word.now < 2 ^ 64
+    ///     → (error : T.Error) × T.try_from_gives (decimal_value word.now) (Err error))
+    /// ```
+    ///
+    /// Definitions: [`IsDecimal`](crate::specs::operands::LineWordsSpecs#IsDecimal), [`decimal_value`](crate::specs::operands::LineWordsSpecs#decimal_value).
+    ///
+    /// `T` is a type with the trait `TryFrom`.
+    #[inline]
+    pub fn number<T: TryFrom<u64>>(word: &str) -> Result<T, LineError> {
+        T::try_from(decimal(word)?).map_err(|_| LineError::BadCommand)
+    }
+
+    /// The number that a word writes in decimal digits, if it is below 2^64.
+    ///
+    /// # Contract
+    ///
+    /// ```text
+    /// ensures value: OkIff result (IsDecimal word.now × (decimal_value word.now < 2 ^ 64))
+    ///     (decimal_value word.now)
+    /// ensures refused: IfErr result (λ error. error ≡ LineError.BadCommand)
+    /// ```
+    ///
+    /// Definitions: [`IsDecimal`](crate::specs::operands::LineWordsSpecs#IsDecimal), [`decimal_value`](crate::specs::operands::LineWordsSpecs#decimal_value).
+    #[inline]
+    fn decimal(word: &str) -> Result<u64, LineError> {
+        if word.is_empty() {
+            return Err(LineError::BadCommand);
+        }
+        let mut number = 0;
+        for digit in word.as_bytes() {
+            number = appended(number, *digit).ok_or(LineError::BadCommand)?;
+        }
+        Ok(number)
+    }
+
+    /// The number with one more digit, if the byte is a digit and the result is below 2^64.
+    ///
+    /// # Contract
+    ///
+    /// ```text
+    /// ensures: SomeIff result
+    ///     (IsInRange 48 57 byte × (number * 10 + digit_value byte < 2 ^ 64))
+    ///     (number * 10 + digit_value byte)
+    /// ```
+    ///
+    /// Definitions: [`IsInRange`](crate::specs::raw::NumberSpecs#IsInRange).
+    #[inline(always)]
+    fn appended(number: u64, byte: u8) -> Option<u64> {
+        let digit = byte.wrapping_sub(b'0');
+        if digit > 9 {
+            return None;
+        }
+        number.checked_mul(10)?.checked_add(digit as u64)
+    }
 
     /// What one word of a command can write.
     ///
@@ -752,33 +767,6 @@ pub mod operand {
         Ok(list)
     }
 }
-mod words {
-    //! The words of a line, which spaces alone separate.
 
-    use crate::rattle::Vec;
-    use crate::rattle::alloc::AllocError;
-
-    /// Puts the words of a line, which spaces alone separate, in place of those of the line before.
-    ///
-    /// # Contract
-    ///
-    /// ```text
-    /// ensures: OnOk result (map (λ word. word.now) words.new.items ≡ words_in line.now)
-    /// ```
-    ///
-    /// Definitions: [`words_in`](crate::specs::operands::LineWordsSpecs#words_in).
-    #[inline]
-    pub fn read_words<'a>(line: &'a str, words: &mut Vec<&'a str>) -> Result<(), AllocError> {
-        words.clear();
-        for word in crate::rattle::between_spaces(line) {
-            if !word.is_empty() {
-                words.push(word)?;
-            }
-        }
-        Ok(())
-    }
-}
-
-pub use decimal::number;
 pub use error::LineError;
-pub use words::read_words;
+pub use operand::{number, read_words};

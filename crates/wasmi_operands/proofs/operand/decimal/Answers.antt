@@ -7,7 +7,7 @@ use Rattle.std.proofs.lemmas.Str.{digit_value_digit}
 use Rattle.std.proofs.lemmas.Str.Parse.{digit_at, digits_value-take-le}
 use Rattle.wasmi_operands.specs.LineWords.{IsDecimal, decimal_value}
 use Rattle.wasmi_operands.proofs.LineWordsLemmas.{digits_more}
-use Rattle.wasmi_operands.proofs.decimal.decimal.Goals as goal
+use Rattle.wasmi_operands.proofs.operand.decimal.Goals as goal
 
 pub returns-then-is_empty-clause-value : goal.returns-then-is_empty-clause-value
 unfolding IsDecimal

@@ -2,7 +2,7 @@ use Rattle.std.proofs.Common.{◌∙◌, filter, length, lit<, nat_lt, ap}
 use Rattle.std.proofs.lemmas.Iterator.Consumers.{YieldsList-at, YieldsList-end}
 use Rattle.std.proofs.lemmas.Iterator.Splits.{YieldsList-from_str_split}
 use Rattle.wasmi_operands.specs.LineWords.{words_in}
-use Rattle.wasmi_operands.proofs.words.read_words.Goals as goal
+use Rattle.wasmi_operands.proofs.operand.read_words.Goals as goal
 
 pub returns : goal.returns
 unfolding words_in
