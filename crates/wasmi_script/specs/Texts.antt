@@ -14,7 +14,7 @@ use Rattle.wasmi_script.specs.declared.error.ReplayError.TheVariants.{Parse, Too
 use Rattle.wasmi_grammar.specs.declared.error.ParseError.TheVariants.{BadCommand, OutOfMemory}
 use Rattle.wasmi_operands.specs.Names.{reference_word}
 use Rattle.wasmi_script.specs.Printing.{number_text}
-use Rattle.wasmi_script.specs.declared.wording.Wording.{Wording}
+use Rattle.wasmi_script.specs.declared.printing.Wording.{Wording}
 use Rattle.wasmi_machine.specs.declared.calls.Reply.TheVariants as reply
 
 -- the word for what a call makes; only creations make anything

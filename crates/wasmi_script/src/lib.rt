@@ -8,7 +8,6 @@ mod printing;
 mod replaying;
 mod running;
 mod streams;
-mod wording;
 
 pub use error::ReplayError;
 pub use lines::write_lines;

@@ -5,8 +5,7 @@ ghost use Rattle.wasmi_script.specs.Printing.{AddsToFront, FillsFront, number_te
 ghost use Rattle.wasmi_script.specs.Outcomes.{replies_text};
 ghost use Rattle.wasmi_script.specs.Texts.{bytes_text, reply_text};
 
-use crate::printing::bytes_of;
-use crate::wording::Wording;
+use crate::printing::{Wording, bytes_of};
 use wasmi_machine::{Call, Reply};
 
 /// Writes a line for each call with its reply to the front of bytes, as much of the lines as fits.

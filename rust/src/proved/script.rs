@@ -110,8 +110,7 @@ mod lines {
     //! The lines for calls and their replies, written to the front of bytes as far as they fit.
 
     use crate::proved::machine::{Call, Reply};
-    use crate::proved::script::printing::bytes_of;
-    use crate::proved::script::wording::Wording;
+    use crate::proved::script::printing::{Wording, bytes_of};
 
     /// Writes a line for each call with its reply to the front of bytes, as much of the lines as fits.
     /// It returns the length of all the lines, or 2^64 - 1 if they are longer. It takes no memory.
@@ -232,16 +231,17 @@ mod lines {
     }
 }
 mod printing {
-    //! The lines that a replay prints, by its outcome, and the printer that they go through.
+    //! The lines that a replay prints, by its outcome, the words of a reply, and the printer.
 
     use crate::proved::budget::Pool;
     use crate::proved::grammar::Script;
     use crate::proved::machine::{Call, Reply};
     use crate::proved::meter::Amounts;
     use crate::proved::script::error::ReplayError;
+    use crate::proved::script::lines::{put, put_optional};
     use crate::proved::script::running::{Held, Ran};
     use crate::proved::script::streams::Output;
-    use crate::proved::script::wording::Wording;
+    use crate::proved::types::RefType;
     use crate::rattle::arrayvec::ArrayString;
     use crate::rattle::arrayvec::{Show, Sink};
     use std::{fmt, io};
@@ -522,6 +522,131 @@ mod printing {
                 (None, Some(second)) => (" ", &second).show(f),
                 (Some(first), Some(second)) => (&first, " ", &second).show(f),
             }
+        }
+    }
+
+    /// Words in two parts, then a number, if there is one, and then a second one after a space.
+    #[derive(Clone, Copy)]
+    pub struct Wording {
+        /// The first words.
+        pub start: &'static str,
+        /// The words after them, which may be none.
+        pub words: &'static str,
+        /// The number after the words.
+        pub first: Option<u64>,
+        /// The number after that one and a space.
+        pub second: Option<u64>,
+    }
+
+    impl Wording {
+        /// What a reply says but for its bytes.
+        ///
+        /// # Contract
+        ///
+        /// ```text
+        /// ensures: wording_text result ≡ head_text call.now reply.now
+        /// ```
+        ///
+        /// Definitions: [`wording_text`](crate::specs::script::TextsSpecs#wording_text), [`head_text`](crate::specs::script::TextsSpecs#head_text).
+        #[must_use]
+        #[inline]
+        pub fn of(call: &Call, reply: &Reply) -> Wording {
+            match reply {
+                Reply::Done => Wording::with("done", "", None),
+                Reply::Bytes(_) => Wording::with("bytes", "", None),
+                Reply::Reference(None) => Wording::with("none", "", None),
+                Reply::NoSuch => Wording::with("no such", "", None),
+                Reply::NoRegion => Wording::with("no region", "", None),
+                Reply::NoRoom => Wording::with("no room", "", None),
+                Reply::Made(index) => Wording::with(made_word(call), " ", Some(*index as u64)),
+                Reply::Value(value) => Wording {
+                    start: "raw ",
+                    words: "",
+                    first: Some(value.lo),
+                    second: Some(value.hi),
+                },
+                Reply::Number(number) => Wording::with("value ", "", Some(*number)),
+                Reply::Reference(Some(reference)) => {
+                    let raw = u64::from(u32::from(reference.raw));
+                    match reference.ty {
+                        RefType::Func => Wording::with("func", " ", Some(raw)),
+                        RefType::Extern => Wording::with("extern", " ", Some(raw)),
+                    }
+                }
+                Reply::Memory(error) => Wording::of_error(error.words()),
+                Reply::Table(error) => Wording::of_error(error.words()),
+                Reply::Fuel(error) => Wording::of_error(error.words()),
+                Reply::Global(error) => Wording::with("error ", error.words(), None),
+                Reply::Segment(error) => Wording::with("error ", error.words(), None),
+                Reply::Trap(code) => Wording::with("error ", code.trap_message(), None),
+            }
+        }
+
+        /// # Contract
+        ///
+        /// ```text
+        /// ensures: wording_text result ≡ start.now ++ numbered words.now first
+        /// ```
+        ///
+        /// Definitions: [`wording_text`](crate::specs::script::TextsSpecs#wording_text), [`numbered`](crate::specs::meter::TextsSpecs#numbered).
+        #[inline]
+        fn with(start: &'static str, words: &'static str, first: Option<u64>) -> Wording {
+            Wording {
+                start,
+                words,
+                first,
+                second: None,
+            }
+        }
+
+        /// # Contract
+        ///
+        /// ```text
+        /// ensures: wording_text result ≡ codes "error " ++ numbered error.entry.0.now error.entry.1
+        /// ```
+        ///
+        /// Definitions: [`wording_text`](crate::specs::script::TextsSpecs#wording_text), [`numbered`](crate::specs::meter::TextsSpecs#numbered).
+        #[inline]
+        fn of_error(error: (&'static str, Option<u64>)) -> Wording {
+            Wording::with("error ", error.0, error.1)
+        }
+
+        /// Writes it to the front of bytes, as [`put`] does a text.
+        ///
+        /// # Contract
+        ///
+        /// ```text
+        /// ensures: AddsToFront (wording_text self) bytes.old written bytes.new result
+        /// ```
+        ///
+        /// Definitions: [`AddsToFront`](crate::specs::script::PrintingSpecs#AddsToFront), [`wording_text`](crate::specs::script::TextsSpecs#wording_text).
+        #[inline]
+        pub fn put(self, bytes: &mut [u8], written: usize) -> usize {
+            let started = put(bytes, written, self.start.as_bytes());
+            let worded = put(bytes, started, self.words.as_bytes());
+            let numbered = put_optional(bytes, worded, "", self.first);
+            put_optional(bytes, numbered, " ", self.second)
+        }
+    }
+
+    /// The word for what the call makes. `Made` answers no call that isn't a creation.
+    ///
+    /// # Contract
+    ///
+    /// ```text
+    /// ensures: result.now ≡ kind_text call.now
+    /// ```
+    ///
+    /// Definitions: [`kind_text`](crate::specs::script::TextsSpecs#kind_text).
+    #[inline]
+    fn made_word(call: &Call) -> &'static str {
+        match call {
+            Call::NewMemory(_) | Call::NewLentMemory(_) => "memory",
+            Call::NewTable { .. } => "table",
+            Call::NewSegment { .. } => "segment",
+            Call::NewData(_) => "data",
+            Call::NewGlobal { .. } => "global",
+            _ => "nothing",
         }
     }
 
@@ -1226,138 +1351,6 @@ mod streams {
         #[inline]
         fn flush_all(&mut self) -> io::Result<()> {
             self.flush()
-        }
-    }
-}
-mod wording {
-    //! What a reply says, as words and numbers.
-
-    use crate::proved::machine::{Call, Reply};
-    use crate::proved::script::lines::{put, put_optional};
-    use crate::proved::types::RefType;
-
-    /// Words in two parts, then a number, if there is one, and then a second one after a space.
-    #[derive(Clone, Copy)]
-    pub struct Wording {
-        /// The first words.
-        pub start: &'static str,
-        /// The words after them, which may be none.
-        pub words: &'static str,
-        /// The number after the words.
-        pub first: Option<u64>,
-        /// The number after that one and a space.
-        pub second: Option<u64>,
-    }
-
-    impl Wording {
-        /// What a reply says but for its bytes.
-        ///
-        /// # Contract
-        ///
-        /// ```text
-        /// ensures: wording_text result ≡ head_text call.now reply.now
-        /// ```
-        ///
-        /// Definitions: [`wording_text`](crate::specs::script::TextsSpecs#wording_text), [`head_text`](crate::specs::script::TextsSpecs#head_text).
-        #[must_use]
-        #[inline]
-        pub fn of(call: &Call, reply: &Reply) -> Wording {
-            match reply {
-                Reply::Done => Wording::with("done", "", None),
-                Reply::Bytes(_) => Wording::with("bytes", "", None),
-                Reply::Reference(None) => Wording::with("none", "", None),
-                Reply::NoSuch => Wording::with("no such", "", None),
-                Reply::NoRegion => Wording::with("no region", "", None),
-                Reply::NoRoom => Wording::with("no room", "", None),
-                Reply::Made(index) => Wording::with(made_word(call), " ", Some(*index as u64)),
-                Reply::Value(value) => Wording {
-                    start: "raw ",
-                    words: "",
-                    first: Some(value.lo),
-                    second: Some(value.hi),
-                },
-                Reply::Number(number) => Wording::with("value ", "", Some(*number)),
-                Reply::Reference(Some(reference)) => {
-                    let raw = u64::from(u32::from(reference.raw));
-                    match reference.ty {
-                        RefType::Func => Wording::with("func", " ", Some(raw)),
-                        RefType::Extern => Wording::with("extern", " ", Some(raw)),
-                    }
-                }
-                Reply::Memory(error) => Wording::of_error(error.words()),
-                Reply::Table(error) => Wording::of_error(error.words()),
-                Reply::Fuel(error) => Wording::of_error(error.words()),
-                Reply::Global(error) => Wording::with("error ", error.words(), None),
-                Reply::Segment(error) => Wording::with("error ", error.words(), None),
-                Reply::Trap(code) => Wording::with("error ", code.trap_message(), None),
-            }
-        }
-
-        /// # Contract
-        ///
-        /// ```text
-        /// ensures: wording_text result ≡ start.now ++ numbered words.now first
-        /// ```
-        ///
-        /// Definitions: [`wording_text`](crate::specs::script::TextsSpecs#wording_text), [`numbered`](crate::specs::meter::TextsSpecs#numbered).
-        #[inline]
-        fn with(start: &'static str, words: &'static str, first: Option<u64>) -> Wording {
-            Wording {
-                start,
-                words,
-                first,
-                second: None,
-            }
-        }
-
-        /// # Contract
-        ///
-        /// ```text
-        /// ensures: wording_text result ≡ codes "error " ++ numbered error.entry.0.now error.entry.1
-        /// ```
-        ///
-        /// Definitions: [`wording_text`](crate::specs::script::TextsSpecs#wording_text), [`numbered`](crate::specs::meter::TextsSpecs#numbered).
-        #[inline]
-        fn of_error(error: (&'static str, Option<u64>)) -> Wording {
-            Wording::with("error ", error.0, error.1)
-        }
-
-        /// Writes it to the front of bytes, as [`put`] does a text.
-        ///
-        /// # Contract
-        ///
-        /// ```text
-        /// ensures: AddsToFront (wording_text self) bytes.old written bytes.new result
-        /// ```
-        ///
-        /// Definitions: [`AddsToFront`](crate::specs::script::PrintingSpecs#AddsToFront), [`wording_text`](crate::specs::script::TextsSpecs#wording_text).
-        #[inline]
-        pub fn put(self, bytes: &mut [u8], written: usize) -> usize {
-            let started = put(bytes, written, self.start.as_bytes());
-            let worded = put(bytes, started, self.words.as_bytes());
-            let numbered = put_optional(bytes, worded, "", self.first);
-            put_optional(bytes, numbered, " ", self.second)
-        }
-    }
-
-    /// The word for what the call makes. `Made` answers no call that isn't a creation.
-    ///
-    /// # Contract
-    ///
-    /// ```text
-    /// ensures: result.now ≡ kind_text call.now
-    /// ```
-    ///
-    /// Definitions: [`kind_text`](crate::specs::script::TextsSpecs#kind_text).
-    #[inline]
-    fn made_word(call: &Call) -> &'static str {
-        match call {
-            Call::NewMemory(_) | Call::NewLentMemory(_) => "memory",
-            Call::NewTable { .. } => "table",
-            Call::NewSegment { .. } => "segment",
-            Call::NewData(_) => "data",
-            Call::NewGlobal { .. } => "global",
-            _ => "nothing",
         }
     }
 }

@@ -7607,7 +7607,7 @@ use Rattle.wasmi_script.specs.declared.error.ReplayError.TheVariants.{Parse, Too
 use Rattle.wasmi_grammar.specs.declared.error.ParseError.TheVariants.{BadCommand, OutOfMemory}
 use Rattle.wasmi_operands.specs.Names.{<a href="../../operands/NamesSpecs/index.html#reference_word">reference_word</a>}
 use Rattle.wasmi_script.specs.Printing.{<a href="../../script/PrintingSpecs/index.html#number_text">number_text</a>}
-use Rattle.wasmi_script.specs.declared.wording.Wording.{Wording}
+use Rattle.wasmi_script.specs.declared.printing.Wording.{Wording}
 use Rattle.wasmi_machine.specs.declared.calls.Reply.TheVariants as reply
 
 -- the word for what a call makes; only creations make anything
