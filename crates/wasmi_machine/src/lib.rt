@@ -9,7 +9,6 @@ mod machine;
 mod memories;
 mod registers;
 mod replies;
-mod reserved_list;
 mod running;
 mod slots;
 mod store;

@@ -8,8 +8,7 @@ use crate::calls::{Call, Reply};
 use crate::data::DataSegment;
 use crate::memories::{Stored, bytes_reply};
 use crate::registers::Registers;
-use crate::reserved_list::ReservedList;
-use crate::slots::{SlotCounts, Slots};
+use crate::slots::{ReservedList, SlotCounts, Slots};
 use crate::values::{
     create_data, create_global, create_segment, drop_data, drop_items, get_global, set_global,
 };

@@ -7,7 +7,7 @@ ghost use Rattle.wasmi_machine.specs.ValueEffects.{CreatesSegment, DropsDataAt, 
 
 use crate::calls::Reply;
 use crate::data::DataSegment;
-use crate::reserved_list::ReservedList;
+use crate::slots::ReservedList;
 use std::alloc::Global as Allocator;
 use wasmi_raw::{RawRef, RawVal};
 use wasmi_store::ElementSegment;

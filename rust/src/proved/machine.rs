@@ -833,8 +833,7 @@ mod machine {
     use crate::proved::machine::data::DataSegment;
     use crate::proved::machine::memories::Stored;
     use crate::proved::machine::registers::Registers;
-    use crate::proved::machine::reserved_list::ReservedList;
-    use crate::proved::machine::slots::{SlotCounts, Slots};
+    use crate::proved::machine::slots::{ReservedList, SlotCounts, Slots};
     use crate::proved::machine::store::MachineStore;
     use crate::proved::meter::{Fuel, FuelError};
     use crate::proved::ops::StoreOp;
@@ -1785,180 +1784,6 @@ mod replies {
 
     impl core::error::Error for TooManyCalls {}
 }
-mod reserved_list {
-    //! Lists with memory for items that are still to be added.
-
-    use crate::rattle::Vec;
-    use crate::rattle::alloc::AllocError;
-
-    /// Items by their indices, which count from 0. Up to as many as are reserved, those that are there
-    /// included, one more takes no memory.
-    ///
-    /// # Model
-    ///
-    /// ```text
-    /// Value = ReservedListValue T
-    /// view = λ list. record {
-    ///     items = list.items.items;
-    ///     reserved = list.reserved;
-    ///     capacity = vec_capacity list.items;
-    ///     }
-    /// invariant = λ list. list.reserved ≤ vec_capacity list.items
-    /// ```
-    ///
-    /// Definitions: [`ReservedListValue`](crate::specs::machine::ReservedListSpecs#ReservedListValue).
-    ///
-    /// `T` is any type.
-    pub(crate) struct ReservedList<T> {
-        items: Vec<T>,
-        reserved: usize,
-    }
-
-    impl<T> ReservedList<T> {
-        /// No item yet, and none reserved. It takes no memory.
-        ///
-        /// # Contract
-        ///
-        /// ```text
-        /// ensures: result ≡ record { items = []; reserved = 0; capacity = 0 }
-        /// ```
-        #[inline]
-        pub(crate) fn new() -> Self {
-            ReservedList {
-                items: Vec::new(),
-                reserved: 0,
-            }
-        }
-
-        /// The items.
-        ///
-        /// # Contract
-        ///
-        /// ```text
-        /// ensures: result.now ≡ self.now.items
-        /// ```
-        #[inline]
-        pub(crate) fn as_slice(&self) -> &[T] {
-            self.items.as_slice()
-        }
-
-        /// The item of an index, if there is one.
-        ///
-        /// # Contract
-        ///
-        /// ```text
-        /// ensures: option_copied result ≡ slice_get self.now.items index
-        /// ```
-        #[inline]
-        pub(crate) fn get(&self, index: usize) -> Option<&T> {
-            self.items.get(index)
-        }
-
-        /// The item of an index, to be changed.
-        ///
-        /// # Contract
-        ///
-        /// ```text
-        /// requires there: index < length self.old.items
-        /// ensures* writes_back: sem 𝓛
-        ///     (Lends (the_row T.row) T.row self.entry result (with_item self.old index))
-        /// ensures value: slice_get self.old.items index ≡ Some result.now
-        /// ```
-        ///
-        /// Definitions: [`with_item`](crate::specs::machine::ReservedListSpecs#with_item).
-        ///
-        /// `T` is any type.
-        #[inline]
-        pub(crate) fn item_mut(&mut self, index: usize) -> &mut T {
-            &mut self.items[index]
-        }
-
-        /// The item of an index, if there is one, to be changed.
-        ///
-        /// # Contract
-        ///
-        /// ```text
-        /// ensures* writes_back: sem 𝓛
-        ///     (LendsIf (the_row T.row) T.row self.entry result (with_item self.old index) self.old)
-        /// ensures value: option_copied_mut result ≡ slice_get self.old.items index
-        /// ```
-        ///
-        /// Definitions: [`with_item`](crate::specs::machine::ReservedListSpecs#with_item).
-        ///
-        /// `T` is any type.
-        #[inline]
-        pub(crate) fn get_mut(&mut self, index: usize) -> Option<&mut T> {
-            self.items.get_mut(index)
-        }
-
-        /// The items, to be changed.
-        ///
-        /// # Contract
-        ///
-        /// ```text
-        /// ensures* writes_back: sem 𝓛
-        ///     (Lends (the_row T.row) (Array T.row 0) self.entry result (with_items self.old))
-        /// ensures value: result.now ≡ self.old.items
-        /// ```
-        ///
-        /// Definitions: [`with_items`](crate::specs::machine::ReservedListSpecs#with_items).
-        ///
-        /// `T` is any type.
-        #[inline]
-        pub(crate) fn as_mut_slice(&mut self) -> &mut [T] {
-            self.items.as_mut_slice()
-        }
-
-        /// Asks for memory for so many more items, unless it is there.
-        ///
-        /// # Errors
-        ///
-        /// `AllocError` if it is refused; then so many more items aren't reserved.
-        ///
-        /// # Contract
-        ///
-        /// ```text
-        /// ensures items: self.new.items ≡ self.old.items
-        /// ensures reserved: self.new.reserved ≡ self.old.reserved
-        /// ensures had: OnOk result (length self.old.items + additional ≤ self.new.capacity)
-        /// ensures refused: OnErr result (self.old.reserved < length self.old.items + additional)
-        /// ```
-        #[inline]
-        pub(crate) fn try_reserve(&mut self, additional: usize) -> Result<(), AllocError> {
-            self.items.try_reserve(additional)
-        }
-
-        /// Reserves so many more items, for which there is memory.
-        ///
-        /// # Contract
-        ///
-        /// ```text
-        /// requires room: length self.old.items + additional ≤ self.old.capacity
-        /// ensures reserved: self.new ≡ record self.old
-        ///     { reserved = max self.old.reserved (length self.old.items + additional) }
-        /// ```
-        #[inline]
-        pub(crate) fn keep_reserved(&mut self, additional: usize) {
-            self.reserved = self.reserved.max(self.items.len() + additional);
-        }
-
-        /// Adds an item, for which there is memory, and returns its index.
-        ///
-        /// # Contract
-        ///
-        /// ```text
-        /// requires room: length self.old.items < self.old.capacity
-        /// ensures index: result ≡ length self.old.items
-        /// ensures items: self.new ≡ record self.old { items = self.old.items ++ item ∷ [] }
-        /// ```
-        #[inline]
-        pub(crate) fn push(&mut self, item: T) -> usize {
-            let index = self.items.len();
-            self.items.push_reserved(item);
-            index
-        }
-    }
-}
 mod running {
     //! One call, and runs of calls. They are our own: upstream leaves running to the interpreter.
 
@@ -2279,11 +2104,12 @@ mod running {
     }
 }
 mod slots {
-    //! Slots: what was made, each at the index of its making.
+    //! Slots: what was made, each at the index of its making; and lists with memory for more items.
 
     use crate::proved::machine::calls::Reply;
-    use crate::proved::machine::reserved_list::ReservedList;
     use crate::proved::store::{Memory, Table};
+    use crate::rattle::Vec;
+    use crate::rattle::alloc::AllocError;
     use core::mem;
 
     /// What counts in a machine's totals: a memory by its bytes, a table by its elements.
@@ -2539,6 +2365,174 @@ mod slots {
             total
         }
     }
+
+    /// Items by their indices, which count from 0. Up to as many as are reserved, those that are there
+    /// included, one more takes no memory.
+    ///
+    /// # Model
+    ///
+    /// ```text
+    /// Value = ReservedListValue T
+    /// view = λ list. record {
+    ///     items = list.items.items;
+    ///     reserved = list.reserved;
+    ///     capacity = vec_capacity list.items;
+    ///     }
+    /// invariant = λ list. list.reserved ≤ vec_capacity list.items
+    /// ```
+    ///
+    /// Definitions: [`ReservedListValue`](crate::specs::machine::ReservedListSpecs#ReservedListValue).
+    ///
+    /// `T` is any type.
+    pub(crate) struct ReservedList<T> {
+        items: Vec<T>,
+        reserved: usize,
+    }
+
+    impl<T> ReservedList<T> {
+        /// No item yet, and none reserved. It takes no memory.
+        ///
+        /// # Contract
+        ///
+        /// ```text
+        /// ensures: result ≡ record { items = []; reserved = 0; capacity = 0 }
+        /// ```
+        #[inline]
+        pub(crate) fn new() -> Self {
+            ReservedList {
+                items: Vec::new(),
+                reserved: 0,
+            }
+        }
+
+        /// The items.
+        ///
+        /// # Contract
+        ///
+        /// ```text
+        /// ensures: result.now ≡ self.now.items
+        /// ```
+        #[inline]
+        pub(crate) fn as_slice(&self) -> &[T] {
+            self.items.as_slice()
+        }
+
+        /// The item of an index, if there is one.
+        ///
+        /// # Contract
+        ///
+        /// ```text
+        /// ensures: option_copied result ≡ slice_get self.now.items index
+        /// ```
+        #[inline]
+        pub(crate) fn get(&self, index: usize) -> Option<&T> {
+            self.items.get(index)
+        }
+
+        /// The item of an index, to be changed.
+        ///
+        /// # Contract
+        ///
+        /// ```text
+        /// requires there: index < length self.old.items
+        /// ensures* writes_back: sem 𝓛
+        ///     (Lends (the_row T.row) T.row self.entry result (with_item self.old index))
+        /// ensures value: slice_get self.old.items index ≡ Some result.now
+        /// ```
+        ///
+        /// Definitions: [`with_item`](crate::specs::machine::ReservedListSpecs#with_item).
+        ///
+        /// `T` is any type.
+        #[inline]
+        pub(crate) fn item_mut(&mut self, index: usize) -> &mut T {
+            &mut self.items[index]
+        }
+
+        /// The item of an index, if there is one, to be changed.
+        ///
+        /// # Contract
+        ///
+        /// ```text
+        /// ensures* writes_back: sem 𝓛
+        ///     (LendsIf (the_row T.row) T.row self.entry result (with_item self.old index) self.old)
+        /// ensures value: option_copied_mut result ≡ slice_get self.old.items index
+        /// ```
+        ///
+        /// Definitions: [`with_item`](crate::specs::machine::ReservedListSpecs#with_item).
+        ///
+        /// `T` is any type.
+        #[inline]
+        pub(crate) fn get_mut(&mut self, index: usize) -> Option<&mut T> {
+            self.items.get_mut(index)
+        }
+
+        /// The items, to be changed.
+        ///
+        /// # Contract
+        ///
+        /// ```text
+        /// ensures* writes_back: sem 𝓛
+        ///     (Lends (the_row T.row) (Array T.row 0) self.entry result (with_items self.old))
+        /// ensures value: result.now ≡ self.old.items
+        /// ```
+        ///
+        /// Definitions: [`with_items`](crate::specs::machine::ReservedListSpecs#with_items).
+        ///
+        /// `T` is any type.
+        #[inline]
+        pub(crate) fn as_mut_slice(&mut self) -> &mut [T] {
+            self.items.as_mut_slice()
+        }
+
+        /// Asks for memory for so many more items, unless it is there.
+        ///
+        /// # Errors
+        ///
+        /// `AllocError` if it is refused; then so many more items aren't reserved.
+        ///
+        /// # Contract
+        ///
+        /// ```text
+        /// ensures items: self.new.items ≡ self.old.items
+        /// ensures reserved: self.new.reserved ≡ self.old.reserved
+        /// ensures had: OnOk result (length self.old.items + additional ≤ self.new.capacity)
+        /// ensures refused: OnErr result (self.old.reserved < length self.old.items + additional)
+        /// ```
+        #[inline]
+        pub(crate) fn try_reserve(&mut self, additional: usize) -> Result<(), AllocError> {
+            self.items.try_reserve(additional)
+        }
+
+        /// Reserves so many more items, for which there is memory.
+        ///
+        /// # Contract
+        ///
+        /// ```text
+        /// requires room: length self.old.items + additional ≤ self.old.capacity
+        /// ensures reserved: self.new ≡ record self.old
+        ///     { reserved = max self.old.reserved (length self.old.items + additional) }
+        /// ```
+        #[inline]
+        pub(crate) fn keep_reserved(&mut self, additional: usize) {
+            self.reserved = self.reserved.max(self.items.len() + additional);
+        }
+
+        /// Adds an item, for which there is memory, and returns its index.
+        ///
+        /// # Contract
+        ///
+        /// ```text
+        /// requires room: length self.old.items < self.old.capacity
+        /// ensures index: result ≡ length self.old.items
+        /// ensures items: self.new ≡ record self.old { items = self.old.items ++ item ∷ [] }
+        /// ```
+        #[inline]
+        pub(crate) fn push(&mut self, item: T) -> usize {
+            let index = self.items.len();
+            self.items.push_reserved(item);
+            index
+        }
+    }
 }
 mod store {
     //! The store of a machine: what was made, the registers and the meter, and what each call does to
@@ -2548,8 +2542,7 @@ mod store {
     use crate::proved::machine::data::DataSegment;
     use crate::proved::machine::memories::{Stored, bytes_reply};
     use crate::proved::machine::registers::Registers;
-    use crate::proved::machine::reserved_list::ReservedList;
-    use crate::proved::machine::slots::{SlotCounts, Slots};
+    use crate::proved::machine::slots::{ReservedList, SlotCounts, Slots};
     use crate::proved::machine::values::{
         create_data, create_global, create_segment, drop_data, drop_items, get_global, set_global,
     };
@@ -3300,7 +3293,7 @@ mod values {
 
     use crate::proved::machine::calls::Reply;
     use crate::proved::machine::data::DataSegment;
-    use crate::proved::machine::reserved_list::ReservedList;
+    use crate::proved::machine::slots::ReservedList;
     use crate::proved::raw::{RawRef, RawVal};
     use crate::proved::store::ElementSegment;
     use crate::proved::typed::{Global, GlobalType, TypedRawVal};
