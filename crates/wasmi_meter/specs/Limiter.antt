@@ -7,8 +7,8 @@ use Rattle.wasmi_meter.specs.declared.error.MemoryError.{MemoryError}
 use Rattle.wasmi_meter.specs.declared.error.TableError.{TableError}
 use Rattle.std.specs.Option.{option_copied_mut}
 use Rattle.std.specs.Borrow.{MutBor, LendsIf, Fml, RattleType}
-use Rattle.wasmi_meter.specs.declared.limiter_ref.LimiterRef.{LimiterRef}
-use Rattle.wasmi_meter.specs.contracts.limiter_ref.LimiterRef.{the_row}
+use Rattle.wasmi_meter.specs.declared.limiter.LimiterRef.{LimiterRef}
+use Rattle.wasmi_meter.specs.contracts.limiter.LimiterRef.{the_row}
 
 -- May this grow from current to desired, where maximum is the most that its type allows?
 pub record Question : Type 0 where

@@ -9,7 +9,6 @@ mod error;
 mod fuel;
 mod holdings;
 mod limiter;
-mod limiter_ref;
 mod quota;
 
 pub use amounts::Amounts;
@@ -19,6 +18,7 @@ pub use capped::{CappedLimiter, Reserving};
 pub use error::{LimiterError, MemoryError, TableError};
 pub use fuel::{CustomFuelCosts, Fuel, FuelCosts, FuelCostsProvider, FuelError, ValueSize};
 pub use holdings::Holdings;
-pub use limiter::{Kind, LimiterByKind, NoLimits, ResourceLimiter};
-pub use limiter_ref::{Lender, LimiterRef, ResourceLimiterRef};
+pub use limiter::{
+    Kind, Lender, LimiterByKind, LimiterRef, NoLimits, ResourceLimiter, ResourceLimiterRef,
+};
 pub use quota::Quota;

@@ -1198,9 +1198,10 @@ mod holdings {
 }
 mod limiter {
     //! Who may grow: a limiter is asked before each growth, and notified if a growth that it permitted
-    //! fails.
+    //! fails; and references to limiters.
 
     use crate::proved::meter::error::{LimiterError, MemoryError, TableError};
+    use core::fmt;
 
     /// What grows: a linear memory, in bytes, or a table, in elements.
     ///
@@ -1560,13 +1561,6 @@ mod limiter {
             Ok(())
         }
     }
-}
-mod limiter_ref {
-    //! A borrowed limiter, or none.
-
-    use crate::proved::meter::error::{LimiterError, MemoryError, TableError};
-    use crate::proved::meter::limiter::ResourceLimiter;
-    use core::fmt;
 
     mod sealed {
         #[allow(unnameable_types)]
@@ -2036,6 +2030,7 @@ pub use capped::{CappedLimiter, Reserving};
 pub use error::{LimiterError, MemoryError, TableError};
 pub use fuel::{CustomFuelCosts, Fuel, FuelCosts, FuelCostsProvider, FuelError, ValueSize};
 pub use holdings::Holdings;
-pub use limiter::{Kind, LimiterByKind, NoLimits, ResourceLimiter};
-pub use limiter_ref::{Lender, LimiterRef, ResourceLimiterRef};
+pub use limiter::{
+    Kind, Lender, LimiterByKind, LimiterRef, NoLimits, ResourceLimiter, ResourceLimiterRef,
+};
 pub use quota::Quota;
