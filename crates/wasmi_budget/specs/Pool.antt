@@ -1,12 +1,12 @@
 -- A pool of tenants: a tenant's rules, what the machines hold together, what a run of one of them does, and what its errors print.
-use Rattle.wasmi_meter.specs.declared.holdings.Holdings.{Holdings}
+use Rattle.wasmi_meter.specs.declared.quota.Holdings.{Holdings}
 use Rattle.wasmi_meter.specs.Capped.{amount_of, nothing, amounts_of, Capped, capped_rules, held_together}
 use Rattle.wasmi_meter.specs.Limiter.{Rules, optional_rules}
 use Rattle.wasmi_budget.specs.declared.tenant.Tenant.{Tenant}
 use Rattle.std.specs.Prelude.{◌≡◌, ◌≤◌, ◌<◌, ◌+◌, ◌-◌, ◌^◌, ◌++◌, ⊤, ℕ, List, [], ◌∷◌, Option, Some, None, slice_index_or, slice_set, sum_by, remove, codes}
 use Rattle.wasmi_meter.specs.declared.limiter.Kind.{Kind}
 use Rattle.wasmi_meter.specs.declared.limiter.Kind.TheVariants.{Bytes, Elements}
-use Rattle.wasmi_meter.specs.declared.amounts.Amounts.{Amounts}
+use Rattle.wasmi_meter.specs.declared.quota.Amounts.{Amounts}
 use Rattle.wasmi_machine.specs.declared.calls.Call.{Call}
 use Rattle.wasmi_machine.specs.declared.calls.Call.TheVariants.{Binary, CopyMemory, FillMemory, InitMemory, SetFuel, Store}
 use Rattle.wasmi_machine.specs.declared.calls.Reply.{Reply}

@@ -26,7 +26,7 @@ use Rattle.wasmi_c.specs.Numbers.{KeepsQuota, Placed, limiter_of, quota_of}
 use Rattle.wasmi_c.specs.MemoryCalls.{EndsMemory}
 use Rattle.wasmi_c.specs.declared.numbers.MemoryNumbers.{MemoryNumbers}
 use Rattle.wasmi_c.specs.declared.status.TheConstants.{DONE, NOT_HELD}
-use Rattle.wasmi_meter.specs.declared.holdings.Holdings.{Holdings}
+use Rattle.wasmi_meter.specs.declared.quota.Holdings.{Holdings}
 use Rattle.std.specs.Prelude.{nat_eq}
 use Rattle.std.proofs.lemmas.Bool.Decides.{nat_tests}
 use Rattle.wasmi_c.specs.SharedQuota.{HoldsSums, OneQuotaHoldsEach, sizes_made}

@@ -8,7 +8,7 @@ use Rattle.std.specs.Prelude.{MatchOption, if◌then◌else◌, max, nat_eq, sli
 use Rattle.std.specs.Option.{option_and_then}
 use Rattle.wasmi_store.specs.Table.{TableValue}
 use Rattle.wasmi_meter.specs.Limiter.{optional_rules}
-use Rattle.wasmi_meter.specs.declared.amounts.Amounts.{Amounts}
+use Rattle.wasmi_meter.specs.declared.quota.Amounts.{Amounts}
 use Rattle.wasmi_machine.specs.declared.calls.Call.{Call}
 use Rattle.wasmi_machine.specs.declared.calls.Reply.{Reply}
 use Rattle.wasmi_machine.specs.declared.calls.Reply.TheVariants.{Done, NoRoom, NoSuch}

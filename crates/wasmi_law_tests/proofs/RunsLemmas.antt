@@ -20,7 +20,7 @@ use Rattle.wasmi_meter.specs.declared.quota.Quota.{Quota}
 use Rattle.wasmi_meter.specs.Capped.{holdings, cap_of, IsWithinCaps, SameCaps, quota_rules}
 use Rattle.wasmi_laws.specs.Places.{IsIndependent, LeavesAlone, MemoryAt, NumberStore, store_call}
 use Rattle.std.proofs.lemmas.Bool.Decides.{nat_tests}
-use Rattle.wasmi_meter.specs.declared.amounts.Amounts.{Amounts}
+use Rattle.wasmi_meter.specs.declared.quota.Amounts.{Amounts}
 use Rattle.wasmi_budget.specs.declared.tenant.Tenant.{Tenant}
 use Rattle.wasmi_budget.specs.Pool.{tenant_rules, PoolValue, machine_of, tenant_at, IsWithinCaps as IsPoolWithinCaps, RunsTenantBy, RunsTenant}
 use Rattle.wasmi_budget.specs.Laws.{CapsHold, OthersDontShow, RunsAsAlone, Ran}

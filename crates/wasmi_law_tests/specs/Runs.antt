@@ -22,7 +22,7 @@ use Rattle.wasmi_meter.specs.declared.quota.Quota.{Quota}
 use Rattle.wasmi_laws.specs.Runs.{IsRunInTwo, IsWithinCapsOf, world_with_more}
 use Rattle.wasmi_access.specs.LoadStore.{IsSameOutside}
 use Rattle.wasmi_laws.specs.Places.{NumberStore, stored_size}
-use Rattle.wasmi_meter.specs.declared.amounts.Amounts.{Amounts}
+use Rattle.wasmi_meter.specs.declared.quota.Amounts.{Amounts}
 use Rattle.wasmi_budget.specs.declared.tenant.Tenant.{Tenant}
 use Rattle.wasmi_budget.specs.Pool.{tenant_rules, without_others, PoolValue, IsWithinCaps, machine_of, tenant_at}
 use Rattle.wasmi_budget.specs.Laws.{PoolTurn, Ran, PoolRun}

@@ -3,7 +3,7 @@ use Rattle.std.proofs.Common.{◌≡◌, ◌≢◌, ℕ, ◌+◌, ◌-◌, Optio
 use Rattle.std.proofs.lemmas.Option.{same_Some}
 use Rattle.wasmi_meter.specs.declared.limiter.Kind.{Kind}
 use Rattle.wasmi_meter.specs.declared.limiter.Kind.TheVariants.{Bytes, Elements}
-use Rattle.wasmi_meter.specs.declared.holdings.Holdings.{Holdings}
+use Rattle.wasmi_meter.specs.declared.quota.Holdings.{Holdings}
 use Rattle.wasmi_meter.specs.Capped.{HoldsTheSame, Reserves, GivesBack, with_more, without_last, Asked, Noticed, SameCaps, IsWithinCaps, capped_quota, quota_rules}
 use Rattle.wasmi_meter.specs.Limiter.{Question, Answer, IsDenial, Failure, kind_of, NoticeAnswer, Rules, optional_rules}
 use Rattle.wasmi_machine.specs.declared.calls.Call.{Call}

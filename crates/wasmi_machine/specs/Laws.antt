@@ -1,6 +1,6 @@
 -- What holds of all turns and runs of a machine.
 use Rattle.std.specs.Prelude.{◌≡◌, ◌⊎◌, ◌<◌, ◌≤◌, ◌+◌, ◌*◌, ◌++◌, ℕ, true, Option, Some, Result, Ok, List, length, map, All}
-use Rattle.wasmi_meter.specs.declared.holdings.Holdings.{Holdings}
+use Rattle.wasmi_meter.specs.declared.quota.Holdings.{Holdings}
 use Rattle.wasmi_meter.specs.Meter.{PaysCharge}
 use Rattle.wasmi_meter.specs.Limiter.{Question, Rules, Failure, NoticeAnswer, optional_rules}
 use Rattle.wasmi_meter.specs.Attempt.{MeteredValue, optional_due, covers}

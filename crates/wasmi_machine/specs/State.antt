@@ -17,7 +17,7 @@ use Rattle.wasmi_machine.specs.declared.calls.Call.{Call}
 use Rattle.wasmi_machine.specs.declared.calls.Reply.{Reply}
 use Rattle.wasmi_meter.specs.declared.limiter.Kind.{Kind}
 use Rattle.wasmi_meter.specs.declared.limiter.Kind.TheVariants.{Bytes, Elements}
-use Rattle.wasmi_meter.specs.declared.holdings.Holdings.{Holdings}
+use Rattle.wasmi_meter.specs.declared.quota.Holdings.{Holdings}
 use Rattle.wasmi_machine.specs.declared.calls.Call.TheVariants.{NewMemory, NewLentMemory, NewTable}
 use Rattle.wasmi_machine.specs.declared.calls.Reply.TheVariants as reply
 use Rattle.wasmi_store.specs.Memory as memory

@@ -2,7 +2,7 @@
 use Rattle.std.specs.Prelude.{◌≡◌, ◌+◌, ◌-◌, Ok, true, false}
 use Rattle.std.proofs.Common.{◌∙◌, inl, inr, ap}
 use Rattle.std.proofs.lemmas.Bool.{cases_lt}
-use Rattle.wasmi_meter.specs.declared.holdings.Holdings.{Holdings}
+use Rattle.wasmi_meter.specs.declared.quota.Holdings.{Holdings}
 use Rattle.wasmi_meter.specs.Capped.{Capped, held_together, Asked, Noticed, with_more, Reserves, GivesBack}
 use Rattle.wasmi_meter.specs.Limiter.{Question, Answer, Failure, NoticeAnswer, kind_of}
 

@@ -4,8 +4,8 @@ use Rattle.wasmi_meter.specs.Limiter.{optional_rules, unlimited_rules}
 use Rattle.wasmi_meter.specs.declared.limiter.NoLimits.{NoLimits}
 use Rattle.wasmi_meter.specs.declared.quota.Quota.{Quota}
 use Rattle.wasmi_meter.specs.declared.limiter.Kind.TheVariants.{Bytes, Elements}
-use Rattle.wasmi_meter.specs.declared.holdings.Holdings.{Holdings}
-use Rattle.wasmi_meter.specs.declared.amounts.Amounts.{Amounts}
+use Rattle.wasmi_meter.specs.declared.quota.Holdings.{Holdings}
+use Rattle.wasmi_meter.specs.declared.quota.Amounts.{Amounts}
 use Rattle.wasmi_meter.specs.Capped.{nothing, quota_rules, cap_of, holdings}
 use Rattle.wasmi_machine.specs.declared.calls.Call.{Call}
 use Rattle.wasmi_machine.specs.State.{State, World, HoldsTotals}

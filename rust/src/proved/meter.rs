@@ -1,38 +1,4 @@
 //! Fuel metering, resource limits of growth, and the errors of memories and tables.
-mod amounts {
-    //! Amounts of both kinds.
-
-    use crate::proved::meter::limiter::Kind;
-
-    /// An amount of bytes of linear memories, and one of elements of tables.
-    #[derive(Clone, Copy, Debug, Default)]
-    pub struct Amounts {
-        /// The bytes of linear memories.
-        pub bytes: u64,
-        /// The elements of tables.
-        pub elements: u64,
-    }
-
-    impl Amounts {
-        /// The amount of one kind.
-        ///
-        /// # Contract
-        ///
-        /// ```text
-        /// ensures: result ≡ amount_of self.now kind
-        /// ```
-        ///
-        /// Definitions: [`amount_of`](crate::specs::meter::CappedSpecs#amount_of).
-        #[must_use]
-        #[inline]
-        pub fn of(&self, kind: Kind) -> u64 {
-            match kind {
-                Kind::Bytes => self.bytes,
-                Kind::Elements => self.elements,
-            }
-        }
-    }
-}
 mod answer_list {
     //! A limiter that answers from a list.
 
@@ -178,146 +144,6 @@ mod any_limiter {
                 AnyLimiter::Quota(quota) => quota.grow_failed(kind),
                 AnyLimiter::Answers(list) => list.grow_failed(kind),
             }
-        }
-    }
-}
-mod capped {
-    //! Limiters that count what they permitted, and those with caps, whose answers that count decides.
-
-    use crate::proved::meter::error::LimiterError;
-    use crate::proved::meter::holdings::Holdings;
-    use crate::proved::meter::limiter::{Kind, LimiterByKind, ResourceLimiter};
-
-    /// A limiter that holds what it permitted, in bytes and in elements, until it is notified that what
-    /// it permitted failed. It isn't notified of what is dropped.
-    ///
-    /// # Contract
-    ///
-    /// ```text
-    /// -- What it holds of each kind, and the last difference that it permitted and that wasn't given back.
-    /// holdings: Self → Holdings
-    /// -- A permission adds the difference that was asked for; any other answer leaves what is held.
-    /// reserves: (l l' : Self) (question : Question) (answer : Answer)
-    ///     → Self.rules.asked l question answer l'
-    ///     → Reserves question answer (holdings l) (holdings l')
-    /// -- A notice takes back the last permitted difference, once, if it is of the same kind, whatever the answer to it is. Otherwise what is held stays.
-    /// gives_back: (l l' : Self) (failure : Failure) (notice_answer : NoticeAnswer)
-    ///     → Self.rules.noticed l failure notice_answer l'
-    ///     → GivesBack (kind_of failure) (holdings l) (holdings l')
-    /// ```
-    ///
-    /// Definitions: [`Question`](crate::specs::meter::LimiterSpecs#Question), [`Answer`](crate::specs::meter::LimiterSpecs#Answer), [`Reserves`](crate::specs::meter::CappedSpecs#Reserves), [`Failure`](crate::specs::meter::LimiterSpecs#Failure), [`NoticeAnswer`](crate::specs::meter::LimiterSpecs#NoticeAnswer), [`GivesBack`](crate::specs::meter::CappedSpecs#GivesBack), [`kind_of`](crate::specs::meter::LimiterSpecs#kind_of).
-    ///
-    /// `A` is any type.
-    pub trait Reserving: ResourceLimiter {
-        /// The bytes that it permitted and that weren't given back.
-        ///
-        /// # Contract
-        ///
-        /// ```text
-        /// ensures: result ≡ (holdings self.now).held.bytes
-        /// ```
-        fn held_bytes(&self) -> u64;
-
-        /// The elements that it permitted and that weren't given back.
-        ///
-        /// # Contract
-        ///
-        /// ```text
-        /// ensures: result ≡ (holdings self.now).held.elements
-        /// ```
-        fn held_elements(&self) -> u64;
-    }
-
-    /// A limiter that permits what keeps all that is held of a kind within a cap, and denies the rest.
-    /// It counts each difference that it permitted. At a notice it takes back the last one if that is
-    /// of the same kind, once.
-    ///
-    /// # Contract
-    ///
-    /// ```text
-    /// -- What it holds, what others hold beside it, and its caps.
-    /// capped: Capped Self
-    /// ```
-    ///
-    /// Definitions: [`Capped`](crate::specs::meter::CappedSpecs#Capped).
-    pub trait CappedLimiter {
-        /// What it holds of each kind, with the last difference that it permitted.
-        ///
-        /// # Contract
-        ///
-        /// ```text
-        /// ensures: result ≡ capped.holdings self.now
-        /// ```
-        fn holdings(&self) -> Holdings;
-
-        /// Takes `difference` more of a kind, if all that is held of it stays within the cap. Returns
-        /// whether it was taken.
-        ///
-        /// # Contract
-        ///
-        /// ```text
-        /// ensures: HoldsMore capped self.old kind difference result self.new
-        /// ```
-        ///
-        /// Definitions: [`HoldsMore`](crate::specs::meter::CappedSpecs#HoldsMore).
-        fn take(&mut self, kind: Kind, difference: u64) -> bool;
-
-        /// Gives back what was taken last, if that is of this kind.
-        ///
-        /// # Contract
-        ///
-        /// ```text
-        /// ensures back: capped.holdings self.new ≡ without_last kind (capped.holdings self.old)
-        /// ensures rest: self.new ≡ capped.with_holdings self.old (capped.holdings self.new)
-        /// ```
-        ///
-        /// Definitions: [`without_last`](crate::specs::meter::CappedSpecs#without_last).
-        fn give_back(&mut self, kind: Kind);
-    }
-
-    /// # Contract
-    ///
-    /// ```text
-    /// kind_rules = capped_rules L.capped
-    /// ```
-    ///
-    /// Definitions: [`capped_rules`](crate::specs::meter::CappedSpecs#capped_rules).
-    ///
-    /// `L` is the type of the limiter, a [`CappedLimiter`](crate::machine::CappedLimiter#contract).
-    impl<L: CappedLimiter> LimiterByKind for L {
-        /// # Panics
-        ///
-        /// Panics if the desired size is below the current one.
-        #[inline]
-        fn growing(&mut self, kind: Kind, from: usize, to: usize) -> Result<bool, LimiterError> {
-            assert!(from <= to, "the desired size is below the current one");
-            Ok(self.take(kind, (to - from) as u64))
-        }
-
-        #[inline]
-        fn grow_failed(&mut self, kind: Kind) -> Result<(), LimiterError> {
-            self.give_back(kind);
-            Ok(())
-        }
-    }
-
-    /// # Contract
-    ///
-    /// ```text
-    /// holdings = L.capped.holdings
-    /// ```
-    ///
-    /// `L` is the type of the limiter, a [`CappedLimiter`](crate::machine::CappedLimiter#contract).
-    impl<L: CappedLimiter> Reserving for L {
-        #[inline]
-        fn held_bytes(&self) -> u64 {
-            self.holdings().held().bytes
-        }
-
-        #[inline]
-        fn held_elements(&self) -> u64 {
-            self.holdings().held().elements
         }
     }
 }
@@ -1056,146 +882,6 @@ mod fuel {
         }
     }
 }
-mod holdings {
-    //! What is held of each kind, with the last difference that was taken.
-
-    use crate::proved::meter::amounts::Amounts;
-    use crate::proved::meter::limiter::Kind;
-
-    /// What a limiter with caps holds of each kind, and the last difference that it took and didn't
-    /// give back.
-    #[derive(Clone, Copy, Debug)]
-    pub struct Holdings {
-        held: Amounts,
-        last: Option<(Kind, u64)>,
-    }
-
-    impl Holdings {
-        /// Holdings of these amounts, of which nothing can be given back.
-        ///
-        /// # Contract
-        ///
-        /// ```text
-        /// ensures: result ≡ record { held = held; last = None }
-        /// ```
-        #[must_use]
-        #[inline]
-        pub fn new(held: Amounts) -> Self {
-            Holdings { held, last: None }
-        }
-
-        /// The holdings of which `held` and `last` returned these values: so much is held, and this
-        /// difference can be given back.
-        ///
-        /// # Contract
-        ///
-        /// ```text
-        /// ensures: result ≡ record { held = held; last = last }
-        /// ```
-        #[must_use]
-        #[inline]
-        pub fn resume(held: Amounts, last: Option<(Kind, u64)>) -> Self {
-            Holdings { held, last }
-        }
-
-        /// The last difference that was taken and not given back, with its kind.
-        ///
-        /// # Contract
-        ///
-        /// ```text
-        /// ensures: result ≡ self.now.last
-        /// ```
-        #[must_use]
-        #[inline]
-        pub fn last(&self) -> Option<(Kind, u64)> {
-            self.last
-        }
-
-        /// What is held.
-        ///
-        /// # Contract
-        ///
-        /// ```text
-        /// ensures: result ≡ self.now.held
-        /// ```
-        #[must_use]
-        #[inline]
-        pub fn held(&self) -> Amounts {
-            self.held
-        }
-
-        /// Takes `difference` more of a kind, if it stays within the cap together with what is held and
-        /// what others hold. Returns whether it was taken.
-        ///
-        /// # Contract
-        ///
-        /// ```text
-        /// ensures: Takes others cap self.old kind difference result self.new
-        /// ```
-        ///
-        /// Definitions: [`Takes`](crate::specs::meter::CappedSpecs#Takes).
-        #[inline]
-        pub fn take(&mut self, kind: Kind, difference: u64, others: u64, cap: u64) -> bool {
-            let together = others as u128 + self.held.of(kind) as u128;
-            if together + difference as u128 > cap as u128 {
-                return false;
-            }
-            match kind {
-                Kind::Bytes => self.held.bytes += difference,
-                Kind::Elements => self.held.elements += difference,
-            }
-            self.last = Some((kind, difference));
-            true
-        }
-
-        /// Gives back what was taken last, if that is of this kind.
-        ///
-        /// # Contract
-        ///
-        /// ```text
-        /// ensures: self.new ≡ without_last kind self.old
-        /// ```
-        ///
-        /// Definitions: [`without_last`](crate::specs::meter::CappedSpecs#without_last).
-        #[inline]
-        pub fn give_back(&mut self, kind: Kind) {
-            match (kind, self.last) {
-                (Kind::Bytes, Some((Kind::Bytes, difference))) => {
-                    self.held.bytes = self.held.bytes.saturating_sub(difference);
-                    self.last = None;
-                }
-                (Kind::Elements, Some((Kind::Elements, difference))) => {
-                    self.held.elements = self.held.elements.saturating_sub(difference);
-                    self.last = None;
-                }
-                _ => {}
-            }
-        }
-
-        /// Gives up `amount` of a kind, if so much is held. Returns whether it was given up; then
-        /// nothing can be given back until more is taken.
-        ///
-        /// # Contract
-        ///
-        /// ```text
-        /// ensures: Releases self.old kind amount result self.new
-        /// ```
-        ///
-        /// Definitions: [`Releases`](crate::specs::meter::CappedSpecs#Releases).
-        #[inline]
-        pub fn release(&mut self, kind: Kind, amount: u64) -> bool {
-            let Some(left) = self.held.of(kind).checked_sub(amount) else {
-                return false;
-            };
-            match kind {
-                Kind::Bytes => self.held.bytes = left,
-                Kind::Elements => self.held.elements = left,
-            }
-            self.last = None;
-            true
-        }
-    }
-}
 mod limiter {
     //! Who may grow: a limiter is asked before each growth, and notified if a growth that it permitted
     //! fails; and references to limiters.
@@ -1865,12 +1551,312 @@ mod limiter {
     }
 }
 mod quota {
-    //! A limiter with a cap on the bytes of memories and one on the elements of tables.
+    //! Limiters that count what they permitted: amounts, what is held, limiters with caps, and a quota.
 
-    use crate::proved::meter::amounts::Amounts;
-    use crate::proved::meter::capped::CappedLimiter;
-    use crate::proved::meter::holdings::Holdings;
-    use crate::proved::meter::limiter::Kind;
+    use crate::proved::meter::error::LimiterError;
+    use crate::proved::meter::limiter::{Kind, LimiterByKind, ResourceLimiter};
+
+    /// An amount of bytes of linear memories, and one of elements of tables.
+    #[derive(Clone, Copy, Debug, Default)]
+    pub struct Amounts {
+        /// The bytes of linear memories.
+        pub bytes: u64,
+        /// The elements of tables.
+        pub elements: u64,
+    }
+
+    impl Amounts {
+        /// The amount of one kind.
+        ///
+        /// # Contract
+        ///
+        /// ```text
+        /// ensures: result ≡ amount_of self.now kind
+        /// ```
+        ///
+        /// Definitions: [`amount_of`](crate::specs::meter::CappedSpecs#amount_of).
+        #[must_use]
+        #[inline]
+        pub fn of(&self, kind: Kind) -> u64 {
+            match kind {
+                Kind::Bytes => self.bytes,
+                Kind::Elements => self.elements,
+            }
+        }
+    }
+
+    /// What a limiter with caps holds of each kind, and the last difference that it took and didn't
+    /// give back.
+    #[derive(Clone, Copy, Debug)]
+    pub struct Holdings {
+        held: Amounts,
+        last: Option<(Kind, u64)>,
+    }
+
+    impl Holdings {
+        /// Holdings of these amounts, of which nothing can be given back.
+        ///
+        /// # Contract
+        ///
+        /// ```text
+        /// ensures: result ≡ record { held = held; last = None }
+        /// ```
+        #[must_use]
+        #[inline]
+        pub fn new(held: Amounts) -> Self {
+            Holdings { held, last: None }
+        }
+
+        /// The holdings of which `held` and `last` returned these values: so much is held, and this
+        /// difference can be given back.
+        ///
+        /// # Contract
+        ///
+        /// ```text
+        /// ensures: result ≡ record { held = held; last = last }
+        /// ```
+        #[must_use]
+        #[inline]
+        pub fn resume(held: Amounts, last: Option<(Kind, u64)>) -> Self {
+            Holdings { held, last }
+        }
+
+        /// The last difference that was taken and not given back, with its kind.
+        ///
+        /// # Contract
+        ///
+        /// ```text
+        /// ensures: result ≡ self.now.last
+        /// ```
+        #[must_use]
+        #[inline]
+        pub fn last(&self) -> Option<(Kind, u64)> {
+            self.last
+        }
+
+        /// What is held.
+        ///
+        /// # Contract
+        ///
+        /// ```text
+        /// ensures: result ≡ self.now.held
+        /// ```
+        #[must_use]
+        #[inline]
+        pub fn held(&self) -> Amounts {
+            self.held
+        }
+
+        /// Takes `difference` more of a kind, if it stays within the cap together with what is held and
+        /// what others hold. Returns whether it was taken.
+        ///
+        /// # Contract
+        ///
+        /// ```text
+        /// ensures: Takes others cap self.old kind difference result self.new
+        /// ```
+        ///
+        /// Definitions: [`Takes`](crate::specs::meter::CappedSpecs#Takes).
+        #[inline]
+        pub fn take(&mut self, kind: Kind, difference: u64, others: u64, cap: u64) -> bool {
+            let together = others as u128 + self.held.of(kind) as u128;
+            if together + difference as u128 > cap as u128 {
+                return false;
+            }
+            match kind {
+                Kind::Bytes => self.held.bytes += difference,
+                Kind::Elements => self.held.elements += difference,
+            }
+            self.last = Some((kind, difference));
+            true
+        }
+
+        /// Gives back what was taken last, if that is of this kind.
+        ///
+        /// # Contract
+        ///
+        /// ```text
+        /// ensures: self.new ≡ without_last kind self.old
+        /// ```
+        ///
+        /// Definitions: [`without_last`](crate::specs::meter::CappedSpecs#without_last).
+        #[inline]
+        pub fn give_back(&mut self, kind: Kind) {
+            match (kind, self.last) {
+                (Kind::Bytes, Some((Kind::Bytes, difference))) => {
+                    self.held.bytes = self.held.bytes.saturating_sub(difference);
+                    self.last = None;
+                }
+                (Kind::Elements, Some((Kind::Elements, difference))) => {
+                    self.held.elements = self.held.elements.saturating_sub(difference);
+                    self.last = None;
+                }
+                _ => {}
+            }
+        }
+
+        /// Gives up `amount` of a kind, if so much is held. Returns whether it was given up; then
+        /// nothing can be given back until more is taken.
+        ///
+        /// # Contract
+        ///
+        /// ```text
+        /// ensures: Releases self.old kind amount result self.new
+        /// ```
+        ///
+        /// Definitions: [`Releases`](crate::specs::meter::CappedSpecs#Releases).
+        #[inline]
+        pub fn release(&mut self, kind: Kind, amount: u64) -> bool {
+            let Some(left) = self.held.of(kind).checked_sub(amount) else {
+                return false;
+            };
+            match kind {
+                Kind::Bytes => self.held.bytes = left,
+                Kind::Elements => self.held.elements = left,
+            }
+            self.last = None;
+            true
+        }
+    }
+
+    /// A limiter that holds what it permitted, in bytes and in elements, until it is notified that what
+    /// it permitted failed. It isn't notified of what is dropped.
+    ///
+    /// # Contract
+    ///
+    /// ```text
+    /// -- What it holds of each kind, and the last difference that it permitted and that wasn't given back.
+    /// holdings: Self → Holdings
+    /// -- A permission adds the difference that was asked for; any other answer leaves what is held.
+    /// reserves: (l l' : Self) (question : Question) (answer : Answer)
+    ///     → Self.rules.asked l question answer l'
+    ///     → Reserves question answer (holdings l) (holdings l')
+    /// -- A notice takes back the last permitted difference, once, if it is of the same kind, whatever the answer to it is. Otherwise what is held stays.
+    /// gives_back: (l l' : Self) (failure : Failure) (notice_answer : NoticeAnswer)
+    ///     → Self.rules.noticed l failure notice_answer l'
+    ///     → GivesBack (kind_of failure) (holdings l) (holdings l')
+    /// ```
+    ///
+    /// Definitions: [`holdings`](crate::specs::meter::CappedSpecs#holdings), [`Question`](crate::specs::meter::LimiterSpecs#Question), [`Answer`](crate::specs::meter::LimiterSpecs#Answer), [`Reserves`](crate::specs::meter::CappedSpecs#Reserves), [`Failure`](crate::specs::meter::LimiterSpecs#Failure), [`NoticeAnswer`](crate::specs::meter::LimiterSpecs#NoticeAnswer), [`GivesBack`](crate::specs::meter::CappedSpecs#GivesBack), [`kind_of`](crate::specs::meter::LimiterSpecs#kind_of).
+    ///
+    /// `A` is any type.
+    pub trait Reserving: ResourceLimiter {
+        /// The bytes that it permitted and that weren't given back.
+        ///
+        /// # Contract
+        ///
+        /// ```text
+        /// ensures: result ≡ (holdings self.now).held.bytes
+        /// ```
+        ///
+        /// Definitions: [`holdings`](crate::specs::meter::CappedSpecs#holdings).
+        fn held_bytes(&self) -> u64;
+
+        /// The elements that it permitted and that weren't given back.
+        ///
+        /// # Contract
+        ///
+        /// ```text
+        /// ensures: result ≡ (holdings self.now).held.elements
+        /// ```
+        ///
+        /// Definitions: [`holdings`](crate::specs::meter::CappedSpecs#holdings).
+        fn held_elements(&self) -> u64;
+    }
+
+    /// A limiter that permits what keeps all that is held of a kind within a cap, and denies the rest.
+    /// It counts each difference that it permitted. At a notice it takes back the last one if that is
+    /// of the same kind, once.
+    ///
+    /// # Contract
+    ///
+    /// ```text
+    /// -- What it holds, what others hold beside it, and its caps.
+    /// capped: Capped Self
+    /// ```
+    ///
+    /// Definitions: [`Capped`](crate::specs::meter::CappedSpecs#Capped).
+    pub trait CappedLimiter {
+        /// What it holds of each kind, with the last difference that it permitted.
+        ///
+        /// # Contract
+        ///
+        /// ```text
+        /// ensures: result ≡ capped.holdings self.now
+        /// ```
+        fn holdings(&self) -> Holdings;
+
+        /// Takes `difference` more of a kind, if all that is held of it stays within the cap. Returns
+        /// whether it was taken.
+        ///
+        /// # Contract
+        ///
+        /// ```text
+        /// ensures: HoldsMore capped self.old kind difference result self.new
+        /// ```
+        ///
+        /// Definitions: [`HoldsMore`](crate::specs::meter::CappedSpecs#HoldsMore).
+        fn take(&mut self, kind: Kind, difference: u64) -> bool;
+
+        /// Gives back what was taken last, if that is of this kind.
+        ///
+        /// # Contract
+        ///
+        /// ```text
+        /// ensures back: capped.holdings self.new ≡ without_last kind (capped.holdings self.old)
+        /// ensures rest: self.new ≡ capped.with_holdings self.old (capped.holdings self.new)
+        /// ```
+        ///
+        /// Definitions: [`without_last`](crate::specs::meter::CappedSpecs#without_last).
+        fn give_back(&mut self, kind: Kind);
+    }
+
+    /// # Contract
+    ///
+    /// ```text
+    /// kind_rules = capped_rules L.capped
+    /// ```
+    ///
+    /// Definitions: [`capped_rules`](crate::specs::meter::CappedSpecs#capped_rules).
+    ///
+    /// `L` is the type of the limiter, a [`CappedLimiter`](crate::machine::CappedLimiter#contract).
+    impl<L: CappedLimiter> LimiterByKind for L {
+        /// # Panics
+        ///
+        /// Panics if the desired size is below the current one.
+        #[inline]
+        fn growing(&mut self, kind: Kind, from: usize, to: usize) -> Result<bool, LimiterError> {
+            assert!(from <= to, "the desired size is below the current one");
+            Ok(self.take(kind, (to - from) as u64))
+        }
+
+        #[inline]
+        fn grow_failed(&mut self, kind: Kind) -> Result<(), LimiterError> {
+            self.give_back(kind);
+            Ok(())
+        }
+    }
+
+    /// # Contract
+    ///
+    /// ```text
+    /// holdings = L.capped.holdings
+    /// ```
+    ///
+    /// Definitions: [`holdings`](crate::specs::meter::CappedSpecs#holdings).
+    ///
+    /// `L` is the type of the limiter, a [`CappedLimiter`](crate::machine::CappedLimiter#contract).
+    impl<L: CappedLimiter> Reserving for L {
+        #[inline]
+        fn held_bytes(&self) -> u64 {
+            self.holdings().held().bytes
+        }
+
+        #[inline]
+        fn held_elements(&self) -> u64 {
+            self.holdings().held().elements
+        }
+    }
 
     /// A limiter that permits what stays within two caps, and denies the rest. It counts each
     /// difference that it permitted. At a notice it takes back the last one if that is of the same
@@ -2023,14 +2009,11 @@ mod quota {
     }
 }
 
-pub use amounts::Amounts;
 pub use answer_list::{AnswerList, LimiterAnswer};
 pub use any_limiter::AnyLimiter;
-pub use capped::{CappedLimiter, Reserving};
 pub use error::{LimiterError, MemoryError, TableError};
 pub use fuel::{CustomFuelCosts, Fuel, FuelCosts, FuelCostsProvider, FuelError, ValueSize};
-pub use holdings::Holdings;
 pub use limiter::{
     Kind, Lender, LimiterByKind, LimiterRef, NoLimits, ResourceLimiter, ResourceLimiterRef,
 };
-pub use quota::Quota;
+pub use quota::{Amounts, CappedLimiter, Holdings, Quota, Reserving};

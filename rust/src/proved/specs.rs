@@ -2144,7 +2144,7 @@ abbrev pub <b id="answer_list_rules">answer_list_rules</b> : <a href="../../mete
 
 <pre><code>use Rattle.std.specs.Prelude.{◌≡◌, Option, Some, None, Ok, true}
 use Rattle.std.specs.Option.{option_map}
-use Rattle.wasmi_meter.specs.declared.amounts.Amounts.{Amounts}
+use Rattle.wasmi_meter.specs.declared.quota.Amounts.{Amounts}
 use Rattle.wasmi_meter.specs.declared.any_limiter.AnyLimiter.{AnyLimiter}
 use Rattle.wasmi_meter.specs.declared.any_limiter.AnyLimiter.TheVariants as limiter
 use Rattle.wasmi_meter.specs.declared.quota.Quota.{Quota}
@@ -2313,10 +2313,10 @@ pub record <b id="Attempt">Attempt</b> {V E S : Type 0} (rules : <a href="../../
     #[doc = r####"What limiters with caps hold and may hold, their rules, and those of a quota.
 
 <pre><code>use Rattle.std.specs.Prelude.{ℕ, ◌≡◌, ◌+◌, ◌-◌, ◌≤◌, ◌&lt;◌, Option, Some, None, Ok, Bool, true, false}
-use Rattle.wasmi_meter.specs.declared.amounts.Amounts.{Amounts}
+use Rattle.wasmi_meter.specs.declared.quota.Amounts.{Amounts}
 use Rattle.wasmi_meter.specs.declared.limiter.Kind.{Kind}
 use Rattle.wasmi_meter.specs.declared.limiter.Kind.TheVariants.{Bytes, Elements}
-use Rattle.wasmi_meter.specs.declared.holdings.Holdings.{Holdings}
+use Rattle.wasmi_meter.specs.declared.quota.Holdings.{Holdings}
 use Rattle.wasmi_meter.specs.Limiter.{<a href="../../meter/LimiterSpecs/index.html#Question">Question</a>, <a href="../../meter/LimiterSpecs/index.html#Answer">Answer</a>, <a href="../../meter/LimiterSpecs/index.html#Failure">Failure</a>, <a href="../../meter/LimiterSpecs/index.html#NoticeAnswer">NoticeAnswer</a>, <a href="../../meter/LimiterSpecs/index.html#kind_of">kind_of</a>, <a href="../../meter/LimiterSpecs/index.html#Rules">Rules</a>}
 use Rattle.wasmi_meter.specs.declared.quota.Quota.{Quota}
 
@@ -2459,7 +2459,7 @@ abbrev pub <b id="quota_rules">quota_rules</b> : <a href="../../meter/LimiterSpe
 <pre><code>use Rattle.std.specs.Prelude.{◌≡◌, ◌+◌, ◌-◌, Ok, true, false}
 use Rattle.std.proofs.Common.{◌∙◌, inl, inr, ap}
 use Rattle.std.proofs.lemmas.Bool.{cases_lt}
-use Rattle.wasmi_meter.specs.declared.holdings.Holdings.{Holdings}
+use Rattle.wasmi_meter.specs.declared.quota.Holdings.{Holdings}
 use Rattle.wasmi_meter.specs.Capped.{<a href="../../meter/CappedSpecs/index.html#Capped">Capped</a>, <a href="../../meter/CappedSpecs/index.html#held_together">held_together</a>, <a href="../../meter/CappedSpecs/index.html#Asked">Asked</a>, <a href="../../meter/CappedSpecs/index.html#Noticed">Noticed</a>, <a href="../../meter/CappedSpecs/index.html#with_more">with_more</a>, <a href="../../meter/CappedSpecs/index.html#Reserves">Reserves</a>, <a href="../../meter/CappedSpecs/index.html#GivesBack">GivesBack</a>}
 use Rattle.wasmi_meter.specs.Limiter.{<a href="../../meter/LimiterSpecs/index.html#Question">Question</a>, <a href="../../meter/LimiterSpecs/index.html#Answer">Answer</a>, <a href="../../meter/LimiterSpecs/index.html#Failure">Failure</a>, <a href="../../meter/LimiterSpecs/index.html#NoticeAnswer">NoticeAnswer</a>, <a href="../../meter/LimiterSpecs/index.html#kind_of">kind_of</a>}
 
@@ -2648,9 +2648,13 @@ pub record <b id="ConsumesFuel">ConsumesFuel</b> {T : Type 0} (m : <a href="../.
 abbrev pub <b id="due">due</b> : <a href="../../meter/MeterSpecs/index.html#Meter">Meter</a> → (CustomFuelCosts → ℕ) → ℕ
 <a href="../../meter/MeterSpecs/index.html#due">due</a> m price = if is_some m.left then price m.costs else 0
 
+-- a charge is at most what was left of a meter, and is taken of the meter
+abbrev pub <b id="PaysCharge">PaysCharge</b> : <a href="../../meter/MeterSpecs/index.html#Meter">Meter</a> → ℕ → <a href="../../meter/MeterSpecs/index.html#Meter">Meter</a> → Type 0
+<a href="../../meter/MeterSpecs/index.html#PaysCharge">PaysCharge</a> m charge m&#x27; = (charge ≤ <a href="../../meter/MeterSpecs/index.html#amount_left">amount_left</a> m) × (m&#x27; ≡ <a href="../../meter/MeterSpecs/index.html#meter_after">meter_after</a> m charge)
+
 -- a charge is taken where that much is left, and refused else with what it needs
 abbrev pub <b id="Charges">Charges</b> : <a href="../../meter/MeterSpecs/index.html#Meter">Meter</a> → ℕ → Result (Unit {0}) ℕ → <a href="../../meter/MeterSpecs/index.html#Meter">Meter</a> → Type 0
-<a href="../../meter/MeterSpecs/index.html#Charges">Charges</a> m amount (Ok _) m&#x27; = (amount ≤ <a href="../../meter/MeterSpecs/index.html#amount_left">amount_left</a> m) × (m&#x27; ≡ <a href="../../meter/MeterSpecs/index.html#meter_after">meter_after</a> m amount)
+<a href="../../meter/MeterSpecs/index.html#Charges">Charges</a> m amount (Ok _) m&#x27; = <a href="../../meter/MeterSpecs/index.html#PaysCharge">PaysCharge</a> m amount m&#x27;
 <a href="../../meter/MeterSpecs/index.html#Charges">Charges</a> m amount (Err required) m&#x27; = (<a href="../../meter/MeterSpecs/index.html#amount_left">amount_left</a> m &lt; amount) × (required ≡ amount) × (m&#x27; ≡ m)
 
 -- too little fuel is an error of a table; that a meter is off is none, and is handed back
@@ -3503,7 +3507,7 @@ pub mod machine {
     #[doc = r####"What a meter was given, what was taken of it, and what was written for that.
 
 <pre><code>use Rattle.std.specs.Prelude.{◌≡◌, ◌+◌, ◌≤◌, ℕ, Some, List, fold, sum_by, ◌-◌, ◌*◌, ◌&lt;◌, Bool, true, false, ◌&amp;&amp;◌, if◌then◌else◌, count_by}
-use Rattle.wasmi_meter.specs.Meter.{<a href="../../meter/MeterSpecs/index.html#Meter">Meter</a>, <a href="../../meter/MeterSpecs/index.html#amount_left">amount_left</a>, <a href="../../meter/MeterSpecs/index.html#meter_after">meter_after</a>, <a href="../../meter/MeterSpecs/index.html#meter_set">meter_set</a>}
+use Rattle.wasmi_meter.specs.Meter.{<a href="../../meter/MeterSpecs/index.html#Meter">Meter</a>, <a href="../../meter/MeterSpecs/index.html#meter_set">meter_set</a>, <a href="../../meter/MeterSpecs/index.html#PaysCharge">PaysCharge</a>}
 use Rattle.wasmi_machine.specs.declared.calls.Call.{Call}
 use Rattle.wasmi_machine.specs.declared.calls.Call.TheVariants.{SetFuel}
 use Rattle.wasmi_machine.specs.State.{<a href="../../machine/StateSpecs/index.html#Turn">Turn</a>}
@@ -3533,14 +3537,10 @@ abbrev pub <b id="account_after">account_after</b> : <a href="../../machine/Acco
 abbrev pub <b id="Balances">Balances</b> : <a href="../../machine/AccountSpecs/index.html#Account">Account</a> → <a href="../../meter/MeterSpecs/index.html#Meter">Meter</a> → Type 0
 <a href="../../machine/AccountSpecs/index.html#Balances">Balances</a> account m = (left : ℕ) × (m.left ≡ Some left) × (left + account.charged ≡ account.granted)
 
--- a charge is at most what was left of a meter, and is taken of the meter
-abbrev pub <b id="PaysCharge">PaysCharge</b> : <a href="../../meter/MeterSpecs/index.html#Meter">Meter</a> → ℕ → <a href="../../meter/MeterSpecs/index.html#Meter">Meter</a> → Type 0
-<a href="../../machine/AccountSpecs/index.html#PaysCharge">PaysCharge</a> m charge m&#x27; = (charge ≤ <a href="../../meter/MeterSpecs/index.html#amount_left">amount_left</a> m) × (m&#x27; ≡ <a href="../../meter/MeterSpecs/index.html#meter_after">meter_after</a> m charge)
-
 -- what a call with a charge makes of the meter: one that sets the fuel sets it, and each other one takes its charge
 abbrev pub <b id="ChangesMeter">ChangesMeter</b> : Call → <a href="../../meter/MeterSpecs/index.html#Meter">Meter</a> → ℕ → <a href="../../meter/MeterSpecs/index.html#Meter">Meter</a> → Type 0
 <a href="../../machine/AccountSpecs/index.html#ChangesMeter">ChangesMeter</a> (SetFuel fuel) m charge m&#x27; = m&#x27; ≡ <a href="../../meter/MeterSpecs/index.html#meter_set">meter_set</a> m fuel
-<a href="../../machine/AccountSpecs/index.html#ChangesMeter">ChangesMeter</a> call m charge m&#x27; = <a href="../../machine/AccountSpecs/index.html#PaysCharge">PaysCharge</a> m charge m&#x27;
+<a href="../../machine/AccountSpecs/index.html#ChangesMeter">ChangesMeter</a> call m charge m&#x27; = <a href="../../meter/MeterSpecs/index.html#PaysCharge">PaysCharge</a> m charge m&#x27;
 
 -- the call doesn&#x27;t set the fuel
 abbrev pub <b id="SetsNoFuel">SetsNoFuel</b> : Call → Type 0
@@ -4083,7 +4083,8 @@ pub record <b id="Exchanges">Exchanges</b> {S : Type 0} (rules : <a href="../../
     #[doc = r####"What holds of all turns and runs of a machine.
 
 <pre><code><a href="../../machine/LawsSpecs/index.html#use">use</a> Rattle.std.specs.Prelude.{◌≡◌, ◌⊎◌, ◌&lt;◌, ◌≤◌, ◌+◌, ◌*◌, ◌++◌, ℕ, true, Option, Some, Result, Ok, List, length, map, All}
-<a href="../../machine/LawsSpecs/index.html#use">use</a> Rattle.wasmi_meter.specs.declared.holdings.Holdings.{Holdings}
+<a href="../../machine/LawsSpecs/index.html#use">use</a> Rattle.wasmi_meter.specs.declared.quota.Holdings.{Holdings}
+<a href="../../machine/LawsSpecs/index.html#use">use</a> Rattle.wasmi_meter.specs.Meter.{<a href="../../meter/MeterSpecs/index.html#PaysCharge">PaysCharge</a>}
 <a href="../../machine/LawsSpecs/index.html#use">use</a> Rattle.wasmi_meter.specs.Limiter.{<a href="../../meter/LimiterSpecs/index.html#Question">Question</a>, <a href="../../meter/LimiterSpecs/index.html#Rules">Rules</a>, <a href="../../meter/LimiterSpecs/index.html#Failure">Failure</a>, <a href="../../meter/LimiterSpecs/index.html#NoticeAnswer">NoticeAnswer</a>, <a href="../../meter/LimiterSpecs/index.html#optional_rules">optional_rules</a>}
 <a href="../../machine/LawsSpecs/index.html#use">use</a> Rattle.wasmi_meter.specs.Attempt.{<a href="../../meter/AttemptSpecs/index.html#MeteredValue">MeteredValue</a>, <a href="../../meter/AttemptSpecs/index.html#optional_due">optional_due</a>, <a href="../../meter/AttemptSpecs/index.html#covers">covers</a>}
 <a href="../../machine/LawsSpecs/index.html#use">use</a> Rattle.wasmi_meter.specs.declared.error.MemoryError.{MemoryError}
@@ -4098,7 +4099,7 @@ pub record <b id="Exchanges">Exchanges</b> {S : Type 0} (rules : <a href="../../
 <a href="../../machine/LawsSpecs/index.html#use">use</a> Rattle.wasmi_machine.specs.State.{<a href="../../machine/StateSpecs/index.html#State">State</a>, <a href="../../machine/StateSpecs/index.html#World">World</a>, <a href="../../machine/StateSpecs/index.html#Turn">Turn</a>, <a href="../../machine/StateSpecs/index.html#world">world</a>, <a href="../../machine/StateSpecs/index.html#IsValid">IsValid</a>, <a href="../../machine/StateSpecs/index.html#IsValidCall">IsValidCall</a>, <a href="../../machine/StateSpecs/index.html#HoldsTotals">HoldsTotals</a>}
 pub <b id="use">use</b> Rattle.wasmi_machine.specs.State.{<a href="../../machine/StateSpecs/index.html#IsRefusal">IsRefusal</a>}
 <a href="../../machine/LawsSpecs/index.html#use">use</a> Rattle.wasmi_machine.specs.Steps.{<a href="../../machine/StepsSpecs/index.html#Step">Step</a>, <a href="../../machine/StepsSpecs/index.html#Sequence">Sequence</a>, <a href="../../machine/StepsSpecs/index.html#Run">Run</a>, <a href="../../machine/StepsSpecs/index.html#IsRunOf">IsRunOf</a>}
-<a href="../../machine/LawsSpecs/index.html#use">use</a> Rattle.wasmi_machine.specs.Account.{<a href="../../machine/AccountSpecs/index.html#opened">opened</a>, <a href="../../machine/AccountSpecs/index.html#account_after">account_after</a>, <a href="../../machine/AccountSpecs/index.html#Balances">Balances</a>, <a href="../../machine/AccountSpecs/index.html#PaysCharge">PaysCharge</a>, <a href="../../machine/AccountSpecs/index.html#SetsNoFuel">SetsNoFuel</a>, <a href="../../machine/AccountSpecs/index.html#IsBounded">IsBounded</a>, <a href="../../machine/AccountSpecs/index.html#IsSpent">IsSpent</a>}
+<a href="../../machine/LawsSpecs/index.html#use">use</a> Rattle.wasmi_machine.specs.Account.{<a href="../../machine/AccountSpecs/index.html#opened">opened</a>, <a href="../../machine/AccountSpecs/index.html#account_after">account_after</a>, <a href="../../machine/AccountSpecs/index.html#Balances">Balances</a>, <a href="../../machine/AccountSpecs/index.html#SetsNoFuel">SetsNoFuel</a>, <a href="../../machine/AccountSpecs/index.html#IsBounded">IsBounded</a>, <a href="../../machine/AccountSpecs/index.html#IsSpent">IsSpent</a>}
 <a href="../../machine/LawsSpecs/index.html#use">use</a> Rattle.wasmi_machine.specs.Exchange.{<a href="../../machine/ExchangeSpecs/index.html#Notice">Notice</a>, <a href="../../machine/ExchangeSpecs/index.html#Passes">Passes</a>, <a href="../../machine/ExchangeSpecs/index.html#At">At</a>, <a href="../../machine/ExchangeSpecs/index.html#place_of">place_of</a>, <a href="../../machine/ExchangeSpecs/index.html#question_of">question_of</a>, <a href="../../machine/ExchangeSpecs/index.html#failed_reply">failed_reply</a>, <a href="../../machine/ExchangeSpecs/index.html#growth_due">growth_due</a>, <a href="../../machine/ExchangeSpecs/index.html#Exchanges">Exchanges</a>}
 <a href="../../machine/LawsSpecs/index.html#use">use</a> Rattle.wasmi_machine.specs.MemoryEffects.{<a href="../../machine/MemoryEffectsSpecs/index.html#spare_after">spare_after</a>}
 <a href="../../machine/LawsSpecs/index.html#use">use</a> Rattle.wasmi_machine.specs.Determinism.{<a href="../../machine/DeterminismSpecs/index.html#IsDeterministic">IsDeterministic</a>, <a href="../../machine/DeterminismSpecs/index.html#AcceptsNotices">AcceptsNotices</a>, <a href="../../machine/DeterminismSpecs/index.html#IsOtherFailure">IsOtherFailure</a>, <a href="../../machine/DeterminismSpecs/index.html#never_out_of_memory">never_out_of_memory</a>, <a href="../../machine/DeterminismSpecs/index.html#IsNotOutOfMemory">IsNotOutOfMemory</a>, <a href="../../machine/DeterminismSpecs/index.html#AreNotOutOfMemory">AreNotOutOfMemory</a>, <a href="../../machine/DeterminismSpecs/index.html#permitting">permitting</a>, <a href="../../machine/DeterminismSpecs/index.html#TellsNoDenial">TellsNoDenial</a>}
@@ -4131,7 +4132,7 @@ pub record <b id="FailsAfterCharge">FailsAfterCharge</b> {S : Type 0} (rules : <
   pub <b id="wants">wants</b> : <a href="../../machine/DeterminismSpecs/index.html#IsOtherFailure">IsOtherFailure</a> <a href="../../machine/LawsSpecs/index.html#failure">failure</a> → ⊥
   pub <b id="tells">tells</b> : <a href="../../machine/ExchangeSpecs/index.html#Passes">Passes</a> rules w.limiter (<a href="../../machine/ExchangeSpecs/index.html#Notice">Notice</a> <a href="../../machine/LawsSpecs/index.html#question">question</a> <a href="../../machine/LawsSpecs/index.html#failure">failure</a> <a href="../../machine/LawsSpecs/index.html#notice_answer">notice_answer</a>) w&#x27;.limiter
   pub <b id="replies">replies</b> : turn.reply ≡ <a href="../../machine/ExchangeSpecs/index.html#failed_reply">failed_reply</a> <a href="../../machine/LawsSpecs/index.html#failure">failure</a> <a href="../../machine/LawsSpecs/index.html#notice_answer">notice_answer</a>
-  pub <b id="meter">meter</b> : <a href="../../machine/AccountSpecs/index.html#PaysCharge">PaysCharge</a> w.state.<a href="../../machine/LawsSpecs/index.html#meter">meter</a> (<a href="../../machine/ExchangeSpecs/index.html#growth_due">growth_due</a> w.state.<a href="../../machine/LawsSpecs/index.html#meter">meter</a> <a href="../../machine/LawsSpecs/index.html#question">question</a>) w&#x27;.state.meter
+  pub <b id="meter">meter</b> : <a href="../../meter/MeterSpecs/index.html#PaysCharge">PaysCharge</a> w.state.<a href="../../machine/LawsSpecs/index.html#meter">meter</a> (<a href="../../machine/ExchangeSpecs/index.html#growth_due">growth_due</a> w.state.<a href="../../machine/LawsSpecs/index.html#meter">meter</a> <a href="../../machine/LawsSpecs/index.html#question">question</a>) w&#x27;.state.meter
 
 -- the meter stays, unless a growth fails after its charge
 abbrev pub <b id="KeepsMeter">KeepsMeter</b> : {S : Type 0} → <a href="../../meter/LimiterSpecs/index.html#Rules">Rules</a> S → <a href="../../machine/StateSpecs/index.html#World">World</a> S → <a href="../../machine/StateSpecs/index.html#Turn">Turn</a> → <a href="../../machine/StateSpecs/index.html#World">World</a> S → Type 0
@@ -4569,7 +4570,7 @@ use Rattle.wasmi_machine.specs.declared.calls.Call.{Call}
 use Rattle.wasmi_machine.specs.declared.calls.Reply.{Reply}
 use Rattle.wasmi_meter.specs.declared.limiter.Kind.{Kind}
 use Rattle.wasmi_meter.specs.declared.limiter.Kind.TheVariants.{Bytes, Elements}
-use Rattle.wasmi_meter.specs.declared.holdings.Holdings.{Holdings}
+use Rattle.wasmi_meter.specs.declared.quota.Holdings.{Holdings}
 use Rattle.wasmi_machine.specs.declared.calls.Call.TheVariants.{NewMemory, NewLentMemory, NewTable}
 use Rattle.wasmi_machine.specs.declared.calls.Reply.TheVariants as <a href="../../machine/StateSpecs/index.html#reply">reply</a>
 use Rattle.wasmi_store.specs.Memory as memory
@@ -6000,14 +6001,14 @@ abbrev pub <b id="RemovedStayRemoved">RemovedStayRemoved</b> : Type 0
     pub mod LawsSpecs {}
     #[doc = r####"A pool of tenants: a tenant's rules, what the machines hold together, what a run of one of them does, and what its errors print.
 
-<pre><code>use Rattle.wasmi_meter.specs.declared.holdings.Holdings.{Holdings}
+<pre><code>use Rattle.wasmi_meter.specs.declared.quota.Holdings.{Holdings}
 use Rattle.wasmi_meter.specs.Capped.{<a href="../../meter/CappedSpecs/index.html#amount_of">amount_of</a>, <a href="../../meter/CappedSpecs/index.html#nothing">nothing</a>, <a href="../../meter/CappedSpecs/index.html#amounts_of">amounts_of</a>, <a href="../../meter/CappedSpecs/index.html#Capped">Capped</a>, <a href="../../meter/CappedSpecs/index.html#capped_rules">capped_rules</a>, <a href="../../meter/CappedSpecs/index.html#held_together">held_together</a>}
 use Rattle.wasmi_meter.specs.Limiter.{<a href="../../meter/LimiterSpecs/index.html#Rules">Rules</a>, <a href="../../meter/LimiterSpecs/index.html#optional_rules">optional_rules</a>}
 use Rattle.wasmi_budget.specs.declared.tenant.Tenant.{Tenant}
 use Rattle.std.specs.Prelude.{◌≡◌, ◌≤◌, ◌&lt;◌, ◌+◌, ◌-◌, ◌^◌, ◌++◌, ⊤, ℕ, List, [], ◌∷◌, Option, Some, None, slice_index_or, slice_set, sum_by, remove, codes}
 use Rattle.wasmi_meter.specs.declared.limiter.Kind.{Kind}
 use Rattle.wasmi_meter.specs.declared.limiter.Kind.TheVariants.{Bytes, Elements}
-use Rattle.wasmi_meter.specs.declared.amounts.Amounts.{Amounts}
+use Rattle.wasmi_meter.specs.declared.quota.Amounts.{Amounts}
 use Rattle.wasmi_machine.specs.declared.calls.Call.{Call}
 use Rattle.wasmi_machine.specs.declared.calls.Call.TheVariants.{Binary, CopyMemory, FillMemory, InitMemory, SetFuel, Store}
 use Rattle.wasmi_machine.specs.declared.calls.Reply.{Reply}
@@ -7500,8 +7501,8 @@ use Rattle.wasmi_meter.specs.Limiter.{<a href="../../meter/LimiterSpecs/index.ht
 use Rattle.wasmi_meter.specs.declared.limiter.NoLimits.{NoLimits}
 use Rattle.wasmi_meter.specs.declared.quota.Quota.{Quota}
 use Rattle.wasmi_meter.specs.declared.limiter.Kind.TheVariants.{Bytes, Elements}
-use Rattle.wasmi_meter.specs.declared.holdings.Holdings.{Holdings}
-use Rattle.wasmi_meter.specs.declared.amounts.Amounts.{Amounts}
+use Rattle.wasmi_meter.specs.declared.quota.Holdings.{Holdings}
+use Rattle.wasmi_meter.specs.declared.quota.Amounts.{Amounts}
 use Rattle.wasmi_meter.specs.Capped.{<a href="../../script/ScriptRunsSpecs/index.html#nothing">nothing</a>, <a href="../../meter/CappedSpecs/index.html#quota_rules">quota_rules</a>, <a href="../../meter/CappedSpecs/index.html#cap_of">cap_of</a>, <a href="../../meter/CappedSpecs/index.html#holdings">holdings</a>}
 use Rattle.wasmi_machine.specs.declared.calls.Call.{Call}
 use Rattle.wasmi_machine.specs.State.{<a href="../../machine/StateSpecs/index.html#State">State</a>, <a href="../../machine/StateSpecs/index.html#World">World</a>, <a href="../../machine/StateSpecs/index.html#HoldsTotals">HoldsTotals</a>}
