@@ -20,7 +20,7 @@ use Rattle.wasmi_machine.specs.Laws.{RepliesAreOne}
 use Rattle.wasmi_machine.specs.State.{State, live_at, live_value}
 use Rattle.wasmi_machine.specs.TableEffects.{ReservesElementsAt}
 use Rattle.wasmi_machine.proofs.EffectLemmas.{both_live, on_live}
-use Rattle.wasmi_laws.proofs.ListLemmas.{live_slot, set_same}
+use Rattle.wasmi_machine.proofs.SlotsLemmas.{live_slot, set_same}
 use Rattle.wasmi_laws.specs.Reserved.{IsReservedFor, IsReservedTable, IsReservedToMaximum, ReservedRunsSucceed}
 use Rattle.wasmi_budget.specs.Pool.{PoolValue, RunsTenant, machine_of, pool_of, tenant_rules}
 use Rattle.wasmi_budget.specs.declared.error.RunIntoError.{RunIntoError}

@@ -16,7 +16,7 @@ use Rattle.wasmi_machine.specs.declared.calls.Reply.{Reply}
 use Rattle.wasmi_machine.specs.declared.calls.Reply.TheVariants.{Done, NoSuch, Trap}
 use Rattle.wasmi_machine.specs.declared.slots.Slot.{Slot}
 use Rattle.wasmi_machine.specs.declared.slots.Slot.TheVariants.{Gone, Live}
-use Rattle.wasmi_laws.proofs.ListLemmas.{set_other}
+use Rattle.wasmi_machine.proofs.SlotsLemmas.{set_other}
 use Rattle.wasmi_laws.proofs.LocationLemmas.{changed_by, changed_in, changed_is}
 use Rattle.wasmi_laws.specs.Places.{Content, DataAt, GlobalAt, IndependentTurnsSwap, IsIndependent, IsLocal, Location, MemoryAt, RegisterAt, SegmentAt, TableAt, changed_location, content_at, read_locations}
 use Rattle.wasmi_meter.specs.Limiter.{Rules}

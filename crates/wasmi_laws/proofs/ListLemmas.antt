@@ -2,42 +2,22 @@
 use Rattle.std.proofs.Common.{Err, List, None, Ok, Option, Result, Some, [], ap, inl, inr, refl, set, subst, suc, sym, zero, ℕ, ◌++◌, ◌∙◌, ◌∷◌, ◌≡◌, ◌⊎◌}
 use Rattle.std.proofs.lemmas.Bool.{cases_eq}
 use Rattle.std.proofs.lemmas.Option.{none-some, same_Some}
-use Rattle.std.specs.Option.{option_and_then}
 use Rattle.std.specs.Prelude.{slice_get, slice_set}
 use Rattle.wasmi_machine.proofs.EffectLemmas.{on_live}
+use Rattle.wasmi_machine.proofs.SlotsLemmas.{live_slot, set_other, set_same}
 use Rattle.wasmi_machine.specs.Effects.{ActsAt, AddsEntry, ChangesAt, ChangesItem, Creates, DropsAt}
-use Rattle.wasmi_machine.specs.State.{live_at, live_value}
+use Rattle.wasmi_machine.specs.State.{live_at}
 use Rattle.wasmi_machine.specs.declared.calls.Reply.{Reply}
 use Rattle.wasmi_machine.specs.declared.slots.Slot.{Slot}
 use Rattle.wasmi_machine.specs.declared.slots.Slot.TheVariants.{Gone, Live}
 use Rattle.wasmi_meter.specs.Attempt.{MeteredValue, with_value}
 
 module _ {X : Type 0} where
-  -- the item that was set
-  pub set_same : (xs : List X) (k : ℕ) (y x : X) → slice_get xs k ≡ Some x → slice_get (set xs k y) k ≡ Some y
-  set_same [] k y x found = absurd (none-some x found)
-  set_same (z ∷ zs) zero y x found = refl
-  set_same (z ∷ zs) (suc k) y x found = set_same zs k y x found
-
-  -- another item
-  pub set_other : (xs : List X) (k j : ℕ) (y : X) → (k ≡ j → ⊥) → slice_get (set xs k y) j ≡ slice_get xs j
-  set_other [] k j y other = refl
-  set_other (z ∷ zs) zero zero y other = absurd (other refl)
-  set_other (z ∷ zs) zero (suc j) y other = refl
-  set_other (z ∷ zs) (suc k) zero y other = refl
-  set_other (z ∷ zs) (suc k) (suc j) y other = set_other zs k j y (λ same. other (ap suc same))
-
   -- an item before what is appended
   append_before : (xs ys : List X) (j : ℕ) (x : X) → slice_get xs j ≡ Some x → slice_get (xs ++ ys) j ≡ Some x
   append_before [] ys j x found = absurd (none-some x found)
   append_before (z ∷ zs) ys zero x found = found
   append_before (z ∷ zs) ys (suc j) x found = append_before zs ys j x found
-
-  -- the slot of a live value
-  pub live_slot : (slot : Option (Slot X)) (x : X) → option_and_then live_value slot ≡ Some x → slot ≡ Some (Live x)
-  live_slot None x found = absurd (none-some x found)
-  live_slot (Some (Gone last)) x found = absurd (none-some x found)
-  live_slot (Some (Live y)) x found = ap (λ z. Some (Live z)) (same_Some y x found)
 
 -- what an item has become, where this is found in its place: it is the same, or what it may have become
 pub record ItemAfter {X : Type 0} (Becomes : X → X → Type 0) (x : X) (found : Option X) : Type 0 where

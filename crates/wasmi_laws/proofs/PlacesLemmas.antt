@@ -17,7 +17,7 @@ use Rattle.wasmi_machine.specs.Steps.{RepliesWith}
 use Rattle.wasmi_machine.specs.declared.calls.Call.TheVariants.{Read}
 use Rattle.wasmi_machine.specs.declared.calls.Reply.TheVariants.{Done, NoSuch, Trap, Value, Bytes, Memory}
 use Rattle.wasmi_machine.specs.declared.slots.Slot.TheVariants.{Live}
-use Rattle.wasmi_laws.proofs.ListLemmas.{live_slot, set_same}
+use Rattle.wasmi_machine.proofs.SlotsLemmas.{live_slot, set_same}
 use Rattle.wasmi_laws.proofs.LocationLemmas.{others_stay_in_runs}
 use Rattle.wasmi_laws.specs.Places.{MemoryAt, NumberStore, StoresAreReadBack, StoresKeepOtherBytes, load_of, store_call, stored_part, stored_size, MemoriesGrowAlike, TablesGrowAlike, MemoriesReadAlike, MemoriesWriteAlike}
 use Rattle.wasmi_meter.specs.Limiter.{Rules}

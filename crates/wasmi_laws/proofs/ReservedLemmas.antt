@@ -1,5 +1,5 @@
 -- What is reserved is enough: no call that needs nothing else lacks memory, and a call takes no more than its slot.
-use Rattle.wasmi_laws.proofs.ListLemmas.{live_slot, set_other, set_same}
+use Rattle.wasmi_machine.proofs.SlotsLemmas.{live_slot, set_other, set_same}
 use Rattle.std.proofs.lemmas.Bool.{cases_eq}
 use Rattle.std.proofs.lemmas.Bool.Decides.{nat_tests}
 use Rattle.std.proofs.Common.{◌++◌, Bool, Err, List, None, Ok, Option, Result, Some, [], ap, arith, cond, drop, false, inl, inr, length, length-set, map, refl, subst, sym, take, true, ℕ, ◌*◌, ◌+◌, ◌^◌, ◌≤◌, ◌∙◌, ◌∷◌, ◌≡◌, ◌⊎◌, ⊎_elim, zero, suc}

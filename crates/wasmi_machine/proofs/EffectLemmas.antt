@@ -1,14 +1,14 @@
 -- What holds of each effect, and of each kind of effect.
 use Rattle.std.proofs.Common.{Bool, Err, List, None, Ok, Option, Result, Some, ap, false, inl, inr, map, refl, set, subst, sym, true, ℕ, ◌∙◌, ◌≡◌}
 use Rattle.std.proofs.lemmas.List.Elements.{All-get_or, All-push, All-set}
-use Rattle.std.proofs.lemmas.Option.{get_or_from_slice_get, none-some, same_Some, slice_get_within}
-use Rattle.std.specs.Option.{option_and_then}
+use Rattle.std.proofs.lemmas.Option.{get_or_from_slice_get, slice_get_within}
 use Rattle.std.specs.Prelude.{All, MatchBool, slice_get, slice_set}
-use Rattle.wasmi_machine.proofs.TotalLemmas.{set_read, counts_kept}
+use Rattle.wasmi_machine.proofs.SlotsLemmas.{live_slot, set_read}
+use Rattle.wasmi_machine.proofs.TotalLemmas.{counts_kept}
 use Rattle.wasmi_machine.specs.Determinism.{IsNotOutOfMemory}
 use Rattle.wasmi_machine.specs.Laws.{IsRefusal}
 use Rattle.wasmi_machine.specs.Effects.{ActsAt, AddsEntry, AddsItem, ChangesAt, ChangesFound, ChangesItem, Creates, DropsAt, DropsContents, IfNoRoom, OnLive, reply_of}
-use Rattle.wasmi_machine.specs.State.{live_at, live_value, slot_count, IsValidSlot}
+use Rattle.wasmi_machine.specs.State.{live_at, slot_count, IsValidSlot}
 use Rattle.wasmi_machine.specs.Steps.{Change}
 use Rattle.wasmi_machine.specs.declared.calls.Reply.{Reply}
 use Rattle.wasmi_machine.specs.declared.slots.Slot.{Slot}
@@ -32,12 +32,6 @@ both_live (Some x) Missing Missing' Fact Fact' h h' = (h, h')
 
 -- a live value is put back into its slot
 module _ {X : Type 0} where
-  -- a slot with the live value x is `Live x`
-  live_slot : (slot : Option (Slot X)) (x : X) → option_and_then live_value slot ≡ Some x → slot ≡ Some (Live x)
-  live_slot None x found = absurd (none-some x found)
-  live_slot (Some (Gone last)) x found = absurd (none-some x found)
-  live_slot (Some (Live y)) x found = ap (λ z. Some (Live z)) (same_Some y x found)
-
   -- the same value is put back
   pub put_back : (slots : List (Slot X)) (k : ℕ) (x x' : X) → live_at slots k ≡ Some x → x' ≡ x
       → slice_set slots k (Live x') ≡ slots
@@ -274,16 +268,10 @@ module _ {X : Type 0} (Valid : X → Type 0) where
   abbrev pub AllValid : List (Slot X) → Type 0
   AllValid slots = All (IsValidSlot Valid) slots
 
-  -- a live value in a slot
-  slot_valid : (slot : Option (Slot X)) (x : X) → option_and_then live_value slot ≡ Some x → slot ≡ Some (Live x)
-  slot_valid None x found = absurd (none-some x found)
-  slot_valid (Some (Gone last)) x found = absurd (none-some x found)
-  slot_valid (Some (Live y)) x found = ap (λ z. Some (Live z)) (same_Some y x found)
-
   -- the live value that an index names is valid
   pub live_valid : (slots : List (Slot X)) (k : ℕ) (x : X) → live_at slots k ≡ Some x → AllValid slots → Valid x
   live_valid slots k x found valid =
-      read_valid (IsValidSlot Valid) slots k (Live x) (slot_valid (slice_get slots k) x found) valid
+      read_valid (IsValidSlot Valid) slots k (Live x) (live_slot (slice_get slots k) x found) valid
 
   -- a slot is written anew
   pub put_valid : (slots slots' : List (Slot X)) (k : ℕ) (slot : Slot X) → slots' ≡ slice_set slots k slot

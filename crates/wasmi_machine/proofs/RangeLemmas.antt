@@ -1,11 +1,10 @@
 -- What holds of each write over a range of one part of the state: it is refused, and nothing has changed, or it is paid for.
 use Rattle.std.proofs.Common.{List, None, Option, Result, Some, ap, inl, inr, refl, replicate, subst, sym, true, false, Bool, ℕ, arith, ◌∙◌, ◌≡◌, ◌≤◌, ◌⊎◌, set, length, ◌<◌, ◌≢◌}
 use Rattle.std.proofs.lemmas.Bool.Decides.{nat_tests}
-use Rattle.std.proofs.lemmas.Option.{none-some, same_Some, slice_get-get_or, slice_get_past}
-use Rattle.std.proofs.lemmas.Bool.{cases_Bool}
-use Rattle.std.proofs.lemmas.List.{get_or-set_other, length-set, set-set}
+use Rattle.std.proofs.lemmas.Option.{none-some, same_Some}
+use Rattle.std.proofs.lemmas.List.{set-set}
 use Rattle.std.specs.Option.{option_and_then, option_map}
-use Rattle.std.specs.Prelude.{nat_eq, nat_le, slice_set, if◌then◌else◌, nat_lt, slice_get}
+use Rattle.std.specs.Prelude.{nat_eq, nat_le, slice_set, if◌then◌else◌, slice_get}
 use Rattle.wasmi_types.specs.Access.{at, overwrite}
 use Rattle.wasmi_meter.specs.declared.error.MemoryError.{MemoryError}
 use Rattle.wasmi_meter.specs.declared.error.MemoryError.TheVariants as memory_error
@@ -31,6 +30,7 @@ use Rattle.wasmi_machine.specs.MemoryEffects.{ByteSource, OfByte, OfBytes, Write
 use Rattle.wasmi_machine.specs.TableEffects.{OfReference, OfSegment, OfTable, Source, write_of}
 use Rattle.wasmi_machine.proofs.EffectLemmas.{HasOneEnding, acts_same, live_valid, on_both, on_live, on_live_too, put_back, put_valid}
 use Rattle.wasmi_machine.proofs.MemoryEffectsLemmas.{memory_as_long, overwrite_length}
+use Rattle.wasmi_machine.proofs.SlotsLemmas.{set_other}
 use Rattle.wasmi_machine.proofs.StepsLemmas.{KeepsMemories, KeepsTables, PartOf, the_memories, the_tables}
 use Rattle.wasmi_machine.proofs.TableEffectsLemmas.{table_as_long}
 use Rattle.wasmi_machine.proofs.TotalLemmas.{counts_kept, each_kind}
@@ -122,18 +122,6 @@ pub range_of_bytes : (source : Option MemoryValue) (k dst src len : ℕ) (s : Me
 range_of_bytes None k dst src len s reply charge s' writes = writes
 range_of_bytes (Some y) k dst src len s reply charge s' writes = writes
 
--- what is at another index, where one is set
-get_beside : {X : Type 0} (xs : List X) (i j : ℕ) (x : X) → j ≢ i → slice_get (set xs i x) j ≡ slice_get xs j
-get_beside {X} xs i j x other = elim (cases_Bool (nat_lt j (length xs))) [
-  | inl within ↦
-      let h : j < length xs = grind (arith, nat_tests, within) in
-      slice_get-get_or (set xs i x) j x (omega (arith, length-set xs i x, h))
-      ∙ ap Some (get_or-set_other xs i j x x other) ∙ sym (slice_get-get_or xs j x h)
-  | inr past ↦
-      let h : length xs ≤ j = grind (arith, nat_tests, past) in
-      slice_get_past (set xs i x) j (omega (arith, length-set xs i x, h)) ∙ sym (slice_get_past xs j h)
-]
-
 -- a copy from one index to another, where what is at the second was taken out of its slot
 module _ {X E : Type 0} (refusal : E → Reply) (write : X → X → MeteredWrite X E) (slots : List (Slot X))
     (into from : ℕ) (other : from ≢ into) (m : Option Meter) where
@@ -143,7 +131,7 @@ module _ {X E : Type 0} (refusal : E → Reply) (write : X → X → MeteredWrit
 
   -- what another slot has
   beside : live_at rest from ≡ live_at slots from
-  beside = ap (option_and_then live_value) (get_beside slots into from (Gone 0) other)
+  beside = ap (option_and_then live_value) (set_other slots into from (Gone 0) (λ same. other (sym same)))
 
   -- there was nothing
   pub none_taken : live_at slots into ≡ None

@@ -2,7 +2,7 @@
 use Rattle.std.proofs.Common.{◌≡◌, ◌<◌, ◌++◌, ℕ, List, length, get_or, set, Some, ap, refl, sym, ◌∙◌, arith, None, Option, [], map, sum, ◌+◌, ◌∷◌}
 use Rattle.std.specs.List.{SameBelow, TailFrom}
 use Rattle.std.specs.Prelude.{slice_get, slice_set}
-use Rattle.std.proofs.lemmas.List.{set-append_left, set-append_right, set-get_or, map-set}
+use Rattle.std.proofs.lemmas.List.{set-append_left, set-append_right, map-set}
 use Rattle.std.proofs.lemmas.Option.{get_or_from_slice_get, slice_get-get_or, none-some, same_Some, slice_get-map, slice_get_within}
 use Rattle.wasmi_meter.specs.Meter.{Meter}
 use Rattle.wasmi_meter.specs.Attempt.{MeteredValue}
@@ -11,6 +11,7 @@ use Rattle.wasmi_machine.specs.declared.calls.Reply.{Reply}
 use Rattle.wasmi_machine.specs.declared.slots.Slot.{Slot}
 use Rattle.wasmi_machine.specs.declared.slots.SlotCounts.{SlotCounts}
 use Rattle.wasmi_machine.specs.declared.slots.Slot.TheVariants.{Live, Gone}
+use Rattle.wasmi_machine.proofs.SlotsLemmas.{set_read}
 use Rattle.wasmi_machine.specs.State.{State, live_at, live_value, slot_count, total, with_reserved}
 use Rattle.wasmi_machine.specs.Effects.{CopiesSlot, MeteredSlots, WritesFrom}
 use Rattle.wasmi_store.specs.Growth.{metered}
@@ -18,10 +19,6 @@ use Rattle.std.proofs.lemmas.List.Sums.{sum_by-set, sum_by_push}
 use Rattle.std.specs.Option.{option_and_then, option_map}
 use Rattle.wasmi_meter.specs.declared.limiter.Kind.{Kind}
 use Rattle.wasmi_meter.specs.declared.limiter.Kind.TheVariants.{Bytes, Elements}
-
--- what was read, written back
-pub set_read : {X : Type 0} (xs : List X) (k : ℕ) (y : X) → slice_get xs k ≡ Some y → set xs k y ≡ xs
-set_read xs k y found = ap (set xs k) (sym (get_or_from_slice_get xs k y y found)) ∙ set-get_or xs k y
 
 -- slots in two parts, of which the first has so many
 pub record IsSplit {X : Type 0} (slots front back : List (Slot X)) (many : ℕ) : Type 0 where

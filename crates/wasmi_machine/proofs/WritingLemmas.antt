@@ -118,15 +118,15 @@ module _ {V E S : Type 0} (rules : Rules S) (g : Growth V E) (t : Growing V S) w
   growth_costs result (inr some) = same_costs t.first.meter t.last.meter t.charge some.attempt.meter
 
   -- the charge is taken
-  growth_takes : (result : Result ℕ E) → Grown result → PaysCharge t.first.meter t.charge t.last.meter
-  growth_takes result grows =
+  growing_pays : (result : Result ℕ E) → Grown result → PaysCharge t.first.meter t.charge t.last.meter
+  growing_pays result grows =
       grows_takes rules g t.first.value t.first.meter t.first.limiter result t.charge t.last.value t.last.meter
       t.last.limiter grows
 
   -- a growth that is refused writes nothing
   growth_refuses : (error : E) → Grown (Err error) → Wrote t.first.meter t.charge 0 false 0 t.last.meter
   growth_refuses error grows =
-      refuses t.first.meter t.last.meter t.charge (growth_costs (Err error) grows) (growth_takes (Err error) grows)
+      refuses t.first.meter t.last.meter t.charge (growth_costs (Err error) grows) (growing_pays (Err error) grows)
 
   -- an accepted growth, whose charge pays for so many bytes where nothing stood in its way
   module _ (bytes : ℕ) (none : g.amount ≡ 0 → bytes ≡ 0)
@@ -152,7 +152,7 @@ module _ {V E S : Type 0} (rules : Rules S) (g : Growth V E) (t : Growing V S) w
     -- what it has written
     growth_pays : (size : ℕ) → Grown (Ok size) → Wrote t.first.meter t.charge bytes true 0 t.last.meter
     growth_pays size grows =
-        pays t.first.meter t.last.meter t.charge bytes (growth_costs (Ok size) grows) (growth_takes (Ok size) grows)
+        pays t.first.meter t.last.meter t.charge bytes (growth_costs (Ok size) grows) (growing_pays (Ok size) grows)
         (met_bound size grows)
 
 -- a growth of a memory

@@ -1,0 +1,34 @@
+-- Items of a list and slots, as they are read, set, and put back.
+use Rattle.std.proofs.Common.{List, None, Option, Some, [], ap, refl, set, suc, sym, zero, ℕ, ◌∙◌, ◌∷◌, ◌≡◌}
+use Rattle.std.proofs.lemmas.List.{set-get_or}
+use Rattle.std.proofs.lemmas.Option.{get_or_from_slice_get, none-some, same_Some}
+use Rattle.std.specs.Option.{option_and_then}
+use Rattle.std.specs.Prelude.{slice_get}
+use Rattle.wasmi_machine.specs.State.{live_value}
+use Rattle.wasmi_machine.specs.declared.slots.Slot.{Slot}
+use Rattle.wasmi_machine.specs.declared.slots.Slot.TheVariants.{Gone, Live}
+
+module _ {X : Type 0} where
+  -- the item that was set
+  pub set_same : (xs : List X) (k : ℕ) (y x : X) → slice_get xs k ≡ Some x → slice_get (set xs k y) k ≡ Some y
+  set_same [] k y x found = absurd (none-some x found)
+  set_same (z ∷ zs) zero y x found = refl
+  set_same (z ∷ zs) (suc k) y x found = set_same zs k y x found
+
+  -- another item
+  pub set_other : (xs : List X) (k j : ℕ) (y : X) → (k ≡ j → ⊥) → slice_get (set xs k y) j ≡ slice_get xs j
+  set_other [] k j y other = refl
+  set_other (z ∷ zs) zero zero y other = absurd (other refl)
+  set_other (z ∷ zs) zero (suc j) y other = refl
+  set_other (z ∷ zs) (suc k) zero y other = refl
+  set_other (z ∷ zs) (suc k) (suc j) y other = set_other zs k j y (λ same. other (ap suc same))
+
+  -- what was read, written back
+  pub set_read : (xs : List X) (k : ℕ) (y : X) → slice_get xs k ≡ Some y → set xs k y ≡ xs
+  set_read xs k y found = ap (set xs k) (sym (get_or_from_slice_get xs k y y found)) ∙ set-get_or xs k y
+
+  -- the slot of a live value
+  pub live_slot : (slot : Option (Slot X)) (x : X) → option_and_then live_value slot ≡ Some x → slot ≡ Some (Live x)
+  live_slot None x found = absurd (none-some x found)
+  live_slot (Some (Gone last)) x found = absurd (none-some x found)
+  live_slot (Some (Live y)) x found = ap (λ z. Some (Live z)) (same_Some y x found)
