@@ -150,6 +150,14 @@ def written(rows):
     return "".join(Export(*found.groups()).source() for _, found in lines)
 
 
-def source(key):
-    """The text of a module of wasmi_c_lib."""
-    return ROWS.sub(lambda rows: written(rows[1]), FILES[key])
+def number_of(version):
+    """The number of a version of the headers."""
+    major, minor, patch = map(int, version.split("."))
+    return major << 16 | minor << 8 | patch
+
+
+def source(key, version):
+    """The text of a module of wasmi_c_lib, of a version of the headers."""
+    number = number_of(version)
+    text = FILES[key].replace("VERSION_LITERAL", f"{number:_}").replace("VERSION", str(number))
+    return ROWS.sub(lambda rows: written(rows[1]), text)
