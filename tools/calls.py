@@ -1,5 +1,5 @@
-"""The calls of the machine: what tools/calls.toml says of each, and the definitions and lemmas that are projections of it. The names and the types of what a call is
-given are those of `Call` in crates/wasmi_machine/src/calls.rt. What is written stands between two comments that say so."""
+"""The calls of the machine: what tools/calls.toml says of each, and the definitions, lemmas and lines that are projections of it. The names and the types of what a
+call is given are those of `Call` in crates/wasmi_machine/src/calls.rt. What is written stands between two comments that say so."""
 import re
 import tomllib
 
@@ -7,6 +7,7 @@ import errors
 import numbering
 import regions
 from libraries import TOP
+from prototypes import KINDS, capitals
 from regions import definition, filled
 
 CALLS = TOP / "crates/wasmi_machine/src/calls.rt"
@@ -49,9 +50,9 @@ class Call:
         self.types = dict(self.fields)
         self.variables = [field for field, _ in self.fields]
         self.parts, self.list, self.count = [], None, 0
-        words = row.get("words", " ".join(self.variables)).split()
-        self.lane = words.index("LANE") if "LANE" in words else None
-        for word in words:
+        self.words = row.get("words", " ".join(self.variables)).split()
+        self.lane = self.words.index("LANE") if "LANE" in self.words else None
+        for word in self.words:
             self.add(word)
         if lacks := {*self.types} - {part.term.split(".")[0] for part in self.parts} - {self.list and self.list[0]}:
             raise SystemExit(f"tools/calls.toml: no word of {name} writes {lacks}")
@@ -553,15 +554,15 @@ READ = {
 }
 
 
-def constant(name):
-    """The name of a call in capitals."""
-    return re.sub(r"(?<=.)([A-Z])", r"_\1", name).upper()
+def constant(call):
+    """The name of a kind of calls in the headers."""
+    return f"WASMI_CALL_{KINDS.get(call.name, capitals(call.name))}"
 
 
 def kinds(its):
     """The kinds of which the rows have what the header says."""
     rows = sorted((it for it in its if "header" in it.row), key=lambda it: it.row["kind"])
-    lines = [f"    WASMI_CALL_{constant(it.name)} = {it.row['kind']}{',' if it is not rows[-1] else ''}" for it in rows]
+    lines = [f"    {constant(it)} = {it.row['kind']}{',' if it is not rows[-1] else ''}" for it in rows]
     width = max(map(len, lines)) + 1
     above = lambda it: filled(f"/* {it.row['above']} */", 4, 0) if "above" in it.row else ""
     return "".join(f"{above(it)}{line:{width}}/* {it.row['header']} */\n" for it, line in zip(rows, lines))
@@ -615,6 +616,65 @@ def lines(its):
     return f"static COMMANDS: [(&str, &str); {len(its)}] = [\n{made}];\n"
 
 
+# ---- conformance/hostile/calls.h
+
+# Of a member of calls.toml what a line has, between quotes, and the arguments of that. A kind with another member has its line by hand.
+LINES = {
+    **{member: (" %zu", f"c->{member}") for member in ("index", "source")},
+    **{member: ('" U "', f"c->{member}") for member in ("count", "ptr", "offset", "to", "from")},
+    **{member: (" %d", f"c->{member}") for member in ("dst", "a", "b", "c")},
+    "byte": (" %d", "(int)(c->value.lo & 255)"),
+    "value": ('" U U "', "c->value.lo, c->value.hi"),
+    "reference": (' %s %" PRIu32 "', "reference_word(c->type), c->reference"),
+    "global_type": (" %s %s", 'type_word(c->type), c->is_mutable ? "var" : "const"'),
+    "typed_value": (' %s" U U "', "type_word(c->type), c->value.lo, c->value.hi"),
+    "lane_load": (" %s", "NAME_OF(LANE_LOADS, c->op)"),
+    "lane_store": (" %s", "NAME_OF(LANE_STORES, c->op)"),
+    "extraction": (" %s", "NAME_OF(EXTRACTIONS, c->op)"),
+    "replacement": (" %s", "NAME_OF(REPLACEMENTS, c->op)"),
+    "ternary": (" %s", "NAME_OF(TERNARIES, c->op)"),
+    "LANE": (" %d", "c->lane"),
+}
+
+
+def kind_count(its):
+    """How many kinds of calls C has."""
+    kinds = {it.row["kind"] for it in its if "kind" in it.row} | {kind for _, _, several, _ in DECODED for kind in several}
+    if kinds != set(range(len(kinds))):
+        raise SystemExit(f"tools/calls.toml: the kinds of calls aren't numbered in turn: {sorted(kinds)}")
+    return len(kinds)
+
+
+def put(call, members):
+    """What writes the line of a call, of whose fields these are the members."""
+    parts = [(f" {word[1:-1]}", "") if word[0] == "'" else LINES[members.get(word, word)] for word in call.words]
+    format = f'"{call.row["word"]}{"".join(said for said, _ in parts)}"'.replace(' ""', "")
+    return ", ".join([f"return put(at, {format}", *(given for _, given in parts if given)]) + ");"
+
+
+def line_cases(its):
+    """A case for each kind whose line isn't written by hand."""
+    for call in sorted((it for it in its if "kind" in it.row), key=lambda it: it.row["kind"]):
+        members = dict(zip(call.variables, (it.partition(":")[0] for it in call.row["members"].split()), strict=True))
+        if LINES.keys() >= set(members.values()):
+            case = f"        case {constant(call)}:"
+            line = f"{case} {put(call, members)}\n"
+            yield line if len(line) <= 121 else case + "\n" + regions.textwrap.fill(put(call, members), 120, initial_indent=" " * 12, subsequent_indent=" " * 23) + "\n"
+
+
+def script_lines(its):
+    return f"""/* How many kinds of calls there are: the numbers from this one on stand for none. */
+enum {{ KINDS = {kind_count(its)} }};
+
+/* The line of a call, without its end. */
+static inline char *line_of(char *at, const wasmi_call *c) {{
+    switch (c->kind) {{
+{"".join(line_cases(its))}        default: return line_by_hand(at, c);
+    }}
+}}
+"""
+
+
 # ---- docs/SCRIPT.md
 
 def table_of(call):
@@ -649,6 +709,7 @@ FILES = {
     "rust/tests/scripts/bad_lines.rs": [(lines,)],
     "include/wasmi_machine.h": [(kinds,), (lambda its: errors.enumerators(errors.errors()),)],
     "crates/wasmi_c/src/machine/call_struct.rt": [(arms("call_of"),), (arms("range_call"),), (arms("table_call"),), (arms("value_call"),)],
+    "conformance/hostile/calls.h": [(script_lines, lambda its: errors.texts_in_c(errors.errors()))],
 }
 
 

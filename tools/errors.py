@@ -79,6 +79,19 @@ def enumerators(its):
     return "".join(f"{f'{line:{width}}/* {said} */' if said else line}\n" for line, said in lines)
 
 
+def texts_in_c(its):
+    """The function of conformance/hostile/calls.h from a status to the text of an error without a number."""
+    status = lambda it: f"WASMI_{it.row['status']}" if "header" in it.row else it.row["number"]
+    cases = "".join(f'        case {status(it)}: return "{it.row["text"]}";\n' for it in its if not it.has_fuel)
+    return f"""/* The text of an error of a memory or a table, but for want of fuel. */
+static inline const char *error_of(uint8_t status) {{
+    switch (status) {{
+{cases}        default: return "unknown status";
+    }}
+}}
+"""
+
+
 FILES = {
     "crates/wasmi_meter/specs/Texts.antt": [(
         of("MemoryError")("the text of an error of a memory", "memory_error_text", "MemoryError → List ℕ", text),

@@ -14,9 +14,6 @@
 #include <sys/mman.h>
 #include <unistd.h>
 
-/* How many kinds of calls wasmi_machine.h has: the numbers from this one on stand for none. */
-enum { KINDS = 33 };
-
 /* Numbers of more than 64 bits; where C has none, one of the floats that has the same sums and products of powers of two. */
 #ifdef __SIZEOF_INT128__
 __extension__ typedef unsigned __int128 wide;

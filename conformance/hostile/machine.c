@@ -4,12 +4,12 @@
    difference. Link it with --wrap for malloc, realloc and free. */
 #define _DEFAULT_SOURCE
 #include "blocks.h"
+#include "calls.h"
 #include "hostile.h"
 #include "wasmi_machine.h"
 #include <pthread.h>
-#include <stdarg.h>
 
-enum { PAGE = 65536, TEXT = 1 << 16, SEQUENCE = 60, THREADS = 4, REGISTERS = 5, MOST_LINE = 512 };
+enum { PAGE = 65536, TEXT = 1 << 16, SEQUENCE = 60, THREADS = 4, REGISTERS = 5 };
 enum { MOST_ANSWERS = 24, FRONT = 1024 };
 
 static _Thread_local long calls;
@@ -71,22 +71,7 @@ static uint64_t number(void) {
     return form < 5 ? below(5) : form < 7 ? below(3 * PAGE) : borders[below(6)] + below(5) - 2;
 }
 
-/* Calls as lines of a script. */
-
-#define NAME(number, name) #name,
-static const char *const UNARIES[] = {WASMI_UNARY_NAMES(NAME)};
-static const char *const BINARIES[] = {WASMI_BINARY_NAMES(NAME)};
-static const char *const TERNARIES[] = {WASMI_TERNARY_NAMES(NAME)};
-static const char *const EXTRACTIONS[] = {WASMI_EXTRACT_LANE_NAMES(NAME)};
-static const char *const REPLACEMENTS[] = {WASMI_REPLACE_LANE_NAMES(NAME)};
-static const char *const LOADS[] = {WASMI_LOAD_NAMES(NAME)};
-static const char *const STORES[] = {WASMI_STORE_NAMES(NAME)};
-static const char *const LANE_LOADS[] = {WASMI_LOAD_LANE_NAMES(NAME)};
-static const char *const LANE_STORES[] = {WASMI_STORE_LANE_NAMES(NAME)};
-
-/* The first number of each command in a list of several commands. */
-enum { FIRST_MAKE = 16, FIRST_UNARY = 28, FIRST_TEST = 54, FIRST_SHIFT = 150 };
-enum { FIRST_VECTOR_LOAD = 12, VECTOR_STORE = 7 };
+/* Calls by functions of their own. */
 
 /* Whether a call has a function of its own, which takes this number or finds none of it. */
 static int is_direct(const wasmi_call *c) {
@@ -151,158 +136,16 @@ static wasmi_reply called_directly(wasmi_machine *machine, const wasmi_call *c) 
     return reply;
 }
 
-static const char *name_of(const char *const *names, size_t count, uint16_t op) {
-    return op < count ? names[op] : "unknown";
-}
-#define NAME_OF(names, op) name_of(names, sizeof names / sizeof names[0], op)
-
-static const char *reference_word(uint8_t type) {
-    return type == WASMI_TYPE_FUNCREF ? "func" : type == WASMI_TYPE_EXTERNREF ? "extern" : "unknown";
-}
-
-static const char *type_word(uint8_t type) {
-    static const char *const words[] = {"i32", "i64", "f32", "f64", "v128", "funcref", "externref"};
-    return type < 7 ? words[type] : "unknown";
-}
-
-static char *put(char *at, const char *format, ...) {
-    va_list words;
-    va_start(words, format);
-    at += vsnprintf(at, MOST_LINE, format, words);
-    va_end(words);
-    return at;
-}
-
-#define U " %" PRIu64
-
-static char *maximum_word(char *at, const wasmi_call *c) {
-    return c->has_maximum ? put(at, U, c->maximum) : put(at, " none");
-}
-
-static char *memory_line(char *at, const wasmi_call *c) {
-    switch (c->kind) {
-        case WASMI_CALL_NEW_MEMORY:
-            at = maximum_word(put(at, "memory" U, c->count), c);
-            return put(at, " %d %d", c->page_size_log2, c->is_64 ? 64 : 32);
-        case WASMI_CALL_GROW_MEMORY: return put(at, "grow %zu" U, c->index, c->count);
-        case WASMI_CALL_DROP_MEMORY: return put(at, "drop memory %zu", c->index);
-        case WASMI_CALL_FILL_MEMORY:
-            return put(at, "mfill %zu" U " %d" U, c->index, c->to, (int)(c->value.lo & 255), c->count);
-        case WASMI_CALL_COPY_MEMORY:
-            return put(at, "mcopy %zu" U " %zu" U U, c->index, c->to, c->source, c->from, c->count);
-        case WASMI_CALL_INIT_MEMORY:
-            return put(at, "minit %zu %zu" U U U, c->index, c->source, c->to, c->from, c->count);
-        case WASMI_CALL_DROP_DATA: return put(at, "dempty %zu", c->index);
-        case WASMI_CALL_LOAD:
-            return c->op < FIRST_VECTOR_LOAD
-                ? put(at, "load %s %zu" U U, NAME_OF(LOADS, c->op), c->index, c->ptr, c->offset)
-                : put(at, "vload %s %d %zu" U U, NAME_OF(LOADS, c->op), c->dst, c->index, c->ptr, c->offset);
-        case WASMI_CALL_STORE:
-            return c->op == VECTOR_STORE
-                ? put(at, "vstore %d %zu" U U, c->a, c->index, c->ptr, c->offset)
-                : put(at, "store %s %zu" U U U, NAME_OF(STORES, c->op), c->index, c->ptr, c->offset, c->value.lo);
-        case WASMI_CALL_LOAD_LANE:
-            at = put(at, "vloadlane %s %d %d %d", NAME_OF(LANE_LOADS, c->op), c->dst, c->a, c->lane);
-            return put(at, " %zu" U U, c->index, c->ptr, c->offset);
-        default:
-            at = put(at, "vstorelane %s %d %d", NAME_OF(LANE_STORES, c->op), c->a, c->lane);
-            return put(at, " %zu" U U, c->index, c->ptr, c->offset);
-    }
-}
-
-static char *table_line(char *at, const wasmi_call *c) {
-    const char *type = reference_word(c->type);
-    switch (c->kind) {
-        case WASMI_CALL_NEW_TABLE:
-            at = maximum_word(put(at, "table %s" U, type, c->count), c);
-            return put(at, " %d %s %" PRIu32, c->is_64 ? 64 : 32, type, c->reference);
-        case WASMI_CALL_GROW_TABLE:
-            return put(at, "tgrow %zu" U " %s %" PRIu32, c->index, c->count, type, c->reference);
-        case WASMI_CALL_DROP_TABLE: return put(at, "drop table %zu", c->index);
-        case WASMI_CALL_GET_ELEMENT: return put(at, "get %zu" U, c->index, c->to);
-        case WASMI_CALL_SET_ELEMENT:
-            return put(at, "tset %zu" U " %s %" PRIu32, c->index, c->to, type, c->reference);
-        case WASMI_CALL_INIT_TABLE:
-            return put(at, "init %zu %zu" U U U, c->index, c->source, c->to, c->from, c->count);
-        case WASMI_CALL_COPY_TABLE:
-            return put(at, "copy %zu" U " %zu" U U, c->index, c->to, c->source, c->from, c->count);
-        case WASMI_CALL_FILL_TABLE:
-            return put(at, "fill %zu" U " %s %" PRIu32 U, c->index, c->to, type, c->reference, c->count);
-        default: return put(at, "empty %zu", c->index);
-    }
-}
-
-static char *vector_line(char *at, const wasmi_call *c) {
-    switch (c->kind) {
-        case WASMI_CALL_UNARY:
-            if (c->op >= FIRST_TEST) {
-                return put(at, "test %s %d", NAME_OF(UNARIES, c->op), c->a);
-            }
-            at = put(at, c->op < FIRST_MAKE || c->op >= FIRST_UNARY ? "unary" : "make");
-            return put(at, " %s %d %d", NAME_OF(UNARIES, c->op), c->dst, c->a);
-        case WASMI_CALL_BINARY:
-            at = put(at, c->op < FIRST_SHIFT ? "binary" : "shift");
-            at = put(at, " %s %d %d", NAME_OF(BINARIES, c->op), c->dst, c->a);
-            return put(at, U, c->op < FIRST_SHIFT ? c->b : c->count);
-        case WASMI_CALL_TERNARY:
-            return put(at, "ternary %s %d %d %d %d", NAME_OF(TERNARIES, c->op), c->dst, c->a, c->b, c->c);
-        case WASMI_CALL_EXTRACT_LANE: return put(at, "extract %s %d %d", NAME_OF(EXTRACTIONS, c->op), c->a, c->lane);
-        case WASMI_CALL_REPLACE_LANE:
-            return put(at, "replace %s %d %d %d %d", NAME_OF(REPLACEMENTS, c->op), c->dst, c->a, c->lane, c->b);
-        default:
-            at = put(at, "shuffle %d %d %d", c->dst, c->a, c->b);
-            for (int i = 0; i < 16; i++) {
-                at = put(at, " %d", c->lanes[i]);
-            }
-            return at;
-    }
-}
-
-static char *line_of(char *at, const wasmi_call *c) {
-    switch (c->kind) {
-        case WASMI_CALL_SET_FUEL: return put(at, "fuel" U, c->count);
-        case WASMI_CALL_GET_FUEL: return put(at, "left");
-        case WASMI_CALL_NEW_GLOBAL:
-            at = put(at, "global %s %s", type_word(c->type), c->is_mutable ? "var" : "const");
-            return put(at, U U, c->value.lo, c->value.hi);
-        case WASMI_CALL_SET_GLOBAL:
-            return put(at, "gset %zu %s" U U, c->index, type_word(c->type), c->value.lo, c->value.hi);
-        case WASMI_CALL_GET_GLOBAL: return put(at, "gget %zu", c->index);
-        case WASMI_CALL_SET_REGISTER: return put(at, "set %d" U U, c->dst, c->value.lo, c->value.hi);
-        case WASMI_CALL_GET_REGISTER: return put(at, "show %d", c->a);
-        default:
-            return c->kind <= WASMI_CALL_STORE_LANE ? memory_line(at, c)
-                 : c->kind <= WASMI_CALL_DROP_ITEMS ? table_line(at, c)
-                 : c->kind <= WASMI_CALL_SHUFFLE    ? vector_line(at, c)
-                 : c->kind <= WASMI_CALL_DROP_DATA  ? memory_line(at, c)
-                                                    : put(at, "unknown");
-    }
-}
-
 /* Replies as the lines that a script prints. */
 
 static const char *refusal_of(uint8_t status) {
     switch (status) {
-        case WASMI_MEMORY_OUT_OF_BOUNDS:
-        case WASMI_MEMORY_ACCESS: return "out of bounds memory access";
-        case WASMI_MEMORY_OUT_OF_MEMORY:
-        case WASMI_TABLE_OUT_OF_MEMORY: return "tried to allocate more virtual memory than available on the system";
-        case WASMI_MEMORY_GROWTH: return "out of bounds memory growth";
-        case WASMI_MEMORY_DENIED: return "a resource limiter denied to allocate or grow the linear memory";
-        case WASMI_MEMORY_SIZE_OVERFLOW: return "the minimum size of the memory type overflows the system index type";
-        case TABLE_MINIMUM_OVERFLOW: return "the minimum table size overflows the system bounds";
-        case WASMI_TABLE_DENIED: return "a resource limiter denied to allocate or grow the table";
-        case WASMI_TABLE_GROWTH: return "out of bounds table access: `table.growth`";
-        case WASMI_TABLE_INIT: return "out of bounds table access: `table.init`";
-        case WASMI_TABLE_FILL: return "out of bounds table access: `table.fill`";
-        case WASMI_TABLE_SET: return "out of bounds table access: `table.set`";
-        case WASMI_TABLE_COPY: return "out of bounds table access: `table.copy`";
-        case WASMI_TABLE_TYPE: return "encountered mismatching table element type";
+        case WASMI_MEMORY_OUT_OF_BOUNDS: return "out of bounds memory access";
         case WASMI_METERING_DISABLED: return "fuel metering is disabled";
         case WASMI_GLOBAL_IMMUTABLE: return "tried to write to immutable global variable";
         case WASMI_GLOBAL_TYPE: return "tried to write value of non-matching type to global variable";
         case WASMI_SEGMENT_OUT_OF_MEMORY: return "out of memory";
-        default: return "unknown status";
+        default: return error_of(status);
     }
 }
 

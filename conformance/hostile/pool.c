@@ -5,6 +5,7 @@
    ended is a difference. usage: pool SCRIPTS [SEED]. The last line is `N scripts, M differ`; the exit status is 0 if M
    is 0. Link it with --wrap for malloc, realloc and free. */
 #define _DEFAULT_SOURCE
+#include "calls.h"
 #include "scripts.h"
 #include "wasmi_machine.h"
 
@@ -154,18 +155,9 @@ static char *called(char *at, size_t tenant) {
     wasmi_call call;
     memset(&call, 0, sizeof call);
     switch (below(4)) {
-        case 0:
-            call.kind = WASMI_CALL_SET_FUEL, call.count = number();
-            at += sprintf(at, "fuel %" PRIu64 "\n", call.count);
-            break;
-        case 1:
-            call.kind = WASMI_CALL_DROP_MEMORY, call.index = (size_t)below(40);
-            at += sprintf(at, "drop memory %zu\n", call.index);
-            break;
-        case 2:
-            call.kind = WASMI_CALL_SET_REGISTER, call.dst = (uint8_t)below(20), call.value.lo = number();
-            at += sprintf(at, "set %u %" PRIu64 " 0\n", call.dst, call.value.lo);
-            break;
+        case 0: call.kind = WASMI_CALL_SET_FUEL, call.count = number(); break;
+        case 1: call.kind = WASMI_CALL_DROP_MEMORY, call.index = (size_t)below(40); break;
+        case 2: call.kind = WASMI_CALL_SET_REGISTER, call.dst = (uint8_t)below(20), call.value.lo = number(); break;
         default:
             call.kind = (uint16_t)(KINDS + below(1000));
             if (wasmi_pool_call(&pool, tenant, at_edge(0, &call, sizeof call)).status != WASMI_NO_CALL) {
@@ -173,6 +165,7 @@ static char *called(char *at, size_t tenant) {
             }
             return at;
     }
+    at = put(line_of(at, &call), "\n");
     requests = 0, refused = 1;
     prints_status(replied(&pool, tenant, &call).status);
     if (requests != 0) {
@@ -333,21 +326,6 @@ static uint8_t ranged_directly(wasmi_pool *on, size_t tenant, const wasmi_call *
     }
 }
 
-/* The line of a write over a range of a memory. */
-static char *range_line(char *at, const wasmi_call *call) {
-    size_t memory = call->index, source = call->source;
-    switch (call->kind) {
-        case WASMI_CALL_FILL_MEMORY:
-            at += sprintf(at, "mfill %zu %" PRIu64 " %" PRIu64, memory, call->to, call->value.lo);
-            break;
-        case WASMI_CALL_COPY_MEMORY:
-            at += sprintf(at, "mcopy %zu %" PRIu64 " %zu %" PRIu64, memory, call->to, source, call->from);
-            break;
-        default: at += sprintf(at, "minit %zu %zu %" PRIu64 " %" PRIu64, memory, source, call->to, call->from);
-    }
-    return at + sprintf(at, " %" PRIu64 "\n", call->count);
-}
-
 /* A write over a range of a memory by its own call, or by a struct, as a script does it; a read finds what a script's
    read finds. */
 static char *ranged(char *at, size_t tenant, const wasmi_call *call) {
@@ -371,7 +349,7 @@ static char *ranged(char *at, size_t tenant, const wasmi_call *call) {
             differs("a write over a range changed the caller's word", script);
         }
     }
-    return read_back(range_line(at, call), tenant, call->index, (size_t)call->to);
+    return read_back(put(line_of(at, call), "\n"), tenant, call->index, (size_t)call->to);
 }
 
 static char *any_range(char *at, size_t tenant) {
@@ -387,7 +365,7 @@ static char *paid(char *at, size_t tenant) {
     uint64_t amount = number(), left = 0;
     wasmi_call set = {.kind = WASMI_CALL_SET_FUEL, .count = number()}, get = {.kind = WASMI_CALL_GET_FUEL};
     if (below(2)) {
-        at += sprintf(at, "fuel %" PRIu64 "\n", set.count);
+        at = put(line_of(at, &set), "\n");
         prints_status(wasmi_pool_call(&pool, tenant, &set).status);
     }
     uint8_t status = wasmi_pool_fuel_left(&pool, tenant, &left);

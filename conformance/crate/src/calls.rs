@@ -1,53 +1,130 @@
-//! The calls of a script, what a machine replies to them, and every function of the crate that a line can name, in a table for each command.
+//! The calls of scripts and of C, a row for each, what a machine replies to them, and every function of the crate that a
+//! line can name, in a table for each command.
+#[cfg(feature = "library")]
+use crate::archives::PlainCall;
+use crate::operands::{Operand, Words};
+use crate::random::Random;
+#[cfg(feature = "library")]
+use crate::structs::Member;
 use wasmi_core::{
     FuelError, GlobalError, GlobalType, MemoryError, MemoryType, RawRef, RawVal, ReadAs, RefType, TableError,
     TableType, TrapCode, TypedRawRef, TypedRawVal, V128, simd, wasm,
 };
+#[cfg(feature = "library")]
+use wasmi_core_proved::machine;
 
-pub enum Call {
-    SetFuel(u64),
-    GetFuel,
-    NewMemory(MemoryType),
-    NewLentMemory(MemoryType),
-    GrowMemory { memory: usize, pages: u64 },
-    DropMemory(usize),
-    Read { memory: usize, offset: usize, len: usize },
-    Write { memory: usize, offset: usize, bytes: Vec<u8> },
-    Load { op: Load, memory: usize, ptr: u64, offset: u64 },
-    Store { op: Store, memory: usize, ptr: u64, offset: u64, value: RawVal },
-    FillMemory { memory: usize, dst: u64, value: u8, len: u64 },
-    CopyMemory { dst_memory: usize, dst: u64, src_memory: usize, src: u64, len: u64 },
-    InitMemory { memory: usize, segment: usize, dst: u64, src: u32, len: u32 },
-    NewTable { ty: TableType, init: TypedRawRef },
-    GrowTable { table: usize, delta: u64, init: TypedRawRef },
-    DropTable(usize),
-    GetElement { table: usize, index: u64 },
-    SetElement { table: usize, index: u64, value: TypedRawRef },
-    InitTable { table: usize, segment: usize, dst: u64, src: u32, len: u32 },
-    CopyTable { dst_table: usize, dst: u64, src_table: usize, src: u64, len: u64 },
-    FillTable { table: usize, dst: u64, value: TypedRawRef, len: u64 },
-    NewSegment { ty: RefType, items: Vec<RawRef> },
-    DropItems(usize),
-    NewData(Vec<u8>),
-    DropData(usize),
-    NewGlobal { value: RawVal, ty: GlobalType },
-    SetGlobal { global: usize, value: TypedRawVal },
-    GetGlobal(usize),
-    SetRegister { dst: u8, value: RawVal },
-    GetRegister(u8),
-    Make { op: Make, dst: u8, a: u8 },
-    Unary { op: Unary, dst: u8, a: u8 },
-    Binary { op: Binary, dst: u8, a: u8, b: u8 },
-    Ternary { op: Ternary, dst: u8, a: u8, b: u8, c: u8 },
-    Shift { op: Shift, dst: u8, a: u8, amount: u32 },
-    Test { op: Test, a: u8 },
-    Extract { op: Extract, a: u8, lane: u8 },
-    Replace { op: Replace, dst: u8, a: u8, lane: u8, item: u8 },
-    Shuffle { dst: u8, a: u8, b: u8, lanes: [u8; 16] },
-    VectorLoad { op: VectorLoad, dst: u8, memory: usize, ptr: u64, offset: u64 },
-    LoadLane { op: LoadLane, dst: u8, a: u8, lane: u8, memory: usize, ptr: u64, offset: u64 },
-    VectorStore { a: u8, memory: usize, ptr: u64, offset: u64 },
-    StoreLane { op: StoreLane, a: u8, lane: u8, memory: usize, ptr: u64, offset: u64 },
+/// Makes of the rows the enum `Call`, what reads and what draws a command, and what reads a struct of C.
+///
+/// A row has what the command begins with, the variant, and the type of each field, in the order in which the command writes
+/// them. Before that a call that C has too has its kind, and after the type of a field the member of `PlainCall` that the
+/// field is made of. A field without a member is part of another field there.
+macro_rules! calls {
+    (
+        in C and in scripts:
+        $($kind:literal $word:literal $name:ident
+            $(($only:ty = $from:ident))? $({ $($field:ident: $type:ty $(= $member:ident)?),* $(,)? })?;)*
+        in scripts alone:
+        $($own_word:literal $own_name:ident $(($own_only:ty))? $({ $($own_field:ident: $own_type:ty),* $(,)? })?;)*
+    ) => {
+        pub enum Call {
+            $($name $(($only))? $({ $($field: $type),* })?,)*
+            $($own_name $(($own_only))? $({ $($own_field: $own_type),* })?,)*
+        }
+
+        /// The call of a command that begins with these words, with the operands that the words after them write.
+        #[inline(always)]
+        pub fn command(begin: &[u8], words: &mut Words<'_>) -> Option<Call> {
+            Some(match begin {
+                $($word => Call::$name $((<$only>::read(words)?))? $({ $($field: <$type>::read(words)?),* })?,)*
+                $($own_word => Call::$own_name
+                    $((<$own_only>::read(words)?))? $({ $($own_field: <$own_type>::read(words)?),* })?,)*
+                _ => return None,
+            })
+        }
+
+        /// What each command begins with, and what draws the words after that.
+        #[allow(unused_variables, reason = "a call without fields draws nothing")]
+        pub const COMMANDS: &[(&[u8], fn(&mut Random) -> String)] = &[
+            $(($word, |random| String::new() $(+ &<$only>::draw(random))? $($(+ &<$type>::draw(random))*)?),)*
+            $(($own_word, |random| {
+                String::new() $(+ &<$own_only>::draw(random))? $($(+ &<$own_type>::draw(random))*)?
+            }),)*
+        ];
+
+        /// What makes a call of the Rust crate's machine of a struct of C, by the kind of the struct. Where several rows have
+        /// one kind, the first that makes a call counts.
+        #[cfg(feature = "library")]
+        #[allow(unused_variables, reason = "a call without fields reads nothing")]
+        pub const IN_C: &[(u16, fn(&PlainCall) -> Option<machine::Call>)] = &[$(($kind, |it| {
+            Some(machine::Call::$name
+                $((it.$from.operand(it)?))? $({ $($($field: it.$member.operand(it)?,)?)* })?)
+        })),*];
+    };
+}
+
+calls! {
+    in C and in scripts:
+    0 b"fuel" SetFuel(u64 = count);
+    1 b"left" GetFuel;
+    2 b"memory" NewMemory(MemoryType = count);
+    3 b"grow" GrowMemory { memory: usize = index, pages: u64 = count };
+    4 b"drop memory" DropMemory(usize = index);
+    5 b"load" Load { op: Load = op, memory: usize = index, ptr: u64 = ptr, offset: u64 = offset };
+    5 b"vload" VectorLoad {
+        op: VectorLoad = op, dst: u8 = dst, memory: usize = index, ptr: u64 = ptr, offset: u64 = offset,
+    };
+    6 b"store" Store {
+        op: Store = op, memory: usize = index, ptr: u64 = ptr, offset: u64 = offset, value: u64 = value,
+    };
+    6 b"vstore" VectorStore { a: u8 = a, memory: usize = index, ptr: u64 = ptr, offset: u64 = offset };
+    7 b"vloadlane" LoadLane {
+        op: LoadLane = op, dst: u8 = dst, a: u8 = a, lane: u8, memory: usize = index, ptr: u64 = ptr, offset: u64 = offset,
+    };
+    8 b"vstorelane" StoreLane {
+        op: StoreLane = op, a: u8 = a, lane: u8, memory: usize = index, ptr: u64 = ptr, offset: u64 = offset,
+    };
+    9 b"table" NewTable { ty: TableType = count, init: TypedRawRef = reference };
+    10 b"tgrow" GrowTable { table: usize = index, delta: u64 = count, init: TypedRawRef = reference };
+    11 b"drop table" DropTable(usize = index);
+    12 b"get" GetElement { table: usize = index, index: u64 = to };
+    13 b"tset" SetElement { table: usize = index, index: u64 = to, value: TypedRawRef = reference };
+    14 b"init" InitTable {
+        table: usize = index, segment: usize = source, dst: u64 = to, src: u32 = from, len: u32 = count,
+    };
+    15 b"copy" CopyTable {
+        dst_table: usize = index, dst: u64 = to, src_table: usize = source, src: u64 = from, len: u64 = count,
+    };
+    16 b"fill" FillTable { table: usize = index, dst: u64 = to, value: TypedRawRef = reference, len: u64 = count };
+    17 b"empty" DropItems(usize = index);
+    18 b"global" NewGlobal { ty: GlobalType = is_mutable, value: RawVal = value };
+    19 b"gset" SetGlobal { global: usize = index, value: TypedRawVal = value };
+    20 b"gget" GetGlobal(usize = index);
+    21 b"set" SetRegister { dst: u8 = dst, value: RawVal = value };
+    22 b"show" GetRegister(u8 = a);
+    23 b"make" Make { op: Make = op, dst: u8 = dst, a: u8 = a };
+    23 b"unary" Unary { op: Unary = op, dst: u8 = dst, a: u8 = a };
+    23 b"test" Test { op: Test = op, a: u8 = a };
+    24 b"binary" Binary { op: Binary = op, dst: u8 = dst, a: u8 = a, b: u8 = b };
+    24 b"shift" Shift { op: Shift = op, dst: u8 = dst, a: u8 = a, amount: u32 = count };
+    25 b"ternary" Ternary { op: Ternary = op, dst: u8 = dst, a: u8 = a, b: u8 = b, c: u8 = c };
+    26 b"extract" Extract { op: Extract = op, a: u8 = a, lane: u8 };
+    27 b"replace" Replace { op: Replace = op, dst: u8 = dst, a: u8 = a, lane: u8, item: u8 = b };
+    28 b"shuffle" Shuffle { dst: u8 = dst, a: u8 = a, b: u8 = b, lanes: [u8; 16] = lanes };
+    29 b"mfill" FillMemory { memory: usize = index, dst: u64 = to, value: u8 = value, len: u64 = count };
+    30 b"mcopy" CopyMemory {
+        dst_memory: usize = index, dst: u64 = to, src_memory: usize = source, src: u64 = from, len: u64 = count,
+    };
+    31 b"minit" InitMemory {
+        memory: usize = index, segment: usize = source, dst: u64 = to, src: u32 = from, len: u32 = count,
+    };
+    32 b"dempty" DropData(usize = index);
+
+    in scripts alone:
+    b"lent" NewLentMemory(MemoryType);
+    b"read" Read { memory: usize, offset: usize, len: usize };
+    b"write" Write { memory: usize, offset: usize, bytes: Vec<u8> };
+    b"segment" NewSegment { ty: RefType, items: Vec<RawRef> };
+    b"data" NewData(Vec<u8>);
 }
 
 pub enum Reply {

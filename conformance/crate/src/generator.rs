@@ -155,6 +155,16 @@ impl Generator {
         self.command(format!("fuel {amount}"));
     }
 
+    /// A line of any command with any operands, unless it names a lane that there isn't or asks for too much.
+    fn any_step(&mut self) {
+        let (begin, draw) = self.random.pick(calls::COMMANDS);
+        let line = String::from_utf8_lossy(begin).into_owned() + &draw(&mut self.random);
+        let Ok(script) = parse(line.as_bytes()) else { return };
+        if script.calls.iter().all(|(_, call)| self.allowed(self.machine().asked_by(call))) {
+            self.command(line);
+        }
+    }
+
     /// A growth that is permitted and paid for and then can't be had: the charge stays, the holding doesn't.
     fn hopeless(&mut self, word: &str, made: &str, size: u64, grow: fn(&str, u64) -> String) {
         let reply = self.command(made.into());

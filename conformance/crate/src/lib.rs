@@ -7,9 +7,12 @@ pub mod comparison;
 pub mod generator;
 pub mod instructions;
 pub mod machine;
+pub mod operands;
 pub mod parse;
 pub mod random;
 pub mod session;
+#[cfg(feature = "library")]
+pub mod structs;
 
 use session::Session;
 

@@ -237,7 +237,8 @@ impl Machine {
                 Value(given!(op.load(live!(self.memories.get(memory)).memory.data(), ptr, offset)))
             }
             Call::Store { op, memory, ptr, offset, value } => {
-                given!(op.store(live!(self.memories.get_mut(memory)).memory.data_mut(), ptr, offset, value));
+                let data = live!(self.memories.get_mut(memory)).memory.data_mut();
+                given!(op.store(data, ptr, offset, RawVal::from_bits64(value)));
                 Done
             }
             // The crate has no bulk writes of memories: a plain model of the standard's, charged as its writes of tables are.

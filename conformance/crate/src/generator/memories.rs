@@ -262,6 +262,18 @@ impl Generator {
         }
     }
 
+    /// The front of each memory and of each table, and a register.
+    pub(super) fn look_around(&mut self) {
+        for LiveMemory { index, len, .. } in self.machine().live_memories() {
+            self.command(format!("read {index} 0 {}", len.min(70)));
+        }
+        for (index, size, _) in self.machine().live_tables() {
+            self.show_elements(100, index, size);
+        }
+        let register = self.random.below(4);
+        self.command(format!("show {register}"));
+    }
+
     pub(super) fn table_step(&mut self) {
         if self.random.chance(2) {
             let grow = |index: &str, delta| format!("tgrow {index} {delta} func 0");

@@ -2,8 +2,8 @@
 use super::Generator;
 use crate::random::Random;
 
-/// The names of the profiles; `bad` spoils scripts of the others.
-pub const PROFILES: &[&str] = &["memory", "tables", "vectors", "globals", "answers", "lent", "tenants", "bad"];
+/// The names of the profiles; `bad` spoils scripts of those before it.
+pub const PROFILES: &[&str] = &["memory", "tables", "vectors", "globals", "answers", "lent", "tenants", "bad", "any"];
 
 impl Generator {
     fn meter(&mut self, percent: u64) -> Option<String> {
@@ -41,6 +41,7 @@ impl Generator {
             "lent" => self.lent_script(steps),
             "tenants" => self.tenants_script(steps * 2, number),
             "bad" => self.spoiled_script(number),
+            "any" => self.any_script(steps),
             _ => panic!("no profile {profile}"),
         }
         if profile != "bad" && self.random.chance(10) {
@@ -153,6 +154,21 @@ impl Generator {
             }
         }
     }
+
+    /// Lines of all commands, those too that no step above writes.
+    fn any_script(&mut self, steps: usize) {
+        let headers = [self.meter(50), self.quota(40), Some("region 300 7".into())];
+        self.begin(headers.into_iter().flatten().collect());
+        for line in ["fuel 200", "memory 1 2 16 32", "table func 9 20 32 func 3", "segment func 5 6 7", "data 8 9"] {
+            self.command(line.into());
+        }
+        for step in 1..=steps {
+            self.any_step();
+            if step % 10 == 0 {
+                self.look_around();
+            }
+        }
+    }
 }
 
 /// Words in the place of others: numbers at the ends of fields, and names.
@@ -201,7 +217,7 @@ fn spoil(line: &mut Vec<u8>, random: &mut Random) {
 
 impl Generator {
     pub(super) fn spoiled_script(&mut self, number: usize) {
-        let others = PROFILES.len() - 1;
+        let others = PROFILES.iter().position(|name| *name == "bad").expect("its own name");
         self.write_script(PROFILES[number % others], number / others);
         let mut lines: Vec<Vec<u8>> = self.text.split(|byte| *byte == b'\n').map(<[u8]>::to_vec).collect();
         lines.truncate(3 + self.random.index(12));

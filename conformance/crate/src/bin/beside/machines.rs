@@ -1,10 +1,10 @@
 //! Random calls on a machine of the static library, by its handle, and on `Machine` of the Rust crate: the same replies, and the same state at the end.
-use crate::calls::call_of;
 use crate::calls::{self, Draw};
 use crate::limits::{Limiter, Listed};
 use crate::{Tally, numbers};
 use conformance::archives::*;
 use conformance::random::Random;
+use conformance::structs::{call_of, reference_type};
 use wasmi_core_proved::machine::{Call, Machine, Reply, ResourceLimiterRef};
 use wasmi_core_proved::{CustomFuelCosts, Fuel, FuelCostsProvider, RawRef};
 
@@ -141,7 +141,7 @@ impl Both {
                     let ty = draw.random.pick(&[5, 6]);
                     let there = wasmi_machine_new_segment(handle, ty, items.as_ptr(), items.len());
                     let items: Vec<RawRef> = items.into_iter().map(RawRef::from).collect();
-                    let ty = numbers::reference_type(ty).expect("a type of references");
+                    let ty = reference_type(ty).expect("a type of references");
                     (there, numbers::of(&self.step(&Call::NewSegment { ty, items: items.into() })))
                 }
                 3 => {

@@ -4,6 +4,8 @@ use crate::{Tally, calls};
 use conformance::archives::{PlainReply, *};
 use conformance::instructions::{Answer, Operands, Row, Words, here};
 use conformance::random::Random;
+use conformance::structs::NUMBERS;
+use std::fmt::Debug;
 use wasmi_core_proved::machine::{Reply, SegmentError};
 use wasmi_core_proved::ops::*;
 use wasmi_core_proved::{FuelError, GlobalError, MemoryError, RawVal, RefType, TableError, TrapCode, V128, simd};
@@ -23,7 +25,7 @@ fn operands(random: &mut Random) -> Operands<MEMORY> {
 }
 
 /// The instruction of a name in a list, if it is there.
-pub fn listed<T: Copy>(list: &[(&str, T)], name: &str) -> Option<T> {
+fn listed<T: Copy>(list: &[(&str, T)], name: &str) -> Option<T> {
     list.iter().find(|(known, _)| *known == name).map(|(_, op)| *op)
 }
 
@@ -141,14 +143,6 @@ pub fn with_number(status: u8, number: u64) -> PlainReply {
     PlainReply { status, number, ..PlainReply::default() }
 }
 
-pub fn reference_type(number: u8) -> Option<RefType> {
-    match number {
-        5 => Some(RefType::Func),
-        6 => Some(RefType::Extern),
-        _ => None,
-    }
-}
-
 pub fn of(reply: &Reply) -> PlainReply {
     match reply {
         Reply::Done => only(0),
@@ -175,6 +169,21 @@ pub fn of(reply: &Reply) -> PlainReply {
     }
 }
 
+/// The status that the headers name after a word and the variant of an error without fields: `RegionTooShort` of memories
+/// would be `MEMORY_REGION_TOO_SHORT`.
+fn status_named(word: &str, error: &impl Debug) -> u8 {
+    let mut name = format!("\t{word}");
+    for letter in format!("{error:?}").chars() {
+        if letter.is_ascii_uppercase() {
+            name.push('_');
+        }
+        name.push(letter.to_ascii_uppercase());
+    }
+    let row = NUMBERS.lines().find(|row| row.contains("status\t") && row.ends_with(&name));
+    let number = row.and_then(|row| row.split('\t').nth(1)?.parse().ok());
+    number.unwrap_or_else(|| panic!("no status of the headers is named {}: {error:?}", name.trim()))
+}
+
 pub fn of_memory(error: MemoryError) -> PlainReply {
     match error {
         MemoryError::OutOfSystemMemory => only(32),
@@ -184,8 +193,8 @@ pub fn of_memory(error: MemoryError) -> PlainReply {
         MemoryError::InvalidStaticBufferSize => only(36),
         MemoryError::ResourceLimiterDeniedAllocation => only(37),
         MemoryError::MinimumSizeOverflow => only(38),
-        MemoryError::MaximumSizeOverflow => only(39),
         MemoryError::OutOfFuel { required_fuel } => with_number(40, required_fuel),
+        other => only(status_named("MEMORY", &other)),
     }
 }
 
@@ -202,7 +211,7 @@ pub fn of_table(error: TableError) -> PlainReply {
         TableError::CopyOutOfBounds => only(56),
         TableError::ElementTypeMismatch => only(57),
         TableError::OutOfFuel { required_fuel } => with_number(58, required_fuel),
-        other => panic!("no such error: {other}"),
+        other => only(status_named("TABLE", &other)),
     }
 }
 

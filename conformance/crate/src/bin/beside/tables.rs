@@ -6,6 +6,7 @@ use crate::limits::{Meters, quotas};
 use crate::{Tally, numbers};
 use conformance::archives::*;
 use conformance::random::Random;
+use conformance::structs::reference_type;
 use wasmi_core_proved::machine::{self, Quota};
 use wasmi_core_proved::{
     ElementSegment, ElementSegmentRef, RawRef, RefType, ResourceLimiter, ResourceLimiterRef, Table, TableError,
@@ -58,7 +59,7 @@ fn table_type(random: &mut Random) -> (PlainTable, TableType) {
     let minimum = random.below(100);
     let maximum = minimum + random.below(200);
     let (ty, is_64) = (random.pick(&[5, 5, 6]), random.below(2) as u8);
-    let element = numbers::reference_type(ty).expect("a type of references");
+    let element = reference_type(ty).expect("a type of references");
     let made = match is_64 {
         0 => TableType::new(element, minimum as u32, Some(maximum as u32)),
         _ => TableType::new64(element, minimum, Some(maximum)),
