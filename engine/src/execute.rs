@@ -2,12 +2,12 @@
 //!
 //! Values, instructions, loads, stores, growths, tables and fuel are the library's; calls and jumps are the engine's.
 
-use crate::body::Body;
 #[cfg(feature = "crate")]
 use crate::bulk::Bulk;
 use crate::floats::{self, FloatInstruction};
 use crate::instructions::{Code, Op};
 use crate::library::{Fuel, Memory, MemoryError, RawVal, Table, TableError, TrapCode};
+use crate::lower::{Body, Instruction};
 use crate::stack::{Activation, Lent, SLOTS};
 use crate::store::{Entity, Inner, Items, Limiter};
 use state::{Outcome, Slots, State};
@@ -20,7 +20,6 @@ mod own;
 mod state;
 
 pub(crate) use handlers::{IMM, LAST, SLOT, Shape, Way, find};
-pub(crate) use own::LEAVE;
 pub(crate) use state::Handler;
 
 /// Why the loop ends.
@@ -111,6 +110,14 @@ fn run(inner: &mut Inner, at: &mut Activation, memory: usize) -> Result<Ran, Tra
     }
 }
 
+/// Leaves an instruction to the loop.
+pub(crate) const LEAVE: Handler = leave;
+
+fn leave<'a>(code: &'a [Instruction], _: Slots<'a>, state: &mut State<'a>, _: u64) -> Outcome {
+    state.frame.next = state.place_of(code);
+    Outcome::Leave
+}
+
 /// Does an instruction that handlers leave to the loop.
 fn left(op: Op, inner: &mut Inner, at: &Activation) -> Result<(), TrapCode> {
     let Inner { fuel, limiter, instances, items, stack, .. } = inner;
@@ -158,6 +165,7 @@ fn bulk(
             slots.set_size(op.d, size, memory!(number).ty().is_64());
         }
         Code::memory_fill => memory!(number).fill(a, b as u8, c, Some(fuel)).map_err(of_memory)?,
+        // Two memories of the store, or one, within which the ranges may overlap.
         Code::memory_copy => match items.memories.pair([memories[number], memories[second]]) {
             Some([target, source]) => Memory::copy(target, a, source, b, c, Some(fuel)).map_err(of_memory)?,
             None => memory!(number).copy_within(a, b, c, Some(fuel)).map_err(of_memory)?,
@@ -178,6 +186,7 @@ fn bulk(
             slots.set_size(op.d, size, table!(number).ty().is_64());
         }
         Code::table_fill => table!(number).fill_raw(a, slots.reference(op.b), c, Some(fuel)).map_err(of_table)?,
+        // Two tables of the store, or one, within which the ranges may overlap.
         Code::table_copy => match items.tables.pair([tables[number], tables[second]]) {
             Some([target, source]) => Table::copy(target, a, source, b, c, Some(fuel)).map_err(of_table)?,
             None => table!(number).copy_within(a, b, c, Some(fuel)).map_err(of_table)?,

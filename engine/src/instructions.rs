@@ -177,10 +177,7 @@ macro_rules! codes {
                     Code::shuffle | Code::memory_size | Code::memory_grow | Code::table_get | Code::table_size | Code::table_grow => {
                         Facts { has_result: true, is_wide: true, ..Facts::NONE }
                     }
-                    Code::memory_fill | Code::memory_copy | Code::memory_init | Code::data_drop | Code::memory_use | Code::host
-                    | Code::profile | Code::float | Code::table_set | Code::table_fill | Code::table_copy | Code::table_init | Code::elem_drop => {
-                        Facts { is_wide: true, ..Facts::NONE }
-                    }
+                    _ if self.left().is_some() => Facts { is_wide: true, ..Facts::NONE },
                     _ => Facts::NONE,
                 }
             }
@@ -256,6 +253,20 @@ impl Code {
     #[inline(always)]
     pub fn facts(self) -> Facts {
         FACTS.get(self as usize).copied().unwrap_or_else(|| self.found())
+    }
+
+    /// How many of `a`, `b` and `c`, from `a` on, are slots of an instruction that has no handler: it is left to the loop
+    /// (`execute`).
+    pub const fn left(self) -> Option<usize> {
+        Some(match self {
+            Code::memory_fill | Code::memory_copy | Code::memory_init => 3,
+            Code::table_fill | Code::table_copy | Code::table_init => 3,
+            Code::table_set | Code::table_grow => 2,
+            Code::table_get | Code::memory_grow => 1,
+            Code::memory_size | Code::table_size | Code::data_drop | Code::elem_drop => 0,
+            Code::memory_use | Code::host | Code::profile | Code::float => 0,
+            _ => return None,
+        })
     }
 }
 

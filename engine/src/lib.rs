@@ -82,8 +82,6 @@ pub use wasmi_core as library;
 #[cfg(not(feature = "crate"))]
 pub use wasmi_core_proved as library;
 
-mod arena;
-mod body;
 #[cfg(feature = "crate")]
 #[path = "../crate/bulk.rs"]
 mod bulk;

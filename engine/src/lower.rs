@@ -1,4 +1,4 @@
-//! Makes what is executed of a function's code: instructions that hold their handlers.
+//! What is executed of a function's code, and how it is made: instructions that hold their handlers.
 //!
 //! An instruction may take an operand as the last result, so that no slot is written and read between them, or hold a
 //! number as an operand. Some pairs become one instruction: a comparison and the branch on it, an addition and the access
@@ -7,16 +7,103 @@
 //! A slot of an operand is read once, by the instruction that takes the operand; only a branch that keeps its operands
 //! copies them first, and it stands between.
 
-use crate::body::{Body, Instruction};
 use crate::engine::Config;
-use crate::execute::{Handler, LAST, LEAVE, SLOT, Shape, Way, find};
+use crate::execute::{Handler, IMM, LAST, LEAVE, SLOT, Shape, Way, find};
 use crate::instructions::{Code, Facts, Kind, Op};
+use crate::library::simd::ImmLaneIdx32;
 use crate::library::{RawVal, ReadAs, V128};
-use crate::profile::pieces_of;
+use crate::profile::{Piece, pieces_of};
 use crate::translate::Function;
+use std::mem;
+use std::sync::{Mutex, OnceLock, PoisonError};
 
-mod encode;
 mod fuse;
+
+/// How many bits the number of a type takes beside that of a table.
+pub(crate) const TYPE_BITS: u32 = 20;
+
+/// An instruction with its handler. What the numbers are is the handler's: slots, a constant, a place.
+#[derive(Clone, Copy)]
+pub(crate) struct Instruction {
+    pub handler: Handler,
+    pub d: u16,
+    pub a: u16,
+    pub imm: u32,
+}
+
+/// That of a machine whose pointers have 8 bytes; others have smaller ones.
+const _: () = assert!(size_of::<Instruction>() <= 16);
+
+impl Instruction {
+    #[inline(always)]
+    pub fn low(&self) -> u16 {
+        self.imm as u16
+    }
+
+    #[inline(always)]
+    pub fn high(&self) -> u16 {
+        (self.imm >> 16) as u16
+    }
+
+    /// The constant in `imm`.
+    #[inline(always)]
+    pub fn number(&self) -> i64 {
+        self.imm.cast_signed().into()
+    }
+
+    /// The constant in `d`.
+    #[inline(always)]
+    pub fn short(&self) -> i64 {
+        self.d.cast_signed().into()
+    }
+}
+
+/// A function that was validated and translated. What is executed is made of it when it is first called.
+pub(crate) struct Lazy {
+    body: OnceLock<Body>,
+    function: Mutex<Function>,
+}
+
+impl Lazy {
+    pub fn new(function: Function) -> Lazy {
+        Lazy { body: OnceLock::new(), function: function.into() }
+    }
+
+    /// What is executed, if it was made already.
+    #[inline(always)]
+    pub fn made(&self) -> Option<&Body> {
+        self.body.get()
+    }
+
+    pub fn body(&self, config: Config) -> &Body {
+        let function = || mem::take(&mut *self.function.lock().unwrap_or_else(PoisonError::into_inner));
+        self.body.get_or_init(|| lower(function(), config))
+    }
+}
+
+#[cfg(any(test, feature = "handlers"))]
+impl From<Body> for Lazy {
+    fn from(body: Body) -> Lazy {
+        Lazy { body: body.into(), function: Mutex::default() }
+    }
+}
+
+/// A function as it is executed.
+pub(crate) struct Body {
+    pub params: u16,
+    /// How many slots the parameters and locals take.
+    pub locals: u16,
+    /// What the slots after those begin with.
+    pub constants: Box<[RawVal]>,
+    /// How many slots the frame takes.
+    pub slots: usize,
+    pub code: Box<[Instruction]>,
+    /// Instructions that don't fit into one of 16 bytes, by number.
+    pub wide: Box<[Op]>,
+    pub shuffles: Box<[[ImmLaneIdx32; 16]]>,
+    /// If it is profiled, the instructions of its pieces.
+    pub pieces: Box<[Piece]>,
+}
 
 /// An instruction whose handler isn't found yet.
 #[derive(Clone, Copy)]
@@ -41,6 +128,7 @@ impl Draft {
     fn handler(&self) -> Option<Handler> {
         match self.found {
             Some((handler, found)) if found == self.wanted() => Some(handler),
+            _ if self.shape == Shape::Plain && self.op.code.left().is_some() => Some(LEAVE),
             _ => find(self.op.code, self.shape, self.way),
         }
     }
@@ -59,6 +147,37 @@ impl Draft {
 
     fn wanted(&self) -> Wanted {
         (self.op.code, self.shape, self.way)
+    }
+
+    /// Which of `a`, `b` and `c` are slots that are read.
+    fn reads(&self) -> [bool; 3] {
+        if let Some(count) = self.op.code.left() {
+            return [0, 1, 2].map(|it| it < count);
+        }
+        let [first, second, third] = self.way.map(|way| way == SLOT);
+        let is_sum = self.shape == Shape::Sum;
+        match (self.facts.kind, self.op.code) {
+            _ if self.shape == Shape::Branch => [second, third, false],
+            (Kind::Unary | Kind::Load | Kind::Extract, _) => [second, false, is_sum],
+            (Kind::Binary, _) => [second, third, false],
+            (Kind::Store, _) => [second, first, is_sum],
+            (Kind::Replace | Kind::Lane, _) => [true, true, false],
+            (Kind::Ternary, _) => [true; 3],
+            (_, Code::select) => [true, true, second],
+            (_, Code::select_number) => [true, false, second],
+            (_, Code::copy_two) => [true, false, true],
+            (_, Code::add_scaled) => [true, third, false],
+            (_, Code::shift_and | Code::and_shift | Code::i32_sub_from | Code::i64_sub_from | Code::select_numbers) => {
+                [second, false, false]
+            }
+            (_, Code::copy | Code::branch_if | Code::branch_unless | Code::branch_table | Code::ret_one) => {
+                [second, false, false]
+            }
+            (_, Code::call_indirect | Code::return_call_indirect) => [false, true, false],
+            (_, Code::global_set | Code::is_null) => [true, false, false],
+            (_, Code::shuffle | Code::add_offset) => [true, true, false],
+            _ => [false; 3],
+        }
     }
 }
 
@@ -224,6 +343,68 @@ impl Lowering<'_> {
         let is_narrow = V128::from(*raw).as_u128() >> 64 == 0;
         is_narrow.then(|| raw.read_as())
     }
+
+    /// Whether a slot is one of constants.
+    fn is_constant(&self, slot: u16) -> bool {
+        (self.first[0]..self.first[1]).contains(&slot)
+    }
+
+    /// The slot of an operand. A constant gets one when it is first read.
+    fn slot(&mut self, slot: u16) -> u16 {
+        let [constants, _] = self.first;
+        if !self.is_constant(slot) {
+            return slot;
+        }
+        let index = usize::from(slot - constants);
+        let next = constants + self.constants.len() as u16;
+        *self.slots[index].get_or_insert_with(|| {
+            self.constants.push(self.function.constants[index]);
+            next
+        })
+    }
+
+    /// Gives an instruction its handler, and its numbers their places: in 16 bytes, or in `wide`.
+    fn encode(&mut self, draft: Draft) -> Instruction {
+        let mut op = draft.op;
+        if [op.a, op.b, op.c].iter().any(|it| self.is_constant(*it)) {
+            let [is_a, is_b, is_c] = draft.reads();
+            for (slot, is_read) in [(&mut op.a, is_a), (&mut op.b, is_b), (&mut op.c, is_c)] {
+                if is_read {
+                    *slot = self.slot(*slot);
+                }
+            }
+        }
+        let handler = draft.handler().unwrap_or(LEAVE);
+        if draft.facts.is_wide {
+            self.wide.push(op);
+            return Instruction { handler, d: op.d, a: op.a, imm: self.wide.len() as u32 - 1 };
+        }
+        let (d, imm) = numbers(&draft, op);
+        Instruction { handler, d, a: op.a, imm }
+    }
+}
+
+/// What stands in `d` and in `imm`.
+fn numbers(draft: &Draft, op: Op) -> (u16, u32) {
+    let Op { d, b, c, lane, imm, .. } = op;
+    match (draft.facts.kind, op.code) {
+        _ if draft.shape == Shape::Branch => (b, imm),
+        (Kind::Load, _) if draft.shape != Shape::Plain => (d, pair(c, imm as u16)),
+        (Kind::Store, _) if draft.shape != Shape::Plain => (b, pair(c, imm as u16)),
+        (Kind::Store, _) => (b, imm),
+        (Kind::Binary, _) if draft.way[2] == IMM => (d, imm),
+        (Kind::Binary, _) | (_, Code::add_offset) => (d, b.into()),
+        (Kind::Ternary, _) | (_, Code::copy_two) => (d, pair(b, c)),
+        (_, Code::select | Code::select_number | Code::select_numbers) => (d, pair(b, c)),
+        (_, Code::add_two | Code::add_scaled | Code::shift_and | Code::and_shift) => (d, pair(b, c)),
+        (Kind::Extract | Kind::Replace, _) => (d, pair(b, lane)),
+        (_, Code::call_indirect | Code::return_call_indirect) => (b, imm | u32::from(lane) << TYPE_BITS),
+        _ => (d, imm),
+    }
+}
+
+fn pair(low: u16, high: u16) -> u32 {
+    u32::from(low) | u32::from(high) << 16
 }
 
 #[cfg(test)]

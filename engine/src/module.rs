@@ -2,9 +2,9 @@
 //!
 //! WebAssembly core specification, 5.5 (sections) and 3.5 (validation of modules).
 
-use crate::body::Lazy;
 use crate::engine::Config;
 use crate::library::{FuncType, GlobalType, MemoryType, RawRef, RawVal, RefType, TableType, ValType, wasm};
+use crate::lower::Lazy;
 use crate::operands::Operands;
 use crate::reader::{Read, Reader, Refusal, ensure};
 use crate::translate::{self, Function};

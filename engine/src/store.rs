@@ -1,7 +1,6 @@
 //! Stores: fuel, caps, data of the host, and all instances that may import from each other. WebAssembly core
 //! specification, 4.2.
 
-use crate::arena::Arena;
 use crate::call::Callee;
 use crate::context::{StoreContext, StoreContextMut};
 use crate::engine::Engine;
@@ -17,6 +16,7 @@ use crate::profile::Recorder;
 use crate::references::References;
 use crate::stack::{Stack, StackLimits};
 use crate::trace::Trace;
+use std::ops::{Index, IndexMut};
 use std::sync::{Arc, Weak};
 use std::{fmt, mem};
 
@@ -357,5 +357,70 @@ impl Inner {
     pub fn charge(&mut self, bytes: u64) -> Result<(), TrapCode> {
         let price = |costs: &FuelCostsProvider| costs.fuel_for_copying_values::<u8>(bytes);
         self.fuel.consume_fuel_if(price).map(drop).map_err(|_| TrapCode::OutOfFuel)
+    }
+}
+
+/// Items by number. The number of one that is removed is given to another one.
+#[derive(Debug)]
+pub(crate) struct Arena<X> {
+    items: Vec<Option<X>>,
+    free: Vec<u32>,
+}
+
+impl<X> Default for Arena<X> {
+    fn default() -> Self {
+        Self { items: vec![], free: vec![] }
+    }
+}
+
+impl<X> Arena<X> {
+    pub fn insert(&mut self, item: X) -> u32 {
+        if let Some(number) = self.free.pop() {
+            self.items[number as usize] = Some(item);
+            return number;
+        }
+        self.items.push(Some(item));
+        self.items.len() as u32 - 1
+    }
+
+    pub fn remove(&mut self, number: u32) -> Option<X> {
+        let item = self.items[number as usize].take();
+        self.free.extend(item.as_ref().map(|_| number));
+        item
+    }
+
+    #[inline(always)]
+    pub fn get(&self, number: u32) -> Option<&X> {
+        self.items.get(number as usize)?.as_ref()
+    }
+
+    #[inline(always)]
+    pub fn get_mut(&mut self, number: u32) -> Option<&mut X> {
+        self.items.get_mut(number as usize)?.as_mut()
+    }
+
+    /// Two items, unless they are one.
+    pub fn pair(&mut self, numbers: [u32; 2]) -> Option<[&mut X; 2]> {
+        match self.items.get_disjoint_mut(numbers.map(|it| it as usize)) {
+            Ok([Some(one), Some(other)]) => Some([one, other]),
+            _ => None,
+        }
+    }
+}
+
+// An item lives as long as a handle or an instance has its number.
+impl<X> Index<u32> for Arena<X> {
+    type Output = X;
+
+    #[inline(always)]
+    fn index(&self, number: u32) -> &X {
+        self.items[number as usize].as_ref().expect("the item was dropped")
+    }
+}
+
+impl<X> IndexMut<u32> for Arena<X> {
+    #[inline(always)]
+    fn index_mut(&mut self, number: u32) -> &mut X {
+        self.items[number as usize].as_mut().expect("the item was dropped")
     }
 }

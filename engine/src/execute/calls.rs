@@ -1,10 +1,10 @@
 //! Handlers of calls and returns within an instance.
 
-use crate::body::{Instruction, Lazy, TYPE_BITS};
 use crate::execute::Exit;
 use crate::execute::handlers::{IMM, LAST, Way, control, or_trap};
 use crate::execute::state::{Outcome, Slots, State, end, next, trapped};
 use crate::library::{RawVal, TrapCode};
+use crate::lower::{Instruction, Lazy, TYPE_BITS};
 use crate::stack::{Frame, SLOTS};
 
 control! { ret |code, op, slots, state, last| back(state, last) }

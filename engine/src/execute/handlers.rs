@@ -3,11 +3,11 @@
 //! An operand lies in a slot, is the last result, or stands in the instruction itself. A result goes to a slot or is only
 //! handed over. A handler is made for each way that occurs.
 
-use crate::body::Instruction;
 use crate::execute::state::{Handler, Outcome, Slots, State, end, next};
 use crate::execute::{of_library, own};
 use crate::instructions::Code;
 use crate::library::{RawVal, ReadAs, V128, WriteAs};
+use crate::lower::Instruction;
 
 /// Where an operand lies, or a result goes: a slot, the result that is handed over, or the instruction.
 pub(crate) type Way = u8;

@@ -1,10 +1,10 @@
 //! Handlers of the library's instructions: alone, with the address of an access computed, or with a branch on the result.
 
-use crate::body::Instruction;
 use crate::execute::handlers::{IMM, LAST, SLOT, Value, Way, branch_to, control, handler, or_trap, ways};
 use crate::execute::state::{Handler, Outcome, Slots, State, end, next, next_by_loop, trapped};
 use crate::instructions::{Code, instructions};
 use crate::library::{TrapCode, V128};
+use crate::lower::Instruction;
 
 /// The functions of instructions.
 mod library {

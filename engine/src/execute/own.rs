@@ -1,17 +1,16 @@
 //! Handlers of the engine's own instructions: control, copies, globals, and what is frequent together.
 
-use crate::body::Instruction;
 use crate::execute::Exit;
 use crate::execute::calls::{call, call_indirect, ret, ret_many, ret_one, return_call, return_call_indirect};
 use crate::execute::handlers::{IMM, LAST, SLOT, Value, Way, branch_to, control, handler, or_trap, ways};
 use crate::execute::state::{Handler, Outcome, Slots, State, end, next, next_by_loop, trapped};
 use crate::instructions::Code;
 use crate::library::{RawVal, ReadAs, TrapCode, TypedRawVal, simd, wasm};
+use crate::lower::Instruction;
 
 /// The handler of an instruction of the engine's own.
 pub(super) fn find(code: Code, way: [Way; 3]) -> Option<Handler> {
-    let is_wide = code.facts().is_wide && code != Code::shuffle;
-    if is_wide { Some(LEAVE) } else { of_values(code, way).or_else(|| of_control(code, way)) }
+    of_values(code, way).or_else(|| of_control(code, way))
 }
 
 fn of_values(code: Code, way: [Way; 3]) -> Option<Handler> {
@@ -68,14 +67,6 @@ fn of_control(code: Code, way: [Way; 3]) -> Option<Handler> {
         Code::unreachable => unreachable,
         _ => return None,
     })
-}
-
-/// Leaves an instruction to the loop.
-pub(crate) const LEAVE: Handler = leave;
-
-fn leave<'a>(code: &'a [Instruction], _: Slots<'a>, state: &mut State<'a>, _: u64) -> Outcome {
-    state.frame.next = state.place_of(code);
-    Outcome::Leave
 }
 
 /// The handler that writes so many zeros.

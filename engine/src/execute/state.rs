@@ -1,11 +1,11 @@
 //! What handlers share, and how one hands over to the next.
 
-use crate::arena::Arena;
-use crate::body::{Body, Instruction, Lazy};
 use crate::execute::Exit;
 use crate::library::{Fuel, Global, RawRef, RawVal, ReadAs, Table, TrapCode, WriteAs};
+use crate::lower::{Body, Instruction, Lazy};
 use crate::module::Module;
 use crate::stack::{Frame, SLOTS};
+use crate::store::Arena;
 use std::cell::Cell;
 
 /// The slots that instructions name, of which the first ones are those of the frame.

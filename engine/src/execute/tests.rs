@@ -2,13 +2,13 @@
 
 use super::state::{Outcome, Slots, State};
 use super::{Exit, Handler, Shape, find};
-use crate::arena::Arena;
-use crate::body::{Body, Instruction};
 use crate::instructions::{self, Code, Op};
 use crate::library::simd::ImmLaneIdx32;
 use crate::library::{Fuel, FuelCostsProvider, RawVal};
+use crate::lower::{Body, Instruction};
 use crate::module::Module;
 use crate::stack::{Frame, SLOTS};
+use crate::store::Arena;
 use std::cell::Cell;
 
 const OWN: [Code; 32] = [

@@ -1,4 +1,4 @@
-//! Which constants are copied when a function begins.
+//! Which constants are copied when a function begins, and which branches stay apart.
 
 use super::lower;
 use crate::engine::Config;
@@ -53,4 +53,14 @@ fn operands_that_fit_are_not_copied() {
     assert_eq!(of(Code::i64_bitand, &[minus_one + 1], [LOCAL, FIRST, 0]), 1);
     assert_eq!(copied(&[minus_one], Op { a: FIRST, ..Op::of(Code::ret, 1) }), 0);
     assert_eq!(copied(&[1 << 32], Op { a: FIRST, ..Op::of(Code::ret, 1) }), 1);
+}
+
+#[test]
+fn a_branch_on_what_the_loop_does_stays_apart() {
+    for code in [Code::memory_size, Code::memory_grow, Code::table_size, Code::table_grow, Code::table_get] {
+        let (first, branch) = (Op { d: OWN, ..Op::new(code) }, Op { a: OWN, ..Op::of(Code::branch_if, 2) });
+        let code = vec![first, branch, Op::of(Code::ret, 0)];
+        let body = lower(Function { params: 1, slots: 16, code, ..Function::default() }, Config::default());
+        assert_eq!(body.code.len(), 3);
+    }
 }
