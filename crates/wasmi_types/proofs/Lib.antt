@@ -1,3 +1,2 @@
-pub mod NumbersLemmas
 pub mod ReadingLemmas
 pub mod FunctionTypeOrderLemmas
