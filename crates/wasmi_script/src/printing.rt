@@ -9,7 +9,8 @@ ghost use Rattle.wasmi_budget.specs.Pool.{machine_of};
 
 use crate::error::ReplayError;
 use crate::lines::{put, put_optional};
-use crate::replaying::{Held, Output, Ran};
+use crate::running::{Held, Ran};
+use crate::streams::Output;
 use arrayvec::ArrayString;
 use std::fmt::{Display, Write};
 use std::{fmt, io};
