@@ -6,6 +6,7 @@ use Rattle.std.proofs.lemmas.List.{length-take-le}
 use Rattle.std.proofs.lemmas.Nat.{pow-add}
 use Rattle.std.proofs.lemmas.Bool.{leb-true}
 use Rattle.std.proofs.lemmas.Grind.{common_steps}
+use Rattle.std.proofs.lemmas.Option.{cond_some}
 use Rattle.std.proofs.Math.Seq.{drop-append_seam, take-append_seam}
 use Rattle.std.specs.Int.{bytes_low_first}
 use Rattle.wasmi_types.specs.Numbers.{number_of, le_bytes}
@@ -13,18 +14,13 @@ use Rattle.wasmi_types.specs.Access.{at, overwrite}
 use Rattle.wasmi_access.specs.LoadStore.{loaded, value_of_bytes, IsStore, IsSameOutside}
 use Rattle.wasmi_access.proofs.ByteLemmas.{number_of-low_first}
 
--- where a list is there only if a test holds, and one is there, the test holds and it is that list
-chosen : (b : Bool) (zs new : List ℕ) → (if b then Some zs else None) ≡ Some new → (b ≡ true) × (zs ≡ new)
-chosen true zs new e = grind (arith, common_steps, e)
-chosen false zs new e = cc
-
 -- an accepted write: there is room, and the list is in three parts
 accepted : (xs : List ℕ) (a : ℕ) (ys new : List ℕ) → overwrite xs a ys ≡ Some new
     → (a + length ys ≤ length xs) × (take a xs ++ ys ++ drop (a + length ys) xs ≡ new)
     × (nat_le (a + length ys) (length xs) ≡ true)
 accepted xs a ys new e =
     let both : (nat_le (a + length ys) (length xs) ≡ true) × (take a xs ++ ys ++ drop (a + length ys) xs ≡ new) =
-    chosen (nat_le (a + length ys) (length xs)) (take a xs ++ ys ++ drop (a + length ys) xs) new e in
+    cond_some (nat_le (a + length ys) (length xs)) (take a xs ++ ys ++ drop (a + length ys) xs) new e in
     (leb-true (a + length ys) (length xs) both.0, both.1, both.0)
 
 -- from the length of its first part on, a list is its second part

@@ -1,11 +1,12 @@
 -- The low bits of a signed number, and the number of a list of bytes.
-use Rattle.std.proofs.Common.{◌≡◌, ℕ, ◌+◌, ◌-◌, ◌*◌, ◌/◌, ◌%◌, ◌^◌, ◌<◌, ◌≤◌, ◌∙◌, suc, sym, refl, ap, arith, lit≤, add-mul, mod-eq_of_lt, zero, List, [], ◌∷◌, ◌++◌, length, take, get_or, subst, div-one, lit<, mul-one, mul_comm, mul_assoc}
+use Rattle.std.proofs.Common.{◌≡◌, ℕ, ◌+◌, ◌-◌, ◌*◌, ◌/◌, ◌%◌, ◌^◌, ◌<◌, ◌≤◌, ◌∙◌, suc, sym, refl, ap, arith, add-mul, mod-eq_of_lt, zero, List, [], ◌∷◌, ◌++◌, length, take, get_or, subst, div-one, lit<, mul_comm, mul_assoc}
 use Rattle.std.specs.Prelude.{ℤ, pos, negsuc}
 use Rattle.std.specs.Int.{Width, w8, w16, w32, w64, w128, cast_signed, cast_unsigned, int_wrap, bytes_low_first, byte_at, byte_worth, sum_through, from_le_bytes, to_le_bytes, byte_len}
 use Rattle.wasmi_types.specs.Numbers.{wrap, number_of, le_bytes}
+use Rattle.wasmi_types.proofs.NumbersLemmas.{half_below, wrap_below, wrap_unsigned, wrap_signed, wrap_of_bits}
 use Rattle.std.proofs.lemmas.Int.{to_z-of_z, of_z-to_z, SFits-int_wrap}
 use Rattle.std.proofs.lemmas.Nat.{mod_below, div-add-mod', div_below, mod-mul-add, pow_pos, pow-add}
-use mir.Val.{SFits, bits, hbits, Fits}
+use mir.Val.{SFits, bits, Fits}
 use Rattle.std.proofs.Math.Nat.{div-div-eq-div-mul, pow-suc, mod-one}
 use Rattle.std.proofs.Math.Facts.{sfits_to_z}
 use Rattle.std.proofs.lemmas.List.{length-take-le, take_all}
@@ -23,12 +24,6 @@ complement-mod q m n h l =
     ap (λ k. k * m) split ∙ add-mul (q - suc (n / m)) (suc (n / m)) m in
     let left : q * m - suc n ≡ (q - suc (n / m)) * m + (m - 1 - n % m) = omega (arith, whole, parts, small) in
     sym (ap (λ k. k % m) left ∙ mod-mul-add (q - suc (n / m)) m (m - 1 - n % m) (omega (arith, small)))
-
--- a width has at most as many signed numbers from 0 on as unsigned ones
-half_below : (w : Width) → 2 ^ hbits w ≤ 2 ^ bits w
-half_below w =
-    elim w as (λ v. 2 ^ hbits v ≤ 2 ^ bits v)
-    [ w8 ↦ lit≤ tt | w16 ↦ lit≤ tt | w32 ↦ lit≤ tt | w64 ↦ lit≤ tt | w128 ↦ lit≤ tt ]
 
 -- the narrow width is a part of the wide one
 part_of : (v w : Width) → bits v ≤ bits w → 2 ^ bits w ≡ 2 ^ (bits w - bits v) * 2 ^ bits v
@@ -48,21 +43,6 @@ wrap_low v w (negsuc n) le f =
     ∙ ap (λ k. (k - suc n) % 2 ^ bits v) (sym (part_of v w le)))
 
 -- ---- the number below 2 to the power w
-
--- a number cut to a width is below 2 to the power of it
-pub wrap_below : (w : Width) (z : ℤ) → wrap w z < 2 ^ bits w
-wrap_below w (pos n) = mod_below n (2 ^ bits w) (pow_pos (bits w))
-wrap_below w (negsuc n) = omega (arith, pow_pos (bits w))
-
--- of a number that is below it
-pub wrap_unsigned : (w : Width) (n : ℕ) → n < 2 ^ bits w → wrap w (pos n) ≡ n
-wrap_unsigned w n h = mod-eq_of_lt h
-
--- of a signed number of the width
-pub wrap_signed : (w : Width) (z : ℤ) → SFits w z → wrap w z ≡ cast_unsigned w z
-wrap_signed w (pos n) f = mod-eq_of_lt (omega (arith, half_below w, f.sfits))
-wrap_signed w (negsuc n) f =
-    ap (λ k. 2 ^ bits w - 1 - k) (mod-eq_of_lt (omega (arith, half_below w, f.sfits))) ∙ omega arith
 
 -- of the signed number with the same low bits
 wrap_wrapped : (w : Width) (z r : ℤ) → r ≡ int_wrap w z → wrap w r ≡ wrap w z
@@ -126,11 +106,6 @@ number_of-low_first i (suc k) n =
 
 -- ---- the number of some bytes
 
--- byte i is worth its product by 256 to the power i
-byte_worth-is : (i b : ℕ) → byte_worth i b ≡ b * 256 ^ i
-byte_worth-is zero b = sym (mul-one b)
-byte_worth-is (suc i) b = refl
-
 -- one more byte at the end adds its product by 256 to the power of the length so far
 number_of-push : (bs : List ℕ) (b : ℕ) → number_of (bs ++ b ∷ []) ≡ number_of bs + b * 256 ^ length bs
 unfolding number_of
@@ -189,16 +164,6 @@ le_bytes-number_of : (bs : List ℕ) (k : ℕ) → length bs ≡ k → ((i : ℕ
     → le_bytes k (number_of bs) ≡ bs
 le_bytes-number_of bs k e h = ap (λ j. le_bytes j (number_of bs)) (sym e) ∙ low_first-number_of bs h
 
--- the number of a list whose bytes are below 256 is below 256 to the power of its length
-number_of-below : (bs : List ℕ) → ((i : ℕ) → get_or bs i 0 < 256) → number_of bs < 256 ^ length bs
-unfolding number_of
-number_of-below [] h = lit< tt
-number_of-below (b ∷ bs) h =
-    let small : b < 256 = h 0 in
-    let rest : number_of bs < 256 ^ length bs = number_of-below bs (λ i. h (suc i)) in
-    let power : 256 ^ suc (length bs) ≡ 256 ^ length bs * 256 = pow-suc 256 (length bs) in
-    omega (arith, small, rest, power)
-
 -- ---- at the widths of the numbers
 
 -- the number of the k bytes of n is n, where n is below 256 to the power k
@@ -220,12 +185,6 @@ pub le_bytes-unsigned : (w : Width) (bs : List ℕ) (k n : ℕ) → n < 2 ^ bits
     → ((i : ℕ) → get_or bs i 0 < 256)
     → n ≡ sum_through (λ i. byte_worth i (get_or bs i 0)) k → le_bytes (suc k) (wrap w (pos n)) ≡ bs
 le_bytes-unsigned w bs k n below e h is = ap (le_bytes (suc k)) (wrap_unsigned w n below) ∙ le_bytes-whole bs k n e h is
-
--- the number below 2 to the power of a width is cut to it from the signed number with its bits
-pub wrap_of_bits : (w : Width) (n : ℕ) → n < 2 ^ bits w → wrap w (cast_signed w n) ≡ n
-wrap_of_bits w n below =
-    let fits_number : Fits w n = record { fits = below } in
-    wrap_signed w (cast_signed w n) (sfits_to_z fits_number) ∙ of_z-to_z w n below
 
 -- the unsigned number with the bits of a signed one is cut to the same number
 pub wrap_of_image : (w : Width) (z : ℤ) → SFits w z → wrap w (pos (cast_unsigned w z)) ≡ wrap w z

@@ -1,6 +1,6 @@
 -- What a tenant is permitted beside others, it is permitted alone.
 use Rattle.std.proofs.Common.{◌≡◌, ◌≢◌, ℕ, ◌+◌, ◌-◌, Bool, Option, Some, None, Ok, true, false, List, [], ◌∷◌, ◌++◌, inl, inr, refl, sym, ap, subst, ◌∙◌, arith}
-use Rattle.std.proofs.lemmas.Bool.{cases_lt}
+use Rattle.std.proofs.lemmas.Bool.{cases_lt, false≢true}
 use Rattle.std.proofs.lemmas.Bool.Decides.{Decides-eqb}
 use Rattle.std.proofs.lemmas.List.{get_or_append_left, get_or-set_other, get_or-set_same}
 use Rattle.std.proofs.lemmas.Option.{same_Some}
@@ -81,10 +81,6 @@ pub others_do_not_show : OthersDontShow
 others_do_not_show s s' tenant tenant' turns ran =
     runs_too (option_map without_others) (permitting (optional_rules tenant_rules))
     (optional_rules tenant_rules) alone_carries _ turns _ ran
-
--- false isn't true
-true_not_false : false ≡ true → ⊥
-true_not_false same = cc
 
 -- a machine is at its index after another one was added
 pub kept_added : (machines : List (Option State)) (index : ℕ) (s : State) (added : Option State)
@@ -184,7 +180,7 @@ module _ (caps : Amounts) (index : ℕ) (pool' : PoolValue) where
     by_alike false decides =
         rest s (there_among pool s s next (slice_set pool.machines i (Some becomes.machine')) there becomes.after
         (kept_set pool.machines index i s (Some becomes.machine')
-        (λ same. absurd (true_not_false (decides.1 (sym same)))) there.found))
+        (λ same. false≢true (decides.1 (sym same))) there.found))
 
   -- calls by which the tenant of the index is never denied end for its machine as its own turns alone do
   ends_alone : (pool : PoolValue) (s : State) → IsThere pool s → (turns : List PoolTurn)
@@ -229,8 +225,7 @@ module _ (caps : Amounts) (index : ℕ) (pool' : PoolValue) where
           let tail = rest own.0 own.1 in
           (tail.0, tail.1, (only caps own.0, own.2, tail.2))
       by_index rest false decides runs =
-          rest s
-          (other_run pool s there calls replies next i (λ same. absurd (true_not_false (decides.1 (sym same)))) runs)
+          rest s (other_run pool s there calls replies next i (λ same. false≢true (decides.1 (sym same))) runs)
 
 -- a tenant that is never denied gets what it gets alone under the same caps
 pub permitted_runs_as_alone : RunsAsAlone

@@ -4,7 +4,7 @@ use Rattle.std.specs.Prelude.{All, MatchResult, ◌↔◌, is_some, nat_eq, remo
 use Rattle.std.specs.List.{range_with_len}
 use Rattle.std.specs.Bool.{Decides}
 use Rattle.std.proofs.lemmas.Bool.Decides.{Decides-eqb}
-use Rattle.std.proofs.lemmas.Bool.{cases_lt}
+use Rattle.std.proofs.lemmas.Bool.{cases_lt, ne_eqb, eq-eqb}
 use Rattle.std.specs.Result.{result_ok}
 use Rattle.std.proofs.lemmas.List.Sorted.{searched}
 use Rattle.std.specs.List.Sorted.{IsBinarySearchResult}
@@ -17,16 +17,6 @@ use Rattle.std.proofs.lemmas.List.Quantifiers.{all_pairs_push, all_pairs_remove}
 use Rattle.wasmi_machine.specs.State.{State}
 use Rattle.wasmi_budget.specs.Pool.{BecomesAt}
 use Rattle.wasmi_budget.specs.Tenants.{HasAllUpTo, value_of, by_index, IsListed, IsPlace, Rises}
-
--- a test for one number, at it and at another one
-same_is : (i : ℕ) → nat_eq i i ≡ true
-same_is i = (Decides-eqb i i).1 refl
-
-other_is : (i j : ℕ) → i ≢ j → nat_eq i j ≡ false
-other_is i j other = by (nat_eq i j) (Decides-eqb i j) where
-  by : (b : Bool) → Decides b (i ≡ j) → b ≡ false
-  by true d = absurd (other (d.0 refl))
-  by false d = refl
 
 -- an index among rising ones is at least its place
 at_least : (indices : List ℕ) → Rises indices → (p : ℕ) → p < length indices → p ≤ get_or indices p 0
@@ -104,10 +94,10 @@ module _ {X : Type 0} where
   value_at [] values p j x rises same within at is = absurd (omega (arith, within))
   value_at (i ∷ indices) [] p j x rises same within at is = absurd (omega (arith, same))
   value_at (i ∷ indices) (y ∷ values) zero j x rises same within at is =
-      rw (at, same_is j) (ap Some is)
+      rw (at, eq-eqb j j refl) (ap Some is)
   value_at (i ∷ indices) (y ∷ values) (suc p) j x rises same within at is =
       let less : i < j = let r = rises 0 (suc p) 0 (omega arith) within in omega (arith, r, at) in
-      rw (other_is i j (λ e. absurd (omega (arith, e, less))))
+      rw (ne_eqb i j (λ e. absurd (omega (arith, e, less))))
       (value_at indices values p j x (λ a b d less in'. rises (suc a) (suc b) d (omega (arith, less)) (omega (arith, in')))
       (omega (arith, same)) (omega (arith, within)) at is)
 
@@ -117,7 +107,7 @@ module _ {X : Type 0} where
   value_none [] values j other = refl
   value_none (i ∷ indices) [] j other = refl
   value_none (i ∷ indices) (y ∷ values) j other =
-      rw (other_is i j (other 0 (omega arith)))
+      rw (ne_eqb i j (other 0 (omega arith)))
       (value_none indices values j (λ k within. other (suc k) (omega (arith, within))))
 
   -- another value at a place changes that of its index alone
@@ -125,7 +115,7 @@ module _ {X : Type 0} where
       → value_of indices (set values p x) k ≡ value_of indices values k
   value_set_other [] values p k x within other = absurd (omega (arith, within))
   value_set_other (i ∷ indices) [] p k x within other = refl
-  value_set_other (i ∷ indices) (y ∷ values) zero k x within other = rw (other_is i k other) refl
+  value_set_other (i ∷ indices) (y ∷ values) zero k x within other = rw (ne_eqb i k other) refl
   value_set_other (i ∷ indices) (y ∷ values) (suc p) k x within other =
       ap (λ rest. if nat_eq i k then Some y else rest)
       (value_set_other indices values p k x (omega (arith, within)) other)
@@ -140,7 +130,7 @@ module _ {X : Type 0} where
   value_removed (i ∷ indices) [] (suc p) rises within = refl
   value_removed (i ∷ indices) (y ∷ values) (suc p) rises within =
       let less : i < get_or indices p 0 = rises 0 (suc p) 0 (omega arith) within in
-      rw (other_is i (get_or indices p 0) (λ e. absurd (omega (arith, e, less))))
+      rw (ne_eqb i (get_or indices p 0) (λ e. absurd (omega (arith, e, less))))
       (value_removed indices values p
       (λ a b d less in'. rises (suc a) (suc b) d (omega (arith, less)) (omega (arith, in'))) (omega (arith, within)))
 
@@ -149,7 +139,7 @@ module _ {X : Type 0} where
       → get_or indices p 0 ≢ k → value_of (remove indices p) (remove values p) k ≡ value_of indices values k
   value_kept [] values p k within same other = absurd (omega (arith, within))
   value_kept (i ∷ indices) [] p k within same other = absurd (omega (arith, same))
-  value_kept (i ∷ indices) (y ∷ values) zero k within same other = rw (other_is i k other) refl
+  value_kept (i ∷ indices) (y ∷ values) zero k within same other = rw (ne_eqb i k other) refl
   value_kept (i ∷ indices) (y ∷ values) (suc p) k within same other =
       ap (λ rest. if nat_eq i k then Some y else rest)
       (value_kept indices values p k (omega (arith, within)) (omega (arith, same)) other)
@@ -157,7 +147,7 @@ module _ {X : Type 0} where
   -- one more value is that of one more index
   value_pushed_other : (indices : List ℕ) (values : List X) (n k : ℕ) (x : X) → length values ≡ length indices → n ≢ k
       → value_of (indices ++ n ∷ []) (values ++ x ∷ []) k ≡ value_of indices values k
-  value_pushed_other [] [] n k x same other = rw (other_is n k other) refl
+  value_pushed_other [] [] n k x same other = rw (ne_eqb n k other) refl
   value_pushed_other [] (y ∷ values) n k x same other = absurd (omega (arith, same))
   value_pushed_other (i ∷ indices) [] n k x same other = absurd (omega (arith, same))
   value_pushed_other (i ∷ indices) (y ∷ values) n k x same other =
@@ -166,12 +156,12 @@ module _ {X : Type 0} where
 
   value_pushed : (indices : List ℕ) (values : List X) (n : ℕ) (x : X) → length values ≡ length indices
       → All (λ i. i < n) indices → value_of (indices ++ n ∷ []) (values ++ x ∷ []) n ≡ Some x
-  value_pushed [] [] n x same below = rw (same_is n) refl
+  value_pushed [] [] n x same below = rw (eq-eqb n n refl) refl
   value_pushed [] (y ∷ values) n x same below = absurd (omega (arith, same))
   value_pushed (i ∷ indices) [] n x same below = absurd (omega (arith, same))
   value_pushed (i ∷ indices) (y ∷ values) n x same below =
       let less = below 0 0 (omega arith) in
-      rw (other_is i n (λ e. absurd (omega (arith, e, less))))
+      rw (ne_eqb i n (λ e. absurd (omega (arith, e, less))))
       (value_pushed indices values n x (omega (arith, same)) (λ k d in'. below (suc k) d (omega (arith, in'))))
 
   module _ (next : ℕ) (indices : List ℕ) (values : List X) where
@@ -265,11 +255,6 @@ module _ {X : Type 0} where
             kept_below k d inside (inr after) =
                 rw (get_or-remove_above indices p d k after within)
                 (listed.below (k + 1) d (omega (arith, inside, length-remove indices p within)))
-
-        -- and those with another value
-        pub listed_set : (x : X) → IsListed next indices (set values p x)
-        listed_set x = record
-            { same = length-set values p x ∙ listed.same; rises = listed.rises; below = listed.below }
 
       -- the next index gets a value
       pub pushed_at : (x : X) → by_index next indices values ++ Some x ∷ []

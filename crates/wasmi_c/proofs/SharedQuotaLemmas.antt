@@ -1,10 +1,8 @@
 -- What one quota holds, as memories and tables are made and grow under it.
 use Rattle.std.proofs.Common.{◌≡◌, ◌∙◌, ℕ, ◌+◌, ◌-◌, ◌*◌, ◌≤◌, true, false, Option, Some, None, Result, Ok, Err, List, [], ◌∷◌, ◌++◌, length, take, replicate, sum, refl, ap, sym, subst, inl, inr, arith, length-append}
-use Rattle.std.specs.Prelude.{MatchOption, nat_eq, slice_get, slice_set}
+use Rattle.std.specs.Prelude.{nat_eq, slice_get}
 use Rattle.std.proofs.lemmas.List.{length-replicate, length-take-le}
 use Rattle.std.proofs.lemmas.List.Elements.{All-cons, All-nil}
-use Rattle.std.proofs.lemmas.List.Sums.{sum_by-set, sum_by_push}
-use Rattle.std.proofs.lemmas.Option.{get_or_from_slice_get, slice_get_within}
 use Rattle.std.proofs.lemmas.Bool.{cases_lt}
 use Rattle.std.proofs.lemmas.Bool.Decides.{nat_tests}
 use Rattle.wasmi_meter.specs.declared.error.MemoryError.{MemoryError}
@@ -16,9 +14,9 @@ use Rattle.wasmi_meter.specs.declared.limiter.Kind.TheVariants.{Bytes, Elements}
 use Rattle.wasmi_meter.specs.declared.quota.Holdings.{Holdings}
 use Rattle.wasmi_meter.specs.declared.quota.Quota.{Quota}
 use Rattle.wasmi_meter.specs.Attempt.{Request, AttemptOutcome, Unasked, Denied, Met, Failed, MayEnd, Follows, answer_of, value_after}
-use Rattle.wasmi_meter.specs.Capped.{Asked, HoldsTheSame, Releases, Reserves, amount_held, with_less, with_more, without_last, IsWithinCaps, holdings, capped_quota, quota_rules}
+use Rattle.wasmi_meter.specs.Capped.{Asked, HoldsTheSame, Releases, amount_held, with_less, with_more, without_last, IsWithinCaps, holdings, capped_quota, quota_rules}
 use Rattle.wasmi_meter.specs.CappedProofs.{asked_reserves}
-use Rattle.wasmi_meter.specs.Limiter.{Question, Answer, IsDenial, kind_of, optional_rules}
+use Rattle.wasmi_meter.specs.Limiter.{Answer, kind_of, optional_rules}
 use Rattle.wasmi_meter.specs.Meter.{Meter}
 use Rattle.wasmi_meter.proofs.CappedLemmas.{asked_is_within, noticed_is_within, quota_keeps, released_within}
 use Rattle.wasmi_store.specs.Buffer.{Lent}
@@ -38,6 +36,9 @@ use Rattle.wasmi_c.specs.declared.status.TheConstants.{DONE}
 use Rattle.wasmi_c.specs.declared.numbers.MemoryNumbers.{MemoryNumbers}
 use Rattle.wasmi_c.specs.declared.numbers.QuotaNumbers.{QuotaNumbers}
 use Rattle.wasmi_c.specs.declared.numbers.TableNumbers.{TableNumbers}
+use Rattle.wasmi_machine.proofs.HoldingLemmas.{denial_keeps}
+use Rattle.wasmi_machine.proofs.TotalLemmas.{sum_set, sum_push}
+use Rattle.wasmi_machine.proofs.EffectLemmas.{on_live}
 
 -- the kind that isn't this one
 abbrev other : Kind → Kind
@@ -82,13 +83,6 @@ held_less kind n h h' released =
     by_kind Bytes fits = (omega (arith, fits), refl)
     by_kind Elements fits = (omega (arith, fits), refl)
 
--- a denial keeps what is held
-denied_same : (q : Question) (answer : Answer) (h h' : Holdings) → IsDenial answer → Reserves q answer h h'
-    → HoldsTheSame h h'
-denied_same q (Ok true) h h' denial reserves = elim denial [ ]
-denied_same q (Ok false) h h' denial reserves = reserves
-denied_same q (Err error) h h' denial reserves = reserves
-
 -- nothing happened
 pub nothing_counts : (kind : Kind) (size : ℕ) (quota quota' : Quota) → quota' ≡ quota
     → Counts kind size size quota quota'
@@ -132,7 +126,7 @@ module _ {V E : Type 0} (e : Request V E) where
     attempt_counts m (Denied answer) may asked =
         let reserves = asked_reserves capped_quota quota quota' e.question answer asked in
         let same = held_same kind (holdings quota) (holdings quota')
-        (denied_same e.question answer (holdings quota) (holdings quota') may.1 reserves) in
+        (denial_keeps e.question answer (holdings quota) (holdings quota') may.1 reserves) in
         answer_counts answer asked 0 (omega (arith, same.0), same.1)
     attempt_counts m Met may asked =
         answer_counts (Ok true) asked asked_for (held_more kind asked_for (holdings quota) (holdings quota')
@@ -198,17 +192,6 @@ module _ {V E : Type 0} (g : Growth V E) (size : V → ℕ) (x : V) (counted : I
 
 -- ---- sums of sizes
 
--- the sum, as one size becomes another
-sum_set : (sizes : List ℕ) (k size size' : ℕ) → slice_get sizes k ≡ Some size
-    → sum (slice_set sizes k size') + size ≡ sum sizes + size'
-sum_set sizes k size size' there =
-    ap (λ n. sum (slice_set sizes k size') + n) (sym (get_or_from_slice_get sizes k size 0 there))
-    ∙ sum_by-set (λ x. x) sizes k size' 0 (slice_get_within sizes k size there)
-
--- the sum with one more
-sum_push : (sizes : List ℕ) (size : ℕ) → sum (sizes ++ size ∷ []) ≡ sum sizes + size
-sum_push sizes size = sum_by_push (λ x. x) sizes size
-
 -- the length of n items is the difference of n and 0
 pub length_made : (n y : ℕ) → length (replicate n y) ≡ n - 0
 length_made n y = omega (arith, length-replicate {A = ℕ} n y)
@@ -260,14 +243,8 @@ table_summed ty p p' (Err e) status sizes is left = rw (is, refused_table_status
 -- ---- calls
 
 -- a quota that is on is a limiter
-limiter_on : (h : QuotaNumbers) → (h.is_on ≡ 0 → ⊥) → limiter_of h ≡ Some (quota_of h)
+pub limiter_on : (h : QuotaNumbers) → (h.is_on ≡ 0 → ⊥) → limiter_of h ≡ Some (quota_of h)
 limiter_on h on = let some : nat_eq h.is_on 0 ≡ false = grind (arith, nat_tests, on) in rw some refl
-
--- what follows from each of the two facts of a value that may be absent
-on_value : {A C : Type 0} (o : Option A) (P : Type 0) (Q : A → Type 0) → MatchOption o P Q → (P → C)
-    → ((x : A) → Q x → C) → C
-on_value None P Q h none some = none h
-on_value (Some x) P Q h none some = some x h
 
 -- the sizes of one kind
 abbrev sizes_of : UnderQuota → Kind → List ℕ
@@ -332,9 +309,9 @@ module _ (u u' : UnderQuota) (holds : HoldsSums u) (keeps : KeepsQuota u.quota u
   -- a table is made
   table_made : MakesTableUnder u u' → HoldsSums u'
   table_made c =
-      on_value (table_type_of c.before.numbers) _ _ c.makes
+      on_live (table_type_of c.before.numbers) _ _ c.makes
       (λ refused. summed_same Elements refused.2 (rw (c.elements, refused.0) refl) c.bytes)
-      (λ ty made.
+      (λ ty found made.
       let makes = rw (limiter_on u.quota holds.on, limiter_on u'.quota on) at made.makes in
       let counts = creation_counts (creation_in ty (length c.before.region)) (new_table ty c.reference)
       elements_made (length_made ty.minimum c.reference) (λ cause. refl) (λ cause. refl) q q' _ makes in

@@ -1,18 +1,15 @@
 -- The answers that words stand for, and header lines whose numbers are read at once.
-use Rattle.std.proofs.Common.{◌≡◌, List, ℕ, ◌∙◌, None, Option, Some, Result, Err, codes, length, map, refl, ap, rules, tests}
-use Rattle.wasmi_operands.specs.LineWords.{Accepts, LineWords, WritesEach, WritesNumber, word_at}
-use Rattle.wasmi_operands.specs.declared.error.LineError.{LineError}
+use Rattle.std.proofs.Common.{◌≡◌, List, ℕ, ◌∙◌, None, Option, Some, codes, length, map, refl, ap, rules, tests}
+use Rattle.wasmi_operands.specs.LineWords.{LineWords, WritesEach, WritesNumber, word_at}
 use Rattle.wasmi_grammar.specs.declared.header.LimiterLine.{LimiterLine}
 use Rattle.wasmi_grammar.specs.declared.header.LimiterLine.TheVariants.{Quota, Answers, Tenants}
-use Rattle.wasmi_grammar.specs.declared.header.RegionLine.{RegionLine}
-use Rattle.wasmi_machine.specs.declared.slots.SlotCounts.{SlotCounts}
-use Rattle.wasmi_grammar.specs.Headers.{WritesRegion, WritesReserve, NamesLimiterAfter}
+use Rattle.wasmi_grammar.specs.Headers.{NamesLimiterAfter}
 use Rattle.wasmi_meter.specs.declared.answer_list.LimiterAnswer.{LimiterAnswer}
 use Rattle.wasmi_meter.specs.declared.answer_list.LimiterAnswer.TheVariants.{Permit}
 use Rattle.wasmi_meter.specs.contracts.answer_list.LimiterAnswer.{enum}
 use Rattle.wasmi_operands.specs.Names.{WritesAnswer, answer_text}
 use Rattle.wasmi_operands.proofs.NamesLemmas.{named, named_is}
-use Rattle.wasmi_operands.proofs.LineWordsLemmas.{each_named, refused_through}
+use Rattle.wasmi_operands.proofs.LineWordsLemmas.{each_named}
 
 -- an answer, or the first one
 abbrev option_or : Option LimiterAnswer → LimiterAnswer
@@ -38,39 +35,17 @@ pub answers_is : (words : LineWords) (answers : List LimiterAnswer) → WritesEa
 unfolding answers_named
 answers_is = each_named WritesAnswer answer_named (λ word answer is. ap answer_named is ∙ answer_is answer)
 
--- what two numbers don't write is no region
-pub no_region : (words : LineWords) (error : LineError) (result : Result RegionLine LineError) → result ≡ Err error
-    → Accepts {A = ℕ × ℕ} (Err error)
-    (λ a. (length words ≡ 2) × WritesNumber 64 (word_at words 0) a.0 × WritesNumber 8 (word_at words 1) a.1)
-    → Accepts result (WritesRegion words)
-no_region words error result is = refused_through error result is (λ line w. ((line.len, line.byte), w))
-
--- what five numbers don't write reserves no slots
-pub no_reserve : (words : LineWords) (error : LineError) (result : Result SlotCounts LineError) → result ≡ Err error
-    → Accepts {A = ℕ × ℕ × ℕ × ℕ × ℕ} (Err error)
-    (λ a. (length words ≡ 5) × WritesNumber 64 (word_at words 0) a.0 × WritesNumber 64 (word_at words 1) a.1
-    × WritesNumber 64 (word_at words 2) a.2 × WritesNumber 64 (word_at words 3) a.3
-    × WritesNumber 64 (word_at words 4) a.4)
-    → Accepts result (WritesReserve words)
-no_reserve words error result is = refused_through error result is
-    (λ slots w. ((slots.memories, slots.tables, slots.segments, slots.data_segments, slots.globals), w))
-
 -- two numbers
 abbrev TwoNumbers : LineWords → ℕ × ℕ → Type 0
 TwoNumbers words a =
     (length words ≡ 2) × WritesNumber 64 (word_at words 0) a.0 × WritesNumber 64 (word_at words 1) a.1
 
 -- the caps of a quota line
-caps_of : (words : LineWords) (line : LimiterLine) → NamesLimiterAfter (codes "quota") words line
+pub caps_of : (words : LineWords) (line : LimiterLine) → NamesLimiterAfter (codes "quota") words line
     → (a : ℕ × ℕ) × TwoNumbers words a
 caps_of words (Quota caps) names = ((caps.bytes, caps.elements), names.1)
 caps_of words (Answers answers) names = absurd (search (rules, tests, names))
 caps_of words (Tenants line) names = absurd (search (rules, tests, names))
-
--- what two numbers don't write is no quota
-pub no_quota : (words : LineWords) (error : LineError) (result : Result LimiterLine LineError) → result ≡ Err error
-    → Accepts {A = ℕ × ℕ} (Err error) (TwoNumbers words) → Accepts result (NamesLimiterAfter (codes "quota") words)
-no_quota words error result is = refused_through error result is (caps_of words)
 
 -- three numbers
 abbrev ThreeNumbers : LineWords → ℕ × ℕ × ℕ → Type 0
@@ -78,15 +53,9 @@ ThreeNumbers words a = (length words ≡ 3) × WritesNumber 64 (word_at words 0)
     × WritesNumber 64 (word_at words 1) a.1 × WritesNumber 64 (word_at words 2) a.2
 
 -- the numbers of a tenants line
-numbers_of : (words : LineWords) (line : LimiterLine) → NamesLimiterAfter (codes "tenants") words line
+pub numbers_of : (words : LineWords) (line : LimiterLine) → NamesLimiterAfter (codes "tenants") words line
     → (a : ℕ × ℕ × ℕ) × ThreeNumbers words a
 numbers_of words (Quota caps) names = absurd (search (rules, tests, names))
 numbers_of words (Answers answers) names = absurd (search (rules, tests, names))
 numbers_of words (Tenants line) (is, (many, count, some, most, bytes, elements)) =
     ((line.count, line.caps.bytes, line.caps.elements), (many, count, bytes, elements))
-
--- what three numbers don't write is no number of tenants with caps
-pub no_tenants : (words : LineWords) (error : LineError) (result : Result LimiterLine LineError) → result ≡ Err error
-    → Accepts {A = ℕ × ℕ × ℕ} (Err error) (ThreeNumbers words)
-    → Accepts result (NamesLimiterAfter (codes "tenants") words)
-no_tenants words error result is = refused_through error result is (numbers_of words)

@@ -1,10 +1,10 @@
 -- The bits of a word that belong to one lane (`field`), as those of the operands give them.
-use Rattle.std.proofs.Common.{◌≡◌, ℕ, zero, suc, ◌+◌, ◌-◌, ◌*◌, ◌/◌, ◌%◌, ◌^◌, ◌<◌, ◌≤◌, sym, ap, ap₂, subst, ◌∙◌, arith, zero-mul, suc-mul, add-mul, mul-suc, mul-zero, mul_comm, div-one, mod-lt, mod-eq_of_lt, replicate, bit_and, bit_or, bit_xor}
+use Rattle.std.proofs.Common.{◌≡◌, ℕ, zero, suc, ◌+◌, ◌-◌, ◌*◌, ◌/◌, ◌%◌, ◌^◌, ◌<◌, ◌≤◌, sym, ap, ap₂, subst, ◌∙◌, arith, zero-mul, suc-mul, add-mul, mul-suc, mul-zero, mul_comm, le_refl, div-one, mod-lt, mod-eq_of_lt, replicate, bit_and, bit_or, bit_xor}
 use Rattle.std.specs.Int.{bit_at}
 use Rattle.std.specs.Simd.Lanes.{number_l}
 use Rattle.std.proofs.Math.Nat.{zero-div, zero-mod, add-mod, add-mod_right, add-mul-mod_self_right, add-mul-mod_self_left, mod-add-mod, mod-mod}
 use Rattle.std.proofs.Math.Pow.{ones_split, shr_mono, mod-mod-pow}
-use Rattle.std.proofs.lemmas.Nat.{pow_pos, shr-shr, and_mask, div-add-mod', div-mul-add, mod-mul-add, and_shr, and_mod, or_shr, or_mod, xor_shr, xor_mod, field_of, shr_below}
+use Rattle.std.proofs.lemmas.Nat.{pow_pos, mul-le, shr-shr, and_mask, div-add-mod', div-mul-add, mod-mul-add, and_shr, and_mod, or_shr, or_mod, xor_shr, xor_mod, field_of, shr_below}
 use Rattle.wasmi_lanes.specs.Words.{field}
 
 -- a field of w bits is below 2 ^ w
@@ -143,6 +143,10 @@ field_wrapping_sub k w n a b within fits low =
     ∙ ap (λ m. (m + (2 ^ w - field k w b)) % 2 ^ w) high
 
 -- ---- lanes of one width, the first at 0
+
+-- a lane ends within the bits of all n lanes
+pub lane_ends : (w n i : ℕ) → i < n → w * i + w ≤ n * w
+lane_ends w n i inside = omega (arith, mul-le (suc i) w n w (omega arith) (le_refl w), suc-mul i w, mul_comm i w)
 
 -- lane 0 of a word is its lowest w bits
 pub first_lane : (w v : ℕ) → field (w * 0) w v ≡ v % 2 ^ w

@@ -1,14 +1,16 @@
 -- Lanes as std::simd computes them: the digits of a number, lanes that a comparison chooses, and sums.
-use Rattle.std.proofs.Common.{ℕ, ◌+◌, ◌-◌, ◌%◌, ◌<◌, ◌≡◌, List, [], ◌∷◌, length, get_or, map, replicate, refl, sym, ap, ◌∙◌, arith, Bool, false, cond, ltb, nat_lt, if◌then◌else◌, zero, suc, pos, ◌*◌, ◌/◌, ◌^◌, ◌≤◌, subst, mul_comm, mul-suc, mul-zero, zero-mul, suc-mul, div-one}
+use Rattle.std.proofs.Common.{ℕ, ◌+◌, ◌-◌, ◌%◌, ◌<◌, ◌≡◌, List, [], ◌∷◌, length, get_or, map, replicate, refl, sym, ap, ◌∙◌, arith, Bool, false, cond, ltb, nat_lt, if◌then◌else◌, zero, suc, pos, ◌*◌, ◌/◌, ◌^◌, ◌≤◌, subst, mul_comm, zero-mul, suc-mul}
 use Rattle.std.specs.Simd.Lanes.{zip2, sel_l, digits_l, number_l, Each1}
 use Rattle.std.proofs.lemmas.Simd.{length-zip2, get_or-zip2, get_or-sel_l, get_or-replicate, length-replicate, Each1-from_get_or, tops_compared}
 use lib.Lanes.{top}
 use mir.Val.{hbits}
 use Rattle.std.proofs.Math.Nat.{mod-one, mul-add, mul-one, mod-eq_of_lt}
-use Rattle.std.proofs.lemmas.Nat.{mod-pow-add, div-mul-add, mod-mul-add, shr-shr, pow-add, mul-le}
+use Rattle.std.proofs.lemmas.Nat.{mod-pow-add, div-mul-add, mod-mul-add, pow-add, mul-le}
 use Rattle.std.proofs.lemmas.List.{get_or-map}
 use Rattle.wasmi_types.specs.Numbers.{Width, w8, w16, w32, w64, bits, signed}
 use Rattle.wasmi_lanes.specs.Vector.{lane}
+use Rattle.wasmi_lanes.specs.Words.{field}
+use Rattle.wasmi_lanes.proofs.FieldLemmas.{first_lane, next_lane}
 
 module _ (w : Width) (n : ℕ) (a b chosen other : List ℕ) (long_a : length a ≡ n) (long_b : length b ≡ n)
     (long_chosen : length chosen ≡ n) (long_other : length other ≡ n) where
@@ -39,30 +41,12 @@ pub biased_8 : (xs : List ℕ) (i : ℕ) → length xs ≡ 16 → i < 16
     → get_or (zip2 (λ a b. (a + b) % 256) xs (replicate 16 128)) i 0 ≡ (get_or xs i 0 + 128) % 256
 biased_8 = added_at w8 16 128
 
--- the digit of v at i
-abbrev digit : ℕ → ℕ → ℕ → ℕ
-digit b v i = v / 2 ^ (b * i) % 2 ^ b
-
--- the digit of v at 0 is its lowest b bits
-digit_first : (b v : ℕ) → digit b v 0 ≡ v % 2 ^ b
-digit_first b v = ap (λ k. v / 2 ^ k % 2 ^ b) (mul-zero b) ∙ ap (λ n. n % 2 ^ b) (div-one v)
-
--- the digit of v at i + 1 is that of v / 2 ^ b at i
-digit_next : (b i v : ℕ) → digit b v (suc i) ≡ digit b (v / 2 ^ b) i
-digit_next b i v =
-    let next : b * suc i ≡ b + b * i = omega (arith, mul-suc b i) in
-    ap (λ k. v / 2 ^ k % 2 ^ b) next ∙ ap (λ n. n % 2 ^ b) (sym (shr-shr v b (b * i)))
-
 -- the list of digits has them in their places
 pub digit_at : (b n v i d : ℕ) → i < n → get_or (digits_l (2 ^ b) n v) i d ≡ v / 2 ^ (b * i) % 2 ^ b
+unfolding field
 digit_at b zero v i d below = absurd (omega arith)
-digit_at b (suc n) v zero d below = sym (digit_first b v)
-digit_at b (suc n) v (suc i) d below = digit_at b n (v / 2 ^ b) i d (omega arith) ∙ sym (digit_next b i v)
-
--- the list of n digits of a number has n items
-length_digits : (p n v : ℕ) → length (digits_l p n v) ≡ n
-length_digits p zero v = refl
-length_digits p (suc n) v = ap suc (length_digits p n (v / p))
+digit_at b (suc n) v zero d below = sym (first_lane b v)
+digit_at b (suc n) v (suc i) d below = digit_at b n (v / 2 ^ b) i d (omega arith) ∙ sym (next_lane b i v)
 
 -- x + p * n, with its factors and its summands swapped
 turned : (p x n : ℕ) → x + p * n ≡ n * p + x
@@ -71,14 +55,15 @@ turned p x n = omega (arith, mul_comm p n)
 -- the number of a list of digits has them in their places
 pub number_at : (b : ℕ) (xs : List ℕ) (i d : ℕ) → Each1 (λ x. x < 2 ^ b) xs → i < length xs
     → number_l (2 ^ b) xs / 2 ^ (b * i) % 2 ^ b ≡ get_or xs i d
+unfolding field
 number_at b [] i d fits below = absurd (omega arith)
 number_at b (x ∷ xs) zero d fits below =
     let n = number_l (2 ^ b) xs in
-    digit_first b (x + 2 ^ b * n) ∙ ap (λ k. k % 2 ^ b) (turned (2 ^ b) x n) ∙ mod-mul-add n (2 ^ b) x fits.0
+    first_lane b (x + 2 ^ b * n) ∙ ap (λ k. k % 2 ^ b) (turned (2 ^ b) x n) ∙ mod-mul-add n (2 ^ b) x fits.0
 number_at b (x ∷ xs) (suc i) d fits below =
     let n = number_l (2 ^ b) xs in
-    digit_next b i (x + 2 ^ b * n)
-    ∙ ap (λ k. digit b k i) (ap (λ k. k / 2 ^ b) (turned (2 ^ b) x n) ∙ div-mul-add n (2 ^ b) x fits.0)
+    next_lane b i (x + 2 ^ b * n)
+    ∙ ap (field (b * i) b) (ap (λ k. k / 2 ^ b) (turned (2 ^ b) x n) ∙ div-mul-add n (2 ^ b) x fits.0)
     ∙ number_at b xs i d fits.1 (omega arith)
 
 -- and is below the power that has one digit more

@@ -1,7 +1,7 @@
 -- Vectors by their two words, and words of equal lanes.
-use Rattle.std.proofs.Common.{◌≡◌, ℕ, zero, suc, ◌+◌, ◌-◌, ◌*◌, ◌/◌, ◌%◌, ◌^◌, ◌<◌, ◌≤◌, ◌⊎◌, inl, inr, refl, sym, ap, ap₂, subst, ◌∙◌, arith, mul-suc, mul-zero, mul-add, suc-mul, mul_comm, le_refl}
+use Rattle.std.proofs.Common.{◌≡◌, ℕ, zero, suc, ◌+◌, ◌-◌, ◌*◌, ◌/◌, ◌%◌, ◌^◌, ◌<◌, ◌≤◌, ◌⊎◌, inl, inr, refl, sym, ap, ap₂, subst, ◌∙◌, arith, mul-suc, mul-zero, mul-add, mul_comm}
 use Rattle.std.proofs.lemmas.Bool.{cases_lt}
-use Rattle.std.proofs.lemmas.Nat.{pow_pos, shr-shr, mul-le, field_of}
+use Rattle.std.proofs.lemmas.Nat.{pow_pos, shr-shr, field_of}
 use Rattle.std.proofs.Math.Nat.{zero-mod, mod_self}
 use Rattle.std.proofs.Math.Pow.{mod-mod-pow}
 use Rattle.std.proofs.lemmas.Nat.Bits.{bit_at-pow_same}
@@ -10,7 +10,7 @@ use Rattle.wasmi_raw.specs.RawVal.{vector_of}
 use Rattle.wasmi_types.specs.Numbers.{Width, w8, w16, w32, w64, bits}
 use Rattle.wasmi_lanes.specs.Vector.{lane, from_lanes}
 use Rattle.wasmi_lanes.specs.Words.{field, IsLane, IsLastLane, lanes_in_word, in_each_lane}
-use Rattle.wasmi_lanes.proofs.FieldLemmas.{field_mod, top_of_lane, repeated_lane}
+use Rattle.wasmi_lanes.proofs.FieldLemmas.{field_mod, lane_ends, top_of_lane, repeated_lane}
 use Rattle.wasmi_lanes.proofs.VectorLemmas.{lanes_make_vector}
 use mir.Syntax.{w128}
 
@@ -36,14 +36,7 @@ EachLane w P = (i : ℕ) → i < lanes_in_word w → P (bits w * i)
 module _ (w : Width) (whole : lanes_in_word w * bits w ≡ 64) where
   -- a lane of a word ends within its 64 bits
   pub lane_within : (i : ℕ) → i < lanes_in_word w → bits w * i + bits w ≤ 64
-  lane_within i inside =
-      omega (
-        arith,
-        whole,
-        mul-le (suc i) (bits w) (lanes_in_word w) (bits w) (omega arith) (le_refl (bits w)),
-        suc-mul i (bits w),
-        mul_comm i (bits w),
-      )
+  lane_within i inside = omega (arith, whole, lane_ends (bits w) (lanes_in_word w) i inside)
 
   -- the lanes of two words make 128 bits
   pub filled : (lanes_in_word w + lanes_in_word w) * bits w ≡ 128
@@ -136,8 +129,7 @@ tops_each (suc h) n tops pos fits each i lt = record {
   starts = top_below h n tops
       (λ j below. each j below ∙ ap (λ k. 2 ^ k) (let back : suc h - 1 ≡ h = omega arith in back)) i lt;
   top = each i lt;
-  within = omega
-      (arith, mul-le (suc i) (suc h) n (suc h) (omega arith) (le_refl (suc h)), suc-mul i (suc h), mul_comm i (suc h));
+  within = omega (arith, lane_ends (suc h) n i lt);
 }
 
 -- a width has at least one bit
@@ -224,11 +216,6 @@ inner_lanes w inner whole is i inside =
     let tops : ℕ = in_each_lane w (2 ^ (bits w - 1)) in
     subst (λ t. InnerLane t (bits w * i) (bits w)) (sym is)
     (without_last_top tops (bits w * i) (bits w) (some_bits w) (equal_lanes w tops whole refl i inside))
-
--- what follows from A and from B follows where either holds
-pub of_either : {A B C : Type 0} → (A → C) → (B → C) → A ⊎ B → C
-of_either f g (inl a) = f a
-of_either f g (inr b) = g b
 
 -- ---- words whose lanes are a row of the operands' lanes make the vector of that row, which may name the width
 

@@ -1,17 +1,18 @@
 -- The order of lanes, and what is chosen by it. Numbers of w bits, moved by half of their range, stand in the order of
 -- the signed numbers with their bits.
-use Rattle.std.proofs.Common.{ℕ, ℤ, suc, ◌+◌, ◌-◌, ◌*◌, ◌%◌, ◌^◌, ◌<◌, ◌≤◌, ◌≡◌, min, max, Bool, true, false, not, cond, if◌then◌else◌, ltb, leb, refl, sym, ap, ap₂, ◌∙◌, arith, inl, inr, pos, negsuc, unsigned_abs, mul_comm, suc-mul, le_refl}
-use Rattle.std.proofs.lemmas.Nat.{pow_pos, mul-le}
-use Rattle.std.specs.Int.{int_min, int_max, int_rem_euclid}
+use Rattle.std.proofs.Common.{ℕ, ℤ, suc, ◌+◌, ◌-◌, ◌*◌, ◌%◌, ◌^◌, ◌<◌, ◌≤◌, ◌≡◌, min, max, Bool, true, false, not, cond, if◌then◌else◌, ltb, leb, refl, sym, ap, ap₂, ◌∙◌, arith, inl, inr, pos, negsuc}
+use Rattle.std.proofs.lemmas.Nat.{pow_pos}
+use Rattle.std.specs.Int.{int_min, int_max}
 use Rattle.std.specs.Int.RustNames.{int_lt, int_le}
 use Rattle.std.proofs.Math.Nat.{mod-eq_of_lt, add-mod_right}
 use Rattle.std.proofs.lemmas.Bool.{cases_lt, lt-ltb, le-ltb, le-leb, lt-leb, ltb-true, ltb-false}
 use Rattle.wasmi_types.specs.Numbers.{Width, w8, w16, w32, w64, bits, signed, wrap}
-use Rattle.wasmi_lanes.specs.Vector.{lane, lane_count, from_lanes, binary_of_lanes, comparison_of_lanes}
+use Rattle.wasmi_types.proofs.NumbersLemmas.{wrap_of_bits}
+use Rattle.wasmi_lanes.specs.Vector.{lane, lane_count, from_lanes, comparison_of_lanes}
 use Rattle.wasmi_lanes.specs.Words.{field}
-use Rattle.wasmi_lanes.proofs.FieldLemmas.{field_not, field_of_zero}
+use Rattle.wasmi_lanes.proofs.FieldLemmas.{field_not, field_of_zero, lane_ends}
 use Rattle.wasmi_lanes.proofs.VectorLemmas.{lanes_make_vector, lane_below, lane_count_fills, lane_of_comparison}
-use Rattle.wasmi_lanewise.specs.VectorTable.{v128_not, lt_u, lt_s, min_u, max_u, min_s, max_s}
+use Rattle.wasmi_lanewise.specs.VectorTable.{v128_not}
 use mir.Syntax.{w128}
 use mir.Val.{sel, hbits}
 
@@ -32,7 +33,7 @@ abbrev read_as : Width → Bool → ℕ → ℤ
 read_as w low x = sel low (pos x) (negsuc (2 ^ bits w - suc x))
 
 -- two comparisons that follow from each other give the same
-same_less : (a b c d : ℕ) → (a < b → c < d) → (b ≤ a → d ≤ c) → ltb a b ≡ ltb c d
+pub same_less : (a b c d : ℕ) → (a < b → c < d) → (b ≤ a → d ≤ c) → ltb a b ≡ ltb c d
 same_less a b c d up down =
     elim (cases_lt a b) as (λ _. ltb a b ≡ ltb c d) [
       | inl below ↦ lt-ltb a b below ∙ sym (lt-ltb c d (up below))
@@ -94,27 +95,15 @@ module _ (w : Width) where
     biased_is_less : ltb (biased w x) (biased w y) ≡ int_lt (signed w x) (signed w y)
     biased_is_less = less_where (ltb x (2 ^ hbits w)) (ltb y (2 ^ hbits w)) refl refl
 
-  -- the number of a signed number that was read from it
-  pub wrap_signed : (x : ℕ) → x < 2 ^ bits w → wrap w (signed w x) ≡ x
-  wrap_signed x fits = wrapped (ltb x (2 ^ hbits w))
-    where
-      wrapped : (low : Bool) → unsigned_abs (int_rem_euclid (read_as w low x) (pos (2 ^ bits w))) ≡ x
-      wrapped true = mod-eq_of_lt fits
-      wrapped false =
-          let m : ℕ = 2 ^ bits w - suc x in
-          let small : m < 2 ^ bits w = omega arith in
-          let same : m % 2 ^ bits w ≡ m = mod-eq_of_lt small in
-          omega (arith, same)
-
 -- of two numbers, the second where it is less, else the first, is the smaller
-smaller_is : (a b : ℕ) → (if ltb b a then b else a) ≡ min a b
+pub smaller_is : (a b : ℕ) → (if ltb b a then b else a) ≡ min a b
 smaller_is a b = elim (cases_lt b a) as (λ _. (if ltb b a then b else a) ≡ min a b) [
   | inl below ↦ ap (λ t. if t then b else a) (lt-ltb b a below) ∙ omega arith
   | inr above ↦ ap (λ t. if t then b else a) (le-ltb b a above) ∙ omega arith
 ]
 
 -- of two numbers, the first where the second is less, else the second, is the larger
-larger_is : (a b : ℕ) → (if ltb b a then a else b) ≡ max a b
+pub larger_is : (a b : ℕ) → (if ltb b a then a else b) ≡ max a b
 larger_is a b = elim (cases_lt b a) as (λ _. (if ltb b a then a else b) ≡ max a b) [
   | inl below ↦ ap (λ t. if t then a else b) (lt-ltb b a below) ∙ omega arith
   | inr above ↦ ap (λ t. if t then a else b) (le-ltb b a above) ∙ omega arith
@@ -123,25 +112,25 @@ larger_is a b = elim (cases_lt b a) as (λ _. (if ltb b a then a else b) ≡ max
 -- the number of the one of two signed numbers that a test chooses
 wrap_chosen : (w : Width) (t : Bool) (x y : ℕ) → x < 2 ^ bits w → y < 2 ^ bits w
     → (if t then x else y) ≡ wrap w (cond t (signed w x) (signed w y))
-wrap_chosen w true x y fits_x fits_y = sym (wrap_signed w x fits_x)
-wrap_chosen w false x y fits_x fits_y = sym (wrap_signed w y fits_y)
+wrap_chosen w true x y fits_x fits_y = sym (wrap_of_bits w x fits_x)
+wrap_chosen w false x y fits_x fits_y = sym (wrap_of_bits w y fits_y)
 
 -- chosen by the order of the moved numbers, it has the bits of the smaller of the signed numbers
-signed_smaller_is : (w : Width) (a b : ℕ) → a < 2 ^ bits w → b < 2 ^ bits w
+pub signed_smaller_is : (w : Width) (a b : ℕ) → a < 2 ^ bits w → b < 2 ^ bits w
     → (if ltb (biased w b) (biased w a) then b else a) ≡ wrap w (int_min (signed w a) (signed w b))
 signed_smaller_is w a b fits_a fits_b =
     ap (λ t. if t then b else a) (biased_is_less w b a fits_b fits_a)
     ∙ wrap_chosen w (int_lt (signed w b) (signed w a)) b a fits_b fits_a
 
 -- so the larger of the signed numbers
-signed_larger_is : (w : Width) (a b : ℕ) → a < 2 ^ bits w → b < 2 ^ bits w
+pub signed_larger_is : (w : Width) (a b : ℕ) → a < 2 ^ bits w → b < 2 ^ bits w
     → (if ltb (biased w b) (biased w a) then a else b) ≡ wrap w (int_max (signed w a) (signed w b))
 signed_larger_is w a b fits_a fits_b =
     ap (λ t. if t then a else b) (biased_is_less w b a fits_b fits_a)
     ∙ wrap_chosen w (int_lt (signed w b) (signed w a)) a b fits_a fits_b
 
 -- all ones or all zeros by a comparison, in the order of the signed numbers
-ones_where_less : (w : Width) (n p q : ℕ) → p < 2 ^ bits w → q < 2 ^ bits w
+pub ones_where_less : (w : Width) (n p q : ℕ) → p < 2 ^ bits w → q < 2 ^ bits w
     → (if ltb (biased w p) (biased w q) then n else 0) ≡ (if int_lt (signed w p) (signed w q) then n else 0)
 ones_where_less w n p q fits_p fits_q = ap (λ t. if t then n else 0) (biased_is_less w p q fits_p fits_q)
 
@@ -151,13 +140,7 @@ lane_of_inverted : (w : Width) (v i : ℕ) → v < 2 ^ 128 → i < lane_count w
 unfolding field
 lane_of_inverted w v i fits inside =
     let within : bits w * i + bits w ≤ 128 =
-    omega (
-      arith,
-      lane_count_fills w,
-      mul-le (suc i) (bits w) (lane_count w) (bits w) inside (le_refl (bits w)),
-      suc-mul i (bits w),
-      mul_comm i (bits w),
-    ) in
+    omega (arith, lane_count_fills w, lane_ends (bits w) (lane_count w) i inside) in
     field_not (bits w * i) (bits w) 128 v within fits
 
 -- a lane of the vector of all ones
@@ -212,55 +195,14 @@ module _ (w : Width) (a b : ℕ) {r : ℕ} (below : r < 2 ^ 128) {x y : ℕ → 
       (λ i inside. is i inside ∙ ap₂ f (is_x i inside) (is_y i inside)
       ∙ same (lane w a i) (lane w b i) (lane_below w a i) (lane_below w b i))
 
-  -- all ones where x is less
-  pub less_make_vector : ((i : ℕ) → i < lane_count w → lane w r i ≡ (if ltb (x i) (y i) then 2 ^ bits w - 1 else 0))
-      → r ≡ lt_u w a b
-  unfolding comparison_of_lanes
-  less_make_vector is = rows_make_vector (λ p q. if ltb p q then 2 ^ bits w - 1 else 0) _ is (λ p q _ _. refl)
-
-  -- y where it is less
-  pub smaller_make_vector : ((i : ℕ) → i < lane_count w → lane w r i ≡ (if ltb (y i) (x i) then y i else x i))
-      → r ≡ min_u w a b
-  unfolding binary_of_lanes
-  smaller_make_vector is = rows_make_vector (λ p q. if ltb q p then q else p) min is (λ p q _ _. smaller_is p q)
-
-  -- x where y is less
-  pub larger_make_vector : ((i : ℕ) → i < lane_count w → lane w r i ≡ (if ltb (y i) (x i) then x i else y i))
-      → r ≡ max_u w a b
-  unfolding binary_of_lanes
-  larger_make_vector is = rows_make_vector (λ p q. if ltb q p then p else q) max is (λ p q _ _. larger_is p q)
-
   module _ {x' y' : ℕ → ℕ}
       (moved : ((i : ℕ) → i < lane_count w → x' i ≡ biased w (x i))
       × ((i : ℕ) → i < lane_count w → y' i ≡ biased w (y i))) where
     -- lanes that are f of the operands' lanes, and of these lanes moved, make the vector of the row that this is
-    moved_make_vector : (f : ℕ → ℕ → ℕ → ℕ → ℕ) {row : ℕ → ℕ → ℕ}
+    pub moved_make_vector : (f : ℕ → ℕ → ℕ → ℕ → ℕ) {row : ℕ → ℕ → ℕ}
         → ((i : ℕ) → i < lane_count w → lane w r i ≡ f (x i) (y i) (x' i) (y' i))
         → ((p : ℕ) → (q : ℕ) → p < 2 ^ bits w → q < 2 ^ bits w → f p q (biased w p) (biased w q) ≡ row p q)
         → r ≡ from_lanes w (λ i. row (lane w a i) (lane w b i))
     moved_make_vector f is =
         rows_make_vector (λ p q. f p q (biased w p) (biased w q)) _
         (λ i inside. is i inside ∙ ap₂ (f (x i) (y i)) (moved.0 i inside) (moved.1 i inside))
-
-    -- all ones where x, moved, is less
-    pub signed_less_make_vector :
-        ((i : ℕ) → i < lane_count w → lane w r i ≡ (if ltb (x' i) (y' i) then 2 ^ bits w - 1 else 0))
-        → r ≡ lt_s w a b
-    unfolding comparison_of_lanes
-    signed_less_make_vector is =
-        moved_make_vector (λ _ _ p q. if ltb p q then 2 ^ bits w - 1 else 0) is (ones_where_less w (2 ^ bits w - 1))
-
-    -- y where it is less, moved
-    pub signed_smaller_make_vector :
-        ((i : ℕ) → i < lane_count w → lane w r i ≡ (if ltb (y' i) (x' i) then y i else x i))
-        → r ≡ min_s w a b
-    unfolding binary_of_lanes
-    signed_smaller_make_vector is =
-        moved_make_vector (λ p q p' q'. if ltb q' p' then q else p) is (signed_smaller_is w)
-
-    -- x where y is less, moved
-    pub signed_larger_make_vector : ((i : ℕ) → i < lane_count w → lane w r i ≡ (if ltb (y' i) (x' i) then x i else y i))
-        → r ≡ max_s w a b
-    unfolding binary_of_lanes
-    signed_larger_make_vector is =
-        moved_make_vector (λ p q p' q'. if ltb q' p' then p else q) is (signed_larger_is w)

@@ -1,5 +1,5 @@
 -- Lanes of words that are shifted, with the bits masked that would leave their lane.
-use Rattle.std.proofs.Common.{◌≡◌, ℕ, zero, suc, ◌+◌, ◌-◌, ◌*◌, ◌/◌, ◌%◌, ◌^◌, ◌<◌, ◌≤◌, refl, sym, ap, ap₂, subst, ◌∙◌, arith, add-mul, mul-suc, mul-zero, mul_assoc, mul_comm, mul_right_comm, one-mul, zero-mul, suc-mul, le_refl, mod-lt, mod-eq_of_lt, lit<, le_of_eq, bit_and, List, [], ◌∷◌, map, replicate, length, get_or}
+use Rattle.std.proofs.Common.{◌≡◌, ℕ, zero, suc, ◌+◌, ◌-◌, ◌*◌, ◌/◌, ◌%◌, ◌^◌, ◌<◌, ◌≤◌, refl, sym, ap, ap₂, subst, ◌∙◌, arith, add-mul, mul-suc, mul-zero, mul_assoc, mul_right_comm, one-mul, zero-mul, le_refl, mod-lt, mod-eq_of_lt, lit<, le_of_eq, bit_and, List, [], ◌∷◌, map, replicate, length, get_or}
 use Rattle.std.proofs.lemmas.Simd.{length-replicate, Each1-replicate}
 use Rattle.std.proofs.Math.Nat.{mod-one}
 use Rattle.std.proofs.lemmas.Nat.{and_le_l, pow_pos, pow-add, mod-pow-add, and_mask, mul-mod_first, div-add-mod', div-mul-add, mod-mul-add, mul-le, shl_below, shr_le}
@@ -11,7 +11,7 @@ use Rattle.wasmi_lanes.specs.Vector.{lane, unsigned, unary_of_lanes, from_lanes}
 use Rattle.wasmi_raw.specs.RawVal.{vector_of}
 use Rattle.wasmi_lanes.specs.Words.{field, lanes_in_word, in_each_lane}
 use Rattle.wasmi_lanes.proofs.SimdLaneLemmas.{number_below}
-use Rattle.wasmi_lanes.proofs.FieldLemmas.{field_and, field_mod, lane_shr}
+use Rattle.wasmi_lanes.proofs.FieldLemmas.{field_and, field_mod, lane_ends, lane_shr}
 use Rattle.wasmi_lanes.proofs.WordVectorLemmas.{EachLane, lane_of_each, u64x2_of, words_make_unary, some_bits}
 use Rattle.wasmi_lanewise.specs.VectorTable.{shl, shr_u}
 
@@ -72,8 +72,7 @@ pub lane_shl : (w n s r v mask : ℕ) → n * w ≤ 64 → r + s ≡ w → ((j :
     → (i : ℕ) → i < n →
     field (w * i) w ((bit_and v mask * 2 ^ s) % 2 ^ 64) ≡ (field (w * i) w v * 2 ^ s) % 2 ^ w
 lane_shl w n s r v mask whole e is i lt =
-    let within : w * i + w ≤ 64 =
-    omega (arith, mul-le (suc i) w n w (omega arith) (le_refl w), suc-mul i w, mul_comm i w) in
+    let within : w * i + w ≤ 64 = omega (arith, whole, lane_ends w n i lt) in
     let kept : (j : ℕ) → j < n → field (w * j) w (bit_and v mask) ≡ field (w * j) w v % 2 ^ r =
     λ j below. field_and (w * j) w v mask ∙ ap (bit_and (field (w * j) w v)) (is j below)
     ∙ and_mask (field (w * j) w v) r in

@@ -1,7 +1,7 @@
 -- Lane by lane and bit by bit work on the words of a vector.
 use Rattle.std.proofs.Common.{◌≡◌, ℕ, zero, suc, ◌+◌, ◌-◌, ◌*◌, ◌/◌, ◌%◌, ◌^◌, ◌<◌, ◌≤◌, inl, inr, cond, eqb, Bool, true, false, not, refl, sym, ap, ◌∙◌, arith, mod-eq_of_lt, ap₂, bit_and, bit_or, bit_xor, ◌⊎◌, subst, pow-suc, mul_comm, mul_assoc}
 use Rattle.std.proofs.Math.Nat.{mod_self, add-mod_right, mul-div_cancel}
-use Rattle.std.proofs.lemmas.Nat.{pow_pos, div-add-mod', and_shr, and_mod, or_shr, or_mod, xor_shr, xor_mod, mod-pow-add, field_of, or_lt, and_le_l}
+use Rattle.std.proofs.lemmas.Nat.{pow_pos, div-add-mod', and_mod, or_mod, xor_mod, mod-pow-add, field_of, or_lt, and_le_l}
 use Rattle.std.proofs.lemmas.Bool.{eq-eqb, ne_eqb}
 use Rattle.std.proofs.lemmas.Bool.Decides.{eqb_tells}
 use Rattle.wasmi_lanes.specs.Words.{field, IsLane}
@@ -147,24 +147,9 @@ on_words {a} {b} op bitwise of_a of_b is =
     ∙ div-add-mod' (op a b) (2 ^ 64)
 
 -- a bitwise operation on two numbers, by their upper bits and their lower 64
-by_words : (op : ℕ → ℕ → ℕ) → IsBitwise op → (a b : ℕ)
+pub by_words : (op : ℕ → ℕ → ℕ) → IsBitwise op → (a b : ℕ)
     → op a b ≡ vector_of (op (a % 2 ^ 64) (b % 2 ^ 64)) (op (a / 2 ^ 64) (b / 2 ^ 64))
 by_words op bitwise a b = sym (on_words op bitwise (u64x2_of refl refl) (u64x2_of refl refl) refl)
-
--- the bits that two vectors share
-pub and_by_words : (a b : ℕ)
-    → bit_and a b ≡ vector_of (bit_and (a % 2 ^ 64) (b % 2 ^ 64)) (bit_and (a / 2 ^ 64) (b / 2 ^ 64))
-and_by_words = by_words bit_and (record { on_high = and_shr; on_low = and_mod })
-
--- the bits that either of two vectors has
-pub or_by_words : (a b : ℕ)
-    → bit_or a b ≡ vector_of (bit_or (a % 2 ^ 64) (b % 2 ^ 64)) (bit_or (a / 2 ^ 64) (b / 2 ^ 64))
-or_by_words = by_words bit_or (record { on_high = or_shr; on_low = or_mod })
-
--- the bits in which two vectors differ
-pub xor_by_words : (a b : ℕ)
-    → bit_xor a b ≡ vector_of (bit_xor (a % 2 ^ 64) (b % 2 ^ 64)) (bit_xor (a / 2 ^ 64) (b / 2 ^ 64))
-xor_by_words = by_words bit_xor (record { on_high = xor_shr; on_low = xor_mod })
 
 -- a word that is the row of two words
 pub record IsWordOf (row : ℕ → ℕ → ℕ) (a b word : ℕ) : Type 0 where

@@ -1,13 +1,13 @@
 -- What a quota and a recorder hold after creations and growths, and growths in lent regions.
 use Rattle.std.proofs.Common.{◌≡◌, ◌∙◌, ℕ, ◌+◌, ◌*◌, ◌≤◌, Option, Some, Result, length, replicate, IfOk, refl, sym, ap, inl, inr, arith, length-append, ◌⊎◌, Ok, Err, List, subst, None, true, false, [], ◌∷◌, ◌++◌}
-use Rattle.std.proofs.lemmas.List.{length-replicate}
+use Rattle.std.proofs.lemmas.List.{length-replicate, append_assoc}
 use Rattle.wasmi_meter.specs.declared.error.MemoryError.{MemoryError}
 use Rattle.wasmi_meter.specs.declared.limiter.Kind.{Kind}
 use Rattle.wasmi_meter.specs.Attempt.{MeteredValue, AttemptOutcome, Unasked, Denied, Met, Failed, answer_of, value_after}
 use Rattle.wasmi_meter.specs.Limiter.{Rules, optional_rules, Question, kind_of}
 use Rattle.wasmi_meter.specs.Meter.{Meter}
 use Rattle.wasmi_meter.specs.Capped.{IsWithinCaps}
-use Rattle.wasmi_store.specs.Growth.{IsDenied}
+use Rattle.wasmi_store.specs.Growth.{IsDenied, metered_value}
 use Rattle.wasmi_store.specs.Memory.{MemoryValue, GrowsMemoryCharging, pages_of, growth_of, page_bytes}
 use Rattle.wasmi_law_tests.specs.Limiters.{event_of, recorder_rules, OneGrows, LeavesTrace}
 use Rattle.wasmi_machine.specs.declared.calls.Reply.{Reply}
@@ -27,10 +27,9 @@ use Rattle.wasmi_c.specs.MemoryCalls.{EndsMemory}
 use Rattle.wasmi_c.specs.declared.numbers.MemoryNumbers.{MemoryNumbers}
 use Rattle.wasmi_c.specs.declared.status.TheConstants.{DONE, NOT_HELD}
 use Rattle.wasmi_meter.specs.declared.quota.Holdings.{Holdings}
-use Rattle.std.specs.Prelude.{nat_eq}
-use Rattle.std.proofs.lemmas.Bool.Decides.{nat_tests}
 use Rattle.wasmi_c.specs.SharedQuota.{HoldsSums, OneQuotaHoldsEach, sizes_made}
 use Rattle.wasmi_c.specs.declared.numbers.QuotaNumbers.{QuotaNumbers}
+use Rattle.wasmi_c.proofs.SharedQuotaLemmas.{limiter_on}
 use Rattle.wasmi_store.specs.Memory as memory
 use Rattle.wasmi_law_tests.specs.declared.recorder.Event.TheVariants as event
 
@@ -101,9 +100,8 @@ module _ {S : Type 0} (rules : Rules S) (succeed : LentGrowthsSucceed rules) whe
     -- so it is where the memory of an index grows
     acted : (w' : World S) (m' : Option Meter) (reply : Reply) (charge : ℕ)
         → ActsAt k (reply_of Number Memory) (GrowsMemoryCharging rules pages)
-        (record { value = w.state.memories; meter = Some w.state.meter; limiter = w.limiter }) reply charge
-        (record { value = w'.state.memories; meter = m'; limiter = w'.limiter })
-        → IsGrownOrDenied rules k pages x w reply w'
+        (metered_value w.state.memories (Some w.state.meter) w.limiter) reply charge
+        (metered_value w'.state.memories m' w'.limiter) → IsGrownOrDenied rules k pages x w reply w'
     acted w' m' reply charge acts =
         let live = rw found at acts in
         rw live.3 (
@@ -128,11 +126,6 @@ module _ {S : Type 0} (rules : Rules S) (succeed : LentGrowthsSucceed rules) whe
       → Sequence (λ v turn v'. Step rules v turn v' × GrowsInRegion rules v turn v') w turns w'
   grows_in_regions = each_turn rules (GrowsInRegion rules) grows_in_region
 
--- one more item, and then another, are two more items
-append_twice : {X : Type 0} (xs : List X) (y z : X) → (xs ++ y ∷ []) ++ z ∷ [] ≡ xs ++ y ∷ z ∷ []
-append_twice [] y z = refl
-append_twice (x ∷ xs) y z = ap (λ l. x ∷ l) (append_twice xs y z)
-
 -- where a place has grown as was asked, one size has become the one that was asked for
 one_grows : (place : Place) (q : Question) (sizes sizes' : List ℕ) → GrowsAsAsked place q sizes sizes'
     → OneGrows q.current q.desired sizes sizes'
@@ -155,7 +148,7 @@ module _ (l l' : Recorder) (sizes sizes' : Kind → List ℕ) (place : Place) wh
       inr (inr (
         q,
         heard.1 ∙ ap (λ es. es ++ event.Failed (kind_of failure) ∷ []) asked.0
-            ∙ append_twice l.events.items (event_of q) (event.Failed (kind_of failure))
+            ∙ append_assoc l.events.items (event_of q ∷ []) (event.Failed (kind_of failure) ∷ [])
             ∙ ap (λ k. l.events.items ++ event_of q ∷ event.Failed k ∷ []) kind,
         still,
       ))
@@ -176,14 +169,11 @@ nothing_made h on empty = record {
 module _ (h h' : QuotaNumbers) (a : Placed MemoryNumbers) (status : ℕ) (m' : MemoryNumbers)
     (holds : HoldsSums (record { quota = h; bytes = a.numbers.size ∷ []; elements = [] }))
     (keeps : KeepsQuota h h') (ends : EndsMemory a (limiter_of h) status m' (limiter_of h')) where
-  is_on : (k : QuotaNumbers) → (k.is_on ≡ 0 → ⊥) → limiter_of k ≡ Some (quota_of k)
-  is_on k on = let some : nat_eq k.is_on 0 ≡ false = grind (arith, nat_tests, on) in rw some refl
-
   before : limiter_of h ≡ Some (quota_of h)
-  before = is_on h holds.on
+  before = limiter_on h holds.on
 
   after : limiter_of h' ≡ Some (quota_of h')
-  after = is_on h' (λ off. holds.on (sym keeps.flag ∙ off))
+  after = limiter_on h' (λ off. holds.on (sym keeps.flag ∙ off))
 
   -- its end isn't refused because less is held
   pub not_short : OneQuotaHoldsEach → status ≡ NOT_HELD → ⊥

@@ -1,9 +1,8 @@
 -- Results of runs into memory that is kept for replies, and tables that are reserved.
-use Rattle.std.proofs.Common.{Bool, Err, IsOk, List, None, Ok, OnOk, Option, Result, Some, [], ap, false, refl, subst, sym, true, ℕ, ◌++◌, ◌∙◌, ◌∷◌, ◌≤◌, ◌≡◌, ◌≢◌, ⊎_elim, arith}
-use Rattle.std.proofs.lemmas.Bool.Decides.{Decides-eqb}
+use Rattle.std.proofs.Common.{Bool, Err, IsOk, List, None, Ok, OnOk, Option, Result, Some, [], ap, refl, subst, sym, ℕ, ◌++◌, ◌∙◌, ◌∷◌, ◌≤◌, ◌≡◌, ◌≢◌, ⊎_elim, arith}
 use Rattle.std.proofs.lemmas.List.{append-nil}
 use Rattle.std.proofs.lemmas.Option.{same_Some}
-use Rattle.std.specs.Bool.{Decides}
+use Rattle.std.proofs.lemmas.Bool.{eq-eqb, ne_eqb}
 use Rattle.std.specs.Prelude.{MatchOption, if◌then◌else◌, max, nat_eq, slice_get}
 use Rattle.std.specs.Option.{option_and_then}
 use Rattle.wasmi_store.specs.Table.{TableValue}
@@ -111,22 +110,11 @@ reserved_table k n slots reply slots' most reserves done = on_live (live_at slot
     (let is : h.1.0.reserved ≡ max x.reserved n = ap (λ (t : TableValue). t.reserved) kept.1 in grind (arith, is)))))
     (λ refused. let other : NoRoom ≡ Done = sym refused.0 ∙ done in absurd cc) h.1.1)
 
--- a number is the same as itself, and another one isn't
-is_same : (i : ℕ) → nat_eq i i ≡ true
-is_same i = (Decides-eqb i i).1 refl
-
-is_other : (i j : ℕ) → i ≢ j → nat_eq i j ≡ false
-is_other i j other = by (nat_eq i j) (Decides-eqb i j)
-  where
-    by : (same : Bool) → Decides same (i ≡ j) → same ≡ false
-    by true decides = absurd (other (decides.0 refl))
-    by false decides = refl
-
 -- of what a run of another tenant and one of a tenant have, the tenant has that of its own
 pub own_alone : {A : Type 0} (index other : ℕ) → other ≢ index → (between own : List A)
     → (let rest = if nat_eq index index then own ++ [] else [] in
     if nat_eq other index then between ++ rest else rest) ≡ own
 own_alone {A} index other another between own =
     let rest : List A = if nat_eq index index then own ++ [] else [] in
-    ap (λ (b : Bool). if b then between ++ rest else rest) (is_other other index another)
-    ∙ ap (λ (b : Bool). if b then own ++ [] else []) (is_same index) ∙ append-nil own
+    ap (λ (b : Bool). if b then between ++ rest else rest) (ne_eqb other index another)
+    ∙ ap (λ (b : Bool). if b then own ++ [] else []) (eq-eqb index index refl) ∙ append-nil own

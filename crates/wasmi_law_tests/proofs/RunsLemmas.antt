@@ -11,7 +11,7 @@ use Rattle.wasmi_machine.specs.declared.calls.Reply.{Reply}
 use Rattle.wasmi_machine.specs.State.{World, Turn, world, IsValid, IsValidCall, State, HoldsTotals}
 use Rattle.wasmi_machine.specs.Steps.{Step, RepliesWith, Run, Sequence, IsRunOf}
 use Rattle.wasmi_machine.specs.LentMemory.{RunInRegions, owned_world, unlent_world}
-use Rattle.wasmi_machine.specs.Determinism.{IsNotOutOfMemory, AreNotOutOfMemory, IsDeterministic, AcceptsNotices, permitting}
+use Rattle.wasmi_machine.specs.Determinism.{IsNotOutOfMemory, IsDeterministic, AcceptsNotices, permitting}
 use Rattle.wasmi_laws.specs.Runs.{IsWithinCapsOf, RunsOfCallsAreCut}
 use Rattle.wasmi_laws.proofs.RunsLemmas.{held_within}
 use Rattle.wasmi_law_tests.specs.Runs.{FitsAnyRegions, HasRegionFor, IsRunInParts, RunsAlone, RunsBeside, KeepsCaps, KeepsTenant, RunsBoth, RunsList}
@@ -126,19 +126,6 @@ module _ {S : Type 0} (rules : Rules S) where
       let alone = All-cons IsValidCall turn.call [] first (All-nil IsValidCall) in
       let after = keeps w (turn ∷ []) v valid alone (v, step, refl) in
       (v, (step, after), stays_valid keeps v turns w' after rest ran)
-
--- replies that have memory are of turns that have it
-all_have : (turns : List Turn) → All IsNotOutOfMemory (map Turn.reply turns) → AreNotOutOfMemory turns
-all_have [] has = tt
-all_have (turn ∷ turns) has = (
-  All-head IsNotOutOfMemory turn.reply (map Turn.reply turns) has,
-  all_have turns (All-tail IsNotOutOfMemory turn.reply (map Turn.reply turns) has),
-)
-
--- the same of the replies of a run
-pub replies_have : (turns : List Turn) (replies : List Reply) → map Turn.reply turns ≡ replies
-    → All IsNotOutOfMemory replies → AreNotOutOfMemory turns
-replies_have turns replies is has = all_have turns (subst (All IsNotOutOfMemory) (sym is) has)
 
 -- a quota that held what a machine has does so after a run that was accepted or refused
 pub held_after : {R E : Type 0} (items : R → List Reply) → HoldsTotalsAlways quota_rules holdings → (s s' : State)

@@ -1,6 +1,7 @@
 -- Turns whose calls are local and independent may be exchanged.
-use Rattle.std.proofs.Common.{Err, List, None, Ok, Option, Result, Some, [], ap, ap₂, refl, set, subst, suc, sym, zero, ℕ, ◌+◌, ◌∙◌, ◌∷◌, ◌≡◌}
+use Rattle.std.proofs.Common.{Err, List, None, Ok, Option, Result, Some, [], ap, ap₂, refl, set, subst, sym, ℕ, ◌+◌, ◌∙◌, ◌∷◌, ◌≡◌}
 use Rattle.std.proofs.lemmas.List.Elements.{All-head, All-tail}
+use Rattle.std.proofs.lemmas.List.{set_comm}
 use Rattle.std.specs.Option.{option_and_then, option_map}
 use Rattle.std.specs.Prelude.{All, slice_get, slice_set}
 use Rattle.wasmi_machine.specs.Effects.{ChangesAt, ChangesItem, ChangesPart, DropsAt, OnLive, reply_of}
@@ -75,14 +76,6 @@ back_all : (locations : List Location) (s t : State) → SameAll locations s t �
 back_all [] s t same = tt
 back_all (location ∷ locations) s t (same, rest) = (sym same, back_all locations s t rest)
 
--- two items are set
-set_twice : {X : Type 0} (xs : List X) (k j : ℕ) (x y : X) → (k ≡ j → ⊥) → set (set xs j y) k x ≡ set (set xs k x) j y
-set_twice [] k j x y other = refl
-set_twice (z ∷ zs) zero zero x y other = absurd (other refl)
-set_twice (z ∷ zs) zero (suc j) x y other = refl
-set_twice (z ∷ zs) (suc k) zero x y other = refl
-set_twice (z ∷ zs) (suc k) (suc j) x y other = ap (λ ws. z ∷ ws) (set_twice zs k j x y (λ same. other (ap suc same)))
-
 -- what is put at an index leaves another one
 put_outside : (location : Location) (x : Content location) (other : Location) (s : State) → (location ≡ other → ⊥)
     → content_at other (put_at location x s) ≡ content_at other s
@@ -97,7 +90,7 @@ put_outside location x other s apart = refl
 -- two items are set at different indices of one kind
 twice : {X : Type 0} (At : ℕ → Location) (xs : List X) (k j : ℕ) (x y : X) → (At k ≡ At j → ⊥)
     → set (set xs j y) k x ≡ set (set xs k x) j y
-twice At xs k j x y apart = set_twice xs k j x y (λ same. apart (ap At same))
+twice At xs k j x y apart = set_comm xs j k y x (λ same. apart (ap At (sym same)))
 
 -- two puts at different indices
 puts_swap : (location other : Location) (x : Content location) (y : Content other) (s : State)

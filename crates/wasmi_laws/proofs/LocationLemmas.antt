@@ -3,7 +3,7 @@ use Rattle.std.proofs.Common.{Err, List, None, Ok, Option, Result, Some, [], ap,
 use Rattle.std.proofs.lemmas.List.Elements.{All-head, All-tail}
 use Rattle.std.specs.Prelude.{slice_get}
 use Rattle.wasmi_machine.proofs.EffectLemmas.{both_live, on_live}
-use Rattle.wasmi_machine.proofs.RangeLemmas.{byte_range, source_range, value_kept}
+use Rattle.wasmi_machine.proofs.RangeLemmas.{byte_range, source_range, value_kept, KeepsMemory, KeepsTable}
 use Rattle.wasmi_machine.specs.Effects.{AddsItem, MeteredSlots, WritesRangeAt, reply_of}
 use Rattle.wasmi_machine.specs.MemoryEffects.{ByteSource, CreatesLent, byte_write_of}
 use Rattle.wasmi_machine.specs.RegisterEffects.{StoresVectorAt, SetsAt}
@@ -26,8 +26,8 @@ use Rattle.wasmi_meter.specs.declared.error.TableError.{TableError}
 use Rattle.wasmi_raw.specs.declared.raw.RawVal.{RawVal}
 use Rattle.wasmi_store.proofs.GrowthLemmas.{on_test}
 use Rattle.wasmi_store.specs.Buffer.{Lent, Owned}
-use Rattle.wasmi_store.specs.Growth.{Grows, Growth, metered}
-use Rattle.wasmi_store.specs.Memory.{GrowsMemoryCharging, MakesMemory, MemoryValue, WritesMemory, pages_of, MemoryTypeValue}
+use Rattle.wasmi_store.specs.Growth.{Grows, Growth, metered, metered_value}
+use Rattle.wasmi_store.specs.Memory.{GrowsMemoryCharging, MakesMemory, MemoryValue, WritesMemory, MemoryTypeValue}
 use Rattle.wasmi_store.specs.Segment.{SegmentValue}
 use Rattle.wasmi_store.specs.Write.{WritesCharging}
 use Rattle.wasmi_store.specs.Table.{GrowsTableCharging, MakesTable, SetsTable, TableValue, size_of, same_type}
@@ -35,15 +35,14 @@ use Rattle.wasmi_typed.specs.Global.{GlobalInstance, SetsGlobal}
 use Rattle.wasmi_typed.specs.declared.global.GlobalError.{GlobalError}
 use Rattle.wasmi_typed.specs.declared.global.GlobalError.TheVariants.{ImmutableWrite, TypeMismatch}
 use Rattle.wasmi_typed.specs.declared.global.GlobalType.{GlobalType}
-use Rattle.wasmi_typed.specs.declared.global.Mutability.{Mutability}
-use Rattle.wasmi_typed.specs.declared.global.Mutability.TheVariants.{Const, Var}
 use Rattle.wasmi_typed.specs.declared.typed.TypedRawVal.{TypedRawVal}
 use Rattle.wasmi_typed.specs.declared.typed_ref.TypedRawRef.{TypedRawRef}
 use Rattle.wasmi_types.specs.Access.{overwrite}
 use Rattle.wasmi_types.specs.declared.trap.TrapCode.{TrapCode}
 use Rattle.wasmi_types.specs.declared.value.RefType.{RefType}
-use Rattle.wasmi_store.specs.Memory as memory
-use Rattle.wasmi_store.specs.Table as table
+use Rattle.wasmi_machine.proofs.ValueEffectsLemmas.{var_const}
+use Rattle.wasmi_machine.proofs.MemoryEffectsLemmas.{memory_growth}
+use Rattle.wasmi_machine.proofs.TableEffectsLemmas.{table_growth}
 use Rattle.wasmi_machine.specs.declared.calls.Reply.TheVariants as replied
 
 -- a memory that is written keeps its type
@@ -80,8 +79,7 @@ table_grown_type : {S : Type 0} (rules : Rules S) (n : ℕ) (init : TypedRawRef)
     (result : Result ℕ TableError) (charge : ℕ) → GrowsTableCharging rules n init s result charge s'
     → s'.value.ty ≡ s.value.ty
 table_grown_type {S} rules n init s s' result charge grows = on_test (same_type s.value.ty.element init.ty) _ _ grows
-    (λ raw. grown_type (λ (t : TableValue). t.ty) rules
-    (record { amount = n; size = size_of s.value; request = table.growth_of s.value n init.raw }) s s' result charge
+    (λ raw. grown_type (λ (t : TableValue). t.ty) rules (table_growth n init.raw s.value) s s' result charge
     refl raw) (λ other. ap (λ (t : MeteredValue TableValue S). t.value.ty) other.2)
 
 -- a memory that grows keeps its type
@@ -89,18 +87,13 @@ memory_grown_type : {S : Type 0} (rules : Rules S) (pages : ℕ) (s s' : Metered
     (result : Result ℕ MemoryError) (charge : ℕ) → GrowsMemoryCharging rules pages s result charge s'
     → s'.value.ty ≡ s.value.ty
 memory_grown_type rules pages s s' result charge grows = grown_type (λ (m : MemoryValue). m.ty) rules
-    (record { amount = pages; size = pages_of s.value; request = memory.growth_of s.value pages }) s s' result charge
-    refl grows
-
--- no constant is variable
-const_var : (m : Mutability) → m ≡ Const → m ≡ Var → ⊥
-const_var m const var = let clash : Const ≡ Var = sym const ∙ var in absurd cc
+    (memory_growth pages s.value) s s' result charge refl grows
 
 -- a global that is set keeps its type, and a constant its value
 global_later : (k : ℕ) (x : GlobalInstance) (value : TypedRawVal) (result : Result (Unit {0}) GlobalError)
     (x' : GlobalInstance) → SetsGlobal x value result x' → IsLater (GlobalAt k) x x'
 global_later k x value (Ok _) x' sets =
-    (ap (λ (g : GlobalInstance). g.ty) sets.2, λ const. absurd (const_var x.ty.mutability const sets.0))
+    (ap (λ (g : GlobalInstance). g.ty) sets.2, λ const. absurd (var_const x.ty.mutability sets.0 const))
 global_later k x value (Err ImmutableWrite) x' sets = (ap (λ (g : GlobalInstance). g.ty) sets.1, λ const. sets.1)
 global_later k x value (Err TypeMismatch) x' sets = (ap (λ (g : GlobalInstance). g.ty) sets.2, λ const. sets.2)
 
@@ -282,8 +275,8 @@ range_parts k source dst len s reply charge s' writes =
     on_live write _ _ (both_live write _ _ _ _ (source_range source dst len) writes)
     (λ missing. unchanged _ s.value s'.value (ap (λ (t : MeteredSlots TableValue). t.value) missing.1.2))
     (λ w found h. slot_acted _ k (reply_of (λ _. replied.Done) replied.Table) (WritesCharging w) s s' reply charge
-    (λ x x' result acts. same_table None k x x'
-    (value_kept w h.0 (λ x. (refl, refl)) (with_value s x) result charge (with_value s' x') acts).0) h.1)
+    (λ x x' result acts. same_table None k x x' (value_kept KeepsTable w h.0.keeps (λ x. (refl, refl))
+    (with_value s x) result charge (with_value s' x') acts).0) h.1)
 
 -- a range of a memory that is written over
 byte_parts : (k : ℕ) (source : ByteSource) (dst len : ℕ) (s : MeteredSlots MemoryValue) (reply : Reply) (charge : ℕ)
@@ -294,8 +287,8 @@ byte_parts k source dst len s reply charge s' writes =
     on_live write _ _ (both_live write _ _ _ _ (byte_range source dst len) writes)
     (λ missing. unchanged _ s.value s'.value (ap (λ (t : MeteredSlots MemoryValue). t.value) missing.1.2))
     (λ w found h. slot_acted _ k (reply_of (λ _. replied.Done) replied.Memory) (WritesCharging w) s s' reply charge
-    (λ x x' result acts. same_memory None k x x'
-    (value_kept w h.0 (λ x. (refl, refl)) (with_value s x) result charge (with_value s' x') acts).0) h.1)
+    (λ x x' result acts. same_memory None k x x' (value_kept KeepsMemory w h.0.keeps (λ x. (refl, refl))
+    (with_value s x) result charge (with_value s' x') acts).0) h.1)
 
 -- the index at which a change may change what is there, and the one at which it drops it
 abbrev pub changed_by : Change → Option Location
@@ -382,51 +375,44 @@ module _ (s : State) (reply : Reply) (s' : State) where
       (λ x x' h. record { named = refl; later = global_later k x value h.0 x' h.1; live = λ live. inl tt }) c.effect))
 
 module _ {S : Type 0} (rules : Rules S) (w : World S) (turn : Turn) (w' : World S) where
-  -- what becomes of each part, by the world in which the turn ends
-  ends_in : (changed dropped : Option Location) (v : World S) → w' ≡ v → EachPart changed dropped w.state v.state
-      → EachPart changed dropped w.state w'.state
-  ends_in changed dropped v is parts = subst (λ (x : World S). EachPart changed dropped w.state x.state) (sym is) parts
-
   -- in a turn with this effect
   effect_parts : (effect : Effect) → HasEffect rules effect w turn w'
       → EachPart (changed_in effect) (dropped_in effect) w.state w'.state
   effect_parts (Told told) step = all_stay _ _ w.state w'.state (ap (λ (v : World S). v.state) step.after)
   effect_parts (BytesRead k offset len) step = all_stay _ _ w.state w'.state (ap (λ (v : World S). v.state) step.after)
-  effect_parts (FuelSet fuel) step = ends_in _ _ _ step.after (subst (EachPart None None w.state) (sym step.effect.1)
+  effect_parts (FuelSet fuel) step = rw step.after (subst (EachPart None None w.state) (sym step.effect.1)
       (memories_change None None w.state w.state.memories _ w.state.spare (unchanged _ _ _ refl)))
-  effect_parts (Changed change) step = ends_in _ _ _ step.after
-      (change_parts w.state turn.reply step.machine change step.effect)
-  effect_parts (MemoryMade ty) step = ends_in _ _ _ step.after
+  effect_parts (Changed change) step = rw step.after (change_parts w.state turn.reply step.machine change step.effect)
+  effect_parts (MemoryMade ty) step = rw step.after
       (memories_change None None w.state step.part w.state.meter w.state.spare
       (slot_made _ replied.Memory (MakesMemory rules Owned ty) w.state.memories w.limiter turn.reply step.part
       step.limiter step.effect))
-  effect_parts (LentMemoryMade ty) step = ends_in _ _ _ step.after
+  effect_parts (LentMemoryMade ty) step = rw step.after
       (memories_change None None w.state step.part.slots w.state.meter step.part.spare
       (lent_made rules ty (memory_part w.state) w.limiter turn.reply step.part step.limiter step.effect))
-  effect_parts (MemoryGrown k pages) step = ends_in _ _ _ step.after
+  effect_parts (MemoryGrown k pages) step = rw step.after
       (memories_change _ None w.state step.part step.meter w.state.spare
       (slot_acted _ k (reply_of replied.Number replied.Memory) (GrowsMemoryCharging rules pages)
-      (record { value = w.state.memories; meter = Some w.state.meter; limiter = w.limiter })
-      (record { value = step.part; meter = Some step.meter; limiter = step.limiter }) turn.reply turn.charge
+      (metered_value w.state.memories (Some w.state.meter) w.limiter)
+      (metered_value step.part (Some step.meter) step.limiter) turn.reply turn.charge
       (λ x x' result acts. same_memory None k x x' (memory_grown_type rules pages
-      (record { value = x; meter = Some w.state.meter; limiter = w.limiter })
-      (record { value = x'; meter = Some step.meter; limiter = step.limiter }) result turn.charge acts)) step.effect))
-  effect_parts (TableMade ty init) step = ends_in _ _ _ step.after
-      (tables_change None None w.state step.part w.state.meter
+      (metered_value x (Some w.state.meter) w.limiter)
+      (metered_value x' (Some step.meter) step.limiter) result turn.charge acts)) step.effect))
+  effect_parts (TableMade ty init) step = rw step.after (tables_change None None w.state step.part w.state.meter
       (slot_made _ replied.Table (MakesTable rules ty init) w.state.tables w.limiter turn.reply step.part step.limiter
       step.effect))
-  effect_parts (TableGrown k n init) step = ends_in _ _ _ step.after (tables_change _ None w.state step.part step.meter
+  effect_parts (TableGrown k n init) step = rw step.after (tables_change _ None w.state step.part step.meter
       (slot_acted _ k (reply_of replied.Number replied.Table) (GrowsTableCharging rules n init)
-      (record { value = w.state.tables; meter = Some w.state.meter; limiter = w.limiter })
-      (record { value = step.part; meter = Some step.meter; limiter = step.limiter }) turn.reply turn.charge
+      (metered_value w.state.tables (Some w.state.meter) w.limiter)
+      (metered_value step.part (Some step.meter) step.limiter) turn.reply turn.charge
       (λ x x' result acts. same_table None k x x' (table_grown_type rules n init
-      (record { value = x; meter = Some w.state.meter; limiter = w.limiter })
-      (record { value = x'; meter = Some step.meter; limiter = step.limiter }) result turn.charge acts)) step.effect))
-  effect_parts (RangeWritten (TableWritten k source dst len)) step = ends_in _ _ _ step.after
+      (metered_value x (Some w.state.meter) w.limiter)
+      (metered_value x' (Some step.meter) step.limiter) result turn.charge acts)) step.effect))
+  effect_parts (RangeWritten (TableWritten k source dst len)) step = rw step.after
       (tables_change _ None w.state step.part step.meter
       (range_parts k source dst len (metered w.state.tables (Some w.state.meter)) turn.reply turn.charge
       (metered step.part (Some step.meter)) step.effect))
-  effect_parts (RangeWritten (MemoryWritten k source dst len)) step = ends_in _ _ _ step.after
+  effect_parts (RangeWritten (MemoryWritten k source dst len)) step = rw step.after
       (memories_change _ None w.state step.part step.meter w.state.spare
       (byte_parts k source dst len (metered w.state.memories (Some w.state.meter)) turn.reply turn.charge
       (metered step.part (Some step.meter)) step.effect))

@@ -15,10 +15,8 @@ use Rattle.wasmi_meter.specs.Attempt.{AttemptOutcome, Unasked, Denied, Met, Fail
 use Rattle.wasmi_meter.specs.Limiter.{Rules, optional_rules}
 use Rattle.wasmi_meter.specs.Meter.{Meter, amount_left, meter_after}
 use Rattle.wasmi_store.specs.Growth.{Grows, Growth, metered, metered_value}
-use Rattle.wasmi_store.specs.Memory as memory
-use Rattle.wasmi_store.specs.Memory.{GrowsMemoryCharging, pages_of}
-use Rattle.wasmi_store.specs.Table as table
-use Rattle.wasmi_store.specs.Table.{GrowsTableCharging, TableValue, size_of, same_type}
+use Rattle.wasmi_store.specs.Memory.{GrowsMemoryCharging}
+use Rattle.wasmi_store.specs.Table.{GrowsTableCharging, TableValue, same_type}
 use Rattle.wasmi_store.specs.Write.{EndsBy, MeteredWrite, WritesCharging, write_charge}
 use Rattle.wasmi_machine.specs.declared.calls.Call.{Call}
 use Rattle.wasmi_machine.specs.declared.calls.Call.TheVariants.{SetFuel, GetFuel}
@@ -36,6 +34,8 @@ use Rattle.wasmi_machine.proofs.EffectLemmas.{both_live, on_live_too, on_test_to
 use Rattle.wasmi_machine.proofs.ToldLemmas.{optional_accepts}
 use Rattle.wasmi_machine.proofs.RangeLemmas.{IsRange, KeepsMemory, KeepsTable, byte_range, source_range}
 use Rattle.wasmi_laws.specs.Runs.{HasFuel, MoreFuelChangesNothing, NamesNoFuel, meter_with_more, world_with_more}
+use Rattle.wasmi_machine.proofs.MemoryEffectsLemmas.{memory_growth}
+use Rattle.wasmi_machine.proofs.TableEffectsLemmas.{table_growth}
 
 module _ {V E : Type 0} (refusal : E → Reply) (e : Request V E) where
   -- the reply to the cause of a failure doesn't say that fuel was wanting
@@ -197,8 +197,7 @@ module _ (more : ℕ) where
         → GrowsTableCharging rules n init (enriched (before t)) result t.charge (enriched (after t))
     table_grows_richer n init t result has =
         let x = t.first.value in
-        on_test_too (same_type x.ty.element init.ty) _ _ _ _
-        (grows_richer replied.Table (record { amount = n; size = size_of x; request = table.growth_of x n init.raw })
+        on_test_too (same_type x.ty.element init.ty) _ _ _ _ (grows_richer replied.Table (table_growth n init.raw x)
         (λ n none. none) t result has) (λ h. (h.0, h.1, ap enriched h.2))
 
   -- a call with a charge on what an index names
@@ -345,8 +344,7 @@ module _ (more : ℕ) {S : Type 0} (rules : Rules S) (accepts : AcceptsNotices r
         (acts_richer more k (reply_of replied.Number replied.Memory) (GrowsMemoryCharging rules pages)
         (metered_value w.state.memories (Some w.state.meter) w.limiter)
         (metered_value step.part (Some step.meter) step.limiter) turn.reply turn.charge has
-        (λ x x' result. grows_richer more rules accepts replied.Memory
-        (record { amount = pages; size = pages_of x; request = memory.growth_of x pages }) (λ n none. none)
+        (λ x x' result. grows_richer more rules accepts replied.Memory (memory_growth pages x) (λ n none. none)
         (growing w x turn.charge x' step.meter step.limiter) result) step.effect) refl (ap richer_world step.after)
     effect_richer (TableGrown k n init) keeps step = acts_too step step.part (richer more step.meter)
         (acts_richer more k (reply_of replied.Number replied.Table) (GrowsTableCharging rules n init)

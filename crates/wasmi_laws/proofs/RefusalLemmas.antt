@@ -1,7 +1,7 @@
 -- Refusals that leave the whole world.
-use Rattle.std.proofs.Common.{◌≡◌, ◌∙◌, ℕ, Bool, true, false, Option, Some, None, Result, Ok, Err, List, [], ◌∷◌, length, map, inl, inr, refl, sym, ap, subst}
+use Rattle.std.proofs.Common.{◌≡◌, ◌∙◌, ℕ, Bool, Option, Some, None, Result, Ok, Err, List, [], ◌∷◌, length, map, inl, inr, refl, sym, ap, subst}
 use Rattle.std.proofs.lemmas.List.Elements.{All-head, All-tail}
-use Rattle.std.proofs.lemmas.Option.{none-some, same_Some}
+use Rattle.std.proofs.lemmas.Option.{none-some}
 use Rattle.std.specs.Prelude.{if◌then◌else◌}
 use Rattle.wasmi_types.specs.declared.value.RefType.{RefType}
 use Rattle.wasmi_typed.specs.declared.typed_ref.TypedRawRef.{TypedRawRef}
@@ -13,11 +13,11 @@ use Rattle.wasmi_meter.specs.Attempt.{Attempt, AttemptOutcome, Unasked, Denied, 
 use Rattle.wasmi_meter.specs.Limiter.{Failure, MemoryFailure, TableFailure, NoticeAnswer, Rules}
 use Rattle.wasmi_meter.specs.Meter.{Meter}
 use Rattle.wasmi_store.specs.Buffer.{LacksMemory, Lent, Owned, Room}
-use Rattle.wasmi_store.specs.Growth.{Grows, Growth, Makes}
+use Rattle.wasmi_store.specs.Growth.{Grows, Growth, Makes, metered_value}
 use Rattle.wasmi_store.specs.Memory as memory
-use Rattle.wasmi_store.specs.Memory.{GrowsMemoryCharging, MakesMemory, MemoryValue, new_memory, pages_of, MemoryTypeValue}
+use Rattle.wasmi_store.specs.Memory.{GrowsMemoryCharging, MakesMemory, MemoryValue, new_memory, MemoryTypeValue}
 use Rattle.wasmi_store.specs.Table as table
-use Rattle.wasmi_store.specs.Table.{GrowsTableCharging, TableValue, new_table, size_of, TableTypeValue, same_type}
+use Rattle.wasmi_store.specs.Table.{GrowsTableCharging, TableValue, new_table, TableTypeValue, same_type}
 use Rattle.wasmi_store.proofs.GrowthLemmas.{on_test}
 use Rattle.wasmi_machine.specs.declared.calls.Call.{Call}
 use Rattle.wasmi_machine.specs.declared.calls.Call.TheVariants.{NewMemory, NewLentMemory, GrowMemory, NewTable, GrowTable}
@@ -34,9 +34,11 @@ use Rattle.wasmi_machine.specs.State.{MemoryPart, State, live_at, memory_part, I
 use Rattle.wasmi_machine.specs.Steps.{Effect, LentMemoryMade, MemoryGrown, MemoryMade, RangeWritten, Step, TableGrown, TableMade, HasEffect, effect_of}
 use Rattle.wasmi_machine.proofs.EffectLemmas.{Creation, on_live}
 use Rattle.wasmi_machine.proofs.RangeLemmas.{range_unasked}
-use Rattle.wasmi_machine.proofs.ExchangeLemmas.{growths_are_permitted}
+use Rattle.wasmi_machine.proofs.ExchangeLemmas.{growths_are_permitted, late_is}
 use Rattle.wasmi_machine.proofs.RefusalLemmas.{refusals_keep_contents}
 use Rattle.wasmi_laws.specs.Runs.{IsPlainRefusal, OtherRefusalsChangeNothing, PlainRefusalsChangeNothing, PlainlyRefusedRunsChangeNothing}
+use Rattle.wasmi_machine.proofs.MemoryEffectsLemmas.{memory_growth}
+use Rattle.wasmi_machine.proofs.TableEffectsLemmas.{table_growth}
 
 -- a plain refusal is one
 plain_refusal : (reply : Reply) → IsPlainRefusal reply → IsRefusal reply
@@ -143,8 +145,7 @@ module _ {S : Type 0} (rules : Rules S) where
 -- a cause by a test
 tested_loud : {E : Type 0} (refusal : E → Reply) (test : Bool) (cause : E) → IsLoud (refusal cause) → (c : E)
     → (if test then None else Some cause) ≡ Some c → IsLoud (refusal c)
-tested_loud refusal true cause loud c is = absurd (none-some c is)
-tested_loud refusal false cause loud c is = subst (λ x. IsLoud (refusal x)) (same_Some cause c is) loud
+tested_loud refusal test cause loud c is = subst (λ x. IsLoud (refusal x)) (late_is test cause c is) loud
 
 -- memory is refused
 lacks_loud : (room : Room) (c : MemoryError) → LacksMemory room c → IsLoud (replied.Memory c)
@@ -221,8 +222,7 @@ module _ {S : Type 0} (rules : Rules S) where
       (charge : ℕ) → GrowsTableCharging rules n init s result charge s'
       → IsPlainRefusal (reply_of replied.Number replied.Table result) → s'.limiter ≡ s.limiter
   table_grows_unasked n init s s' result charge grows plain = on_test (same_type s.value.ty.element init.ty) _ _ grows
-      (λ h. grows_unasked rules replied.Table
-      (record { amount = n; size = size_of s.value; request = table.growth_of s.value n init.raw })
+      (λ h. grows_unasked rules replied.Table (table_growth n init.raw s.value)
       (table_grown_loud s.value n init.raw) s s' result charge h plain)
       (λ h. ap (λ (t : MeteredValue TableValue S). t.limiter) h.2)
 
@@ -237,19 +237,17 @@ module _ {S : Type 0} (rules : Rules S) where
         ∙ (lent_unasked ty (memory_part w.state) w.limiter turn.reply step.part step.limiter step.effect plain).0
     limiter_stays (MemoryGrown k pages) step = ap (λ (v : World S). v.limiter) step.after
         ∙ acts_unasked rules k replied.Memory (GrowsMemoryCharging rules pages) _ _ turn.reply turn.charge
-        (λ x x' result. grows_unasked rules replied.Memory
-        (record { amount = pages; size = pages_of x; request = memory.growth_of x pages }) (memory_grown_loud x pages)
-        (record { value = x; meter = Some w.state.meter; limiter = w.limiter })
-        (record { value = x'; meter = Some step.meter; limiter = step.limiter }) result turn.charge) step.effect plain
+        (λ x x' result. grows_unasked rules replied.Memory (memory_growth pages x) (memory_grown_loud x pages)
+        (metered_value x (Some w.state.meter) w.limiter)
+        (metered_value x' (Some step.meter) step.limiter) result turn.charge) step.effect plain
     limiter_stays (TableMade ty init) step = ap (λ (v : World S). v.limiter) step.after
         ∙ creates_unasked rules replied.Table (table.creation_of ty init.ty) (table_made_loud ty init.ty)
         (new_table ty init.raw) w.state.tables w.limiter
         (record { reply = turn.reply; part = step.part; limiter = step.limiter }) step.effect plain
     limiter_stays (TableGrown k n init) step = ap (λ (v : World S). v.limiter) step.after
         ∙ acts_unasked rules k replied.Table (GrowsTableCharging rules n init) _ _ turn.reply turn.charge
-        (λ x x' result. table_grows_unasked n init
-        (record { value = x; meter = Some w.state.meter; limiter = w.limiter })
-        (record { value = x'; meter = Some step.meter; limiter = step.limiter }) result turn.charge) step.effect plain
+        (λ x x' result. table_grows_unasked n init (metered_value x (Some w.state.meter) w.limiter)
+        (metered_value x' (Some step.meter) step.limiter) result turn.charge) step.effect plain
     limiter_stays (RangeWritten write) step = range_unasked w write turn w' step
     limiter_stays effect step = ap (λ (v : World S). v.limiter) step.after
 

@@ -24,16 +24,15 @@ use Rattle.wasmi_meter.specs.declared.error.MemoryError.{MemoryError}
 use Rattle.wasmi_meter.specs.declared.error.TableError.{TableError}
 use Rattle.wasmi_meter.specs.declared.fuel.FuelError.{FuelError}
 use Rattle.wasmi_store.proofs.GrowthLemmas.{on_test}
-use Rattle.wasmi_store.proofs.WriteLemmas.{write_ends}
 use Rattle.wasmi_store.specs.Buffer.{LacksMemory, Lent, Owned, Room, fits_room, room_after}
 use Rattle.wasmi_store.specs.Growth.{metered, metered_value}
 use Rattle.wasmi_store.specs.Memory.{GrowsMemoryCharging, MakesMemory, MemoryTypeValue, MemoryValue, MemoryWrite, WritesMemory, in_bounds, minimum_bytes, new_memory, page_bytes, pages_of}
 use Rattle.wasmi_store.specs.Segment.{SegmentValue}
 use Rattle.wasmi_store.specs.declared.table.element.SegmentError.{SegmentError}
-use Rattle.wasmi_store.specs.Table.{GrowsTableCharging, SetsTable, TableValue, TableWrite, elements_write, is_indexable, is_within_maximum, same_type, size_of, with_elements, with_elements_reserved}
+use Rattle.wasmi_store.specs.Table.{GrowsTableCharging, SetsTable, TableValue, elements_write, is_indexable, is_within_maximum, same_type, size_of, with_elements, with_elements_reserved}
 use Rattle.wasmi_store.specs.Write.{EndsBy, IsRefusedFor, MeteredWrite, WritesCharging, copied, filled, write_due}
 use Rattle.wasmi_machine.proofs.EffectLemmas.{both_live, on_live, on_live_too}
-use Rattle.wasmi_machine.proofs.RangeLemmas.{WritesBytes, source_writes}
+use Rattle.wasmi_machine.proofs.RangeLemmas.{WritesBytes, source_writes, value_kept}
 use Rattle.wasmi_machine.specs.Determinism.{IsNotOutOfMemory}
 use Rattle.wasmi_machine.specs.Effects.{ActsAt, AddsEntry, AddsItem, ChangesFound, Creates, DropsAt, IfNoRoom, MeteredSlots, OnLive, WritesRangeAt, reply_of, ChangesAt}
 use Rattle.wasmi_machine.specs.MemoryEffects.{ByteSource, CreatesLent, ReadsBytes, byte_write_of}
@@ -49,6 +48,8 @@ use Rattle.wasmi_machine.specs.declared.slots.Slot.{Slot}
 use Rattle.wasmi_machine.specs.declared.slots.Slot.TheVariants.{Gone, Live}
 use Rattle.wasmi_machine.specs.declared.slots.SlotCounts.{SlotCounts}
 use Rattle.wasmi_laws.specs.Reserved.{HasElements, HasElementsAt, HasSlot, HasSlots, IsReservedToMaximum, IsLent, IsLentRoom, IsReservedFor, NeedsNoMemory, NeedsOnlySlot, ReservedCallsSucceed, ReservedRunsSucceed, SlotsSuffice, makes_data, makes_global, makes_lent_memory, makes_segment, IsInRegion}
+use Rattle.wasmi_machine.proofs.WritingLemmas.{early_none}
+use Rattle.wasmi_machine.proofs.ExchangeLemmas.{late_is}
 use Rattle.wasmi_machine.specs.declared.calls.Reply.TheVariants as replied
 use Rattle.wasmi_store.specs.Memory as memory
 use Rattle.wasmi_store.specs.Table as table
@@ -79,8 +80,7 @@ told_by reply reply' is told = subst IsNotOutOfMemory (sym is) told
 -- the cause that a test finds
 tested : {E : Type 0} (Fact : E → Type 0) (test : Bool) (error found : E)
     → (if test then None else Some error) ≡ Some found → Fact error → Fact found
-tested Fact true error found is fact = absurd (none-some found is)
-tested Fact false error found is fact = subst Fact (same_Some error found is) fact
+tested Fact test error found is fact = subst Fact (late_is test error found is) fact
 
 -- ---- attempts
 
@@ -243,11 +243,6 @@ elements_there : (x : TableValue) (n : ℕ) → HasElements n x → is_within_ma
 elements_there x n (inl there) within = there
 elements_there x n (inr full) within = within_reserved x.ty.maximum (size_of x + n) x.reserved full within
 
--- a cause that is absent, where it is there only if a test fails
-passed : {E : Type 0} (test : Bool) (cause : E) → (if test then None else Some cause) ≡ None → test ≡ true
-passed true cause absent = refl
-passed false cause absent = absurd (none-some cause (sym absent))
-
 -- no growth of a table for which it is reserved wants memory
 table_told : (x : TableValue) (n reference : ℕ) → HasElements n x
     → HasNoWant replied.Table (table.growth_of x n reference)
@@ -260,7 +255,7 @@ table_told x n reference has = record {
       TableError.GrowOutOfBounds cause is tt;
   unpaid = λ amount. tt;
   refuses = λ late cause lacks.
-      let there : size_of x + n ≤ x.reserved = elements_there x n has (passed _ _ late) in
+      let there : size_of x + n ≤ x.reserved = elements_there x n has (early_none _ _ late) in
       absurd (omega (arith, there, lacks.1));
 }
 
@@ -506,15 +501,15 @@ module _ {S : Type 0} (rules : Rules S) (w : World S) (turn : Turn) (w' : World 
       on_live (live_at w.state.memories k) _ _ (both_live (live_at w.state.memories k) _ _ _ _ has step.effect)
       (λ missing. told_by turn.reply replied.NoSuch missing.1.0 tt)
       (λ x found h. told_by turn.reply _ h.1.3 (grown_told rules pages
-      (record { value = x; meter = Some w.state.meter; limiter = w.limiter }) h.0 h.1.0 turn.charge
-      (record { value = h.1.1; meter = Some step.meter; limiter = step.limiter }) h.1.2))
+      (metered_value x (Some w.state.meter) w.limiter) h.0 h.1.0 turn.charge
+      (metered_value h.1.1 (Some step.meter) step.limiter) h.1.2))
   effect_told (TableMade ty init) has step = absurd has
   effect_told (TableGrown k n init) has step = on_live (live_at w.state.tables k) _ _
       (both_live (live_at w.state.tables k) _ _ _ _ (none_or_live (HasElements n) (live_at w.state.tables k) has) step.effect)
       (λ missing. told_by turn.reply replied.NoSuch missing.1.0 tt)
       (λ x found h. told_by turn.reply _ h.1.3 (table_growth_told n init
-      (record { value = x; meter = Some w.state.meter; limiter = w.limiter })
-      (record { value = h.1.1; meter = Some step.meter; limiter = step.limiter }) h.0 h.1.0 turn.charge h.1.2))
+      (metered_value x (Some w.state.meter) w.limiter)
+      (metered_value h.1.1 (Some step.meter) step.limiter) h.0 h.1.0 turn.charge h.1.2))
   effect_told (RangeWritten (TableWritten k source dst len)) has step =
       range_told replied.Table k (write_of source dst len) (elements_told source dst len)
       (metered w.state.tables (Some w.state.meter)) turn.reply turn.charge (metered step.part (Some step.meter))
@@ -581,16 +576,6 @@ range_lent source dst len = on_live_too (byte_write_of source dst len) _ _ _ _ (
     (λ write w x x' is. bytes_lent x (w.written x.bytes) x' (ap (λ (v : MemoryWrite). v.written) (sym (w.is x)) ∙ is))
     (source_writes source dst len)
 
--- a write to a memory, also where it is refused
-charged_lent : (w : MemoryValue → MemoryWrite) → ((x x' : MemoryValue) → (w x).written ≡ Some x' → IsLent x → IsLent x')
-    → (s s' : MeteredValue MemoryValue (Unit {0})) (result : Result (Unit {0}) MemoryError) (charge : ℕ)
-    → IsLent s.value → WritesCharging w s result charge s' → IsLent s'.value
-charged_lent w keeps s s' result charge lent writes = elim (write_ends w s result charge s' writes) [
-  | inl r ↦ subst (λ (t : MeteredValue MemoryValue (Unit {0})). IsLent t.value) (sym r.same) lent
-  | inr p ↦ subst (λ (t : MeteredValue MemoryValue (Unit {0})). IsLent t.value) (sym p.after)
-      (keeps s.value p.value p.written lent)
-]
-
 module _ {X : Type 0} (Holds : X → Type 0) where
   -- a fact is true of the live value of an index, if there is one
   abbrev HoldsAt : List (Slot X) → ℕ → Type 0
@@ -649,10 +634,6 @@ module _ {X : Type 0} (Holds : X → Type 0) where
 abbrev StaysInRegion : List (Slot MemoryValue) → List (Slot MemoryValue) → Type 0
 StaysInRegion = Stays IsLent
 
--- the same memories
-region_same : (slots slots' : List (Slot MemoryValue)) → slots' ≡ slots → StaysInRegion slots slots'
-region_same = stays_same IsLent
-
 -- a memory in a region was added
 region_added : (slots : List (Slot MemoryValue)) (x : MemoryValue) → IsLent x → StaysInRegion slots (slots ++ Live x ∷ [])
 region_added [] x made zero lent = made
@@ -663,7 +644,7 @@ region_added (slot ∷ slots) x made (suc k) lent = region_added slots x made k 
 -- a store, whose bytes may be missing
 region_stored : (j a : ℕ) (stored : Option (List ℕ)) (slots : List (Slot MemoryValue)) (reply : Reply)
     (slots' : List (Slot MemoryValue)) → StoresVectorAt j a stored slots reply slots' → StaysInRegion slots slots'
-region_stored j a None slots reply slots' stores = region_same slots slots' stores.1
+region_stored j a None slots reply slots' stores = stays_same IsLent slots slots' stores.1
 region_stored j a (Some stored) slots reply slots' stores =
     stays_changed IsLent j slots reply slots' _ (λ x x' h lent. subst IsLentRoom (sym h.1.2) lent) stores
 
@@ -671,10 +652,11 @@ region_stored j a (Some stored) slots reply slots' stores =
 region_made : {S : Type 0} (rules : Rules S) (region : List ℕ) (ty : MemoryTypeValue)
     (slots : List (Slot MemoryValue)) (l : S) (reply : Reply) (slots' : List (Slot MemoryValue)) (l' : S)
     → Creates replied.Memory (MakesMemory rules (Lent region) ty) slots l reply slots' l' → StaysInRegion slots slots'
-region_made rules region ty slots l reply slots' l' (inl none) = region_same slots slots' none.1
+region_made rules region ty slots l reply slots' l' (inl none) = stays_same IsLent slots slots' none.1
 region_made rules region ty slots l reply slots' l' (inr (Ok x, makes, adds)) =
     subst (StaysInRegion slots) (sym adds.1) (region_added slots x (made_lent region ty makes.0 x makes.2))
-region_made rules region ty slots l reply slots' l' (inr (Err error, makes, adds)) = region_same slots slots' adds.1
+region_made rules region ty slots l reply slots' l' (inr (Err error, makes, adds)) =
+    stays_same IsLent slots slots' adds.1
 
 -- each change of one part
 change_region : (s : State) (reply : Reply) (s' : State) (change : Change) → HasChange change s reply s'
@@ -684,47 +666,41 @@ change_region s reply s' (BytesWritten j offset bytes) c = rw c.after
 change_region s reply s' (BytesStored j a stored) c =
     rw c.after (region_stored j a stored s.memories reply c.part c.effect)
 change_region s reply s' (MemoryDropped j) c = rw c.after (stays_dropped IsLent byte_count j s.memories reply c.part c.effect)
-change_region s reply s' change c =
-    region_same s.memories s'.memories (ap (λ (t : State). t.memories) c.after)
+change_region s reply s' change c = stays_same IsLent s.memories s'.memories (ap (λ (t : State). t.memories) c.after)
 
 module _ {S : Type 0} (rules : Rules S) (w : World S) (turn : Turn) (w' : World S) where
-  -- the world in which a turn ends
-  region_in : (v : World S) → w' ≡ v → StaysInRegion w.state.memories v.state.memories
-      → StaysInRegion w.state.memories w'.state.memories
-  region_in v is there = subst (λ (u : World S). StaysInRegion w.state.memories u.state.memories) (sym is) there
-
   -- so each effect that needs no memory
   effect_region : (effect : Effect) → EffectHas w.state effect → HasEffect rules effect w turn w'
       → StaysInRegion w.state.memories w'.state.memories
-  effect_region (Told reply) has step = region_in w step.after (λ k lent. lent)
-  effect_region (BytesRead k offset len) has step = region_in w step.after (λ k lent. lent)
-  effect_region (FuelSet fuel) has step = region_in _ step.after
-      (region_same w.state.memories _ (ap (λ (t : State). t.memories) step.effect.1))
+  effect_region (Told reply) has step = rw step.after (λ k lent. lent)
+  effect_region (BytesRead k offset len) has step = rw step.after (λ k lent. lent)
+  effect_region (FuelSet fuel) has step = rw step.after
+      (stays_same IsLent w.state.memories _ (ap (λ (t : State). t.memories) step.effect.1))
   effect_region (Changed change) has step =
-      region_in _ step.after (change_region w.state turn.reply step.machine change step.effect)
+      rw step.after (change_region w.state turn.reply step.machine change step.effect)
   effect_region (MemoryMade ty) has step = absurd has
-  effect_region (LentMemoryMade ty) has step = region_in _ step.after (on_live w.state.spare _ _ step.effect
-      (λ none. region_same w.state.memories step.part.slots (ap (λ (p : MemoryPart). p.slots) none.1))
+  effect_region (LentMemoryMade ty) has step = rw step.after (on_live w.state.spare _ _ step.effect
+      (λ none. stays_same IsLent w.state.memories step.part.slots (ap (λ (p : MemoryPart). p.slots) none.1))
       (λ region found h. region_made rules region ty w.state.memories w.limiter turn.reply step.part.slots step.limiter
       h.0))
-  effect_region (MemoryGrown j pages) has step = region_in _ step.after
+  effect_region (MemoryGrown j pages) has step = rw step.after
       (stays_acted IsLent j (reply_of replied.Number replied.Memory) (GrowsMemoryCharging rules pages)
       (metered_value w.state.memories (Some w.state.meter) w.limiter)
       (metered_value step.part (Some step.meter) step.limiter) turn.reply turn.charge
       (λ x x' result grows lent. grown_lent rules pages (metered_value x (Some w.state.meter) w.limiter)
       (metered_value x' (Some step.meter) step.limiter) result turn.charge lent grows) step.effect)
   effect_region (TableMade ty init) has step = absurd has
-  effect_region (TableGrown k n init) has step = region_in _ step.after (λ k lent. lent)
-  effect_region (RangeWritten (TableWritten k source dst len)) has step = region_in _ step.after (λ k lent. lent)
-  effect_region (RangeWritten (MemoryWritten j source dst len)) has step = region_in _ step.after
+  effect_region (TableGrown k n init) has step = rw step.after (λ k lent. lent)
+  effect_region (RangeWritten (TableWritten k source dst len)) has step = rw step.after (λ k lent. lent)
+  effect_region (RangeWritten (MemoryWritten j source dst len)) has step = rw step.after
       (on_live (byte_write_of source dst len) _ _
       (both_live (byte_write_of source dst len) _ _ _ _ (range_lent source dst len) step.effect)
-      (λ missing. region_same w.state.memories step.part
+      (λ missing. stays_same IsLent w.state.memories step.part
       (ap (λ (t : MeteredSlots MemoryValue). t.value) missing.1.2))
       (λ v found h. stays_acted IsLent j (reply_of (λ _. replied.Done) replied.Memory) (WritesCharging v)
       (metered w.state.memories (Some w.state.meter)) (metered step.part (Some step.meter)) turn.reply turn.charge
-      (λ x x' result writes lent. charged_lent v h.0 (metered x (Some w.state.meter)) (metered x' (Some step.meter))
-      result turn.charge lent writes) h.1))
+      (λ x x' result writes. value_kept (λ y y'. IsLent y → IsLent y') v h.0 (λ y lent. lent)
+      (metered x (Some w.state.meter)) result turn.charge (metered x' (Some step.meter)) writes) h.1))
 
 -- ---- reserved tables
 
@@ -761,17 +737,6 @@ table_range_reserved (OfSegment None src) dst len = tt
 table_range_reserved (OfSegment (Some segment) src) dst len =
     λ x x' is. elements_reserved x (copied x.elements dst segment.items src len) x' is
 
--- a write to a table, also where it is refused
-table_write_reserved : (w : TableValue → TableWrite)
-    → ((x x' : TableValue) → (w x).written ≡ Some x' → IsReservedToMaximum x → IsReservedToMaximum x')
-    → (s s' : MeteredValue TableValue (Unit {0})) (result : Result (Unit {0}) TableError) (charge : ℕ)
-    → IsReservedToMaximum s.value → WritesCharging w s result charge s' → IsReservedToMaximum s'.value
-table_write_reserved w keeps s s' result charge holds writes = elim (write_ends w s result charge s' writes) [
-  | inl r ↦ subst (λ (t : MeteredValue TableValue (Unit {0})). IsReservedToMaximum t.value) (sym r.same) holds
-  | inr p ↦ subst (λ (t : MeteredValue TableValue (Unit {0})). IsReservedToMaximum t.value) (sym p.after)
-      (keeps s.value p.value p.written holds)
-]
-
 -- a table that has grown, or wasn't permitted to
 attempted_reserved : (x : TableValue) (n reference : ℕ) (outcome : AttemptOutcome TableError) → IsReservedToMaximum x
     → IsReservedToMaximum (value_after (table.growth_of x n reference) x outcome)
@@ -794,10 +759,6 @@ grown_reserved {S} rules n init s s' result charge holds grows = on_test (same_t
 abbrev StayReserved : List (Slot TableValue) → List (Slot TableValue) → Type 0
 StayReserved = Stays IsReservedToMaximum
 
--- the same tables
-tables_same : (slots slots' : List (Slot TableValue)) → slots' ≡ slots → StayReserved slots slots'
-tables_same = stays_same IsReservedToMaximum
-
 -- each change of one part
 change_reserved : (s : State) (reply : Reply) (s' : State) (change : Change) → HasChange change s reply s'
     → StayReserved s.tables s'.tables
@@ -805,44 +766,40 @@ change_reserved s reply s' (ElementSet j index value) c = rw c.after (stays_chan
     c.part _ (λ x x' h. set_reserved index value x h.0 x' h.1) c.effect)
 change_reserved s reply s' (TableDropped j) c =
     rw c.after (stays_dropped IsReservedToMaximum size_of j s.tables reply c.part c.effect)
-change_reserved s reply s' change c = tables_same s.tables s'.tables (ap (λ (t : State). t.tables) c.after)
+change_reserved s reply s' change c =
+    stays_same IsReservedToMaximum s.tables s'.tables (ap (λ (t : State). t.tables) c.after)
 
 module _ {S : Type 0} (rules : Rules S) (w : World S) (turn : Turn) (w' : World S) where
-  -- the world in which a turn ends
-  reserved_in : (v : World S) → w' ≡ v → StayReserved w.state.tables v.state.tables
-      → StayReserved w.state.tables w'.state.tables
-  reserved_in v is there = subst (λ (u : World S). StayReserved w.state.tables u.state.tables) (sym is) there
-
   -- so each effect that needs no memory
   effect_reserved : (effect : Effect) → EffectHas w.state effect → HasEffect rules effect w turn w'
       → StayReserved w.state.tables w'.state.tables
-  effect_reserved (Told reply) has step = reserved_in w step.after (λ k holds. holds)
-  effect_reserved (BytesRead k offset len) has step = reserved_in w step.after (λ k holds. holds)
-  effect_reserved (FuelSet fuel) has step = reserved_in _ step.after
-      (tables_same w.state.tables _ (ap (λ (t : State). t.tables) step.effect.1))
+  effect_reserved (Told reply) has step = rw step.after (λ k holds. holds)
+  effect_reserved (BytesRead k offset len) has step = rw step.after (λ k holds. holds)
+  effect_reserved (FuelSet fuel) has step = rw step.after
+      (stays_same IsReservedToMaximum w.state.tables _ (ap (λ (t : State). t.tables) step.effect.1))
   effect_reserved (Changed change) has step =
-      reserved_in _ step.after (change_reserved w.state turn.reply step.machine change step.effect)
+      rw step.after (change_reserved w.state turn.reply step.machine change step.effect)
   effect_reserved (MemoryMade ty) has step = absurd has
-  effect_reserved (LentMemoryMade ty) has step = reserved_in _ step.after (λ k holds. holds)
-  effect_reserved (MemoryGrown j pages) has step = reserved_in _ step.after (λ k holds. holds)
+  effect_reserved (LentMemoryMade ty) has step = rw step.after (λ k holds. holds)
+  effect_reserved (MemoryGrown j pages) has step = rw step.after (λ k holds. holds)
   effect_reserved (TableMade ty init) has step = absurd has
-  effect_reserved (TableGrown j n init) has step = reserved_in _ step.after
+  effect_reserved (TableGrown j n init) has step = rw step.after
       (stays_acted IsReservedToMaximum j (reply_of replied.Number replied.Table) (GrowsTableCharging rules n init)
       (metered_value w.state.tables (Some w.state.meter) w.limiter)
       (metered_value step.part (Some step.meter) step.limiter) turn.reply turn.charge
       (λ x x' result grows holds. grown_reserved rules n init (metered_value x (Some w.state.meter) w.limiter)
       (metered_value x' (Some step.meter) step.limiter) result turn.charge holds grows) step.effect)
-  effect_reserved (RangeWritten (TableWritten j source dst len)) has step = reserved_in _ step.after
+  effect_reserved (RangeWritten (TableWritten j source dst len)) has step = rw step.after
       (on_live (write_of source dst len) _ _
       (both_live (write_of source dst len) _ _ _ _ (table_range_reserved source dst len) step.effect)
-      (λ missing. tables_same w.state.tables step.part
+      (λ missing. stays_same IsReservedToMaximum w.state.tables step.part
       (ap (λ (t : MeteredSlots TableValue). t.value) missing.1.2))
       (λ v found h. stays_acted IsReservedToMaximum j (reply_of (λ _. replied.Done) replied.Table) (WritesCharging v)
       (metered w.state.tables (Some w.state.meter)) (metered step.part (Some step.meter)) turn.reply turn.charge
-      (λ x x' result writes holds. table_write_reserved v h.0 (metered x (Some w.state.meter))
-      (metered x' (Some step.meter)) result turn.charge holds writes) h.1))
-  effect_reserved (RangeWritten (MemoryWritten k source dst len)) has step =
-      reserved_in _ step.after (λ k holds. holds)
+      (λ x x' result writes. value_kept (λ y y'. IsReservedToMaximum y → IsReservedToMaximum y') v h.0
+      (λ y holds. holds) (metered x (Some w.state.meter)) result turn.charge (metered x' (Some step.meter)) writes)
+      h.1))
+  effect_reserved (RangeWritten (MemoryWritten k source dst len)) has step = rw step.after (λ k holds. holds)
 
 -- ---- slots that are taken
 
@@ -1026,10 +983,6 @@ change_takes s reply s' (GlobalSet k value) c = rw c.after (record {
 })
 
 module _ {S : Type 0} (rules : Rules S) (w : World S) (turn : Turn) (w' : World S) where
-  -- the world in which a turn ends
-  takes_in : (m g d v : ℕ) (u : World S) → w' ≡ u → Takes m g d v w.state u.state → Takes m g d v w.state w'.state
-  takes_in m g d v u is there = subst (λ (x : World S). Takes m g d v w.state x.state) (sym is) there
-
   -- a creation in the spare region
   lent_count : (ty : MemoryTypeValue) (part' : MemoryPart) (l' : S)
       → CreatesLent rules ty (memory_part w.state) w.limiter turn.reply part' l'
@@ -1043,29 +996,28 @@ module _ {S : Type 0} (rules : Rules S) (w : World S) (turn : Turn) (w' : World 
   effect_takes : (effect : Effect) → EffectHas w.state effect → HasEffect rules effect w turn w'
       → EffectTakes effect w.state w'.state
   effect_takes (Told reply) has step =
-      takes_in 0 0 0 0 w step.after (none_taken_by w.state w.state.tables w.state.registers w.state.meter)
+      rw step.after (none_taken_by w.state w.state.tables w.state.registers w.state.meter)
   effect_takes (BytesRead k offset len) has step =
-      takes_in 0 0 0 0 w step.after (none_taken_by w.state w.state.tables w.state.registers w.state.meter)
-  effect_takes (FuelSet fuel) has step = takes_in 0 0 0 0 _ step.after
+      rw step.after (none_taken_by w.state w.state.tables w.state.registers w.state.meter)
+  effect_takes (FuelSet fuel) has step = rw step.after
       (rw step.effect.1 (none_taken_by w.state w.state.tables w.state.registers _))
   effect_takes (Changed change) has step =
-      takes_in 0 (segments_of (Changed change)) (data_of (Changed change)) (globals_of (Changed change)) _ step.after
-      (change_takes w.state turn.reply step.machine change step.effect)
+      rw step.after (change_takes w.state turn.reply step.machine change step.effect)
   effect_takes (MemoryMade ty) has step = absurd has
-  effect_takes (LentMemoryMade ty) has step = takes_in 1 0 0 0 _ step.after
+  effect_takes (LentMemoryMade ty) has step = rw step.after
       (memories_taken_by w.state 1 step.part.slots w.state.meter step.part.spare
       (lent_count ty step.part step.limiter step.effect))
-  effect_takes (MemoryGrown k pages) has step = takes_in 0 0 0 0 _ step.after
+  effect_takes (MemoryGrown k pages) has step = rw step.after
       (memories_taken_by w.state 0 step.part step.meter w.state.spare
       (acted_count k (reply_of replied.Number replied.Memory) (GrowsMemoryCharging rules pages)
       (metered_value w.state.memories (Some w.state.meter) w.limiter)
       (metered_value step.part (Some step.meter) step.limiter) turn.reply turn.charge step.effect))
   effect_takes (TableMade ty init) has step = absurd has
   effect_takes (TableGrown k n init) has step =
-      takes_in 0 0 0 0 _ step.after (none_taken_by w.state step.part w.state.registers step.meter)
+      rw step.after (none_taken_by w.state step.part w.state.registers step.meter)
   effect_takes (RangeWritten (TableWritten k source dst len)) has step =
-      takes_in 0 0 0 0 _ step.after (none_taken_by w.state step.part w.state.registers step.meter)
-  effect_takes (RangeWritten (MemoryWritten k source dst len)) has step = takes_in 0 0 0 0 _ step.after
+      rw step.after (none_taken_by w.state step.part w.state.registers step.meter)
+  effect_takes (RangeWritten (MemoryWritten k source dst len)) has step = rw step.after
       (memories_taken_by w.state 0 step.part step.meter w.state.spare (on_live (byte_write_of source dst len) _ _
       step.effect (λ missing. omega (arith, ap (λ (t : MeteredSlots MemoryValue). length t.value) missing.2))
       (λ v found h. acted_count k (reply_of (λ _. replied.Done) replied.Memory) (WritesCharging v)

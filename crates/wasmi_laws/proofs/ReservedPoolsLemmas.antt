@@ -1,6 +1,7 @@
 -- What a tenant has reserved stays reserved for its calls, whatever else is done with its pool.
-use Rattle.std.proofs.Common.{◌≡◌, ◌≢◌, ◌++◌, ◌∷◌, ◌∙◌, Bool, List, None, Some, [], ap, false, refl, subst, sym, true, ℕ}
+use Rattle.std.proofs.Common.{◌≡◌, ◌++◌, ◌∷◌, ◌∙◌, Bool, List, None, Some, [], ap, false, refl, subst, sym, true, ℕ}
 use Rattle.std.proofs.lemmas.Bool.Decides.{Decides-eqb}
+use Rattle.std.proofs.lemmas.Bool.{false≢true}
 use Rattle.std.proofs.lemmas.List.Elements.{All-append, All-nil}
 use Rattle.std.proofs.lemmas.Option.{none-some, same_Some}
 use Rattle.std.specs.Bool.{Decides}
@@ -16,10 +17,6 @@ use Rattle.wasmi_budget.proofs.IsolationLemmas.{kept_added, kept_set, set_at}
 use Rattle.wasmi_budget.proofs.PoolLemmas.{IsVacant, removal_vacates, vacant_stays}
 use Rattle.wasmi_budget.specs.Laws.{PoolTurn, Added, Ran, Reserved, ReservedElements, Removed, Refused, PoolRun}
 use Rattle.wasmi_budget.specs.Pool.{PoolValue, machine_of, tenant_at, tenant_rules}
-
--- another index is another one
-other : (i index : ℕ) → Decides false (i ≡ index) → index ≢ i
-other i index decides same = let f : false ≡ true = decides.1 (sym same) in absurd cc
 
 module _ (index : ℕ) where
   -- an index without a tenant has no replies
@@ -73,7 +70,7 @@ module _ (index : ℕ) where
           ready = keeps (subst (λ t. IsReservedFor t calls) own it.ready);
         }
     becomes_ready i s s' found after keeps false decides = stays_at (ap (λ p. machine_of p index) after
-        ∙ kept_set pool.machines index i it.machine (Some s') (other i index decides) it.found)
+        ∙ kept_set pool.machines index i it.machine (Some s') (λ same. false≢true (decides.1 (sym same))) it.found)
 
   -- each reply to the calls of a tenant that has reserved what they need
   ready_told : (pool : PoolValue) (turns : List PoolTurn) → IsReady pool (calls_of index turns) → (pool' : PoolValue)
@@ -104,7 +101,7 @@ module _ (index : ℕ) where
           none_told next (subst (IsVacant next) (decides.0 refl) (removal_vacates pool i s next removes)) turns pool' ran
       by rest false decides =
           rest (stays_at pool (calls_of index turns) it next (ap (λ p. machine_of p index) removes.removed
-          ∙ kept_set pool.machines index i it.machine None (other i index decides) it.found))
+          ∙ kept_set pool.machines index i it.machine None (λ same. false≢true (decides.1 (sym same))) it.found))
   ready_told pool (Ran i calls replies ∷ turns) it pool' (next, runs, ran) =
       by (λ ready. ready_told next turns ready pool' ran) (nat_eq i index) (Decides-eqb i index) it.ready
     where
@@ -130,7 +127,8 @@ module _ (index : ℕ) where
       by rest false decides ready = rest (record {
         machine = it.machine;
         found = ap (λ p. machine_of p index) runs.after
-            ∙ kept_set pool.machines index i it.machine (Some runs.machine') (other i index decides) it.found;
+            ∙ kept_set pool.machines index i it.machine (Some runs.machine')
+            (λ same. false≢true (decides.1 (sym same))) it.found;
         ready = ready;
       })
 

@@ -23,12 +23,12 @@ use Rattle.wasmi_meter.proofs.AttemptLemmas.{meter_after_nothing}
 use Rattle.wasmi_meter.specs.Meter.{Meter, amount_left, due, meter_after, meter_set, PaysCharge}
 use Rattle.wasmi_meter.specs.declared.error.TableError.{TableError}
 use Rattle.wasmi_store.proofs.GrowthLemmas.{on_test}
-use Rattle.wasmi_store.specs.Memory.{GrowsMemoryCharging, MemoryValue, pages_of}
-use Rattle.wasmi_store.specs.Table.{GrowsTableCharging, TableValue, size_of, same_type}
+use Rattle.wasmi_store.specs.Memory.{GrowsMemoryCharging, MemoryValue}
+use Rattle.wasmi_store.specs.Table.{GrowsTableCharging, TableValue, same_type}
 use Rattle.wasmi_typed.specs.declared.typed_ref.TypedRawRef.{TypedRawRef}
-use Rattle.wasmi_store.specs.Memory as memory
+use Rattle.wasmi_machine.proofs.MemoryEffectsLemmas.{memory_growth}
+use Rattle.wasmi_machine.proofs.TableEffectsLemmas.{table_growth}
 use Rattle.wasmi_machine.specs.declared.calls.Reply.TheVariants as replied
-use Rattle.wasmi_store.specs.Table as table
 
 -- nothing can be paid
 paid_free : (m : Meter) (charge : ℕ) → charge ≡ 0 → charge ≤ amount_left m
@@ -70,9 +70,8 @@ paid_if m due charge false enough same = paid_free m charge same
 module _ {V E S : Type 0} (rules : Rules S) (e : Request V E) (x : V) (m : Meter) (l : S) (charge : ℕ) (x' : V)
     (m' : Meter) (l' : S) where
   -- an attempt is charged no more than is left
-  attempt_paid : (outcome : AttemptOutcome E)
-      → Attempt rules e (record { value = x; meter = Some m; limiter = l }) outcome charge
-      (record { value = x'; meter = Some m'; limiter = l' }) → charge ≤ amount_left m
+  attempt_paid : (outcome : AttemptOutcome E) → Attempt rules e (metered_value x (Some m) l) outcome charge
+      (metered_value x' (Some m') l') → charge ≤ amount_left m
   attempt_paid (Unasked cause) attempt = paid_free m charge attempt.charged
   attempt_paid (Denied answer) attempt = paid_free m charge attempt.charged
   attempt_paid Met attempt = paid_due m _ charge attempt.may_end.2 attempt.charged
@@ -83,8 +82,7 @@ module _ {V E S : Type 0} (rules : Rules S) (e : Request V E) (x : V) (m : Meter
 -- a growth
 pub grows_takes : {V E S : Type 0} (rules : Rules S) (g : Growth V E) (x : V) (m : Meter) (l : S)
     (result : Result ℕ E) (charge : ℕ) (x' : V) (m' : Meter) (l' : S)
-    → Grows rules g (record { value = x; meter = Some m; limiter = l }) result charge
-    (record { value = x'; meter = Some m'; limiter = l' }) → PaysCharge m charge m'
+    → Grows rules g (metered_value x (Some m) l) result charge (metered_value x' (Some m') l') → PaysCharge m charge m'
 grows_takes {V = V} {S = S} rules g x m l result charge x' m' l' (inl none) =
     takes_nothing m m' charge none.uncharged (same_Some m' m (ap (λ (s : MeteredValue V S). s.meter) none.same))
 grows_takes rules g x m l result charge x' m' l' (inr some) =
@@ -94,12 +92,11 @@ grows_takes rules g x m l result charge x' m' l' (inr some) =
 -- a growth of a table, whose type is tested first
 table_grows_takes : {S : Type 0} (rules : Rules S) (n : ℕ) (init : TypedRawRef) (x : TableValue) (m : Meter) (l : S)
     (result : Result ℕ TableError) (charge : ℕ) (x' : TableValue) (m' : Meter) (l' : S)
-    → GrowsTableCharging rules n init (record { value = x; meter = Some m; limiter = l }) result charge
-    (record { value = x'; meter = Some m'; limiter = l' }) → PaysCharge m charge m'
+    → GrowsTableCharging rules n init (metered_value x (Some m) l) result charge
+    (metered_value x' (Some m') l') → PaysCharge m charge m'
 table_grows_takes {S} rules n init x m l result charge x' m' l' grows =
     on_test (same_type x.ty.element init.ty) _ _ grows
-    (λ h. grows_takes rules (record { amount = n; size = size_of x; request = table.growth_of x n init.raw }) x m l
-    result charge x' m' l' h)
+    (λ h. grows_takes rules (table_growth n init.raw x) x m l result charge x' m' l' h)
     (λ h. takes_nothing m m' charge h.1 (same_Some m' m (ap (λ (s : MeteredValue TableValue S). s.meter) h.2)))
 
 -- a value, the meter that is charged for it, and the limiter that is asked
@@ -151,8 +148,7 @@ memory_growth_takes : {S : Type 0} (rules : Rules S) (k pages : ℕ) (t : Growin
     (after t) → PaysCharge t.first.meter t.charge t.last.meter
 memory_growth_takes rules k pages t reply acts =
     acts_takes (GrowsMemoryCharging rules pages) k (reply_of replied.Number replied.Memory) t reply
-    (λ x result x'. grows_takes rules
-    (record { amount = pages; size = pages_of x; request = memory.growth_of x pages }) x t.first.meter t.first.limiter
+    (λ x result x'. grows_takes rules (memory_growth pages x) x t.first.meter t.first.limiter
     result t.charge x' t.last.meter t.last.limiter) acts
 
 -- a growth of the table of an index
@@ -186,15 +182,10 @@ changed_meter s (SetFuel fuel) m charge m' changes = changes
 changed_meter s call m charge m' changes = changes
 
 module _ {S : Type 0} (w : World S) (turn : Turn) (w' : World S) where
-  -- the turn ends in a world whose meter has paid
-  paid_in : {v : World S} → w' ≡ v → PaysCharge w.state.meter turn.charge v.state.meter
-      → PaysCharge w.state.meter turn.charge w'.state.meter
-  paid_in is takes = subst (λ (x : World S). PaysCharge w.state.meter turn.charge x.state.meter) (sym is) takes
-
   -- a turn without a charge ends in a world with the same meter
   free_in : {v : World S} → w' ≡ v → turn.charge ≡ 0 → v.state.meter ≡ w.state.meter
       → PaysCharge w.state.meter turn.charge w'.state.meter
-  free_in {v} is free same = paid_in is (takes_nothing w.state.meter v.state.meter turn.charge free same)
+  free_in {v} is free same = rw is (takes_nothing w.state.meter v.state.meter turn.charge free same)
 
 module _ {S : Type 0} (rules : Rules S) (w : World S) (turn : Turn) (w' : World S) where
   -- each effect
@@ -204,9 +195,9 @@ module _ {S : Type 0} (rules : Rules S) (w : World S) (turn : Turn) (w' : World 
       ap (λ (v : World S). v.state.meter) step.after ∙ ap (λ (s : State). s.meter) step.effect.1
   effect_meter (Changed change) step = free_in w turn w' step.after step.free.0
       ((change_facts w.state change).meter turn.reply step.machine step.effect)
-  effect_meter (MemoryGrown k pages) step = paid_in w turn w' step.after (memory_growth_takes rules k pages
+  effect_meter (MemoryGrown k pages) step = rw step.after (memory_growth_takes rules k pages
       (growing w w.state.memories turn.charge step.part step.meter step.limiter) turn.reply step.effect)
-  effect_meter (TableGrown k n init) step = paid_in w turn w' step.after (table_growth_takes rules k n init
+  effect_meter (TableGrown k n init) step = rw step.after (table_growth_takes rules k n init
       (growing w w.state.tables turn.charge step.part step.meter step.limiter) turn.reply step.effect)
   effect_meter (RangeWritten write) step = range_takes w write turn w' step
   effect_meter effect step = free_in w turn w' step.after step.free.0 refl

@@ -9,10 +9,12 @@ use Rattle.wasmi_machine.specs.declared.slots.Slot.{Slot}
 use Rattle.wasmi_meter.specs.Attempt.{Attempt, Denied, Request, Failed, AttemptOutcome, Follows, Met, MeteredValue, Unasked, alone}
 use Rattle.wasmi_meter.specs.Limiter.{Answer, Failure, NoticeAnswer, Question, Rules}
 use Rattle.wasmi_store.specs.Buffer.{Lent, Owned}
-use Rattle.wasmi_store.specs.Growth.{Grows, Growth, Makes}
-use Rattle.wasmi_store.specs.Memory.{GrowsMemoryCharging, new_memory, pages_of}
-use Rattle.wasmi_store.specs.Table.{GrowsTableCharging, TableValue, new_table, size_of, same_type}
+use Rattle.wasmi_store.specs.Growth.{Grows, Growth, Makes, metered_value}
+use Rattle.wasmi_store.specs.Memory.{GrowsMemoryCharging, new_memory}
+use Rattle.wasmi_store.specs.Table.{GrowsTableCharging, TableValue, new_table, same_type}
 use Rattle.wasmi_typed.specs.declared.typed_ref.TypedRawRef.{TypedRawRef}
+use Rattle.wasmi_machine.proofs.MemoryEffectsLemmas.{memory_growth}
+use Rattle.wasmi_machine.proofs.TableEffectsLemmas.{table_growth}
 use Rattle.wasmi_store.specs.Memory as memory
 use Rattle.wasmi_machine.specs.declared.calls.Reply.TheVariants as replied
 use Rattle.wasmi_store.specs.Table as table
@@ -104,7 +106,7 @@ module _ {S T : Type 0} (image : S → T) where
         (charge : ℕ) → GrowsTableCharging rules n init s result charge s'
         → GrowsTableCharging rules' n init (moved s) result charge (moved s')
     table_growth_too n init s s' result charge grows = on_test_too (same_type s.value.ty.element init.ty) _ _ _ _
-        (grows_too (record { amount = n; size = size_of s.value; request = table.growth_of s.value n init.raw }) s s'
+        (grows_too (table_growth n init.raw s.value) s s'
         result charge) (λ mismatch. (mismatch.0, mismatch.1, ap moved mismatch.2)) grows
 
     module _ (w : World S) (turn : Turn) (w' : World S) where
@@ -127,8 +129,8 @@ module _ {S T : Type 0} (image : S → T) where
           {Relation : MeteredValue A S → Reply → ℕ → MeteredValue A S → Type 0}
           {Relation' : MeteredValue A T → Reply → ℕ → MeteredValue A T → Type 0} {bytes : Reply → ℕ}
           (step : ActsMetered w turn w' old with_part Relation bytes)
-          → Relation' (record { value = old; meter = Some w.state.meter; limiter = image w.limiter }) turn.reply
-          turn.charge (record { value = step.part; meter = Some step.meter; limiter = image step.limiter })
+          → Relation' (metered_value old (Some w.state.meter) (image w.limiter)) turn.reply
+          turn.charge (metered_value step.part (Some step.meter) (image step.limiter))
           → ActsMetered (carried image w) turn (carried image w') old with_part Relation' bytes
       pays_too step effect = record {
         part = step.part;
@@ -155,8 +157,7 @@ module _ {S T : Type 0} (image : S → T) where
       effect_carried (MemoryGrown k pages) step =
           pays_too step (acts_too k (reply_of replied.Number replied.Memory) (GrowsMemoryCharging rules pages)
           (GrowsMemoryCharging rules' pages)
-          (λ s. grows_too (record { amount = pages; size = pages_of s.value; request = memory.growth_of s.value pages })
-          s) _ _ turn.reply turn.charge step.effect)
+          (λ s. grows_too (memory_growth pages s.value) s) _ _ turn.reply turn.charge step.effect)
       effect_carried (TableMade ty init) step =
           asks_too step (creates_too replied.Table (table.creation_of ty init.ty) (new_table ty init.raw) w.state.tables
           step.part turn.reply w.limiter step.limiter step.effect)

@@ -3,10 +3,11 @@ use Rattle.std.proofs.Common.{Bool, Err, List, None, Ok, Option, Result, Some, [
 use Rattle.std.proofs.lemmas.Option.{none-some, same_Some}
 use Rattle.std.specs.Option.{option_map}
 use Rattle.std.specs.Prelude.{MatchBool}
-use Rattle.wasmi_machine.proofs.MemoryEffectsLemmas.{reads_same}
+use Rattle.wasmi_machine.proofs.MemoryEffectsLemmas.{reads_same, memory_growth}
 use Rattle.wasmi_machine.proofs.EffectLemmas.{Acted, HasOneEnding, HasOneOutcome, acts_same, creates_same, on_both}
 use Rattle.wasmi_machine.proofs.StepsLemmas.{change_facts}
 use Rattle.wasmi_machine.proofs.RangeLemmas.{range_once}
+use Rattle.wasmi_machine.proofs.TableEffectsLemmas.{table_growth}
 use Rattle.wasmi_machine.specs.Determinism.{IsNotOutOfMemory, AreNotOutOfMemory, IsDeterministic, IsOtherFailure, never_out_of_memory}
 use Rattle.wasmi_machine.specs.MemoryEffects.{CreatesLent, spare_after, byte_write_of}
 use Rattle.wasmi_machine.specs.Effects.{ActsMetered, ActsMeteredUnasked, Asks, Changes, Creates, OnlyReplies, reply_of}
@@ -25,9 +26,9 @@ use Rattle.wasmi_meter.specs.declared.error.MemoryError.{MemoryError}
 use Rattle.wasmi_meter.specs.declared.error.TableError.{TableError}
 use Rattle.wasmi_store.proofs.GrowthLemmas.{on_test}
 use Rattle.wasmi_store.specs.Buffer.{LacksMemory, Lent, Owned, Room}
-use Rattle.wasmi_store.specs.Growth.{Grows, Growth, Makes}
-use Rattle.wasmi_store.specs.Memory.{GrowsMemoryCharging, MakesMemory, MemoryValue, new_memory, pages_of, MemoryTypeValue}
-use Rattle.wasmi_store.specs.Table.{GrowsTableCharging, MakesTable, TableValue, new_table, size_of, same_type}
+use Rattle.wasmi_store.specs.Growth.{Grows, Growth, Makes, metered_value, metered}
+use Rattle.wasmi_store.specs.Memory.{GrowsMemoryCharging, MakesMemory, MemoryValue, new_memory, MemoryTypeValue}
+use Rattle.wasmi_store.specs.Table.{GrowsTableCharging, MakesTable, TableValue, new_table, same_type}
 use Rattle.wasmi_typed.specs.declared.typed_ref.TypedRawRef.{TypedRawRef}
 use Rattle.wasmi_store.specs.Memory as memory
 use Rattle.wasmi_machine.specs.declared.calls.Reply.TheVariants as replied
@@ -211,7 +212,7 @@ module _ {S : Type 0} (w : World S) (t t' : Turn) (v v' : World S) where
       -- turns with a charge
       paid_unique : {Relation : MeteredValue A S → Reply → ℕ → MeteredValue A S → Type 0}
           → ActsMetered w t v old with_part Relation bytes → ActsMetered w t' v' old with_part Relation bytes
-          → HasOneEnding (Relation (record { value = old; meter = Some w.state.meter; limiter = w.limiter })) → Same
+          → HasOneEnding (Relation (metered_value old (Some w.state.meter) w.limiter)) → Same
       paid_unique step step' once =
           let same =
           once (acted t step.part step.meter step.limiter) (acted t' step'.part step'.meter step'.limiter) step.effect
@@ -231,7 +232,7 @@ module _ {S : Type 0} (w : World S) (t t' : Turn) (v v' : World S) where
       unasked_unique : {Relation : MeteredValue A (Unit {0}) → Reply → ℕ → MeteredValue A (Unit {0}) → Type 0}
           → ActsMeteredUnasked w t v old with_part Relation bytes
           → ActsMeteredUnasked w t' v' old with_part Relation bytes
-          → HasOneEnding (Relation (record { value = old; meter = Some w.state.meter; limiter = tt })) → Same
+          → HasOneEnding (Relation (metered old (Some w.state.meter))) → Same
       unasked_unique step step' once =
           let same =
           once (acted t step.part step.meter tt) (acted t' step'.part step'.meter tt) step.effect step'.effect in
@@ -261,8 +262,7 @@ table_growth_same {rules = rules} once n init s result result' charge charge' s'
         → MatchBool same (table.GrowsTableRawCharging (never_out_of_memory rules) n init.raw s result' charge' s'')
         ((result' ≡ Err TableError.ElementTypeMismatch) × (charge' ≡ 0) × (s'' ≡ s))
         → (result ≡ result') × (charge ≡ charge') × (s' ≡ s'')
-    by_type true h h' = grows_same once
-        (record { amount = n; size = size_of s.value; request = table.growth_of s.value n init.raw })
+    by_type true h h' = grows_same once (table_growth n init.raw s.value)
         (record { wants = λ cause lacks. table_wants cause lacks.0 }) s result result' charge charge' s' s'' h h'
     by_type false h h' = (h.0 ∙ sym h'.0, h.1 ∙ sym h'.1, h.2 ∙ sym h'.2)
 
@@ -284,8 +284,7 @@ module _ {S : Type 0} (rules : Rules S) (once : IsDeterministic rules) (w : Worl
       made_unique w t t' v v' step step' room room' (lent_same once ty (memory_part w.state) w.limiter)
   effect_same (MemoryGrown k pages) step step' =
       paid_unique w t t' v v' step step' (acts_same (GrowsMemoryCharging (never_out_of_memory rules) pages)
-      (λ s. grows_same once
-      (record { amount = pages; size = pages_of s.value; request = memory.growth_of s.value pages })
+      (λ s. grows_same once (memory_growth pages s.value)
       (record { wants = memory_wants s.value.room }) s) k (reply_of replied.Number replied.Memory) _)
   effect_same (TableMade ty init) step step' = made_unique w t t' v v' step step' room room'
       (creates_same replied.Table (MakesTable (never_out_of_memory rules) ty init)

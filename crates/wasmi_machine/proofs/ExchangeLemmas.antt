@@ -18,7 +18,7 @@ use Rattle.wasmi_machine.specs.MemoryEffects.{CreatesLent}
 use Rattle.wasmi_machine.specs.Effects.{ActsAt, AddsEntry, Creates, OnLive, reply_of}
 use Rattle.wasmi_machine.specs.State.{MemoryPart, State, live_at, memory_part, byte_count, sizes, slot_count, IsRefusal, Turn, World}
 use Rattle.wasmi_machine.specs.Steps.{Changed, Effect, FuelSet, LentMemoryMade, MemoryGrown, MemoryMade, RangeWritten, Step, TableGrown, TableMade, HasEffect, effect_of}
-use Rattle.wasmi_store.specs.Growth.{Grows, Growth, Makes}
+use Rattle.wasmi_store.specs.Growth.{Grows, Growth, Makes, metered_value}
 use Rattle.wasmi_machine.specs.declared.calls.Call.{Call}
 use Rattle.wasmi_machine.specs.declared.calls.Call.TheVariants.{GrowMemory, GrowTable, NewLentMemory, NewMemory, NewTable}
 use Rattle.wasmi_machine.specs.declared.calls.Reply.{Reply}
@@ -32,9 +32,11 @@ use Rattle.wasmi_meter.specs.declared.error.TableError.{TableError}
 use Rattle.wasmi_meter.specs.declared.limiter.Kind.{Kind}
 use Rattle.wasmi_meter.specs.declared.limiter.Kind.TheVariants.{Bytes, Elements}
 use Rattle.wasmi_store.specs.Buffer.{LacksMemory, Lent, Owned, Room, fits_room}
-use Rattle.wasmi_store.specs.Memory.{GrowsMemoryCharging, MakesMemory, MemoryValue, new_memory, pages_of, MemoryTypeValue, minimum_bytes, page_bytes}
+use Rattle.wasmi_store.specs.Memory.{GrowsMemoryCharging, MakesMemory, MemoryValue, new_memory, MemoryTypeValue, minimum_bytes, page_bytes}
 use Rattle.wasmi_store.specs.Table.{GrowsTableCharging, MakesTable, TableValue, new_table, size_of, TableTypeValue, is_within_maximum, same_type}
 use Rattle.wasmi_typed.specs.declared.typed_ref.TypedRawRef.{TypedRawRef}
+use Rattle.wasmi_machine.proofs.MemoryEffectsLemmas.{memory_growth}
+use Rattle.wasmi_machine.proofs.TableEffectsLemmas.{table_growth}
 use Rattle.wasmi_store.specs.Memory as memory
 use Rattle.wasmi_store.specs.Table as table
 use Rattle.wasmi_machine.specs.declared.calls.Reply.TheVariants as replied
@@ -360,9 +362,8 @@ module _ {S X : Type 0} (rules : Rules S) (v : Watch S X) where
 
     -- the exchange of a growth
     grows_passes : (m' : Meter) (result : Result ℕ E) → IsReplied v g growth.refusal result
-        → Grows rules g (record { value = x; meter = Some v.meeting.meter; limiter = v.meeting.first }) result
-        v.meeting.charge (record { value = x'; meter = Some m'; limiter = v.meeting.last })
-        → Passed rules v.meeting (At k)
+        → Grows rules g (metered_value x (Some v.meeting.meter) v.meeting.first) result
+        v.meeting.charge (metered_value x' (Some m') v.meeting.last) → Passed rules v.meeting (At k)
     grows_passes m' result is (inl none) = kept_passes g.request.question.kind watched (At k)
         (inl (is.asks ∙ ap (λ n. growth_question n g.request) none.none))
         (ap (λ (s : MeteredValue X S). s.limiter) none.same)
@@ -383,11 +384,10 @@ module _ {S X : Type 0} (rules : Rules S) (v : Watch S X) where
       → v.meeting.question ≡ option_and_then asked (live_at v.slots k) → (reply_to : R → Reply)
       (Acts : MeteredValue X S → R → ℕ → MeteredValue X S → Type 0) (m' : Meter)
       → ((x x' : X) (result : R) → Replaced v k x x' → v.meeting.question ≡ asked x → v.meeting.reply ≡ reply_to result
-      → Acts (record { value = x; meter = Some v.meeting.meter; limiter = v.meeting.first }) result v.meeting.charge
-      (record { value = x'; meter = Some m'; limiter = v.meeting.last }) → Passed rules v.meeting (At k))
-      → ActsAt k reply_to Acts (record { value = v.slots; meter = Some v.meeting.meter; limiter = v.meeting.first })
-      v.meeting.reply v.meeting.charge (record { value = v.later; meter = Some m'; limiter = v.meeting.last })
-      → Passed rules v.meeting (At k)
+      → Acts (metered_value x (Some v.meeting.meter) v.meeting.first) result v.meeting.charge
+      (metered_value x' (Some m') v.meeting.last) → Passed rules v.meeting (At k))
+      → ActsAt k reply_to Acts (metered_value v.slots (Some v.meeting.meter) v.meeting.first)
+      v.meeting.reply v.meeting.charge (metered_value v.later (Some m') v.meeting.last) → Passed rules v.meeting (At k)
   acts_pass kind watched k asked is reply_to Acts m' passes acts = on_found (live_at v.slots k) _ _ acts
       (λ none missing. kept_passes kind watched (At k) (inl (is ∙ ap (option_and_then asked) none))
       (ap (λ (s : MeteredValue (List (Slot X)) S). s.limiter) missing.2)
@@ -444,7 +444,8 @@ new_table_is ty init = record {
 }
 
 -- a late cause that a test decides
-late_is : {E : Type 0} (fits : Bool) (late cause : E) → (if fits then None else Some late) ≡ Some cause → late ≡ cause
+pub late_is : {E : Type 0} (fits : Bool) (late cause : E) → (if fits then None else Some late) ≡ Some cause
+    → late ≡ cause
 late_is true late cause is = absurd (none-some cause is)
 late_is false late cause is = same_Some late cause is
 
@@ -463,10 +464,6 @@ memory_priced pages x m = record {
   unpaid = λ due price. refl;
   refuses = memory_wanted x.room;
 }
-
--- the growth of a memory by so many pages
-abbrev memory_growth : ℕ → MemoryValue → Growth MemoryValue MemoryError
-memory_growth pages x = record { amount = pages; size = pages_of x; request = memory.growth_of x pages }
 
 -- the growth of a memory is one of its bytes
 memory_growth_is : (pages : ℕ) (x : MemoryValue) (m : Meter) → IsGrowthOf byte_count x m (memory_growth pages x)
@@ -492,10 +489,6 @@ table_priced n reference x m = record {
   unpaid = λ due price. refl;
   refuses = λ cause wants price. subst (λ c. failed_charge (TableFailure c) price ≡ price) (sym wants.0) refl;
 }
-
--- the growth of a table by so many elements
-abbrev table_growth : ℕ → ℕ → TableValue → Growth TableValue TableError
-table_growth n reference x = record { amount = n; size = size_of x; request = table.growth_of x n reference }
 
 -- the growth of a table is one of its elements
 table_growth_is : (n reference : ℕ) (x : TableValue) (m : Meter) → IsGrowthOf size_of x m (table_growth n reference x)
@@ -600,8 +593,8 @@ module _ {S : Type 0} (rules : Rules S) (w : World S) (turn : Turn) (w' : World 
   -- a memory grows
   memory_grows : w'.state.tables ≡ w.state.tables → (k pages : ℕ) (m' : Meter)
       → ActsAt k (reply_of replied.Number replied.Memory) (GrowsMemoryCharging rules pages)
-      (record { value = w.state.memories; meter = Some w.state.meter; limiter = w.limiter }) turn.reply turn.charge
-      (record { value = w'.state.memories; meter = Some m'; limiter = w'.limiter })
+      (metered_value w.state.memories (Some w.state.meter) w.limiter) turn.reply turn.charge
+      (metered_value w'.state.memories (Some m') w'.limiter)
       → Passed rules (meeting_of w turn (question_of w.state (GrowMemory k pages)) w') (At k)
   unfolding memory_growth_is
   memory_grows same k pages m' acts =
@@ -616,8 +609,8 @@ module _ {S : Type 0} (rules : Rules S) (w : World S) (turn : Turn) (w' : World 
   -- a table grows, if what it is filled with has its type
   table_grows : w'.state.memories ≡ w.state.memories → (k n : ℕ) (init : TypedRawRef) (m' : Meter)
       → ActsAt k (reply_of replied.Number replied.Table) (GrowsTableCharging rules n init)
-      (record { value = w.state.tables; meter = Some w.state.meter; limiter = w.limiter }) turn.reply turn.charge
-      (record { value = w'.state.tables; meter = Some m'; limiter = w'.limiter })
+      (metered_value w.state.tables (Some w.state.meter) w.limiter) turn.reply turn.charge
+      (metered_value w'.state.tables (Some m') w'.limiter)
       → Passed rules (meeting_of w turn (question_of w.state (GrowTable k n init)) w') (At k)
   unfolding table_growth_is
   table_grows same k n init m' acts =

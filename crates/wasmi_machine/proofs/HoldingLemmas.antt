@@ -17,7 +17,7 @@ use Rattle.wasmi_meter.specs.declared.quota.Quota.{Quota}
 use Rattle.wasmi_meter.proofs.CappedLemmas.{caps_kept, asked_is_within, noticed_is_within, quota_keeps}
 
 -- a denial keeps the holdings
-denial_keeps : (q : Question) (answer : Answer) (h h' : Holdings) → IsDenial answer → Reserves q answer h h'
+pub denial_keeps : (q : Question) (answer : Answer) (h h' : Holdings) → IsDenial answer → Reserves q answer h h'
     → HoldsTheSame h h'
 denial_keeps q (Ok true) h h' denial reserves = absurd denial
 denial_keeps q (Ok false) h h' denial reserves = reserves
@@ -143,9 +143,8 @@ module _ {L : Type 0} (rules : Rules L) (holdings : L → Holdings) (keeps : Kee
       (world w'.state (Some w'.limiter)))
       → OnErr result ((w'.state ≡ w.state) × (w'.limiter ≡ w.limiter) × Same)
       → HoldsTotals (holdings w'.limiter) w'.state
-  run_into_holds Same replies w w' calls held (Ok done) ran same =
-      let after = totals_are_held w.state w.limiter held ran.0 (world w'.state (Some w'.limiter)) ran.3 in
-      subst (λ k. HoldsTotals (holdings k) w'.state) (sym (same_Some w'.limiter after.0 after.1)) after.2
+  run_into_holds {E} Same replies w w' calls held (Ok done) ran same =
+      run_holds {E = E} (λ _. replies) w w' calls held (Ok done) ran same
   run_into_holds Same replies w w' calls held (Err error) ran same = rw (same.0, same.1) held
 
 module _ {L : Type 0} (rules : Rules L) (Kept : L → Type 0)

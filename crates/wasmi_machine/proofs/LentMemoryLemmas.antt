@@ -24,7 +24,7 @@ use Rattle.wasmi_meter.specs.Attempt.{Attempt, Denied, Request, Failed, AttemptO
 use Rattle.wasmi_meter.specs.Limiter.{Rules}
 use Rattle.wasmi_meter.specs.Meter.{Meter, meter_after}
 use Rattle.wasmi_meter.specs.declared.error.MemoryError.{MemoryError}
-use Rattle.wasmi_store.specs.Growth.{IsDenied, metered}
+use Rattle.wasmi_store.specs.Growth.{IsDenied, metered, metered_value}
 use Rattle.wasmi_store.specs.Write.{Writes, item_price, write_charge}
 use Rattle.wasmi_store.specs.Buffer.{LacksMemory, Lent, Owned, Room, fits_room}
 use Rattle.wasmi_store.specs.Memory.{GrowsMemory, GrowsMemoryCharging, MakesMemory, MemoryValue, MemoryWrite, WritesMemory, bytes_write, new_memory, pages_of, MemoryTypeValue, in_bounds, minimum_bytes, page_bytes}
@@ -434,8 +434,8 @@ module _ {S : Type 0} (rules : Rules S) (w : World S) (turn : Turn) (w' : World 
       (slots_used w.state turn.reply step.room) (ap owned_world step.after)
   effect_owned (LentMemoryMade ty) fits step = absurd fits
   effect_owned (MemoryGrown k pages) fits step = acts_too step (map owned_slot step.part) step.meter
-      (growth_owned rules k pages (record { value = w.state.memories; meter = Some w.state.meter; limiter = w.limiter })
-      (record { value = step.part; meter = Some step.meter; limiter = step.limiter }) turn.reply turn.charge fits
+      (growth_owned rules k pages (metered_value w.state.memories (Some w.state.meter) w.limiter)
+      (metered_value step.part (Some step.meter) step.limiter) turn.reply turn.charge fits
       step.effect) (made_owned w.state.memories k (λ o. bytes_appended o pages turn.reply) (λ x. refl))
       (ap owned_world step.after)
   effect_owned (TableMade ty init) fits step =

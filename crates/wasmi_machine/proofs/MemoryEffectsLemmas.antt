@@ -18,6 +18,7 @@ use Rattle.wasmi_meter.specs.Limiter.{Rules}
 use Rattle.wasmi_meter.specs.declared.error.MemoryError.{MemoryError}
 use Rattle.wasmi_store.specs.Buffer.{Lent}
 use Rattle.wasmi_store.specs.Memory.{GrowsMemoryCharging, IsValidMemory, MakesMemory, MemoryValue, WritesMemory, pages_of, MemoryTypeValue}
+use Rattle.wasmi_store.specs.Growth.{Growth}
 use Rattle.wasmi_types.specs.Access.{at, overwrite}
 use Rattle.wasmi_types.specs.declared.trap.TrapCode.{TrapCode}
 use Rattle.wasmi_store.specs.Memory as memory
@@ -75,6 +76,10 @@ pub lent_spare : {S : Type 0} (rules : Rules S) (ty : MemoryTypeValue) (part : M
     → part'.spare ≡ spare_after reply part.spare
 lent_spare rules ty part l reply part' l' creates = spare_by rules ty part l reply part' l' part.spare refl creates
 
+-- the growth of a memory by so many pages
+abbrev pub memory_growth : ℕ → MemoryValue → Growth MemoryValue MemoryError
+memory_growth pages x = record { amount = pages; size = pages_of x; request = memory.growth_of x pages }
+
 -- a refused growth leaves the slots
 pub memory_growth_back : {S : Type 0} (rules : Rules S) (k pages : ℕ) (s s' : MeteredValue (List (Slot MemoryValue)) S)
     (reply : Reply) (charge : ℕ) → IsRefusal reply
@@ -82,8 +87,7 @@ pub memory_growth_back : {S : Type 0} (rules : Rules S) (k pages : ℕ) (s s' : 
     → s'.value ≡ s.value
 memory_growth_back {S} rules k pages s s' reply charge refused acts = on_live (live_at s.value k) _ _ acts
     (λ missing. ap (λ (s : MeteredValue (List (Slot MemoryValue)) S). s.value) missing.2)
-    (λ x found a. a.4 ∙ put_back s.value k x a.1 found
-    (grows_back replied.Memory rules (record { amount = pages; size = pages_of x; request = memory.growth_of x pages })
+    (λ x found a. a.4 ∙ put_back s.value k x a.1 found (grows_back replied.Memory rules (memory_growth pages x)
     (with_value s x) (with_value s' a.1) charge a.0 (rw a.3 at refused) a.2))
 
 -- a refused write leaves the slots

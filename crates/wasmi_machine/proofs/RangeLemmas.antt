@@ -1,10 +1,10 @@
 -- What holds of each write over a range of one part of the state: it is refused, and nothing has changed, or it is paid for.
-use Rattle.std.proofs.Common.{List, None, Option, Result, Some, ap, inl, inr, refl, replicate, subst, sym, true, false, Bool, ℕ, arith, ◌∙◌, ◌≡◌, ◌≤◌, ◌⊎◌, set, length, ◌<◌, ◌≢◌}
+use Rattle.std.proofs.Common.{List, None, Option, Result, Some, ap, inl, inr, refl, replicate, subst, sym, true, false, Bool, ℕ, arith, ◌∙◌, ◌≡◌, ◌≤◌, ◌⊎◌, length, ◌≢◌}
 use Rattle.std.proofs.lemmas.Bool.Decides.{nat_tests}
 use Rattle.std.proofs.lemmas.Option.{none-some, same_Some}
 use Rattle.std.proofs.lemmas.List.{set-set}
 use Rattle.std.specs.Option.{option_and_then, option_map}
-use Rattle.std.specs.Prelude.{nat_eq, nat_le, slice_set, if◌then◌else◌, slice_get}
+use Rattle.std.specs.Prelude.{nat_eq, nat_le, slice_set, if◌then◌else◌}
 use Rattle.wasmi_types.specs.Access.{at, overwrite}
 use Rattle.wasmi_meter.specs.declared.error.MemoryError.{MemoryError}
 use Rattle.wasmi_meter.specs.declared.error.MemoryError.TheVariants as memory_error
@@ -133,16 +133,6 @@ module _ {X E : Type 0} (refusal : E → Reply) (write : X → X → MeteredWrit
   beside : live_at rest from ≡ live_at slots from
   beside = ap (option_and_then live_value) (set_other slots into from (Gone 0) (λ same. other (sym same)))
 
-  -- there was nothing
-  pub none_taken : live_at slots into ≡ None
-      → WritesFrom refusal (live_at slots from) into write (metered slots m) replied.NoSuch 0 (metered slots m)
-  none_taken none = by_source (live_at slots from)
-    where
-      by_source : (source : Option X)
-          → WritesFrom refusal source into write (metered slots m) replied.NoSuch 0 (metered slots m)
-      by_source None = (refl, refl, refl)
-      by_source (Some y) = rw none (refl, refl, refl)
-
   module _ (x : X) (found : live_at slots into ≡ Some x) (x' : X) (slots' : List (Slot X))
       (put : slots' ≡ slice_set rest into (Live x')) where
     -- it is put back as it was, where there is no source
@@ -173,15 +163,15 @@ pub record IsRange {X E : Type 0} (Keeps : X → X → Type 0) (price : Option (
   pub unpaid_is : (x : X) → (write x).unpaid ≡ unpaid
 
 -- what a write keeps of a value, also where it is refused
-pub value_kept : {X E : Type 0} {Keeps : X → X → Type 0} {price : Option (CustomFuelCosts → ℕ)} {unpaid : ℕ → E}
-    (write : X → MeteredWrite X E) → IsRange Keeps price unpaid write → ((x : X) → Keeps x x)
+pub value_kept : {X E : Type 0} (Keeps : X → X → Type 0) (write : X → MeteredWrite X E)
+    → ((x x' : X) → (write x).written ≡ Some x' → Keeps x x') → ((x : X) → Keeps x x)
     → (s : MeteredValue X (Unit {0})) (result : Result (Unit {0}) E) (charge : ℕ) (s' : MeteredValue X (Unit {0}))
     → WritesCharging write s result charge s' → Keeps s.value s'.value
-value_kept {X = X} {Keeps = Keeps} write is same s result charge s' writes =
+value_kept {X = X} Keeps write keeps same s result charge s' writes =
     elim (write_ends write s result charge s' writes) [
       | inl r ↦ subst (Keeps s.value) (sym (ap (λ (t : MeteredValue X (Unit {0})). t.value) r.same)) (same s.value)
       | inr p ↦ subst (Keeps s.value) (sym (ap (λ (t : MeteredValue X (Unit {0})). t.value) p.after))
-          (is.keeps s.value p.value p.written)
+          (keeps s.value p.value p.written)
     ]
 
 -- so many bytes are written, each of which is paid for

@@ -27,6 +27,7 @@ use Rattle.wasmi_meter.specs.declared.fuel.FuelError.TheVariants.{FuelMeteringDi
 use Rattle.wasmi_store.specs.Buffer.{Owned}
 use Rattle.wasmi_store.specs.Memory.{MakesMemory}
 use Rattle.wasmi_store.specs.Table.{MakesTable}
+use Rattle.wasmi_store.specs.Growth.{metered_value}
 use Rattle.wasmi_machine.specs.declared.calls.Reply.TheVariants as replied
 
 -- the spare region stays, unless the effect makes a memory in it
@@ -91,19 +92,15 @@ module _ {S : Type 0} (rules : Rules S) (w : World S) (turn : Turn) (w' : World 
   )
   effect_back (MemoryGrown k pages) step = paid w w' step.meter step.after
       (ap (λ part. let s : State = record (with_memories w.state part) { meter = step.meter } in s)
-      (memory_growth_back rules k pages
-      (record { value = w.state.memories; meter = Some w.state.meter; limiter = w.limiter })
-      (record { value = step.part; meter = Some step.meter; limiter = step.limiter }) turn.reply turn.charge refused
-      step.effect))
+      (memory_growth_back rules k pages (metered_value w.state.memories (Some w.state.meter) w.limiter)
+      (metered_value step.part (Some step.meter) step.limiter) turn.reply turn.charge refused step.effect))
   effect_back (TableMade ty init) step = kept w w' step.after
       (ap (with_tables w.state) (creates_back replied.Table (MakesTable rules ty init) w.state.tables w.limiter
       turn.reply step.part step.limiter refused step.effect))
   effect_back (TableGrown k n init) step = paid w w' step.meter step.after
       (ap (λ part. let s : State = record (with_tables w.state part) { meter = step.meter } in s)
-      (table_growth_back rules k n init
-      (record { value = w.state.tables; meter = Some w.state.meter; limiter = w.limiter })
-      (record { value = step.part; meter = Some step.meter; limiter = step.limiter }) turn.reply turn.charge refused
-      step.effect))
+      (table_growth_back rules k n init (metered_value w.state.tables (Some w.state.meter) w.limiter)
+      (metered_value step.part (Some step.meter) step.limiter) turn.reply turn.charge refused step.effect))
   effect_back (RangeWritten write) step = kept w w' (range_back w write turn w' step refused) refl
   effect_back effect step = kept w w' step.after refl
 
@@ -208,16 +205,7 @@ same_twice s t u first second = record {
 -- a run in which each turn is refused
 pub refused_run_keeps_contents : {S : Type 0} (rules : Rules S) (w : World S) (turns : List Turn) (w' : World S)
     → Run rules w turns w' → All IsRefusal (map Turn.reply turns) → SameContents w.state w'.state
-refused_run_keeps_contents rules w [] w' ran refused =
-    rw ran (record {
-      memories = refl;
-      tables = refl;
-      segments = refl;
-      data_segments = refl;
-      globals = refl;
-      registers = refl;
-      reserved = refl;
-    })
+refused_run_keeps_contents rules w [] w' ran refused = (kept w w' ran refl).0
 refused_run_keeps_contents rules w (turn ∷ turns) w' (v, step, ran) refused =
     let first = (refusals_keep_contents rules w turn v step
     (All-head IsRefusal turn.reply (map Turn.reply turns) refused)).contents in

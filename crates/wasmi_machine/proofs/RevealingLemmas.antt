@@ -15,12 +15,14 @@ use Rattle.wasmi_meter.specs.Attempt.{Attempt, Denied, Request, Failed, AttemptO
 use Rattle.wasmi_meter.specs.Limiter.{Rules}
 use Rattle.wasmi_meter.specs.declared.error.TableError.{TableError}
 use Rattle.wasmi_store.specs.Buffer.{Lent, Owned, Room}
-use Rattle.wasmi_store.specs.Growth.{Grows, Growth, Makes}
-use Rattle.wasmi_store.specs.Memory.{GrowsMemoryCharging, MemoryValue, new_memory, pages_of, MemoryTypeValue}
-use Rattle.wasmi_store.specs.Table.{GrowsTableCharging, TableValue, new_table, size_of, TableTypeValue, same_type}
+use Rattle.wasmi_store.specs.Growth.{Grows, Growth, Makes, metered_value}
+use Rattle.wasmi_store.specs.Memory.{GrowsMemoryCharging, MemoryValue, new_memory, MemoryTypeValue}
+use Rattle.wasmi_store.specs.Table.{GrowsTableCharging, TableValue, new_table, TableTypeValue, same_type}
 use Rattle.wasmi_typed.specs.declared.typed_ref.TypedRawRef.{TypedRawRef}
 use Rattle.wasmi_types.specs.declared.value.RefType.{RefType}
 use Rattle.wasmi_machine.specs.Determinism.{permitting, TellsNoDenial}
+use Rattle.wasmi_machine.proofs.MemoryEffectsLemmas.{memory_growth}
+use Rattle.wasmi_machine.proofs.TableEffectsLemmas.{table_growth}
 use Rattle.wasmi_store.specs.Memory as memory
 use Rattle.wasmi_machine.specs.declared.calls.Reply.TheVariants as replied
 use Rattle.wasmi_store.specs.Table as table
@@ -131,8 +133,7 @@ module _ {S : Type 0} (n : Narrowing S) where
         → GrowsTableCharging n.rules delta init s result charge s'
         → GrowsTableCharging n.narrower delta init s result charge s'
     table_growth_revealed delta init s s' result charge within shows grows =
-        on_test_too (same_type s.value.ty.element init.ty) _ _ _ _ (grows_revealed
-        (record { amount = delta; size = size_of s.value; request = table.growth_of s.value delta init.raw })
+        on_test_too (same_type s.value.ty.element init.ty) _ _ _ _ (grows_revealed (table_growth delta init.raw s.value)
         replied.Table (each.table_grown s.value delta init.raw) s s' result charge within shows)
         (λ mismatch. mismatch) grows
 
@@ -148,9 +149,8 @@ module _ {S : Type 0} (n : Narrowing S) where
       pays_revealed : {A : Type 0} {old : A} {with_part : A → State}
           {Relation Relation' : MeteredValue A S → Reply → ℕ → MeteredValue A S → Type 0} {bytes : Reply → ℕ}
           (step : ActsMetered w turn w' old with_part Relation bytes)
-          → Relation' (record { value = old; meter = Some w.state.meter; limiter = w.limiter }) turn.reply turn.charge
-          (record { value = step.part; meter = Some step.meter; limiter = step.limiter })
-          → ActsMetered w turn w' old with_part Relation' bytes
+          → Relation' (metered_value old (Some w.state.meter) w.limiter) turn.reply turn.charge
+          (metered_value step.part (Some step.meter) step.limiter) → ActsMetered w turn w' old with_part Relation' bytes
       pays_revealed step effect = acts_too step step.part step.meter effect refl step.after
 
       -- where its reply shows it, an effect under the one rules is one under the others
@@ -169,9 +169,9 @@ module _ {S : Type 0} (n : Narrowing S) where
       effect_revealed (MemoryGrown k pages) step = pays_revealed step
           (acts_revealed k (reply_of replied.Number replied.Memory) (GrowsMemoryCharging n.rules pages)
           (GrowsMemoryCharging n.narrower pages) _ _ turn.reply turn.charge (λ x x' result is. grows_revealed
-          (record { amount = pages; size = pages_of x; request = memory.growth_of x pages }) replied.Memory
-          (each.memory_grown x pages) (record { value = x; meter = Some w.state.meter; limiter = w.limiter })
-          (record { value = x'; meter = Some step.meter; limiter = step.limiter }) result turn.charge within
+          (memory_growth pages x) replied.Memory
+          (each.memory_grown x pages) (metered_value x (Some w.state.meter) w.limiter)
+          (metered_value x' (Some step.meter) step.limiter) result turn.charge within
           (subst n.shown is shows)) step.effect)
       effect_revealed (TableMade ty init) step =
           asks_revealed step (creates_revealed replied.Table (table.creation_of ty init.ty) (each.table_made ty init.ty)
@@ -180,9 +180,8 @@ module _ {S : Type 0} (n : Narrowing S) where
       effect_revealed (TableGrown k delta init) step = pays_revealed step
           (acts_revealed k (reply_of replied.Number replied.Table) (GrowsTableCharging n.rules delta init)
           (GrowsTableCharging n.narrower delta init) _ _ turn.reply turn.charge
-          (λ x x' result is. table_growth_revealed delta init
-          (record { value = x; meter = Some w.state.meter; limiter = w.limiter })
-          (record { value = x'; meter = Some step.meter; limiter = step.limiter }) result turn.charge within
+          (λ x x' result is. table_growth_revealed delta init (metered_value x (Some w.state.meter) w.limiter)
+          (metered_value x' (Some step.meter) step.limiter) result turn.charge within
           (subst n.shown is shows)) step.effect)
       effect_revealed effect step = step
 

@@ -15,10 +15,15 @@ use Rattle.wasmi_meter.specs.declared.error.TableError.{TableError}
 use Rattle.wasmi_meter.specs.declared.error.TableError.TheVariants.{ElementTypeMismatch}
 use Rattle.wasmi_store.proofs.GrowthLemmas.{on_test}
 use Rattle.wasmi_store.specs.Table.{GrowsTableCharging, IsValidTable, SetsTable, SetsTableRaw, TableValue, size_of, same_type}
+use Rattle.wasmi_store.specs.Growth.{Growth}
 use Rattle.wasmi_typed.specs.declared.typed_ref.TypedRawRef.{TypedRawRef}
 use Rattle.wasmi_types.specs.Access.{overwrite}
 use Rattle.wasmi_machine.specs.declared.calls.Reply.TheVariants as replied
 use Rattle.wasmi_store.specs.Table as table
+
+-- the growth of a table by so many elements
+abbrev pub table_growth : ℕ → ℕ → TableValue → Growth TableValue TableError
+table_growth n reference x = record { amount = n; size = size_of x; request = table.growth_of x n reference }
 
 -- a refused growth leaves the slots
 pub table_growth_back : {S : Type 0} (rules : Rules S) (k n : ℕ) (init : TypedRawRef)
@@ -28,8 +33,7 @@ pub table_growth_back : {S : Type 0} (rules : Rules S) (k n : ℕ) (init : Typed
 table_growth_back {S} rules k n init s s' reply charge refused acts = on_live (live_at s.value k) _ _ acts
     (λ missing. ap (λ (s : MeteredValue (List (Slot TableValue)) S). s.value) missing.2)
     (λ x found a. a.4 ∙ put_back s.value k x a.1 found (on_test (same_type x.ty.element init.ty) _ _ a.2
-    (λ g. grows_back replied.Table rules
-    (record { amount = n; size = size_of x; request = table.growth_of x n init.raw })
+    (λ g. grows_back replied.Table rules (table_growth n init.raw x)
     (with_value s x) (with_value s' a.1) charge a.0 (rw a.3 at refused) g)
     (λ g. ap (λ (s : MeteredValue TableValue S). s.value) g.2)))
 

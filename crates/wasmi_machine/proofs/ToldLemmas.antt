@@ -95,7 +95,7 @@ all_have (turn ∷ turns) has = (
 )
 
 -- turns whose replies do not say out of memory do not either
-replies_have : (turns : List Turn) (replies : List Reply) → map Turn.reply turns ≡ replies
+pub replies_have : (turns : List Turn) (replies : List Reply) → map Turn.reply turns ≡ replies
     → All IsNotOutOfMemory replies → AreNotOutOfMemory turns
 replies_have turns replies is has = all_have turns (subst (All IsNotOutOfMemory) (sym is) has)
 

@@ -13,7 +13,7 @@ use Rattle.wasmi_machine.specs.declared.slots.SlotCounts.{SlotCounts}
 use Rattle.wasmi_machine.specs.declared.slots.Slot.TheVariants.{Live, Gone}
 use Rattle.wasmi_machine.proofs.SlotsLemmas.{set_read}
 use Rattle.wasmi_machine.specs.State.{State, live_at, live_value, slot_count, total, with_reserved}
-use Rattle.wasmi_machine.specs.Effects.{CopiesSlot, MeteredSlots, WritesFrom}
+use Rattle.wasmi_machine.specs.Effects.{CopiesSlot, WritesFrom}
 use Rattle.wasmi_store.specs.Growth.{metered}
 use Rattle.std.proofs.lemmas.List.Sums.{sum_by-set, sum_by_push}
 use Rattle.std.specs.Option.{option_and_then, option_map}
@@ -48,11 +48,9 @@ pub record Copying (X E : Type 0) : Type 0 where
 
 module _ {X E : Type 0} (copy : Copying X E) (reply : Reply) (charge : ℕ) (s' : MeteredValue (Slot X) (Unit {0})) where
   -- nothing is written to the slot, so the list stays
-  nothing_put : (slot : Slot X) → slice_get copy.slots copy.into ≡ Some slot
-      → s' ≡ record { value = slot; meter = Some copy.meter; limiter = tt }
+  nothing_put : (slot : Slot X) → slice_get copy.slots copy.into ≡ Some slot → s' ≡ metered slot (Some copy.meter)
       → (slots' : List (Slot X)) → slots' ≡ set copy.slots copy.into s'.value
-      → (let after : MeteredSlots X = record { value = slots'; meter = s'.meter; limiter = tt } in after)
-      ≡ metered copy.slots (Some copy.meter)
+      → metered slots' s'.meter ≡ metered copy.slots (Some copy.meter)
   nothing_put slot at_i same slots' put = λ k. record {
     value = (put ∙ ap (λ s. set copy.slots copy.into s.value) same ∙ set_read copy.slots copy.into slot at_i) k;
     meter = (same k).meter;
@@ -62,10 +60,10 @@ module _ {X E : Type 0} (copy : Copying X E) (reply : Reply) (charge : ℕ) (s' 
   -- a value is written over with what another slot has
   copies_at : (slot source : Slot X) → slice_get copy.slots copy.into ≡ Some slot
       → slice_get copy.slots copy.from ≡ Some source
-      → CopiesSlot copy.refusal copy.write source (record { value = slot; meter = Some copy.meter; limiter = tt }) reply charge s'
+      → CopiesSlot copy.refusal copy.write source (metered slot (Some copy.meter)) reply charge s'
       → (slots' : List (Slot X)) → slots' ≡ set copy.slots copy.into s'.value
       → WritesFrom copy.refusal (live_at copy.slots copy.from) copy.into copy.write
-      (metered copy.slots (Some copy.meter)) reply charge (record { value = slots'; meter = s'.meter; limiter = tt })
+      (metered copy.slots (Some copy.meter)) reply charge (metered slots' s'.meter)
   copies_at slot (Gone size) at_i at_j (replied, charged, same) slots' put =
       rw at_j (replied, charged, nothing_put slot at_i same slots' put)
   copies_at (Gone size) (Live y) at_i at_j (replied, charged, same) slots' put =
@@ -78,10 +76,9 @@ module _ {X E : Type 0} (copy : Copying X E) (reply : Reply) (charge : ℕ) (s' 
   pub copies_forward : (front back : List (Slot X)) → IsSplit copy.slots front back copy.from
       → (slot source : Slot X) → copy.into < copy.from → copy.from < length copy.slots
       → CopiesSlot copy.refusal copy.write (get_or back 0 source)
-      (record { value = get_or front copy.into slot; meter = Some copy.meter; limiter = tt }) reply charge s'
+      (metered (get_or front copy.into slot) (Some copy.meter)) reply charge s'
       → WritesFrom copy.refusal (live_at copy.slots copy.from) copy.into copy.write
-      (metered copy.slots (Some copy.meter)) reply charge
-      (record { value = set front copy.into s'.value ++ back; meter = s'.meter; limiter = tt })
+      (metered copy.slots (Some copy.meter)) reply charge (metered (set front copy.into s'.value ++ back) s'.meter)
   copies_forward front back split slot source before within copied =
       copies_at _ _ (in_front copy.slots front back _ split copy.into slot before (omega (arith, before, within)))
       (in_back copy.slots front back _ split source within) copied _
@@ -92,10 +89,9 @@ module _ {X E : Type 0} (copy : Copying X E) (reply : Reply) (charge : ℕ) (s' 
   pub copies_backward : (front back : List (Slot X)) → IsSplit copy.slots front back copy.into
       → (slot source : Slot X) → copy.from < copy.into → copy.into < length copy.slots
       → CopiesSlot copy.refusal copy.write (get_or front copy.from source)
-      (record { value = get_or back 0 slot; meter = Some copy.meter; limiter = tt }) reply charge s'
+      (metered (get_or back 0 slot) (Some copy.meter)) reply charge s'
       → WritesFrom copy.refusal (live_at copy.slots copy.from) copy.into copy.write
-      (metered copy.slots (Some copy.meter)) reply charge
-      (record { value = front ++ set back 0 s'.value; meter = s'.meter; limiter = tt })
+      (metered copy.slots (Some copy.meter)) reply charge (metered (front ++ set back 0 s'.value) s'.meter)
   copies_backward front back split slot source after within copied =
       copies_at _ _ (in_back copy.slots front back _ split slot within)
       (in_front copy.slots front back _ split copy.from source after (omega (arith, after, within))) copied _

@@ -94,7 +94,7 @@ segments_same Lacks ty items segments reply reply' segments' segments'' room roo
     (subst (λ r. AddsEntry (λ x. x) replied.Segment r segments reply' segments'') (sym made) appends')
 
 -- no global is variable and constant
-var_const : (m : Mutability) → m ≡ Var → m ≡ Const → ⊥
+pub var_const : (m : Mutability) → m ≡ Var → m ≡ Const → ⊥
 var_const m var const = let clash : Var ≡ Const = sym var ∙ const in absurd cc
 
 -- two calls that set a global

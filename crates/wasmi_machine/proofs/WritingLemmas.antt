@@ -30,11 +30,11 @@ use Rattle.wasmi_meter.specs.declared.error.TableError.{TableError}
 use Rattle.wasmi_meter.specs.declared.fuel.CustomFuelCosts.{CustomFuelCosts}
 use Rattle.wasmi_store.proofs.GrowthLemmas.{on_test}
 use Rattle.wasmi_store.specs.Memory.{GrowsMemoryCharging, MemoryValue, pages_of, greatest_pages, in_bounds, page_bytes}
-use Rattle.wasmi_store.specs.Table.{GrowsTableCharging, TableValue, size_of, same_type}
+use Rattle.wasmi_store.specs.Table.{GrowsTableCharging, TableValue, same_type}
 use Rattle.wasmi_typed.specs.declared.typed_ref.TypedRawRef.{TypedRawRef}
-use Rattle.wasmi_store.specs.Memory as memory
+use Rattle.wasmi_machine.proofs.MemoryEffectsLemmas.{memory_growth}
+use Rattle.wasmi_machine.proofs.TableEffectsLemmas.{table_growth}
 use Rattle.wasmi_machine.specs.declared.calls.Reply.TheVariants as replied
-use Rattle.wasmi_store.specs.Table as table
 
 -- the bytes that a fuel pays for
 abbrev rate : Meter → ℕ
@@ -170,14 +170,14 @@ added_fits b c x pages inside =
     omega (arith, below, split)
 
 -- a test that holds where no cause comes early
-early_none : (test : Bool) (cause : MemoryError) → (if test then None else Some cause) ≡ None → test ≡ true
+pub early_none : {E : Type 0} (test : Bool) (cause : E) → (if test then None else Some cause) ≡ None → test ≡ true
 early_none true cause is = refl
 early_none false cause is = absurd cc
 
 module _ {S : Type 0} (rules : Rules S) (pages : ℕ) (t : Growing MemoryValue S) where
   -- the growth
   abbrev growth : Growth MemoryValue MemoryError
-  growth = record { amount = pages; size = pages_of t.first.value; request = memory.growth_of t.first.value pages }
+  growth = memory_growth pages t.first.value
 
   -- its charge pays for its bytes
   memory_bound : (left : ℕ) → t.first.meter.left ≡ Some left → 0 < rate t.first.meter → growth.request.early ≡ None
@@ -224,19 +224,14 @@ memory_growth_writes {S} rules k pages t reply acts = on_live (live_at t.first.v
 
 -- a growth of a table
 module _ {S : Type 0} (rules : Rules S) (n reference : ℕ) (t : Growing TableValue S) where
-  -- the growth
-  abbrev table_growth : Growth TableValue TableError
-  table_growth =
-      record { amount = n; size = size_of t.first.value; request = table.growth_of t.first.value n reference }
-
   -- what it has written, by its result
-  table_result : (result : Result ℕ TableError) → Grown rules table_growth t result
+  table_result : (result : Result ℕ TableError) → Grown rules (table_growth n reference t.first.value) t result
       → Wrote t.first.meter t.charge (element_bytes n (reply_of replied.Number replied.Table result))
       (is_accepted (reply_of replied.Number replied.Table result)) 0 t.last.meter
-  table_result (Ok size) grows =
-      growth_pays rules table_growth t (cut_product n 4) (λ none. ap (λ k. cut_product k 4) none ∙ omega arith)
+  table_result (Ok size) grows = growth_pays rules (table_growth n reference t.first.value) t (cut_product n 4)
+      (λ none. ap (λ k. cut_product k 4) none ∙ omega arith)
       (λ left on rated early charged. due_pays t.first.meter left n 4 t.charge on rated charged) size grows
-  table_result (Err error) grows = growth_refuses rules table_growth t error grows
+  table_result (Err error) grows = growth_refuses rules (table_growth n reference t.first.value) t error grows
 
 -- a growth of the table of an index
 table_growth_writes : {S : Type 0} (rules : Rules S) (k n : ℕ) (init : TypedRawRef)

@@ -6,6 +6,7 @@ use Rattle.wasmi_scalar.specs.Numerics.{GivesNumber, amount_modulo, ishl, rotate
 use Rattle.std.specs.Int.{w64, w128, cast_unsigned, Width, cast_signed, int_wrap, int_shl, int_rem_euclid, rotate_left, rotate_right}
 use Rattle.std.proofs.lemmas.Int.{ints, to_z-of_z, int_rem_euclid_is, wrapping_add_is, wrapping_sub_is}
 use mir.Val.{SFits, bits, hbits}
+use mir.ValLaws.{of_z_fits}
 use Rattle.std.specs.Int.RustNames.{unsigned_abs}
 use Rattle.std.proofs.lemmas.Nat.{mod_below, or_shifted, or_comm, mod-pow-add, shl-shr, shr_below, pow_pos}
 use Rattle.std.proofs.Math.Nat.{mul-mod_left, sub-zero, mod_self, div-eq_of_lt}
@@ -96,11 +97,6 @@ right_by b n (suc j) h l =
     ∙ parts_apart b n (b - suc j) (suc j) h (omega (arith, l))
     ∙ sym (ap (λ m. n * 2 ^ (b - suc j) % 2 ^ b + n / 2 ^ m) back)
 
--- the unsigned image of a signed number is below 2 to the power of the width
-image_below : (w : Width) (z : ℤ) → 2 ^ hbits w ≤ 2 ^ bits w → SFits w z → cast_unsigned w z < 2 ^ bits w
-image_below w (pos n) le f = omega (arith, le, f.sfits)
-image_below w (negsuc n) le f = let p : 0 < 2 ^ bits w = pow_pos (bits w) in omega (arith, p)
-
 -- ---- as the code's calls say it, where a signed number is read from its bits
 
 -- the amount modulo the width is the one of the table
@@ -135,21 +131,21 @@ rotated w z y r k fz fr amount rotate places e same =
     ∙ ap (cast_signed w) same
     ∙ ap (λ j. cast_signed w (rotated_left (bits w) (cast_unsigned w z) (places j))) amount
 
-module _ (w : Width) (z y r : ℤ) (k : ℕ) (p : 0 < bits w) (le : 2 ^ hbits w ≤ 2 ^ bits w) (fz : SFits w z)
+module _ (w : Width) (z y r : ℤ) (k : ℕ) (p : 0 < bits w) (fz : SFits w z)
     (fr : SFits w r) (amount : k % bits w ≡ amount_modulo w y) where
   -- a rotation to the left by the amount is the one of the table
   pub rotated_to_left : r ≡ cast_signed w (rotate_left w (cast_unsigned w (cast_signed w (cast_unsigned w z))) k)
       → cast_signed w (cast_unsigned w r) ≡ irotl w z y
   rotated_to_left e =
       rotated w z y r k fz fr amount (rotate_left w) (λ j. j) e
-      (left_by (bits w) (cast_unsigned w z) (k % bits w) (image_below w z le fz) (mod_below k (bits w) p))
+      (left_by (bits w) (cast_unsigned w z) (k % bits w) (of_z_fits w z fz).fits (mod_below k (bits w) p))
 
   -- a rotation to the right by the amount is the one of the table
   pub rotated_to_right : r ≡ cast_signed w (rotate_right w (cast_unsigned w (cast_signed w (cast_unsigned w z))) k)
       → cast_signed w (cast_unsigned w r) ≡ irotr w z y
   rotated_to_right e =
       rotated w z y r k fz fr amount (rotate_right w) (λ j. bits w - j) e
-      (right_by (bits w) (cast_unsigned w z) (k % bits w) (image_below w z le fz) (mod_below k (bits w) p))
+      (right_by (bits w) (cast_unsigned w z) (k % bits w) (of_z_fits w z fz).fits (mod_below k (bits w) p))
 
 -- for the instructions of `wasm`
 pub ruleset numerics = (given, wrapping_add_is, wrapping_sub_is)

@@ -1,21 +1,17 @@
 -- Lines that are printed one after the other, and outcomes of what a reader gave.
-use Rattle.std.proofs.Common.{ℕ, ◌+◌, ◌<◌, ◌≡◌, ◌∙◌, ◌++◌, ◌∷◌, List, [], length, take, drop, get_or, ◌≤◌, refl, sym, ap, arith, append_assoc, append-nil, take-append-drop, length-take-le, codes, Option, None, Some, Ok, Err, IfSome, replicate}
+use Rattle.std.proofs.Common.{ℕ, ◌+◌, ◌<◌, ◌≡◌, ◌∙◌, ◌++◌, ◌∷◌, List, [], length, take, drop, get_or, ◌≤◌, refl, sym, ap, arith, append_assoc, append-nil, take-append-drop, length-take-le, codes, Option, None, Some, Err, replicate}
 use Rattle.std.specs.List.{flat_map, enumerate_from}
-use Rattle.std.specs.Option.{option_map}
 use Rattle.std.specs.Fmt.{decimal}
 use Rattle.std.proofs.lemmas.List.{take_more, take_all, length-replicate}
 use Rattle.std.proofs.lemmas.List.Concat.{flat_map-append}
-use Rattle.wasmi_meter.specs.declared.limiter.Kind.TheVariants.{Bytes, Elements}
 use Rattle.wasmi_machine.specs.declared.calls.Call.{Call}
 use Rattle.wasmi_machine.specs.declared.calls.Reply.{Reply}
-use Rattle.wasmi_machine.specs.State.{State, total}
+use Rattle.wasmi_machine.specs.State.{State}
 use Rattle.wasmi_script.proofs.PrintingLemmas.{texts_more, texts_at}
 use Rattle.wasmi_script.specs.Printing.{line}
 use Rattle.wasmi_script.specs.Texts.{bytes_in, bytes_text, head_text, reply_text}
-use Rattle.wasmi_script.specs.Outcomes.{tenant_line, tenants_text, IsReadError, script_limit, IsOutcomeOf, IsOutcomeOfReader, ReplayOutcome}
-use Rattle.wasmi_grammar.specs.declared.error.ParseError.{ParseError}
+use Rattle.wasmi_script.specs.Outcomes.{tenant_line, tenants_text, IsReadError, script_limit, IsOutcomeOfReader}
 use Rattle.wasmi_grammar.specs.declared.error.ParseError.TheVariants.{BadCommand, OutOfMemory}
-use Rattle.wasmi_grammar.specs.Lines.{IsParseError}
 use Rattle.wasmi_script.specs.declared.error.ReplayError.{ReplayError}
 use Rattle.wasmi_script.specs.declared.error.ReplayError.TheVariants.{Parse, TooLong, ReadFault}
 
@@ -76,26 +72,6 @@ tenants_whole machines index within =
     ∙ ap (λ t. t ++ later_tenants machines (index + 1)) (one_tenant machines index within)
     ∙ append_assoc (tenants_text (take index machines)) _ (later_tenants machines (index + 1))
 
--- the line of a tenant that has so many bytes and elements
-pub held_line : (index bytes elements : ℕ) (found : Option State) → option_map (λ s. total s Bytes) found ≡ Some bytes
-    → option_map (λ s. total s Elements) found ≡ Some elements
-    → tenant_line index found ≡ line
-    (codes "held " ++ (decimal index ++ (codes " " ++ (decimal bytes ++ (codes " " ++ decimal elements)))))
-held_line index bytes elements None b e = absurd cc
-held_line index bytes elements (Some machine) b e =
-    let is_b : total machine Bytes ≡ bytes = cc in
-    let is_e : total machine Elements ≡ elements = cc in
-    ap (λ n. line (codes "held " ++
-    (decimal index ++ (codes " " ++ (decimal n ++ (codes " " ++ decimal (total machine Elements))))))) is_b
-    ∙ ap (λ n. line
-    (codes "held " ++ (decimal index ++ (codes " " ++ (decimal bytes ++ (codes " " ++ decimal n)))))) is_e
-
--- there is no line of a tenant that isn't there
-pub no_line : {A : Type 0} (f : State → A) (index : ℕ) (found : Option State) → option_map f found ≡ None
-    → tenant_line index found ≡ []
-no_line f index None none = refl
-no_line f index (Some machine) none = absurd cc
-
 -- a space and the number of a byte
 abbrev pub byte_text : ℕ → List ℕ
 byte_text byte = codes " " ++ decimal byte
@@ -133,12 +109,6 @@ pub reply_whole : (call : Call) (reply : Reply) (bytes : List ℕ) (i : ℕ) →
 reply_whole call reply bytes i same all =
     ap (λ bs. line (head_text call reply ++ bytes_text bs)) (sym same ∙ sym (take_all i bytes all))
 
--- bytes that are those which a reader tells, seen from the other side
-pub told_by : (given : Option (List ℕ)) (bytes : List ℕ) → IfSome given (λ told. bytes ≡ told)
-    → IfSome given (λ told. told ≡ bytes)
-told_by None bytes known = tt
-told_by (Some told) bytes known = sym known
-
 -- there are more bytes than any number
 longer : (n : ℕ) → (bytes : List ℕ) × (n < length bytes)
 longer n = (replicate (n + 1) 0, omega (arith, length-replicate {A = ℕ} (n + 1) 0))
@@ -152,17 +122,3 @@ unread (Some bytes) failed (Parse OutOfMemory) is = (bytes, refl, tt)
 unread None failed TooLong is = let bytes = longer script_limit in (bytes.0, tt, bytes.1)
 unread (Some bytes) failed TooLong is = (bytes, refl, is)
 unread given failed ReadFault is = is
-
--- what comes of the bytes of a reader
-pub of_bytes : (given : Option (List ℕ)) (failed : Type 0) (bytes : List ℕ) (outcome : ReplayOutcome)
-    → IfSome given (λ told. bytes ≡ told) → IsOutcomeOf bytes outcome → IsOutcomeOfReader given failed outcome
-of_bytes given failed bytes (Ok replayed) known is = (bytes, told_by given bytes known, is)
-of_bytes given failed bytes (Err (Parse error)) known is = (bytes, told_by given bytes known, is)
-of_bytes given failed bytes (Err TooLong) known is = (bytes, told_by given bytes known, is)
-of_bytes given failed bytes (Err ReadFault) known is = absurd is
-
--- bytes that aren't parsed have an outcome
-pub unparsed : (bytes : List ℕ) (error : ParseError) → length bytes ≤ script_limit → IsParseError bytes error
-    → IsOutcomeOf bytes (Err (Parse error))
-unparsed bytes OutOfMemory short is = tt
-unparsed bytes (BadCommand number) short is = (short, is)

@@ -3,6 +3,7 @@ use Rattle.std.proofs.Common.{◌≡◌, ◌∙◌, ◌+◌, ◌<◌, ℕ, List,
 use Rattle.std.specs.Fmt.{WritesInCalls, WritesText, decimal}
 use Rattle.std.proofs.lemmas.Fmt.{contents_after_writes, decimal_digit, decimal_step}
 use Rattle.std.specs.List.{flat_map}
+use Rattle.std.proofs.lemmas.Result.{on_ok_weaker, on_err_weaker}
 use Rattle.std.proofs.lemmas.List.{take_more, drop-drop, drop_all, drop_at, drop_min, take-append-le, take_all, take_at, take_min}
 use Rattle.std.proofs.lemmas.List.Concat.{flat_map-append}
 use Rattle.std.proofs.lemmas.List.Folds.{flat_map-map}
@@ -74,16 +75,6 @@ Takes s bytes t = t.bytes ≡ s.bytes ++ bytes
 taken : (s t : ArrayString) (bytes : List ℕ) → WritesInCalls Takes s bytes t → t.bytes ≡ s.bytes ++ bytes
 taken s t bytes writes = contents_after_writes Takes (λ x. x.bytes) (λ w bs v h. h) s bytes t writes
 
--- what holds where a call doesn't fail holds in a weaker form
-pub ok_weaker : {A E : Type 0} {P Q : Type 0} (r : Result A E) → (P → Q) → OnOk r P → OnOk r Q
-ok_weaker (Ok x) weaker p = weaker p
-ok_weaker (Err e) weaker p = tt
-
--- what holds where a call fails holds in a weaker form
-pub err_weaker : {A E : Type 0} {P Q : Type 0} (r : Result A E) → (P → Q) → OnErr r P → OnErr r Q
-err_weaker (Ok x) weaker p = tt
-err_weaker (Err e) weaker p = weaker p
-
 -- a text in two parts
 passes_then : (a b c : Option (List ℕ)) (u v w s t text : List ℕ) → text ≡ s ++ t → AddsText a b u v s
     → AddsText b c v w t → AddsText a c u w text
@@ -142,8 +133,8 @@ module _ {W : Type 0} (contents : W → Option (List ℕ)) where
   pub last_part : {E : Type 0} (result : Result (Unit {0}) E) (p q r : Printer W) (s t text : List ℕ) → text ≡ s ++ t
       → Prints contents p q s → PrintsText contents t q result r → PrintsText contents text p result r
   last_part result p q r s t text is first prints = (
-    ok_weaker result (prints_then p q r s t text is first) prints.0,
-    err_weaker result (prints_last p q r s t text is first) prints.1,
+    on_ok_weaker result (prints_then p q r s t text is first) prints.0,
+    on_err_weaker result (prints_last p q r s t text is first) prints.1,
   )
 
   -- a text that is printed, and then what waits

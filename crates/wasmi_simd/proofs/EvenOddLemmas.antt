@@ -1,6 +1,6 @@
 -- The even and the odd lanes of a vector, as std::simd takes each out of a lane of twice the width, and their sums.
 use Rattle.std.proofs.Common.{ℕ, ℤ, pos, negsuc, suc, ◌+◌, ◌-◌, ◌*◌, ◌/◌, ◌%◌, ◌^◌, ◌<◌, ◌≤◌, ◌≡◌, List, length, get_or, map, replicate, sym, subst, ◌∙◌, ap, ap₂, arith, suc-mul, add-mul, mul_assoc, le_refl, inl, inr, Bool, true, false, ltb, bit_and, ◌+ℤ◌, ◌*ℤ◌}
-use Rattle.std.proofs.lemmas.Bool.{cases_lt, lt-ltb, le-ltb}
+use Rattle.std.proofs.lemmas.Bool.{cases_lt}
 use Rattle.std.proofs.lemmas.List.{length-map}
 use Rattle.std.proofs.lemmas.Nat.{pow_pos, and_mask, mod-pow-add, shr-shr, div-mul-add, mod-mul-add, pow-add, mul-le, shr_below, shl_below}
 use Rattle.std.proofs.lemmas.Simd.{get_or-zip2, get_or-replicate, length-replicate, length-zip2}
@@ -10,6 +10,7 @@ use Rattle.std.specs.Simd.Lanes.{digits_l, number_l, zip2}
 use Rattle.wasmi_types.specs.Numbers.{Width, bits, signed, wrap}
 use Rattle.wasmi_lanes.specs.Vector.{lane, unsigned}
 use Rattle.wasmi_lanes.proofs.VectorLemmas.{lane_below, lanes_make_vector}
+use Rattle.wasmi_lanewise.proofs.OrderLemmas.{same_less}
 use Rattle.wasmi_simd.specs.WideningProofs.{IsWidening}
 use Rattle.wasmi_simd.proofs.HalfLemmas.{AreSignedLanes, bits_at, reread}
 use Rattle.wasmi_simd.proofs.WideningLemmas.{extended_fits, product_fits, sum_below, sum_of_bits, dot_of_bits}
@@ -31,14 +32,6 @@ number_long : (op : ℕ → ℕ → ℕ) (n k : ℕ) (xs : List ℕ) → length 
 number_long op n k xs long = length-zip2 op xs (replicate n k) (long ∙ sym (length-replicate n k)) ∙ long
 
 -- ---- a width that is twice another
-
--- where a < b gives c < d, and b ≤ a gives d ≤ c, the tests for less agree
-same_side : (a b c d : ℕ) → (a < b → c < d) → (b ≤ a → d ≤ c) → ltb a b ≡ ltb c d
-same_side a b c d up down =
-    elim (cases_lt a b) as (λ _. ltb a b ≡ ltb c d) [
-      | inl below ↦ lt-ltb a b below ∙ sym (lt-ltb c d (up below))
-      | inr above ↦ le-ltb a b above ∙ sym (le-ltb c d (down above))
-    ]
 
 -- a signed number, shifted to the right by half of its width, is its upper half, read signed
 shifted_is : (narrow wide : Width) (v high : ℕ) → ltb v (2 ^ hbits wide) ≡ ltb high (2 ^ hbits narrow)
@@ -73,7 +66,7 @@ module _ {narrow wide : Width} {n : ℕ} (widens : IsWidening narrow wide n) (hi
       ∙ add-mul (p - suc high) (suc high) p in
       let left : 2 ^ bits wide - suc v ≡ (p - suc high) * p + (p - suc low) = omega (arith, whole, rest, next) in
       shifted_is narrow wide v high
-      (same_side v (2 ^ hbits wide) high h
+      (same_less v (2 ^ hbits wide) high h
       (λ below. subst (λ q. q < h) quotient
       (shr_below v (hbits narrow) (bits narrow) (subst (λ k. v < 2 ^ k) widens.half below)))
       (λ above. elim (cases_lt high h) as (λ _. h ≤ high) [

@@ -17,7 +17,8 @@ use Rattle.wasmi_lanes.proofs.TopLemmas.{xor_top}
 use Rattle.wasmi_lanes.proofs.VectorLemmas.{lane_below, lanes_make_vector}
 use Rattle.wasmi_simd.specs.WideningProofs.{IsWidening}
 use Rattle.wasmi_simd.specs.WideningTable.{half_unary, half_binary}
-use Rattle.wasmi_simd.proofs.WideningLemmas.{extended_fits, wrapped_is, product_of_bits, product_below}
+use Rattle.wasmi_types.proofs.NumbersLemmas.{wrap_signed}
+use Rattle.wasmi_simd.proofs.WideningLemmas.{extended_fits, product_of_bits, product_below}
 use lib.Dec.{T}
 use lib.Lanes.{pick_l, all_below}
 use mir.Val.{sel}
@@ -131,7 +132,7 @@ module _ {narrow wide : Width} {n first : ℕ} {at : ℕ → ℕ} (widens : IsWi
         lanes_make_vector wide n r _ widens.filled below
         (λ i inside.
         is i inside ∙ sym
-        (wrapped_is wide (signed narrow (lane narrow v (at i))) (extended_fits narrow wide v (at i) widens.wider))
+        (wrap_signed wide (signed narrow (lane narrow v (at i))) (extended_fits narrow wide v (at i) widens.wider))
         ∙ ap (λ k. wrap wide (signed narrow (lane narrow v k))) (half.place i))
 
     module _ (a b : ℕ) {x y : ℕ → ℕ} (is : (i : ℕ) → i < n → lane wide r i ≡ x i * y i % 2 ^ bits wide) where

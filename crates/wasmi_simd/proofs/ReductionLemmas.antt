@@ -1,43 +1,29 @@
 -- Tests of the lanes of a vector and the bits that they give, made of those of its two words.
-use Rattle.std.proofs.Common.{◌≡◌, ℕ, zero, suc, ◌+◌, ◌-◌, ◌*◌, ◌/◌, ◌%◌, ◌^◌, ◌<◌, ◌≤◌, refl, inl, inr, sym, ap, ap₂, subst, ◌∙◌, arith, Bool, true, false, not, eqb, nat_eq, ◌&&◌, if◌then◌else◌, bit_and, bit_or, true≢false, zero-mul, suc-mul, mul-suc, mul-zero, mul_comm, mul-add, mul_assoc, one-mul, add-mul, le_refl, lit<, mod-eq_of_lt, pow-suc, suc-add, zero-add}
+use Rattle.std.proofs.Common.{◌≡◌, ℕ, zero, suc, ◌+◌, ◌-◌, ◌*◌, ◌/◌, ◌%◌, ◌^◌, ◌<◌, ◌≤◌, refl, inl, inr, sym, ap, ap₂, subst, ◌∙◌, arith, Bool, true, false, not, eqb, nat_eq, ◌&&◌, if◌then◌else◌, bit_and, bit_or, true≢false, zero-mul, mul-suc, mul-zero, mul_comm, mul-add, mul_assoc, one-mul, add-mul, le_refl, lit<, mod-eq_of_lt, pow-suc, suc-add, zero-add}
 use Rattle.std.proofs.Math.Nat.{div-eq_of_lt, mod-one, add-mod_right}
 use Rattle.std.proofs.Math.Dec.{eqb-suc-zero}
 use Rattle.std.proofs.lemmas.Nat.{div-mul-add, mod-pow-add, pow_pos, pow-add, mul-le, and_le_l, and_le_r, or_shifted, or_comm}
 use Rattle.std.proofs.lemmas.Nat.Bits.{and_pow}
 use Rattle.std.specs.Int.Bits.{and_self}
-use Rattle.std.proofs.lemmas.Bool.{eqb-true, eq-eqb, cases_eq, cases_lt}
+use Rattle.std.specs.Cmp.{both_ways}
+use Rattle.std.proofs.lemmas.Bool.{and_from, and_parts, eqb-true, eq-eqb, cases_eq, cases_lt}
 use Rattle.std.proofs.Math.Pow.{pow_mono}
 use Rattle.wasmi_types.specs.Numbers.{Width, bits}
 use Rattle.wasmi_lanes.specs.Vector.{lane, unsigned}
 use Rattle.wasmi_lanes.specs.Words.{field, lanes_in_word, in_each_lane}
-use Rattle.wasmi_lanes.proofs.FieldLemmas.{field_lt, field_and, field_not, field_wrapping_sub, field_of_zero, same_words}
+use Rattle.wasmi_lanes.proofs.FieldLemmas.{field_lt, field_and, field_not, field_wrapping_sub, field_of_zero, lane_ends, same_words}
 use Rattle.wasmi_lanes.proofs.VectorLemmas.{lanes_of_width}
 use Rattle.wasmi_lanes.proofs.WordVectorLemmas.{AreWords, low_lane, high_lane, filled, some_bits, lane_of_each, top_in_range}
 use Rattle.wasmi_simd.specs.WideningTable.{holds_below, first_bits, every_lane, lane_bits}
 
 -- ---- tests that hold of all numbers below n
 
--- two true tests are true together
-both_true : (a b : Bool) → a ≡ true → b ≡ true → (a && b) ≡ true
-both_true a b is_a is_b = ap₂ (λ x y. x && y) is_a is_b
-
--- of two tests that are true together the first is true
-first_true : (a b : Bool) → (a && b) ≡ true → a ≡ true
-first_true true b is = refl
-first_true false b is = is
-
--- of two tests that are true together the second is true
-second_true : (a b : Bool) → (a && b) ≡ true → b ≡ true
-second_true true b is = is
-second_true false true is = refl
-second_true false false is = is
-
 -- a test that holds of each number below n holds of all of them at once
 pub holds_of_each : (n : ℕ) (test : ℕ → Bool) → ((i : ℕ) → i < n → test i ≡ true) → holds_below n test ≡ true
 unfolding holds_below
 holds_of_each zero test each = refl
 holds_of_each (suc n) test each =
-    both_true (holds_below n test) (test n) (holds_of_each n test (λ i inside. each i (omega arith)))
+    and_from (holds_below n test) (test n) (holds_of_each n test (λ i inside. each i (omega arith)))
     (each n (omega arith))
 
 -- a test that holds of all numbers below n at once holds of each
@@ -45,8 +31,8 @@ pub each_holds : (n : ℕ) (test : ℕ → Bool) → holds_below n test ≡ true
 unfolding holds_below
 each_holds zero test all i inside = absurd (omega arith)
 each_holds (suc n) test all i inside = elim (cases_eq i n) [
-  | inl last ↦ ap test last ∙ second_true (holds_below n test) (test n) all
-  | inr other ↦ each_holds n test (first_true (holds_below n test) (test n) all) i (omega arith)
+  | inl last ↦ ap test last ∙ (and_parts (holds_below n test) (test n) all).1
+  | inr other ↦ each_holds n test (and_parts (holds_below n test) (test n) all).0 i (omega arith)
 ]
 
 -- of two tests that agree on each number below n, both hold of all or neither does
@@ -83,6 +69,11 @@ bits_as (suc n) f g each =
     ap₂ (λ b m. (if b then 1 else 0) + 2 * m) (each 0 (omega arith))
     (bits_as n (λ i. f (suc i)) (λ i. g (suc i)) (λ i inside. each (suc i) (omega arith)))
 
+-- the bit of a test is at most 1
+pub bit_at_most : (t : Bool) → (if t then 1 else 0) ≤ 1
+bit_at_most true = omega arith
+bit_at_most false = omega arith
+
 -- the bits of a test of the numbers below n are a number of n bits
 pub bits_below : (n : ℕ) (f : ℕ → Bool) → first_bits n f < 2 ^ n
 unfolding first_bits
@@ -92,10 +83,6 @@ bits_below (suc n) f =
     let power : 2 ^ suc n ≡ 2 ^ n * 2 = pow-suc 2 n in
     let bit : (if f 0 then 1 else 0) ≤ 1 = bit_at_most (f 0) in
     omega (arith, rest, power, bit)
-  where
-    bit_at_most : (b : Bool) → (if b then 1 else 0) ≤ 1
-    bit_at_most true = omega arith
-    bit_at_most false = omega arith
 
 -- the first n + m bits of a test are its first n bits and, above them, the m bits of the numbers from n on
 bits_joined : (n m : ℕ) (f : ℕ → Bool) → first_bits (n + m) f ≡ first_bits n f + 2 ^ n * first_bits m (λ i. f (n + i))
@@ -117,12 +104,6 @@ bits_joined (suc n) m f =
       ap (λ k. k * rest) (pow-suc 2 n),
       ap (λ k. k * rest) (mul_comm 2 (2 ^ n)),
     )
-
--- two tests of which each follows from the other are the same
-same_test : (a b : Bool) → (a ≡ true → b ≡ true) → (b ≡ true → a ≡ true) → a ≡ b
-same_test true b to from = sym (to refl)
-same_test false true to from = from refl
-same_test false false to from = refl
 
 -- a number below 2 ^ h has no bit h
 low_top : (h y : ℕ) → y < 2 ^ h → bit_and y (2 ^ h) ≡ 0
@@ -175,14 +156,7 @@ module _ (h n v ones tops : ℕ) (given : IsZeroTest h n v ones tops) where
 
   -- a lane ends within the word
   lane_inside : (i : ℕ) → i < n → suc h * i + suc h ≤ 64
-  lane_inside i inside =
-      omega (
-        arith,
-        given.whole,
-        mul-le (suc i) (suc h) n (suc h) (omega arith) (le_refl (suc h)),
-        suc-mul i (suc h),
-        mul_comm i (suc h),
-      )
+  lane_inside i inside = omega (arith, given.whole, lane_ends (suc h) n i inside)
 
   -- a number that isn't 0 is at least 1
   some_there : (t : ℕ) → not (nat_eq t 0) ≡ true → 1 ≤ t
@@ -254,7 +228,7 @@ module _ (h n v ones tops : ℕ) (given : IsZeroTest h n v ones tops) where
       let all_bits : 64 ≡ n * suc h = sym given.whole in
       let below : marks < 2 ^ 64 =
       omega (arith, and_le_r (bit_and ((v + (2 ^ 64 - ones)) % 2 ^ 64) (2 ^ 64 - 1 - v)) tops) in
-      same_test (eqb marks 0) (holds_below n is_some)
+      both_ways (eqb marks 0) (holds_below n is_some)
       (λ e. holds_of_each n is_some (λ i inside. some_below (eqb-true marks 0 e) n (le_refl n) i inside))
       (λ all. eq-eqb marks 0
       (same_words (suc h) n marks 0 (subst (λ k. marks < 2 ^ k) all_bits below) (pow_pos (n * suc h))

@@ -1,14 +1,15 @@
 -- Vectors made of lanes of another width, what the lanes of one vector make together, and the lanes of these.
-use Rattle.std.proofs.Common.{ℕ, zero, suc, ◌+◌, ◌-◌, ◌*◌, ◌/◌, ◌%◌, ◌^◌, ◌<◌, ◌≤◌, ◌≡◌, sym, ◌∙◌, ap, ap₂, arith, inl, inr, ℤ, pos, negsuc, unsigned_abs, leb, nat_lt, if◌then◌else◌, ◌==◌, div-one, mul-zero, mul-suc, refl, subst, le_refl, pow-suc, ◌+ℤ◌, ◌*ℤ◌, FitsSigned, ◌↔◌, Bool, true, false}
+use Rattle.std.proofs.Common.{ℕ, zero, suc, ◌+◌, ◌-◌, ◌*◌, ◌/◌, ◌%◌, ◌^◌, ◌<◌, ◌≤◌, ◌≡◌, sym, ◌∙◌, ap, ap₂, arith, inl, inr, ℤ, pos, negsuc, unsigned_abs, leb, nat_lt, if◌then◌else◌, ◌==◌, div-one, mul-zero, mul-suc, refl, subst, le_refl, pow-suc, ◌+ℤ◌, ◌*ℤ◌, FitsSigned, ◌↔◌, Bool, true}
 use Rattle.std.proofs.lemmas.Nat.{pow_pos, mul-le, shl_below}
-use Rattle.std.proofs.lemmas.Int.{of_z-to_z, wrapping_add_is, wrapping_mul_is, int_wrap_fits, fits_signed_mul, to_z-of_z}
+use Rattle.std.proofs.lemmas.Int.{of_z-to_z, wrapping_add_is, wrapping_mul_is, fits_signed_mul, to_z-of_z}
 use Rattle.std.proofs.Math.Facts.{sfits_widen}
-use Rattle.std.specs.Int.{cast_unsigned, int_wrap, int_rem_euclid, bit_at}
+use Rattle.std.specs.Int.{cast_unsigned, int_wrap, bit_at}
 use Rattle.std.proofs.Math.Nat.{mod-eq_of_lt, mod-lt, div-eq_of_lt, zero-div}
 use Rattle.std.proofs.Math.Dec.{eqb-suc-zero}
 use Rattle.std.proofs.Math.Pow.{pow_mono}
 use Rattle.std.proofs.lemmas.Bool.{cases_lt, lt-ltb, le-ltb, le-leb}
 use Rattle.wasmi_types.specs.Numbers.{Width, w8, w16, w32, w64, bits, wrap, signed}
+use Rattle.wasmi_types.proofs.NumbersLemmas.{wrap_below, wrap_signed}
 use Rattle.wasmi_lanes.specs.Vector.{lane, lane_count, signed_fits, unsigned, with_lane}
 use Rattle.wasmi_lanes.proofs.VectorLemmas.{lane_below, lanes_make_vector, lane_of_from}
 use Rattle.wasmi_lanes.proofs.WordVectorLemmas.{some_bits}
@@ -19,7 +20,7 @@ use Rattle.std.proofs.lemmas.Float.{T_from_true}
 use Rattle.std.proofs.lemmas.Nat.Bits.{bit_at_lowest, bit_at-suc}
 use mir.Syntax.{w128}
 use Rattle.wasmi_simd.specs.WideningTable.{half_unary, half_binary, pairwise_unary, pairwise_binary, from_low_high, first_bits, lane_bits, every_lane, holds_below}
-use Rattle.wasmi_simd.proofs.ReductionLemmas.{bits_below, holds_of_each, each_holds}
+use Rattle.wasmi_simd.proofs.ReductionLemmas.{bit_at_most, bits_below, holds_of_each, each_holds}
 
 -- numbers that are `low` below n and `high` from n on
 pub by_halves : (n i : ℕ) (f low high : ℕ → ℕ) → ((k : ℕ) → k < n → f k ≡ low k)
@@ -33,22 +34,10 @@ by_halves n i f low high is_low is_high inside =
           ap f at ∙ is_high (i - n) (omega arith) ∙ sym (ap (λ t. if t then low i else high (i - n)) (le-ltb i n above))
     ]
 
--- a number wrapped to w bits has w bits
-pub wrap_below : (w : Width) (z : ℤ) → wrap w z < 2 ^ bits w
-wrap_below w z = below (2 ^ bits w) z (pow_pos (bits w))
-  where
-    below : (p : ℕ) (z : ℤ) → 0 < p → unsigned_abs (int_rem_euclid z (pos p)) < p
-    below p (pos n) some = mod-lt n some
-    below p (negsuc n) some = omega arith
-
 -- a number wrapped to w bits and read signed has the wrapped number for its bits
 pub bits_of_wrapped : (w : Width) (z : ℤ) → cast_unsigned w (int_wrap w z) ≡ wrap w z
 unfolding int_wrap
 bits_of_wrapped w z = of_z-to_z w (wrap w z) (wrap_below w z)
-
--- a number in the signed range, wrapped, has its own bits
-pub wrapped_is : (w : Width) (z : ℤ) → FitsSigned w z → wrap w z ≡ cast_unsigned w z
-wrapped_is w z fits = sym (bits_of_wrapped w z) ∙ ap (cast_unsigned w) (int_wrap_fits w z fits)
 
 -- the bits of signed numbers, added modulo 2 ^ w, are their sum, wrapped
 pub sum_of_bits : (w : Width) (x y : ℤ) → FitsSigned w x → FitsSigned w y
@@ -70,8 +59,8 @@ pub dot_of_bits : (w : Width) (x x' y y' : ℤ) → FitsSigned w x → FitsSigne
     → (cast_unsigned w x * cast_unsigned w y % 2 ^ bits w + cast_unsigned w x' * cast_unsigned w y' % 2 ^ bits w) % 2 ^
     bits w ≡ wrap w ((x *ℤ y) +ℤ (x' *ℤ y'))
 dot_of_bits w x x' y y' fits_x fits_x' fits_y fits_y' fits fits' =
-    ap₂ (λ p q. (p + q) % 2 ^ bits w) (product_of_bits w x y fits_x fits_y ∙ wrapped_is w (x *ℤ y) fits)
-    (product_of_bits w x' y' fits_x' fits_y' ∙ wrapped_is w (x' *ℤ y') fits')
+    ap₂ (λ p q. (p + q) % 2 ^ bits w) (product_of_bits w x y fits_x fits_y ∙ wrap_signed w (x *ℤ y) fits)
+    (product_of_bits w x' y' fits_x' fits_y' ∙ wrap_signed w (x' *ℤ y') fits')
     ∙ sum_of_bits w (x *ℤ y) (x' *ℤ y') fits fits'
 
 -- a lane that is read signed is in the range of a wider signed type too
@@ -167,7 +156,7 @@ module _ {A : Type 0} (narrow wide : Width) (read : ℕ → A) (i : ℕ) (inside
 
 -- a number in the signed range, wrapped, is read as itself
 pub signed_of_wrapped : (w : Width) (z : ℤ) → FitsSigned w z → signed w (wrap w z) ≡ z
-signed_of_wrapped w z fits = ap (signed w) (wrapped_is w z fits) ∙ to_z-of_z w z fits
+signed_of_wrapped w z fits = ap (signed w) (wrap_signed w z fits) ∙ to_z-of_z w z fits
 
 pub ruleset wrapped = (signed_of_wrapped, wrap_below)
 
@@ -235,11 +224,6 @@ module _ {A : Type 0} (wide narrow : Width) (read : ℕ → A) (row : A → ℕ)
       ∙ ap (λ k. row (read (lane wide high k)) % 2 ^ bits narrow) back
 
 -- ---- bits of tests
-
--- the bit of a test is at most 1
-bit_at_most : (t : Bool) → (if t then 1 else 0) ≤ 1
-bit_at_most true = omega arith
-bit_at_most false = omega arith
 
 -- bit i of the bits of a test of the numbers below n is 1 where the test holds of i, else 0
 pub bit_of_first : (n : ℕ) (test : ℕ → Bool) (i : ℕ) → i < n → bit_at (first_bits n test) i ≡ (if test i then 1 else 0)

@@ -1,2 +1,3 @@
+pub mod NumbersLemmas
 pub mod ReadingLemmas
 pub mod FunctionTypeOrderLemmas

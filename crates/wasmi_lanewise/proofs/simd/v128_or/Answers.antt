@@ -1,8 +1,9 @@
-use Rattle.std.proofs.Common.{◌∙◌, sym, refl}
-use Rattle.wasmi_lanewise.proofs.WordLemmas.{or_by_words}
+use Rattle.std.proofs.Common.{◌∙◌, sym, refl, bit_or}
+use Rattle.std.proofs.lemmas.Nat.{or_shr, or_mod}
+use Rattle.wasmi_lanewise.proofs.WordLemmas.{by_words}
 use Rattle.wasmi_lanewise.proofs.simd.v128_or.Goals as goal
 
 pub returns : goal.returns
 returns c =
     c.from_u64x2.ensures _ _ (rw (c.u64x2_of.ensures, c.u64x2_of-2.ensures) refl)
-    ∙ sym (or_by_words c.args.lhs c.args.rhs)
+    ∙ sym (by_words bit_or (record { on_high = or_shr; on_low = or_mod }) c.args.lhs c.args.rhs)

@@ -5,7 +5,7 @@ use Rattle.wasmi_meter.specs.Limiter.{optional_rules}
 use Rattle.wasmi_meter.specs.Capped.{quota_rules}
 use Rattle.wasmi_machine.specs.State.{World, world}
 use Rattle.wasmi_machine.specs.Steps.{Run}
-use Rattle.wasmi_law_tests.proofs.RunsLemmas.{replies_have}
+use Rattle.wasmi_machine.proofs.ToldLemmas.{replies_have}
 use Rattle.wasmi_law_tests.proofs.runs.run_twice.Goals as goal
 
 pub returns-clause-same : goal.returns-clause-same

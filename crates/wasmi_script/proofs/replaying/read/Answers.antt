@@ -1,6 +1,7 @@
-use Rattle.std.proofs.Common.{ℕ, ◌+◌, ◌<◌, ◌≤◌, ◌≡◌, ◌∙◌, ◌++◌, List, [], Some, None, IfSome, length, length-append, length-take-le, take, append-nil, append_assoc, rules, sym, ap, arith}
+use Rattle.std.proofs.Common.{ℕ, ◌+◌, ◌<◌, ◌≤◌, ◌≡◌, ◌∙◌, ◌++◌, List, [], Some, None, IfSome, length, length-append, length-take-le, take, append-nil, rules, sym, ap, arith}
 use Rattle.std.specs.declared.option.Option.{Option}
 use Rattle.std.specs.Io.KnownBytes.{Consumes, IsAtEnd}
+use Rattle.std.proofs.KnownBytes.{Consumes-trans}
 use Rattle.wasmi_script.specs.Outcomes.{script_limit}
 use Rattle.wasmi_script.proofs.replaying.read.Goals as goal
 
@@ -44,15 +45,6 @@ returns-then-len-count-clause-refused g c =
     c.in-Ok.ensures.bytes.0 c.in-Ok.ensures.bound.0
     (omega (arith, c.if-len-count.true, c.len.ensures, c.loop-turn.script.ok.0))
 
--- what is read with one turn more
-read_more : (a b c : Option (List ℕ)) (so_far more : List ℕ) → Consumes a b so_far → Consumes b c more
-    → Consumes a c (so_far ++ more)
-read_more None b c so_far more taken turn = tt
-read_more (Some xs) None c so_far more taken turn = absurd taken
-read_more (Some xs) (Some ys) None so_far more taken turn = absurd turn
-read_more (Some xs) (Some ys) (Some zs) so_far more taken turn =
-    taken ∙ ap (λ t. so_far ++ t) turn ∙ sym (append_assoc so_far more zs)
-
 pub loop-turn-preserved : goal.loop-turn-preserved
 loop-turn-preserved g c = record {
   reader = search rules;
@@ -60,5 +52,5 @@ loop-turn-preserved g c = record {
   turned = search rules;
   bounded = search rules;
   taken = rw c.in_ok-extend_from_slice.ensures.items
-      (read_more _ _ _ _ _ c.loop-turn.invariant.taken c.in-Ok.ensures.bytes.0);
+      (Consumes-trans _ _ _ _ _ c.loop-turn.invariant.taken c.in-Ok.ensures.bytes.0);
 }

@@ -1,5 +1,5 @@
 use Rattle.std.specs.Int.{w128}
-use Rattle.wasmi_access.proofs.ByteLemmas.{wrap_unsigned}
+use Rattle.wasmi_types.proofs.NumbersLemmas.{wrap_unsigned}
 use Rattle.wasmi_vector_access.proofs.simd.v128_store_at.Goals as goal
 
 pub returns : goal.returns

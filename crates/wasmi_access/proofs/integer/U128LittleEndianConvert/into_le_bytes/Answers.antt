@@ -1,6 +1,7 @@
 use Rattle.std.proofs.Common.{rules, ap, sym, ◌∙◌}
 use Rattle.std.specs.Int.{w128}
-use Rattle.wasmi_access.proofs.ByteLemmas.{number_of-bytes, wrap_unsigned}
+use Rattle.wasmi_types.proofs.NumbersLemmas.{wrap_unsigned}
+use Rattle.wasmi_access.proofs.ByteLemmas.{number_of-bytes}
 use Rattle.wasmi_types.specs.Numbers.{number_of, le_bytes}
 use Rattle.wasmi_access.proofs.integer.U128LittleEndianConvert.into_le_bytes.Goals as goal
 

@@ -1,8 +1,13 @@
-use Rattle.wasmi_lanewise.proofs.OrderLemmas.{signed_less_make_vector}
+use Rattle.std.proofs.Common.{◌-◌, ◌^◌, if◌then◌else◌, ltb}
+use Rattle.wasmi_types.specs.Numbers.{bits}
+use Rattle.wasmi_lanes.specs.Vector.{comparison_of_lanes}
+use Rattle.wasmi_lanewise.proofs.OrderLemmas.{moved_make_vector, ones_where_less}
 use Rattle.wasmi_lanewise.proofs.simd.order.less_s.Goals as goal
 
 pub returns : goal.returns
+unfolding comparison_of_lanes
 returns g c =
-    signed_less_make_vector g.T.LaneInteger.width c.args.lhs c.args.rhs
-    c.ones_if_less.ensures.in_range c.lanes_of.ensures.lanes c.lanes_of-2.ensures.lanes
-    (c.biased.ensures.lanes, c.biased-2.ensures.lanes) c.ones_if_less.ensures.lanes
+    let w = g.T.LaneInteger.width in
+    moved_make_vector w c.args.lhs c.args.rhs c.ones_if_less.ensures.in_range c.lanes_of.ensures.lanes
+    c.lanes_of-2.ensures.lanes (c.biased.ensures.lanes, c.biased-2.ensures.lanes)
+    (λ _ _ p q. if ltb p q then 2 ^ bits w - 1 else 0) c.ones_if_less.ensures.lanes (ones_where_less w (2 ^ bits w - 1))

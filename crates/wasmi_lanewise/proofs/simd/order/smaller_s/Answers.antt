@@ -1,10 +1,13 @@
-use Rattle.std.proofs.Common.{◌∙◌}
-use Rattle.wasmi_lanewise.proofs.OrderLemmas.{signed_smaller_make_vector}
+use Rattle.std.proofs.Common.{◌∙◌, if◌then◌else◌, ltb}
+use Rattle.wasmi_lanes.specs.Vector.{binary_of_lanes}
+use Rattle.wasmi_lanewise.proofs.OrderLemmas.{moved_make_vector, signed_smaller_is}
 use Rattle.wasmi_lanewise.proofs.simd.order.smaller_s.Goals as goal
 
 pub returns : goal.returns
+unfolding binary_of_lanes
 returns g c =
-    signed_smaller_make_vector g.T.LaneInteger.width c.args.lhs c.args.rhs
+    moved_make_vector g.T.LaneInteger.width c.args.lhs c.args.rhs
     c.vector_of.ensures.in_range c.lanes_of-a.ensures.lanes c.lanes_of-b.ensures.lanes
-    (c.biased-2.ensures.lanes, c.biased.ensures.lanes)
+    (c.biased-2.ensures.lanes, c.biased.ensures.lanes) (λ p q p' q'. if ltb q' p' then q else p)
     (λ i inside. c.vector_of.ensures.lanes i inside ∙ c.choose_if_less.ensures.lanes i inside)
+    (signed_smaller_is g.T.LaneInteger.width)

@@ -1,6 +1,6 @@
-use Rattle.std.proofs.Common.{◌+◌, ◌-◌, ◌%◌, ◌^◌, arith}
+use Rattle.std.proofs.Common.{◌+◌, ◌-◌, ◌%◌, ◌^◌, arith, ⊎_elim}
 use Rattle.wasmi_lanes.specs.Vector.{binary_of_lanes}
-use Rattle.wasmi_lanes.proofs.WordVectorLemmas.{u64x2_of, InnerLane, inner_lanes, of_either, binary_by_words}
+use Rattle.wasmi_lanes.proofs.WordVectorLemmas.{u64x2_of, InnerLane, inner_lanes, binary_by_words}
 use Rattle.wasmi_lanewise.proofs.WordLemmas.{inverted_word_pair, inverted_words}
 use Rattle.wasmi_lanewise.proofs.simd.words.differences.Goals as goal
 
@@ -14,6 +14,6 @@ returns g c =
     (u64x2_of c.words-a_low.ensures.low c.words-a_low.ensures.high))
     (u64x2_of c.words-b_low.ensures.low c.words-b_low.ensures.high)
     c.word_sub.type_inv c.word_sub-2.type_inv
-    (λ start width. of_either (c.word_sub.ensures.lanes start width) (c.word_sub.ensures.last start width))
-    (λ start width. of_either (c.word_sub-2.ensures.lanes start width) (c.word_sub-2.ensures.last start width))
+    (λ start width. ⊎_elim (c.word_sub.ensures.lanes start width) (c.word_sub.ensures.last start width))
+    (λ start width. ⊎_elim (c.word_sub-2.ensures.lanes start width) (c.word_sub-2.ensures.last start width))
     (inverted_words c.word_sub.type_inv c.word_sub-2.type_inv c.from_word_pair.ensures c.v128_not-2.ensures)

@@ -1,6 +1,6 @@
-use Rattle.std.proofs.Common.{◌-◌, ◌%◌, ◌^◌, arith}
+use Rattle.std.proofs.Common.{◌-◌, ◌%◌, ◌^◌, arith, ⊎_elim}
 use Rattle.wasmi_lanes.specs.Vector.{unary_of_lanes}
-use Rattle.wasmi_lanes.proofs.WordVectorLemmas.{u64x2_of, InnerLane, inner_lanes, of_either, unary_by_words}
+use Rattle.wasmi_lanes.proofs.WordVectorLemmas.{u64x2_of, InnerLane, inner_lanes, unary_by_words}
 use Rattle.wasmi_lanewise.proofs.WordLemmas.{negated_lane}
 use Rattle.wasmi_lanewise.proofs.simd.words.negations.Goals as goal
 
@@ -13,7 +13,7 @@ returns g c =
     (λ w x. (2 ^ w - x) % 2 ^ w) (u64x2_of c.words-low.ensures.low c.words-low.ensures.high) (omega arith)
     (omega arith)
     (λ start width lane. negated_lane tops start width _ _ c.word_add.type_inv lane
-    (of_either (c.word_add.ensures.lanes start width) (c.word_add.ensures.last start width) lane))
+    (⊎_elim (c.word_add.ensures.lanes start width) (c.word_add.ensures.last start width) lane))
     (λ start width lane. negated_lane tops start width _ _ c.word_add-2.type_inv lane
-    (of_either (c.word_add-2.ensures.lanes start width) (c.word_add-2.ensures.last start width) lane))
+    (⊎_elim (c.word_add-2.ensures.lanes start width) (c.word_add-2.ensures.last start width) lane))
     c.from_word_pair.ensures

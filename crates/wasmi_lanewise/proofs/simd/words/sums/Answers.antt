@@ -1,6 +1,6 @@
-use Rattle.std.proofs.Common.{◌+◌, ◌%◌, ◌^◌}
+use Rattle.std.proofs.Common.{◌+◌, ◌%◌, ◌^◌, ⊎_elim}
 use Rattle.wasmi_lanes.specs.Vector.{binary_of_lanes}
-use Rattle.wasmi_lanes.proofs.WordVectorLemmas.{u64x2_of, InnerLane, inner_lanes, of_either, binary_by_words}
+use Rattle.wasmi_lanes.proofs.WordVectorLemmas.{u64x2_of, InnerLane, inner_lanes, binary_by_words}
 use Rattle.wasmi_lanewise.proofs.simd.words.sums.Goals as goal
 
 pub returns : goal.returns
@@ -12,6 +12,6 @@ returns g c =
     (u64x2_of c.words-a_low.ensures.low c.words-a_low.ensures.high)
     (u64x2_of c.words-b_low.ensures.low c.words-b_low.ensures.high)
     c.word_add.type_inv c.word_add-2.type_inv
-    (λ start width. of_either (c.word_add.ensures.lanes start width) (c.word_add.ensures.last start width))
-    (λ start width. of_either (c.word_add-2.ensures.lanes start width) (c.word_add-2.ensures.last start width))
+    (λ start width. ⊎_elim (c.word_add.ensures.lanes start width) (c.word_add.ensures.last start width))
+    (λ start width. ⊎_elim (c.word_add-2.ensures.lanes start width) (c.word_add-2.ensures.last start width))
     c.from_word_pair.ensures
