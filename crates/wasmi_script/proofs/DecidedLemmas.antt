@@ -22,9 +22,9 @@ use Rattle.wasmi_machine.proofs.ToldLemmas.{SeenRun, replies_are_one, unlimited_
 use Rattle.wasmi_budget.specs.Pool.{PoolValue, RunsTenant, tenant_at, tenant_rules}
 use Rattle.wasmi_grammar.specs.declared.error.ParseError.TheVariants.{BadCommand, OutOfMemory}
 use Rattle.wasmi_script.specs.declared.error.ReplayError.TheVariants.{Parse, TooLong, ReadFault}
-use Rattle.wasmi_script.specs.declared.running.Held.{Held}
-use Rattle.wasmi_script.specs.declared.running.Ran.{Ran}
-use Rattle.wasmi_script.specs.declared.running.Held.TheVariants as holding
+use Rattle.wasmi_script.specs.declared.replaying.Held.{Held}
+use Rattle.wasmi_script.specs.declared.replaying.Ran.{Ran}
+use Rattle.wasmi_script.specs.declared.replaying.Held.TheVariants as holding
 use Rattle.wasmi_grammar.specs.declared.script.Script.{Script}
 use Rattle.wasmi_grammar.specs.declared.header.Header.{Header}
 use Rattle.wasmi_grammar.specs.declared.header.LimiterLine.{LimiterLine}

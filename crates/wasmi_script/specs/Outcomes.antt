@@ -11,8 +11,8 @@ use Rattle.wasmi_meter.specs.declared.limiter.Kind.TheVariants.{Bytes, Elements}
 use Rattle.wasmi_machine.specs.declared.calls.Call.{Call}
 use Rattle.wasmi_machine.specs.declared.calls.Reply.{Reply}
 use Rattle.wasmi_machine.specs.State.{State, total}
-use Rattle.wasmi_script.specs.declared.running.Held.{Held}
-use Rattle.wasmi_script.specs.declared.running.Held.TheVariants.{Nothing, Quota, Tenants}
+use Rattle.wasmi_script.specs.declared.replaying.Held.{Held}
+use Rattle.wasmi_script.specs.declared.replaying.Held.TheVariants.{Nothing, Quota, Tenants}
 use Rattle.wasmi_script.specs.declared.printing.Replayed.{Replayed}
 use Rattle.wasmi_grammar.specs.Lines.{WritesScript, calls_of, IsFirstBadLine}
 use Rattle.wasmi_script.specs.Printing.{AppendsFront, line}

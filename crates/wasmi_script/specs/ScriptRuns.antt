@@ -19,10 +19,10 @@ use Rattle.wasmi_grammar.specs.declared.header.LimiterLine.TheVariants as Lines
 use Rattle.wasmi_grammar.specs.declared.header.TenantsLine.{TenantsLine}
 use Rattle.wasmi_grammar.specs.Lines.{calls_of}
 use Rattle.wasmi_grammar.specs.Parts.{TenantRun, parts_in}
-use Rattle.wasmi_script.specs.declared.running.Held.TheVariants.{Nothing}
-use Rattle.wasmi_script.specs.declared.running.Held.TheVariants as Holding
-use Rattle.wasmi_script.specs.declared.running.Held.{Held}
-use Rattle.wasmi_script.specs.declared.running.Ran.{Ran}
+use Rattle.wasmi_script.specs.declared.replaying.Held.TheVariants.{Nothing}
+use Rattle.wasmi_script.specs.declared.replaying.Held.TheVariants as Holding
+use Rattle.wasmi_script.specs.declared.replaying.Held.{Held}
+use Rattle.wasmi_script.specs.declared.replaying.Ran.{Ran}
 use Rattle.wasmi_meter.specs.declared.answer_list.LimiterAnswer.{LimiterAnswer}
 use Rattle.wasmi_meter.specs.AnswerList.{AnswersAhead, answer_list_rules, new_answers}
 use Rattle.wasmi_grammar.specs.Headers.{start_of, tenant_start}

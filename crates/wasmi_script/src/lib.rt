@@ -6,12 +6,9 @@ pub mod laws;
 mod lines;
 mod printing;
 mod replaying;
-mod running;
-mod streams;
 
 pub use error::ReplayError;
 pub use lines::write_lines;
 pub use printing::{ReplyHead, print_lines};
-pub use replaying::{LIMIT, Status, replay, replay_bytes};
-pub use streams::{Input, Output};
+pub use replaying::{Input, LIMIT, Output, Status, replay, replay_bytes};
 pub use wasmi_grammar::ParseError;

@@ -9,8 +9,7 @@ ghost use Rattle.wasmi_budget.specs.Pool.{machine_of};
 
 use crate::error::ReplayError;
 use crate::lines::{put, put_optional};
-use crate::running::{Held, Ran};
-use crate::streams::Output;
+use crate::replaying::{Held, Output, Ran};
 use arrayvec::ArrayString;
 use std::fmt::{Display, Write};
 use std::{fmt, io};

@@ -239,8 +239,7 @@ mod printing {
     use crate::proved::meter::Amounts;
     use crate::proved::script::error::ReplayError;
     use crate::proved::script::lines::{put, put_optional};
-    use crate::proved::script::running::{Held, Ran};
-    use crate::proved::script::streams::Output;
+    use crate::proved::script::replaying::{Held, Output, Ran};
     use crate::proved::types::RefType;
     use crate::rattle::arrayvec::ArrayString;
     use crate::rattle::arrayvec::{Show, Sink};
@@ -790,15 +789,96 @@ mod printing {
     }
 }
 mod replaying {
-    //! A script from its reader to the printed lines.
+    //! A script from its reader to the printed lines: streams, the replay, and the run of its calls.
 
-    use crate::proved::grammar::{ParseError, parse};
+    use crate::proved::budget::Pool;
+    use crate::proved::grammar::{
+        Header, LimiterLine, MeterLine, ParseError, RegionLine, Script, TenantsLine, parse,
+    };
+    use crate::proved::machine::{Call, Machine, Reply, run, run_lending, run_reserving};
+    use crate::proved::meter::{
+        Amounts, AnswerList, CustomFuelCosts, Fuel, FuelCostsProvider, LimiterAnswer, NoLimits,
+        Quota, ResourceLimiterRef,
+    };
     use crate::proved::script::error::ReplayError;
     use crate::proved::script::printing::{Replayed, print};
-    use crate::proved::script::running::run_script;
-    use crate::proved::script::streams::{Input, Output};
-    use crate::rattle::Vec;
+    use crate::rattle::alloc::AllocError;
+    use crate::rattle::{SliceExt, Vec};
     use std::io;
+
+    /// A reader of a script. Each [`io::Read`] is one.
+    ///
+    /// # Contract
+    ///
+    /// ```text
+    /// has_failed: Self → Type 0
+    /// ```
+    pub trait Input: io::Read {
+        /// Reads bytes, as [`io::Read::read`] does.
+        ///
+        /// # Errors
+        ///
+        /// That of the reader, which has failed then.
+        ///
+        /// # Contract
+        ///
+        /// ```text
+        /// ensures bound: ReadsAtMost result buffer.new
+        /// ensures bytes: ReadConsumes (Self.remaining self.old) (Self.remaining self.new) result
+        ///     buffer.new
+        /// ensures failed: OnErr result (has_failed self.new)
+        /// ```
+        fn read_some(&mut self, buffer: &mut [u8]) -> io::Result<usize>;
+    }
+
+    /// # Contract
+    ///
+    /// ```text
+    /// has_failed = λ _. Unit {0}
+    /// ```
+    impl<R: io::Read> Input for R {
+        #[inline]
+        fn read_some(&mut self, buffer: &mut [u8]) -> io::Result<usize> {
+            self.read(buffer)
+        }
+    }
+
+    /// A writer of what a script prints. Each [`io::Write`] is one.
+    ///
+    /// # Contract
+    ///
+    /// ```text
+    /// is_flushed: Self → Type 0
+    /// ```
+    pub trait Output: io::Write {
+        /// Flushes it, as [`io::Write::flush`] does.
+        ///
+        /// # Errors
+        ///
+        /// That of the writer, which then isn't known to be flushed.
+        ///
+        /// # Contract
+        ///
+        /// ```text
+        /// ensures bytes: KeepsContents (Self.contents self.old) (Self.contents self.new)
+        /// ensures flushed: OnOk result (is_flushed self.new)
+        /// ```
+        ///
+        /// Definitions: [`KeepsContents`](crate::specs::machine::LawsSpecs#Keeps).
+        fn flush_all(&mut self) -> io::Result<()>;
+    }
+
+    /// # Contract
+    ///
+    /// ```text
+    /// is_flushed = λ _. Unit {0}
+    /// ```
+    impl<W: io::Write> Output for W {
+        #[inline]
+        fn flush_all(&mut self) -> io::Result<()> {
+            self.flush()
+        }
+    }
 
     /// The most bytes that a script may have.
     pub const LIMIT: usize = 1_048_576;
@@ -1026,19 +1106,6 @@ mod replaying {
         }
         Err(ReplayError::TooLong)
     }
-}
-mod running {
-    //! The run of a script's calls.
-
-    use crate::proved::budget::Pool;
-    use crate::proved::grammar::{Header, LimiterLine, MeterLine, RegionLine, Script, TenantsLine};
-    use crate::proved::machine::{Call, Machine, Reply, run, run_lending, run_reserving};
-    use crate::proved::meter::{
-        Amounts, AnswerList, CustomFuelCosts, Fuel, FuelCostsProvider, LimiterAnswer, NoLimits,
-        Quota, ResourceLimiterRef,
-    };
-    use crate::rattle::alloc::AllocError;
-    use crate::rattle::{SliceExt, Vec};
 
     /// The replies of a script's run, and what is held afterwards.
     pub struct Ran {
@@ -1275,89 +1342,9 @@ mod running {
         Ok(pool)
     }
 }
-mod streams {
-    //! Readers whose failures, and writers whose flushes, a contract names.
-
-    use std::io;
-
-    /// A reader of a script. Each [`io::Read`] is one.
-    ///
-    /// # Contract
-    ///
-    /// ```text
-    /// has_failed: Self → Type 0
-    /// ```
-    pub trait Input: io::Read {
-        /// Reads bytes, as [`io::Read::read`] does.
-        ///
-        /// # Errors
-        ///
-        /// That of the reader, which has failed then.
-        ///
-        /// # Contract
-        ///
-        /// ```text
-        /// ensures bound: ReadsAtMost result buffer.new
-        /// ensures bytes: ReadConsumes (Self.remaining self.old) (Self.remaining self.new) result
-        ///     buffer.new
-        /// ensures failed: OnErr result (has_failed self.new)
-        /// ```
-        fn read_some(&mut self, buffer: &mut [u8]) -> io::Result<usize>;
-    }
-
-    /// # Contract
-    ///
-    /// ```text
-    /// has_failed = λ _. Unit {0}
-    /// ```
-    impl<R: io::Read> Input for R {
-        #[inline]
-        fn read_some(&mut self, buffer: &mut [u8]) -> io::Result<usize> {
-            self.read(buffer)
-        }
-    }
-
-    /// A writer of what a script prints. Each [`io::Write`] is one.
-    ///
-    /// # Contract
-    ///
-    /// ```text
-    /// is_flushed: Self → Type 0
-    /// ```
-    pub trait Output: io::Write {
-        /// Flushes it, as [`io::Write::flush`] does.
-        ///
-        /// # Errors
-        ///
-        /// That of the writer, which then isn't known to be flushed.
-        ///
-        /// # Contract
-        ///
-        /// ```text
-        /// ensures bytes: KeepsContents (Self.contents self.old) (Self.contents self.new)
-        /// ensures flushed: OnOk result (is_flushed self.new)
-        /// ```
-        ///
-        /// Definitions: [`KeepsContents`](crate::specs::machine::LawsSpecs#Keeps).
-        fn flush_all(&mut self) -> io::Result<()>;
-    }
-
-    /// # Contract
-    ///
-    /// ```text
-    /// is_flushed = λ _. Unit {0}
-    /// ```
-    impl<W: io::Write> Output for W {
-        #[inline]
-        fn flush_all(&mut self) -> io::Result<()> {
-            self.flush()
-        }
-    }
-}
 
 pub use crate::proved::grammar::ParseError;
 pub use error::ReplayError;
 pub use lines::write_lines;
 pub use printing::{ReplyHead, print_lines};
-pub use replaying::{LIMIT, Status, replay, replay_bytes};
-pub use streams::{Input, Output};
+pub use replaying::{Input, LIMIT, Output, Status, replay, replay_bytes};

@@ -7299,8 +7299,8 @@ use Rattle.wasmi_meter.specs.declared.limiter.Kind.TheVariants.{Bytes, Elements}
 use Rattle.wasmi_machine.specs.declared.calls.Call.{Call}
 use Rattle.wasmi_machine.specs.declared.calls.Reply.{Reply}
 use Rattle.wasmi_machine.specs.State.{<a href="../../machine/StateSpecs/index.html#State">State</a>, <a href="../../machine/StateSpecs/index.html#total">total</a>}
-use Rattle.wasmi_script.specs.declared.running.Held.{Held}
-use Rattle.wasmi_script.specs.declared.running.Held.TheVariants.{<a href="../../machine/ExchangeSpecs/index.html#Nothing">Nothing</a>, Quota, Tenants}
+use Rattle.wasmi_script.specs.declared.replaying.Held.{Held}
+use Rattle.wasmi_script.specs.declared.replaying.Held.TheVariants.{<a href="../../machine/ExchangeSpecs/index.html#Nothing">Nothing</a>, Quota, Tenants}
 use Rattle.wasmi_script.specs.declared.printing.Replayed.{Replayed}
 use Rattle.wasmi_grammar.specs.Lines.{<a href="../../grammar/LinesSpecs/index.html#WritesScript">WritesScript</a>, <a href="../../grammar/LinesSpecs/index.html#calls_of">calls_of</a>, <a href="../../grammar/LinesSpecs/index.html#IsFirstBadLine">IsFirstBadLine</a>}
 use Rattle.wasmi_script.specs.Printing.{<a href="../../script/PrintingSpecs/index.html#AppendsFront">AppendsFront</a>, <a href="../../script/PrintingSpecs/index.html#line">line</a>}
@@ -7516,10 +7516,10 @@ use Rattle.wasmi_grammar.specs.declared.header.LimiterLine.TheVariants as Lines
 use Rattle.wasmi_grammar.specs.declared.header.TenantsLine.{TenantsLine}
 use Rattle.wasmi_grammar.specs.Lines.{<a href="../../grammar/LinesSpecs/index.html#calls_of">calls_of</a>}
 use Rattle.wasmi_grammar.specs.Parts.{<a href="../../grammar/PartsSpecs/index.html#TenantRun">TenantRun</a>, <a href="../../grammar/PartsSpecs/index.html#parts_in">parts_in</a>}
-use Rattle.wasmi_script.specs.declared.running.Held.TheVariants.{<a href="../../machine/ExchangeSpecs/index.html#Nothing">Nothing</a>}
-use Rattle.wasmi_script.specs.declared.running.Held.TheVariants as Holding
-use Rattle.wasmi_script.specs.declared.running.Held.{Held}
-use Rattle.wasmi_script.specs.declared.running.Ran.{<a href="../../budget/LawsSpecs/index.html#Ran">Ran</a>}
+use Rattle.wasmi_script.specs.declared.replaying.Held.TheVariants.{<a href="../../machine/ExchangeSpecs/index.html#Nothing">Nothing</a>}
+use Rattle.wasmi_script.specs.declared.replaying.Held.TheVariants as Holding
+use Rattle.wasmi_script.specs.declared.replaying.Held.{Held}
+use Rattle.wasmi_script.specs.declared.replaying.Ran.{<a href="../../budget/LawsSpecs/index.html#Ran">Ran</a>}
 use Rattle.wasmi_meter.specs.declared.answer_list.LimiterAnswer.{LimiterAnswer}
 use Rattle.wasmi_meter.specs.AnswerList.{<a href="../../meter/AnswerListSpecs/index.html#AnswersAhead">AnswersAhead</a>, <a href="../../meter/AnswerListSpecs/index.html#answer_list_rules">answer_list_rules</a>, <a href="../../meter/AnswerListSpecs/index.html#new_answers">new_answers</a>}
 use Rattle.wasmi_grammar.specs.Headers.{<a href="../../grammar/HeadersSpecs/index.html#start_of">start_of</a>, <a href="../../grammar/HeadersSpecs/index.html#tenant_start">tenant_start</a>}

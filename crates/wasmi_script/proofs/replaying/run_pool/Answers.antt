@@ -7,7 +7,7 @@ use Rattle.wasmi_machine.specs.declared.calls.Call.{Call}
 use Rattle.wasmi_grammar.specs.Parts.{TenantRun, parts_in}
 use Rattle.wasmi_script.specs.ScriptRuns.{AnswersParts, new_pool}
 use Rattle.wasmi_script.proofs.ScriptRunsLemmas.{next_part}
-use Rattle.wasmi_script.proofs.running.run_pool.Goals as goal
+use Rattle.wasmi_script.proofs.replaying.run_pool.Goals as goal
 
 -- a part as it is got
 abbrev run_at : ℕ × Bor (List Call) → TenantRun

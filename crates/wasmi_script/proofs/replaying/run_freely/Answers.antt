@@ -1,7 +1,7 @@
 use Rattle.std.proofs.Common.{refl, ap}
 use Rattle.std.specs.Option.{option_copied_mut}
 use Rattle.wasmi_script.proofs.ScriptRunsLemmas.{run_of_none, starts}
-use Rattle.wasmi_script.proofs.running.run_freely.Goals as goal
+use Rattle.wasmi_script.proofs.replaying.run_freely.Goals as goal
 
 pub returns : goal.returns
 returns c =

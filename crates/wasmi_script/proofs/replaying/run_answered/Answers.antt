@@ -5,7 +5,7 @@ use Rattle.wasmi_grammar.specs.Headers.{start_of}
 use Rattle.wasmi_meter.specs.AnswerList.{answer_list_rules, new_answers}
 use Rattle.wasmi_meter.specs.Limiter.{optional_rules}
 use Rattle.wasmi_script.proofs.ScriptRunsLemmas.{starts}
-use Rattle.wasmi_script.proofs.running.run_answered.Goals as goal
+use Rattle.wasmi_script.proofs.replaying.run_answered.Goals as goal
 
 pub returns : goal.returns
 returns c =

@@ -1,6 +1,6 @@
 use Rattle.std.proofs.Common.{◌≡◌, Some, replicate}
 use Rattle.wasmi_grammar.specs.Headers.{tenant_start}
-use Rattle.wasmi_script.proofs.running.pool_of.Given as goal
+use Rattle.wasmi_script.proofs.replaying.pool_of.Given as goal
 
 abbrev pub invariant-loop-index : goal.invariant-loop-index
 invariant-loop-index l =
