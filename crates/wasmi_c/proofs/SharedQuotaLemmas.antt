@@ -25,8 +25,8 @@ use Rattle.wasmi_store.specs.Memory.{MemoryValue, creation_of, new_memory, Memor
 use Rattle.wasmi_store.specs.Table.{TableValue, new_table, size_of, TableTypeValue}
 use Rattle.wasmi_region.specs.Memory as memory
 use Rattle.wasmi_region.specs.Table as table
-use Rattle.wasmi_region.specs.Table.{MakesTableIn, creation_in}
-use Rattle.wasmi_c.specs.Numbers.{Embedded, KeepsQuota, Placed, ReleasesIf, limiter_of, quota_of, table_type_of}
+use Rattle.wasmi_region.specs.Table.{creation_in}
+use Rattle.wasmi_c.specs.Numbers.{Embedded, KeepsQuota, Placed, limiter_of, quota_of, table_type_of}
 use Rattle.wasmi_c.specs.MemoryCalls.{by_pages, ended_memory, of_memory}
 use Rattle.wasmi_c.specs.Placement.{EndsBy, GrowsBy, LeavesAs, Placement, status_of}
 use Rattle.wasmi_c.specs.TableCalls.{by_elements, ended_table, of_table}

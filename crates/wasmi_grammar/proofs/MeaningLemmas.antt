@@ -2,7 +2,6 @@
 use Rattle.std.proofs.Common.{ℕ, ◌≡◌, ◌∙◌, ◌++◌, List, [], ◌∷◌, Option, Some, None, bytes_eq, cond, codes, map, drop, inl, inr, refl, sym, ap}
 use Rattle.std.specs.Option.{option_map, option_map_or, option_and_then}
 use Rattle.std.proofs.lemmas.List.{map-append}
-use Rattle.wasmi_raw.specs.declared.raw.RawVal.{RawVal}
 use Rattle.wasmi_raw.specs.RawVal.{raw_of}
 use Rattle.wasmi_types.specs.contracts.value.RefType as reference_type
 use Rattle.wasmi_types.specs.contracts.value.ValType as value_type
@@ -46,9 +45,6 @@ use Rattle.wasmi_operands.proofs.NamesLemmas.{named, named_is, reference_named, 
 use Rattle.wasmi_operands.proofs.LineWordsLemmas.{each_named}
 use Rattle.wasmi_grammar.proofs.LimitWordsLemmas.{memory_named, memory_is, table_named, table_is}
 use Rattle.wasmi_grammar.proofs.HeadersLemmas.{answers_named, answers_is}
-use Rattle.wasmi_typed.specs.declared.typed_ref.TypedRawRef.{TypedRawRef}
-use denote.Enum.Bare.{Bare}
-use denote.Enum.Declared.{Record}
 
 -- what a list has beside a word, or something else
 abbrev found_or : {A : Type 0} → List (List ℕ × A) → List ℕ → A → A

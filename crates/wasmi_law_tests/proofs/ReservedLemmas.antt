@@ -1,5 +1,5 @@
 -- Results of runs into memory that is kept for replies, and tables that are reserved.
-use Rattle.std.proofs.Common.{Bool, Err, IsOk, List, None, Ok, OnOk, Option, Result, Some, [], ap, refl, subst, sym, ℕ, ◌++◌, ◌∙◌, ◌∷◌, ◌≤◌, ◌≡◌, ◌≢◌, ⊎_elim, arith}
+use Rattle.std.proofs.Common.{Bool, Err, IsOk, List, Ok, OnOk, Result, Some, [], ap, refl, subst, sym, ℕ, ◌++◌, ◌∙◌, ◌∷◌, ◌≤◌, ◌≡◌, ◌≢◌, ⊎_elim, arith}
 use Rattle.std.proofs.lemmas.List.{append-nil}
 use Rattle.std.proofs.lemmas.Option.{same_Some}
 use Rattle.std.proofs.lemmas.Bool.{eq-eqb, ne_eqb}

@@ -14,7 +14,7 @@ use Rattle.wasmi_store.specs.Buffer.{Room}
 use Rattle.wasmi_store.specs.Growth.{Growth, Makes, Grows}
 use Rattle.wasmi_store.specs.declared.memory.ty.PageSize.{PageSize}
 use Rattle.wasmi_store.specs.declared.memory.ty.PageSize.TheVariants.{Byte, Wasm}
-use Rattle.wasmi_store.specs.Memory.{MemoryTypeValue, page_bytes, minimum_bytes, in_bounds, MemoryValue, buffer_of, pages_of, new_memory, IsValidMemory, MakesMemory, GrowsMemoryCharging}
+use Rattle.wasmi_store.specs.Memory.{MemoryTypeValue, page_bytes, minimum_bytes, in_bounds, MemoryValue, pages_of, new_memory, IsValidMemory, MakesMemory, GrowsMemoryCharging}
 use Rattle.wasmi_store.specs.Memory as memory
 use Rattle.wasmi_store.specs.Table.{TableTypeValue, same_type, TableValue, size_of, new_table, with_added, IsValidTable, MakesTable, GrowsTableCharging}
 use Rattle.wasmi_store.specs.Table as table

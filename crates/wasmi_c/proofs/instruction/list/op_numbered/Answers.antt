@@ -1,6 +1,5 @@
-use Rattle.std.proofs.Common.{◌≡◌, arith, Some, None}
+use Rattle.std.proofs.Common.{arith}
 use Rattle.std.proofs.lemmas.Option.{gets, slice_get-map}
-use Rattle.std.specs.List.{slice_get}
 use Rattle.wasmi_c.specs.Instruction.{op_numbered}
 use Rattle.wasmi_c.proofs.instruction.list.op_numbered.Goals as goal
 
