@@ -13,8 +13,8 @@ fn call_of(kind: u64, i: u64) -> Call {
     match if kind == MIXED { i % MIXED } else { kind } {
         0 => Call::Load { op: load("load_u64"), memory: 0, ptr, offset: i & 1 },
         1 => Call::Load { op: load("i32_load8_s"), memory: 0, ptr, offset: i & 1 },
-        2 => Call::Store { op: store("store32"), memory: 0, ptr, offset: i & 1, value: RawVal::from(i & 0xffff_ffff) },
-        3 => Call::Store { op: store("i64_store16"), memory: 0, ptr, offset: i & 1, value: RawVal::from(i) },
+        2 => Call::Store { op: store("store32"), memory: 0, ptr, offset: i & 1, value: (i & 0xffff_ffff).into() },
+        3 => Call::Store { op: store("i64_store16"), memory: 0, ptr, offset: i & 1, value: i.into() },
         4 => Call::Write { memory: 0, offset: ptr as usize, bytes: vec![i as u8; 64].into() },
         5 => Call::Read { memory: 0, offset: ptr as usize, len: 64 },
         6 => Call::GrowMemory { memory: 0, pages: 0 },
