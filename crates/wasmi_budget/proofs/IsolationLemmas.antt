@@ -11,17 +11,17 @@ use Rattle.wasmi_meter.specs.declared.limiter.Kind.{Kind}
 use Rattle.wasmi_meter.specs.declared.limiter.Kind.TheVariants.{Bytes, Elements}
 use Rattle.wasmi_meter.specs.declared.quota.Amounts.{Amounts}
 use Rattle.wasmi_meter.specs.Capped.{amount_of, nothing, held_together, Asked}
-use Rattle.wasmi_meter.specs.Limiter.{Question, Answer, Failure, NoticeAnswer, optional_rules}
+use Rattle.wasmi_meter.specs.Limiter.{Question, Answer, AskedIf, NoticedIf, optional_rules}
 use Rattle.wasmi_machine.specs.declared.calls.Call.{Call}
 use Rattle.wasmi_machine.specs.declared.calls.Reply.{Reply}
 use Rattle.wasmi_machine.specs.State.{State}
-use Rattle.wasmi_machine.proofs.CarryingLemmas.{Carries, runs_too}
+use Rattle.wasmi_machine.proofs.HoldingLemmas.{if_there}
 use Rattle.wasmi_budget.specs.declared.tenant.Tenant.{Tenant}
 use Rattle.wasmi_budget.specs.Pool.{capped_tenant, tenant_rules, without_others, PoolValue, machine_of, tenant_at, RunsTenantBy, RunsTenant}
 use Rattle.wasmi_budget.proofs.PoolLemmas.{BecomesAlike, elements_reserved, slots_reserved, tenant_inside}
 use Rattle.wasmi_budget.specs.Laws.{PoolTurn, Added, Ran, Removed, Refused, Reserved, ReservedElements, PoolRun, PoolStep, PermittingRun, own_turns, OthersDontShow, RunsAsAlone, RepliesPermit}
 use Rattle.wasmi_machine.specs.Determinism.{permitting, TellsNoDenial}
-use Rattle.wasmi_machine.proofs.RevealingLemmas.{permitted_run}
+use Rattle.wasmi_machine.proofs.RevealingLemmas.{Carries, permitted_run, run_carried}
 
 -- an answer isn't both yes and no
 no_permission : {answer : Answer} {taken : Bool} → answer ≡ Ok true → answer ≡ Ok taken → taken ≡ false → ⊥
@@ -54,33 +54,32 @@ permitted_alone tenant tenant' q answer permitted (taken, answered, more) =
     ]
 
 -- what a tenant does where each question is permitted, it does where the others hold nothing
-alone_carries : Carries (option_map without_others) (permitting (optional_rules tenant_rules))
+alone_carries : Carries (λ l. Unit {0}) (option_map without_others) (permitting (optional_rules tenant_rules))
     (optional_rules tenant_rules)
-alone_carries = record { asked = asks; noticed = notices }
-  where
-    asks : (l : Option Tenant) (q : Question) (answer : Answer) (l' : Option Tenant)
-        → (permitting (optional_rules tenant_rules)).asked l q answer l'
-        → (optional_rules tenant_rules).asked (option_map without_others l) q answer (option_map without_others l')
-    asks (Some l) q answer (Some l') (permitted, asked) = permitted_alone l l' q answer permitted asked
-    asks (Some l) q answer None (permitted, asked) = absurd asked
-    asks None q answer (Some l') (permitted, asked) = absurd asked
-    asks None q answer None (permitted, asked) = permitted
-
-    notices : (l : Option Tenant) (failure : Failure) (notice_answer : NoticeAnswer) (l' : Option Tenant)
-        → (optional_rules tenant_rules).noticed l failure notice_answer l'
-        → (optional_rules tenant_rules).noticed (option_map without_others l) failure notice_answer
-        (option_map without_others l')
-    notices (Some l) failure notice_answer (Some l') noticed = record
-        { accepts = noticed.accepts; gives_back = noticed.gives_back; rest = ap without_others noticed.rest }
-    notices (Some l) failure notice_answer None noticed = absurd noticed
-    notices None failure notice_answer (Some l') noticed = absurd noticed
-    notices None failure notice_answer None noticed = noticed
+alone_carries = record {
+  asked = λ l q answer l' here (permitted, asks). (
+    tt,
+    if_there (λ l l'. AskedIf tenant_rules l q answer l')
+        (λ l l'. AskedIf tenant_rules (option_map without_others l) q answer (option_map without_others l'))
+        (λ l l'. permitted_alone l l' q answer permitted) (λ permits. permits) (λ l. (λ h. h, λ h. h)) l l' asks,
+  );
+  noticed = λ l failure answer l' here notices. (
+    tt,
+    if_there (λ l l'. NoticedIf tenant_rules l failure answer l')
+        (λ l l'. NoticedIf tenant_rules (option_map without_others l) failure answer (option_map without_others l'))
+        (λ l l' noticed. record {
+          accepts = noticed.accepts;
+          gives_back = noticed.gives_back;
+          rest = ap without_others noticed.rest;
+        }) (λ accepts. accepts) (λ l. (λ h. h, λ h. h)) l l' notices,
+  );
+}
 
 -- a run in which each question is permitted is one where the others hold nothing
 pub others_do_not_show : OthersDontShow
 others_do_not_show s s' tenant tenant' turns ran =
-    runs_too (option_map without_others) (permitting (optional_rules tenant_rules))
-    (optional_rules tenant_rules) alone_carries _ turns _ ran
+    (run_carried (λ l. Unit {0}) (option_map without_others) (permitting (optional_rules tenant_rules))
+    (optional_rules tenant_rules) alone_carries _ turns _ tt ran).1
 
 -- a machine is at its index after another one was added
 pub kept_added : (machines : List (Option State)) (index : ℕ) (s : State) (added : Option State)

@@ -10,7 +10,7 @@ use Rattle.wasmi_meter.specs.Limiter.{Question, Answer, Failure, NoticeAnswer, o
 use Rattle.wasmi_meter.proofs.CappedLemmas.{KeepsCaps, caps_kept, others_kept, asked_is_within, noticed_is_within}
 use Rattle.wasmi_machine.specs.MemoryEffects.{WritesMemoryAt}
 use Rattle.wasmi_machine.specs.State.{World, Turn, world, with_memories, State, total, sizes, HoldsTotals, IsRefusal, with_reserved}
-use Rattle.wasmi_machine.specs.Exchange.{Exchange, Nothing, Denial, Permission, Notice, GrowsBy, RepliesTo, place_of}
+use Rattle.wasmi_machine.specs.Exchange.{Exchange, Permission, GrowsBy, RepliesTo, place_of}
 use Rattle.wasmi_machine.specs.Effects.{ActsMeteredUnasked, Changes}
 use Rattle.wasmi_machine.specs.Steps.{Run, IsRunOf, RepliesWith, SomeCopy}
 use Rattle.wasmi_machine.proofs.StepsLemmas.{write_replies}
@@ -18,7 +18,7 @@ use Rattle.wasmi_machine.specs.Determinism.{IsDeterministic, AcceptsNotices}
 use Rattle.wasmi_machine.proofs.DeterminismLemmas.{capped_unique}
 use Rattle.wasmi_machine.proofs.EffectLemmas.{changes_kept}
 use Rattle.wasmi_machine.proofs.ExchangeLemmas.{growths_are_permitted}
-use Rattle.wasmi_machine.proofs.HoldingLemmas.{run_keeps, totals_are_held}
+use Rattle.wasmi_machine.proofs.HoldingLemmas.{IsThere, run_stays, stays_there, totals_are_held}
 use Rattle.wasmi_machine.proofs.TotalLemmas.{slots_alike}
 use Rattle.wasmi_budget.specs.declared.tenant.Tenant.{Tenant}
 use Rattle.wasmi_budget.specs.Pool.{capped_tenant, tenant_rules, holdings, PoolValue, total_of, IsWithinCaps, IsKept, HasNothing, tenant_at, machine_of, total_at, AddsTenant, RemovesTenant, ReservesElements, ReservesElementsForTenant, ReservesForTenant, IsUnasked, RepliesUnasked, RunsTenant, RunsUnasked, tenant_of, held_before, IsPart, RunsAsPart}
@@ -72,10 +72,14 @@ pub run_stays_within : (first : Tenant) → IsWithin capped_tenant first
     → (w w' : World (Option Tenant)) (turns : List Turn) (tenant' : Tenant) → w.limiter ≡ Some first
     → w'.limiter ≡ Some tenant' → Run (optional_rules tenant_rules) w turns w' → StaysWithin first tenant'
 run_stays_within first within w w' turns tenant' is is' ran =
-    let kept = run_keeps tenant_rules (StaysWithin first) (λ l q answer l'. asks_within first l l' q answer)
-    (λ l failure notice_answer l'. notices_within first l l' failure notice_answer)
-    w first is (record { caps = λ kind. refl; others = λ kind. refl; within = within }) turns w' ran in
-    subst (StaysWithin first) (same_Some kept.0 tenant' (sym kept.1 ∙ is')) kept.2
+    let stays = stays_there tenant_rules (StaysWithin first) (record {
+      asked = λ l q answer l'. asks_within first l l' q answer;
+      noticed = λ l failure notice_answer l'. notices_within first l l' failure notice_answer;
+    }) in
+    subst (IsThere (StaysWithin first)) is'
+    (run_stays (optional_rules tenant_rules) (IsThere (StaysWithin first)) stays w turns w'
+    (subst (IsThere (StaysWithin first)) (sym is)
+    (record { caps = λ kind. refl; others = λ kind. refl; within = within })) ran)
 
 -- a tenant leaves no choice
 pub tenant_unique : IsDeterministic tenant_rules
@@ -160,17 +164,17 @@ module _ (pool : PoolValue) (all : Amounts) (kept : IsKept pool all) (index : �
 
   -- the tenant that holds that part is the one that the pool has for the machine
   tenant_is_own : tenant_of pool.caps all (amounts_of (total s)) ≡ tenant_at pool index s
-  tenant_is_own =
-      let bytes : all.bytes - total s Bytes ≡ total_of (remove pool.machines index) Bytes =
-      let sum = all_held Bytes in let split = total_split pool.machines index s found Bytes in omega (arith, sum, split) in
-      let elements : all.elements - total s Elements ≡ total_of (remove pool.machines index) Elements =
-      let sum = all_held Elements in let split = total_split pool.machines index s found Elements in
-      omega (arith, sum, split) in
-      λ i. record {
-        caps = pool.caps;
-        others = record { bytes = bytes i; elements = elements i };
-        holdings = record { held = amounts_of (total s); last = None };
-      }
+  tenant_is_own = λ i. record {
+    caps = pool.caps;
+    others = record { bytes = left Bytes i; elements = left Elements i };
+    holdings = record { held = amounts_of (total s); last = None };
+  }
+    where
+      left : (kind : Kind) → amount_of all kind - total s kind ≡ total_of (remove pool.machines index) kind
+      left kind =
+          let sum = all_held kind in
+          let split = total_split pool.machines index s found kind in
+          omega (arith, sum, split)
 
 -- a machine becomes another under its limiter
 module _ (pool : PoolValue) (within : IsWithinCaps pool) (index : ℕ) (s : State)
@@ -289,10 +293,8 @@ refused_total w w' call reply refusal (charge, written, step) kind =
   where
     by : (exchange : Exchange) → RepliesTo exchange reply
         → GrowsBy (place_of call) exchange (sizes w.state) (sizes w'.state) → total w'.state kind ≡ total w.state kind
-    by Nothing replies grows = ap sum (grows kind)
-    by (Denial question answer) replies grows = ap sum (grows kind)
     by (Permission question) replies grows = absurd (replies refusal)
-    by (Notice question failure notice_answer) replies grows = ap sum (grows kind)
+    by exchange replies grows = ap sum (grows kind)
 
 -- a machine that has a part of what all hold
 module _ (caps all held : Amounts) (s now : State) (view : s ≡ now) (is : held ≡ amounts_of (total s))
@@ -496,17 +498,19 @@ runs_within pool index calls replies pool' within runs =
     subst IsWithinCaps (sym runs.after)
     (replaced_within pool within index runs.machine runs.found runs.machine' runs.tenant' stays held)
 
--- a new tenant keeps it there too
+-- with a machine that has nothing all have what they had
+pushed_total : (machines : List (Option State)) (s : State) → HasNothing s → (kind : Kind)
+    → total_of (machines ++ Some s ∷ []) kind ≡ total_of machines kind
+pushed_total machines s empty Bytes =
+    omega (arith, empty.bytes, sum_by_push (λ t. total_at t Bytes) machines (Some s))
+pushed_total machines s empty Elements =
+    omega (arith, empty.elements, sum_by_push (λ t. total_at t Elements) machines (Some s))
+
+-- so a new tenant keeps it there too
 pub adds_within : (pool : PoolValue) (s : State) (pool' : PoolValue) → IsWithinCaps pool → AddsTenant pool s pool'
     → IsWithinCaps pool'
-adds_within pool s pool' within adds kind = rw adds.added (pushed kind)
-  where
-    pushed : (kind : Kind) → total_of (pool.machines ++ Some s ∷ []) kind ≤ amount_of pool.caps kind
-    pushed Bytes = let bound =
-        within Bytes in omega (arith, bound, adds.empty.bytes, sum_by_push (λ t. total_at t Bytes) pool.machines (Some s))
-    pushed Elements = let bound =
-        within Elements in omega
-        (arith, bound, adds.empty.elements, sum_by_push (λ t. total_at t Elements) pool.machines (Some s))
+adds_within pool s pool' within adds kind = rw adds.added
+    (let bound = within kind in omega (arith, bound, pushed_total pool.machines s adds.empty kind))
 
 -- a machine that was found to have no bytes and no elements
 pub has_nothing : (s : State) (bytes elements : ℕ) → bytes ≡ total s Bytes → bytes ≤ 0 → elements ≡ total s Elements
@@ -522,12 +526,9 @@ kept_added pool held s kept empty machines is = record {
   within = adds_within pool s (record pool { machines = machines }) kept.within
       (record { empty = empty; added = ap (λ (m : List (Option State)). record pool { machines = m }) is });
   fits = kept.fits;
-  counted = kept.counted ∙ amounts_same (total_of pool.machines) (total_of machines) same;
+  counted = kept.counted ∙ amounts_same (total_of pool.machines) (total_of machines)
+      (λ kind. sym (ap (λ m. total_of m kind) is ∙ pushed_total pool.machines s empty kind));
 }
-  where
-    same : (kind : Kind) → total_of pool.machines kind ≡ total_of machines kind
-    same Bytes = rw is (omega (arith, empty.bytes, sum_by_push (λ t. total_at t Bytes) pool.machines (Some s)))
-    same Elements = rw is (omega (arith, empty.elements, sum_by_push (λ t. total_at t Elements) pool.machines (Some s)))
 
 -- what the machine of a removed tenant has counts no more
 pub removals_give_back : RemovalsGiveBack

@@ -148,21 +148,19 @@ module _ {X : Type 0} where
   value_pushed_other : (indices : List ℕ) (values : List X) (n k : ℕ) (x : X) → length values ≡ length indices → n ≢ k
       → value_of (indices ++ n ∷ []) (values ++ x ∷ []) k ≡ value_of indices values k
   value_pushed_other [] [] n k x same other = rw (ne_eqb n k other) refl
-  value_pushed_other [] (y ∷ values) n k x same other = absurd (omega (arith, same))
-  value_pushed_other (i ∷ indices) [] n k x same other = absurd (omega (arith, same))
   value_pushed_other (i ∷ indices) (y ∷ values) n k x same other =
       ap (λ rest. if nat_eq i k then Some y else rest)
       (value_pushed_other indices values n k x (omega (arith, same)) other)
+  value_pushed_other indices values n k x same other = absurd (omega (arith, same))
 
   value_pushed : (indices : List ℕ) (values : List X) (n : ℕ) (x : X) → length values ≡ length indices
       → All (λ i. i < n) indices → value_of (indices ++ n ∷ []) (values ++ x ∷ []) n ≡ Some x
   value_pushed [] [] n x same below = rw (eq-eqb n n refl) refl
-  value_pushed [] (y ∷ values) n x same below = absurd (omega (arith, same))
-  value_pushed (i ∷ indices) [] n x same below = absurd (omega (arith, same))
   value_pushed (i ∷ indices) (y ∷ values) n x same below =
       let less = below 0 0 (omega arith) in
       rw (ne_eqb i n (λ e. absurd (omega (arith, e, less))))
       (value_pushed indices values n x (omega (arith, same)) (λ k d in'. below (suc k) d (omega (arith, in'))))
+  value_pushed indices values n x same below = absurd (omega (arith, same))
 
   module _ (next : ℕ) (indices : List ℕ) (values : List X) where
     -- there are as many places as indices were given

@@ -1,12 +1,11 @@
 -- Arrays that a call of an instruction writes, refusals of such calls, and the lanes of a shuffle.
-use Rattle.std.proofs.Common.{◌≡◌, ℕ, suc, ◌<◌, ◌&&◌, Bool, true, false, List, [], ◌∷◌, length, map, get_or, refl, arith, rules, tests, ◌≤◌, Some, None, take, sym, ap, ◌∙◌}
-use Rattle.std.specs.Prelude.{◌==◌, Ok, Err, if◌then◌else◌, nat_lt}
+use Rattle.std.proofs.Common.{◌≡◌, ℕ, ◌<◌, ◌&&◌, Bool, true, false, List, [], ◌∷◌, length, map, get_or, refl, arith, rules, tests, ◌≤◌, Some, None, take, sym, ap, ◌∙◌}
+use Rattle.wasmi_c.proofs.Common.{◌==◌, if◌then◌else◌, nat_lt, same_number_lists, get_or-map, length-map, same_lists, take_all, Leaves, each_of, each_of_two, each_of_three, zip3, lanes_of}
+use Rattle.std.specs.Prelude.{Ok, Err}
 use Rattle.std.specs.Simd.Lanes.{zip2}
-use Rattle.std.proofs.lemmas.Grind.{same_number_lists}
-use Rattle.std.proofs.lemmas.List.{take_all}
 use Rattle.std.proofs.lemmas.List.Folds.{list_all_at}
+use Rattle.std.proofs.lemmas.Simd.{get_or-zip2, length-zip2}
 use Rattle.std.specs.List.{list_all}
-use Rattle.wasmi_c.specs.Instruction.{Leaves, each_of, each_of_two, each_of_three, zip3, lanes_of}
 use Rattle.wasmi_c.specs.declared.instruction.result.Refusal.TheVariants.{LengthsDiffer}
 
 -- what passes a test is written
@@ -15,48 +14,22 @@ written : {V : Type 0} (test : Bool) (value old new : V) → test ≡ true → n
 written true value old new passes is = (refl, is)
 written false value old new passes is = cc
 
--- a list is what a function gives of another one, since each element is what it gives of that at its index
-mapped : {A B : Type 0} (f : A → B) (xs : List A) (ys : List B) → length ys ≡ length xs
-    → ((k : ℕ) (x : A) (y : B) → k < length xs → get_or ys k y ≡ f (get_or xs k x)) → ys ≡ map f xs
-mapped f [] [] same each = refl
-mapped f [] (y ∷ ys) same each = absurd (omega arith)
-mapped f (x ∷ xs) [] same each = absurd (omega arith)
-mapped f (x ∷ xs) (y ∷ ys) same each =
-    let first = each 0 x y (omega arith) in
-    let rest = mapped f xs ys (omega arith) (λ k u v below. each (suc k) u v (omega arith)) in
-    cc
+-- an element of a list that has an index
+element : {A : Type 0} (xs : List A) (k : ℕ) → k < length xs → A
+element [] k below = absurd (omega (arith, below))
+element (x ∷ xs) k below = x
 
--- the same of two lists
-mapped_two : {A B C : Type 0} (f : A → B → C) (xs : List A) (ys : List B) (zs : List C)
+-- a list is what a function gives of two others, since each element is what it gives of those at its index
+zipped : {A B C : Type 0} (f : A → B → C) (xs : List A) (ys : List B) (zs : List C)
     → length ys ≡ length xs → length zs ≡ length xs
     → ((k : ℕ) (x : A) (y : B) (z : C) → k < length xs → get_or zs k z ≡ f (get_or xs k x) (get_or ys k y))
     → zs ≡ zip2 f xs ys
-mapped_two f [] ys [] seconds same each = refl
-mapped_two f [] ys (z ∷ zs) seconds same each = absurd (omega arith)
-mapped_two f (x ∷ xs) [] zs seconds same each = absurd (omega arith)
-mapped_two f (x ∷ xs) (y ∷ ys) [] seconds same each = absurd (omega arith)
-mapped_two f (x ∷ xs) (y ∷ ys) (z ∷ zs) seconds same each =
-    let first = each 0 x y z (omega arith) in
-    let rest = mapped_two f xs ys zs (omega arith) (omega arith)
-    (λ k u v w below. each (suc k) u v w (omega arith)) in
-    cc
-
--- the same of three lists
-mapped_three : {A B C D : Type 0} (f : A → B → C → D) (xs : List A) (ys : List B) (zs : List C) (us : List D)
-    → length ys ≡ length xs → length zs ≡ length xs → length us ≡ length xs
-    → ((k : ℕ) (x : A) (y : B) (z : C) (u : D) → k < length xs
-    → get_or us k u ≡ f (get_or xs k x) (get_or ys k y) (get_or zs k z))
-    → us ≡ zip3 f xs ys zs
-mapped_three f [] ys zs [] seconds thirds same each = refl
-mapped_three f [] ys zs (u ∷ us) seconds thirds same each = absurd (omega arith)
-mapped_three f (x ∷ xs) [] zs us seconds thirds same each = absurd (omega arith)
-mapped_three f (x ∷ xs) (y ∷ ys) [] us seconds thirds same each = absurd (omega arith)
-mapped_three f (x ∷ xs) (y ∷ ys) (z ∷ zs) [] seconds thirds same each = absurd (omega arith)
-mapped_three f (x ∷ xs) (y ∷ ys) (z ∷ zs) (u ∷ us) seconds thirds same each =
-    let first = each 0 x y z u (omega arith) in
-    let rest = mapped_three f xs ys zs us (omega arith) (omega arith) (omega arith)
-    (λ k a b c d below. each (suc k) a b c d (omega arith)) in
-    cc
+zipped f xs ys zs seconds same each =
+    same_lists zs (zip2 f xs ys) (omega (arith, seconds, same, length-zip2 f xs ys (sym seconds))) (λ k z below.
+    let first : k < length xs = omega (arith, below, same) in
+    let second : k < length ys = omega (arith, first, seconds) in
+    let x = element xs k first in let y = element ys k second in
+    each k x y z first ∙ sym (get_or-zip2 f xs ys k x y z first second))
 
 -- an array is written where each element is what the function gives
 pub each_written : {A B : Type 0} (f : A → B) (a : List A) (old new : List B) → length old ≡ length a
@@ -65,7 +38,10 @@ pub each_written : {A B : Type 0} (f : A → B) (a : List A) (old new : List B) 
     → Leaves (each_of f a (length old)) old new 0
 unfolding each_of
 each_written f a old new same kept each =
-    written (length old == length a) (map f a) old new (search (rules, tests)) (mapped f a new (omega arith) each)
+    written (length old == length a) (map f a) old new (search (rules, tests))
+    (same_lists new (map f a) (omega (arith, same, kept, length-map a f)) (λ k y below.
+    let inside : k < length a = omega (arith, below, same, kept) in let x = element a k inside in
+    each k x y inside ∙ sym (get_or-map f a k x y inside)))
 
 -- an array is written where each element is what the function gives of the elements of two arrays
 pub each_two_written : {A B C : Type 0} (f : A → B → C) (a : List A) (b : List B) (old new : List C)
@@ -75,7 +51,7 @@ pub each_two_written : {A B C : Type 0} (f : A → B → C) (a : List A) (b : Li
 unfolding each_of_two
 each_two_written f a b old new seconds same kept each =
     written ((length b == length a) && (length old == length a)) (zip2 f a b) old new (search (rules, tests))
-    (mapped_two f a b new seconds (omega arith) each)
+    (zipped f a b new seconds (omega arith) each)
 
 -- an array is written where each element is what the function gives of the elements of three arrays
 pub each_three_written : {A B C D : Type 0} (f : A → B → C → D) (a : List A) (b : List B) (c : List C)
@@ -85,8 +61,13 @@ pub each_three_written : {A B C D : Type 0} (f : A → B → C → D) (a : List 
     → Leaves (each_of_three f a b c (length old)) old new 0
 unfolding each_of_three
 each_three_written f a b c old new seconds thirds same kept each =
+    let long : length (zip2 f a b) ≡ length a = omega (arith, seconds, length-zip2 f a b (sym seconds)) in
     written ((length b == length a) && (length c == length a) && (length old == length a)) (zip3 f a b c) old new
-    (search (rules, tests)) (mapped_three f a b c new seconds thirds (omega arith) each)
+    (search (rules, tests)) (zipped (λ g z. g z) (zip2 f a b) c new (omega (arith, long, thirds))
+    (omega (arith, long, same, kept)) (λ k g z u below.
+    let first : k < length a = omega (arith, below, long) in let second : k < length b = omega (arith, first, seconds) in
+    let x = element a k first in let y = element b k second in
+    each k x y z u first ∙ sym (ap (λ g. g (get_or c k z)) (get_or-zip2 f a b k x y g first second))))
 
 -- what is left in an array of results that is written
 pub ruleset arrays = (each_written, each_two_written, each_three_written)

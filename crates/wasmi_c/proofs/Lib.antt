@@ -1,3 +1,4 @@
+pub mod Common
 mod HeldBoxLemmas
 mod InstructionLemmas
 mod MachineLemmas

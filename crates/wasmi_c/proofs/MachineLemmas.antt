@@ -1,37 +1,28 @@
 -- What calls and lines do to a machine with its limiter.
 use Rattle.std.proofs.Common.{◌≡◌, ◌+◌, ◌<◌, ◌≤◌, ◌++◌, drop, set, take, length, get_or, All, Option, Some, None, false, is_some, map, Ok, Err, List, Result, arith, IfOk, OnErr, [], ◌∷◌, refl, sym, subst, ap, ℕ, ◌∙◌, ◌^◌, sum, inl, inr}
-use Rattle.std.proofs.lemmas.List.{take_all, take_more, take_more_set}
-use Rattle.std.proofs.lemmas.Option.{same_Some}
+use Rattle.wasmi_c.proofs.Common.{take_all, take_more, take_more_set, same_Some, MatchOption, Vec, optional_rules, holdings, quota_rules, IsWithinCaps, SameCaps, Quota, State, with_memories, with_reserved, HoldsTotals, total, Turn, byte_count, slot_count, world, with_tables, Write, CallsAreRuns, InTurn, ListsAreRuns, MachineReplies, QuotasAreKept, RepliesInStruct, world_of, NO_CALL, ReplyStruct}
 use Rattle.std.specs.Global.{Global}
-use Rattle.std.specs.Prelude.{MatchOption, Vec, slice_get}
+use Rattle.std.specs.Prelude.{slice_get}
 use Rattle.std.specs.declared.alloc.AllocError.{AllocError}
 use Rattle.wasmi_meter.specs.AnyLimiter.{any_limiter_rules, caps_of}
-use Rattle.wasmi_meter.specs.Limiter.{optional_rules}
-use Rattle.wasmi_meter.specs.Capped.{holdings, quota_rules, IsWithinCaps, SameCaps}
 use Rattle.wasmi_meter.specs.declared.any_limiter.AnyLimiter.{AnyLimiter}
+use Rattle.wasmi_meter.specs.declared.limiter.Kind.{Kind}
 use Rattle.wasmi_meter.specs.declared.limiter.Kind.TheVariants.{Bytes, Elements}
-use Rattle.wasmi_meter.specs.declared.quota.Quota.{Quota}
 use Rattle.wasmi_machine.specs.Determinism.{RelatesByKind, RunsKeepKind}
 use Rattle.wasmi_machine.specs.Laws.{HoldsTotalsAlways, QuotasStayWithin}
 use Rattle.wasmi_machine.proofs.StepsLemmas.{write_replies}
 use Rattle.wasmi_machine.specs.Steps.{IsRunOf, Run, RepliesWith, SomeCopy}
-use Rattle.wasmi_machine.specs.State.{State, with_memories, with_reserved, HoldsTotals, total, Turn, byte_count, slot_count, world, with_tables}
 use Rattle.wasmi_machine.specs.TableEffects.{ReservesElementsAt}
 use Rattle.wasmi_budget.proofs.PoolLemmas.{elements_alike}
 use Rattle.wasmi_machine.specs.declared.calls.Call.{Call}
-use Rattle.wasmi_machine.specs.declared.calls.Call.TheVariants.{Write}
 use Rattle.wasmi_machine.specs.declared.calls.Reply.{Reply}
 use Rattle.wasmi_machine.specs.declared.slots.SlotCounts.{SlotCounts}
 use Rattle.wasmi_c.specs.Machine.Caps.{IsKept, Keeps, MachineValue}
-use Rattle.wasmi_c.specs.Machine.Calls.{QuotasAreKept, CallsAreRuns}
-use Rattle.wasmi_c.specs.Machine.Calls.{InTurn, ListsAreRuns, MachineReplies, RepliesInStruct, world_of}
 use Rattle.wasmi_c.specs.Machine.CallStructs.{call_of}
 use Rattle.wasmi_c.specs.Machine.Replies.{only}
-use Rattle.wasmi_c.specs.declared.status.TheConstants.{NO_CALL}
 use Rattle.wasmi_c.specs.Machine.NewMachines.{IsAnswer, IsNewWithAnswers, MakesMachine, MakesWithAnswers, answer_of}
 use Rattle.wasmi_c.specs.declared.machine.call_struct.CallStruct.{CallStruct}
 use Rattle.wasmi_c.specs.declared.machine.limits.Limits.{Limits}
-use Rattle.wasmi_c.specs.declared.machine.reply_struct.ReplyStruct.{ReplyStruct}
 use Rattle.wasmi_machine.proofs.MemoryEffectsLemmas.{vector_store_kept, written_kept}
 use Rattle.wasmi_machine.specs.MemoryEffects.{StoresMemoryAt, WritesMemoryAt}
 use Rattle.wasmi_meter.specs.declared.any_limiter.AnyLimiter.TheVariants as limiter
@@ -117,19 +108,27 @@ calls_run call machine reply machine' (charge, written, step) = (
   (world machine'.state (Some machine'.limiter), step, refl),
 )
 
--- memories that keep their sizes count as much, so a quota holds what the machine has
-kept_by_sizes : (s : State) (l : AnyLimiter) (s' : State)
-    → map (slot_count byte_count) s'.memories ≡ map (slot_count byte_count) s.memories
-    → s' ≡ with_memories s s'.memories → Keeps s l → Keeps s' l
-kept_by_sizes s limiter.Unlimited s' same rest kept = tt
-kept_by_sizes s (limiter.Quota quota) s' same rest kept = record {
+-- a quota that holds what a machine has holds what another has that has as much of each kind
+kept_by_totals : (s : State) (l : AnyLimiter) (s' : State) → ((kind : Kind) → total s' kind ≡ total s kind) → Keeps s l
+    → Keeps s' l
+kept_by_totals s limiter.Unlimited s' same kept = tt
+kept_by_totals s (limiter.Quota quota) s' same kept = record {
   totals = record {
-    bytes = kept.totals.bytes ∙ sym (ap sum same);
-    elements = kept.totals.elements ∙ sym (ap (λ state. total state Elements) rest);
+    bytes = kept.totals.bytes ∙ sym (same Bytes);
+    elements = kept.totals.elements ∙ sym (same Elements);
   };
   within = kept.within;
 }
-kept_by_sizes s (limiter.Answers list) s' same rest kept = tt
+kept_by_totals s (limiter.Answers list) s' same kept = tt
+
+-- memories that keep their sizes count as much
+kept_by_sizes : (s : State) (l : AnyLimiter) (s' : State)
+    → map (slot_count byte_count) s'.memories ≡ map (slot_count byte_count) s.memories
+    → s' ≡ with_memories s s'.memories → Keeps s l → Keeps s' l
+kept_by_sizes s l s' same rest = kept_by_totals s l s' (λ kind. elim kind as (λ kind. total s' kind ≡ total s kind) [
+  | Bytes ↦ ap sum same
+  | Elements ↦ ap (λ state. total state Elements) rest
+])
 
 -- a store keeps the sizes of the memories
 pub kept_by_store : (s : State) (l : AnyLimiter) (index a : ℕ) (stored : List ℕ) (full : Reply) (s' : State)
@@ -159,31 +158,16 @@ machine_writes machine s l seen memory offset bytes short full s' writes rest =
           (0, 0, written.2 (Some l)),
     )
 
--- what is reserved counts nowhere, so a quota holds what the machine has
+-- what is reserved counts nowhere
 pub kept_by_reserve : (s : State) (l : AnyLimiter) (more : SlotCounts) (s' : State) → s' ≡ with_reserved s more
     → Keeps s l → Keeps s' l
-kept_by_reserve s limiter.Unlimited more s' reserved kept = tt
-kept_by_reserve s (limiter.Quota quota) more s' reserved kept = record {
-  totals = record {
-    bytes = kept.totals.bytes ∙ sym (ap (λ state. total state Bytes) reserved);
-    elements = kept.totals.elements ∙ sym (ap (λ state. total state Elements) reserved);
-  };
-  within = kept.within;
-}
-kept_by_reserve s (limiter.Answers list) more s' reserved kept = tt
+kept_by_reserve s l more s' reserved = kept_by_totals s l s' (λ kind. ap (λ state. total state kind) reserved)
 
 -- nor do elements that are reserved
 pub kept_by_elements : (s : State) (l : AnyLimiter) (table elements : ℕ) (reply : Reply) (s' : State)
     → ReservesElementsAt table elements s.tables reply s'.tables → s' ≡ with_tables s s'.tables → Keeps s l → Keeps s' l
-kept_by_elements s limiter.Unlimited table elements reply s' tables rest kept = tt
-kept_by_elements s (limiter.Quota quota) table elements reply s' tables rest kept = record {
-  totals = record {
-    bytes = kept.totals.bytes ∙ sym (elements_alike s table elements reply s' (tables, rest) Bytes);
-    elements = kept.totals.elements ∙ sym (elements_alike s table elements reply s' (tables, rest) Elements);
-  };
-  within = kept.within;
-}
-kept_by_elements s (limiter.Answers list) table elements reply s' tables rest kept = tt
+kept_by_elements s l table elements reply s' tables rest =
+    kept_by_totals s l s' (elements_alike s table elements reply s' (tables, rest))
 
 -- what is made as one machine is made as one of which a fact holds
 pub made_so : (IsNew : MachineValue → Type 0) (machine : MachineValue) (held : Option MachineValue) (status : ℕ)

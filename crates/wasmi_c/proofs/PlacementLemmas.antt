@@ -1,27 +1,18 @@
 -- Growths of and writes to what lies with C: what they take of its meter, and under which limiter they are.
 use Rattle.std.proofs.Common.{◌≡◌, Bool, true, false, ℕ, ◌-◌, Option, Some, None, Result, refl, ap, inl, inr, Ok, List, take, drop, length, ◌++◌, ◌∙◌}
-use Rattle.std.proofs.lemmas.List.{take_at, drop_at}
-use Rattle.std.specs.Prelude.{OnErr, nat_eq, if◌then◌else◌}
-use Rattle.std.specs.Option.{option_map, unwrap_or}
-use Rattle.wasmi_meter.specs.Limiter.{Rules, Question, Answer, Failure, NoticeAnswer, optional_rules, AskedIf, NoticedIf}
-use Rattle.wasmi_meter.specs.Meter.{Meter, meter_after}
+use Rattle.wasmi_c.proofs.Common.{take_at, drop_at, nat_eq, if◌then◌else◌, option_map, unwrap_or, Rules, Question, Answer, Failure, NoticeAnswer, optional_rules, AskedIf, NoticedIf, Meter, meter_after, meter_of, with_left, KeepsMeter, MeteredRegion, SameRest, limiter_of, quota_numbers_rules, Embedded, embedded, WritesBytesAs, of_memory, WritesTableAs, of_table, TableTypeValue, TableValue, TableWrite, WritesTable, table_of, Quota, quota_rules}
+use Rattle.std.specs.Prelude.{OnErr}
 use Rattle.wasmi_store.specs.Growth.{Growth, Grows, Makes, metered_value, metered}
 use Rattle.wasmi_store.specs.Write.{BulkWrites, item_price}
 use Rattle.wasmi_meter.specs.declared.error.MemoryError.TheVariants.{OutOfBoundsAccess, OutOfFuel}
 use Rattle.wasmi_store.proofs.WriteLemmas.{items_taken, write_takes}
-use Rattle.wasmi_c.specs.Numbers.{meter_of, with_left, KeepsMeter, MeteredRegion, SameRest, limiter_of, quota_numbers_rules, Embedded, embedded}
 use Rattle.wasmi_c.specs.declared.numbers.MeterNumbers.{MeterNumbers}
 use Rattle.wasmi_c.specs.declared.numbers.Range.{Range}
 use Rattle.wasmi_meter.specs.declared.error.MemoryError.{MemoryError}
 use Rattle.wasmi_meter.proofs.AttemptLemmas.{meter_after_nothing}
 use Rattle.wasmi_meter.specs.Attempt.{MeteredValue, Attempt, Request, AttemptOutcome, Unasked, Denied, Met, Failed, Follows, answer_of}
-use Rattle.wasmi_c.specs.MemoryCalls.{WritesBytesAs, of_memory}
-use Rattle.wasmi_c.specs.TableCalls.{WritesTableAs, of_table}
-use Rattle.wasmi_store.specs.Table.{TableTypeValue, TableValue, TableWrite, WritesTable, table_of}
 use Rattle.wasmi_meter.specs.declared.error.TableError.{TableError}
 use Rattle.wasmi_c.specs.Placement.{status_of, grown_number, written_number, Placement, GrowsAs, WritesAs, Limited, limiter_after, Allows, SettlesGrowth, SettlesCreation}
-use Rattle.wasmi_meter.specs.declared.quota.Quota.{Quota}
-use Rattle.wasmi_meter.specs.Capped.{quota_rules}
 use Rattle.wasmi_c.specs.declared.numbers.QuotaNumbers.{QuotaNumbers}
 use Rattle.wasmi_c.specs.Host.{fresh, host_rules}
 use Rattle.wasmi_c.specs.declared.host.HostAnswers.{HostAnswers}

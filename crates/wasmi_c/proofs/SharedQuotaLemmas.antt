@@ -1,7 +1,7 @@
 -- What one quota holds, as memories and tables are made and grow under it.
 use Rattle.std.proofs.Common.{◌≡◌, ◌∙◌, ℕ, ◌+◌, ◌-◌, ◌*◌, ◌≤◌, true, false, Option, Some, None, Result, Ok, Err, List, [], ◌∷◌, ◌++◌, length, take, replicate, sum, refl, ap, sym, subst, inl, inr, arith, length-append}
-use Rattle.std.specs.Prelude.{nat_eq, slice_get}
-use Rattle.std.proofs.lemmas.List.{length-replicate, length-take-le}
+use Rattle.wasmi_c.proofs.Common.{nat_eq, length-replicate, length-take-le, Quota, Asked, HoldsTheSame, Releases, amount_held, with_less, with_more, without_last, IsWithinCaps, holdings, capped_quota, quota_rules, Answer, kind_of, optional_rules, Meter, Lent, creation_of, new_memory, MemoryTypeValue, minimum_bytes, page_bytes, new_table, size_of, TableTypeValue, creation_in, Embedded, KeepsQuota, Placed, limiter_of, quota_of, table_type_of, by_pages, ended_memory, of_memory, by_elements, ended_table, of_table, DONE, byte_count}
+use Rattle.std.specs.Prelude.{slice_get}
 use Rattle.std.proofs.lemmas.List.Elements.{All-cons, All-nil}
 use Rattle.std.proofs.lemmas.Bool.{cases_lt}
 use Rattle.std.proofs.lemmas.Bool.Decides.{nat_tests}
@@ -12,27 +12,15 @@ use Rattle.wasmi_meter.specs.declared.error.TableError.TheVariants as table_erro
 use Rattle.wasmi_meter.specs.declared.limiter.Kind.{Kind}
 use Rattle.wasmi_meter.specs.declared.limiter.Kind.TheVariants.{Bytes, Elements}
 use Rattle.wasmi_meter.specs.declared.quota.Holdings.{Holdings}
-use Rattle.wasmi_meter.specs.declared.quota.Quota.{Quota}
 use Rattle.wasmi_meter.specs.Attempt.{Request, AttemptOutcome, Unasked, Denied, Met, Failed, MayEnd, Follows, answer_of, value_after}
-use Rattle.wasmi_meter.specs.Capped.{Asked, HoldsTheSame, Releases, amount_held, with_less, with_more, without_last, IsWithinCaps, holdings, capped_quota, quota_rules}
 use Rattle.wasmi_meter.specs.CappedProofs.{asked_reserves}
-use Rattle.wasmi_meter.specs.Limiter.{Answer, kind_of, optional_rules}
-use Rattle.wasmi_meter.specs.Meter.{Meter}
 use Rattle.wasmi_meter.proofs.CappedLemmas.{asked_is_within, noticed_is_within, quota_keeps, released_within}
-use Rattle.wasmi_store.specs.Buffer.{Lent}
 use Rattle.wasmi_store.specs.Growth.{Growth, Grows, Makes, metered_value}
-use Rattle.wasmi_store.specs.Memory.{MemoryValue, creation_of, new_memory, MemoryTypeValue, minimum_bytes, page_bytes}
-use Rattle.wasmi_store.specs.Table.{TableValue, new_table, size_of, TableTypeValue}
 use Rattle.wasmi_region.specs.Memory as memory
 use Rattle.wasmi_region.specs.Table as table
-use Rattle.wasmi_region.specs.Table.{creation_in}
-use Rattle.wasmi_c.specs.Numbers.{Embedded, KeepsQuota, Placed, limiter_of, quota_of, table_type_of}
-use Rattle.wasmi_c.specs.MemoryCalls.{by_pages, ended_memory, of_memory}
 use Rattle.wasmi_c.specs.Placement.{EndsBy, GrowsBy, LeavesAs, Placement, status_of}
-use Rattle.wasmi_c.specs.TableCalls.{by_elements, ended_table, of_table}
 use Rattle.wasmi_c.specs.SharedQuota.{UnderQuota, HoldsSums, MakesMemoryUnder, GrowsMemoryUnder, MakesTableUnder, GrowsTableUnder, EndsMemoryUnder, EndsTableUnder, CallsUnder, OneQuotaHoldsAll, OneQuotaHoldsEach, sizes_made}
 use Rattle.wasmi_c.specs.Status.{memory_status, table_status}
-use Rattle.wasmi_c.specs.declared.status.TheConstants.{DONE}
 use Rattle.wasmi_c.specs.declared.numbers.MemoryNumbers.{MemoryNumbers}
 use Rattle.wasmi_c.specs.declared.numbers.QuotaNumbers.{QuotaNumbers}
 use Rattle.wasmi_c.specs.declared.numbers.TableNumbers.{TableNumbers}
@@ -210,15 +198,10 @@ refused_table_status : (e : TableError) → nat_eq (table_status e) 0 ≡ false
 refused_table_status (table_error.OutOfFuel required) = refl
 refused_table_status other = refl
 
--- the bytes of a memory that was made, if it was
-abbrev bytes_made : Result MemoryValue MemoryError → ℕ
-bytes_made (Ok x) = length x.bytes
-bytes_made (Err error) = 0
-
--- the elements of a table that was made, if it was
-abbrev elements_made : Result TableValue TableError → ℕ
-elements_made (Ok x) = size_of x
-elements_made (Err error) = 0
+-- the size of what was made, if it was
+abbrev made_size : {V E : Type 0} → (V → ℕ) → Result V E → ℕ
+made_size size (Ok x) = size x
+made_size size (Err error) = 0
 
 -- a creation that is done adds to the sum what stands at the front of its region
 sum_made : (sizes : List ℕ) {status : ℕ} (made size : ℕ) (region : List ℕ) → status ≡ DONE → made ≡ size
@@ -229,14 +212,14 @@ sum_made sizes made size region is sized within =
 -- a creation of a memory adds the bytes that were made to the sum
 memory_summed : (ty : MemoryTypeValue) (p p' : Placed MemoryNumbers) (result : Result ℕ MemoryError) (status : ℕ)
     (sizes : List ℕ) → status ≡ status_of of_memory result → LeavesAs of_memory ty p result p'
-    → sum (sizes_made sizes status p'.numbers.size) ≡ sum sizes + bytes_made (memory.made_in ty p'.region result)
+    → sum (sizes_made sizes status p'.numbers.size) ≡ sum sizes + made_size byte_count (memory.made_in ty p'.region result)
 memory_summed ty p p' (Ok n) status sizes is left = sum_made sizes _ n _ is (ap of_memory.size left.0) left.1.within
 memory_summed ty p p' (Err e) status sizes is left = rw (is, refused_status e) (omega arith)
 
 -- and one of a table
 table_summed : (ty : TableTypeValue) (p p' : Placed TableNumbers) (result : Result ℕ TableError) (status : ℕ)
     (sizes : List ℕ) → status ≡ status_of of_table result → LeavesAs of_table ty p result p'
-    → sum (sizes_made sizes status p'.numbers.size) ≡ sum sizes + elements_made (table.made_in ty p'.region result)
+    → sum (sizes_made sizes status p'.numbers.size) ≡ sum sizes + made_size size_of (table.made_in ty p'.region result)
 table_summed ty p p' (Ok n) status sizes is left = sum_made sizes _ n _ is (ap of_table.size left.0) left.1.within
 table_summed ty p p' (Err e) status sizes is left = rw (is, refused_table_status e) (omega arith)
 
@@ -299,7 +282,7 @@ module _ (u u' : UnderQuota) (holds : HoldsSums u) (keeps : KeepsQuota u.quota u
         | inr made ↦
             let makes = rw (limiter_on u.quota holds.on, limiter_on u'.quota on) at made.3.makes in
             let counts = creation_counts (creation_of (Lent c.before.region) made.0)
-            (new_memory (Lent c.before.region) made.0) bytes_made (length_made (minimum_bytes made.0) 0) (λ cause. refl)
+            (new_memory (Lent c.before.region) made.0) (made_size byte_count) (length_made (minimum_bytes made.0) 0) (λ cause. refl)
             (λ cause. refl) q q' _ makes in
             let sized = ap sum c.bytes
             ∙ memory_summed made.0 c.before c.after made.3.result c.status u.bytes made.3.status_is made.3.left in
@@ -314,7 +297,7 @@ module _ (u u' : UnderQuota) (holds : HoldsSums u) (keeps : KeepsQuota u.quota u
       (λ ty found made.
       let makes = rw (limiter_on u.quota holds.on, limiter_on u'.quota on) at made.makes in
       let counts = creation_counts (creation_in ty (length c.before.region)) (new_table ty c.reference)
-      elements_made (length_made ty.minimum c.reference) (λ cause. refl) (λ cause. refl) q q' _ makes in
+      (made_size size_of) (length_made ty.minimum c.reference) (λ cause. refl) (λ cause. refl) q q' _ makes in
       let sized = ap sum c.elements
       ∙ table_summed ty c.before c.after made.result c.status u.elements made.status_is made.left in
       summed Elements 0 _ counts (omega (arith, sized)) c.bytes)
@@ -343,7 +326,7 @@ module _ (u u' : UnderQuota) (holds : HoldsSums u) (keeps : KeepsQuota u.quota u
   -- a memory grows
   memory_grown : GrowsMemoryUnder u u' → HoldsSums u'
   memory_grown c =
-      let counts = grown_counts of_memory (by_pages c.pages) (λ (y : MemoryValue). length y.bytes) Bytes
+      let counts = grown_counts of_memory (by_pages c.pages) byte_count Bytes
       (λ h region ty at. length-take-le h.size region at.within)
       (λ region x. record {
         full = length_grown x.bytes (c.pages * page_bytes x.ty.page) 0;

@@ -1,26 +1,15 @@
 -- Calls on a tenant's machine.
 use Rattle.std.proofs.Common.{◌≡◌, ◌≤◌, ◌<◌, ◌-◌, ◌∷◌, ◌∙◌, [], ℕ, List, Option, Some, None, Result, Ok, Err, ap, arith, inl, inr, length, refl, subst, sym}
-use Rattle.std.proofs.lemmas.List.{set-get_or}
-use Rattle.std.proofs.lemmas.Option.{same_Some}
+use Rattle.wasmi_c.proofs.Common.{set-get_or, same_Some, option_map, MatchOption, slice_set, State, World, world, SetFuel, Rules, optional_rules, Meter, meter_after, meter_set, PoolValue, RunsTenant, machine_of, tenant_at, tenant_rules, PaysFuelIn, word_after, with_machine_at, TenantPaysFuel, TenantReplies, TenantRepliesInStatus, TenantRepliesInWord, DONE, NO_TENANT, ReplyStruct}
 use Rattle.std.proofs.lemmas.Result.{IfOk-at_ok}
-use Rattle.std.specs.Option.{option_map}
-use Rattle.std.specs.Prelude.{MatchOption, slice_get, slice_set}
-use Rattle.wasmi_machine.specs.State.{State, World, world}
+use Rattle.std.specs.Prelude.{slice_get}
 use Rattle.wasmi_machine.specs.Steps.{FuelSet, HasEffect, IsRunOf, RepliesWith, effect_of}
 use Rattle.wasmi_machine.specs.declared.calls.Call.{Call}
-use Rattle.wasmi_machine.specs.declared.calls.Call.TheVariants.{SetFuel}
 use Rattle.wasmi_machine.specs.declared.calls.Reply.{Reply}
-use Rattle.wasmi_meter.specs.Limiter.{Rules, optional_rules}
-use Rattle.wasmi_meter.specs.Meter.{Meter, meter_after, meter_set}
 use Rattle.wasmi_meter.specs.declared.fuel.FuelError.{FuelError}
 use Rattle.wasmi_meter.specs.declared.fuel.FuelError.TheVariants.{FuelMeteringDisabled, OutOfFuel}
-use Rattle.wasmi_budget.specs.Pool.{PoolValue, RunsTenant, machine_of, tenant_at, tenant_rules}
 use Rattle.wasmi_budget.specs.declared.tenant.Tenant.{Tenant}
-use Rattle.wasmi_c.specs.Machine.Calls.{PaysFuelIn, word_after}
 use Rattle.wasmi_c.specs.Machine.Replies.{fuel_refusal, only, reply_struct, status_of, with_number}
-use Rattle.wasmi_c.specs.Pool.{with_machine_at, TenantPaysFuel, TenantReplies, TenantRepliesInStatus, TenantRepliesInWord}
-use Rattle.wasmi_c.specs.declared.status.TheConstants.{DONE, NO_TENANT}
-use Rattle.wasmi_c.specs.declared.machine.reply_struct.ReplyStruct.{ReplyStruct}
 use Rattle.wasmi_machine.specs.declared.calls.Reply.TheVariants as reply
 
 module _ (pool : PoolValue) (tenant : ℕ) (s : State) (found : machine_of pool tenant ≡ Some s) (call : Call) (full : Reply)
@@ -61,22 +50,9 @@ module _ (pool : PoolValue) (tenant : ℕ) (s : State) (found : machine_of pool 
 
 -- the status of a reply is that of its struct
 pub status_is : (full : Reply) → (reply_struct full).status ≡ status_of full
-status_is reply.Done = refl
-status_is (reply.Made index) = refl
-status_is (reply.Value value) = refl
-status_is (reply.Number number) = refl
-status_is (reply.Bytes bytes) = refl
 status_is (reply.Reference (Some element)) = refl
 status_is (reply.Reference None) = refl
-status_is (reply.Memory error) = refl
-status_is (reply.Table error) = refl
-status_is (reply.Fuel error) = refl
-status_is (reply.Global error) = refl
-status_is (reply.Segment error) = refl
-status_is (reply.Trap code) = refl
-status_is reply.NoSuch = refl
-status_is reply.NoRegion = refl
-status_is reply.NoRoom = refl
+status_is other = refl
 
 -- the status of a struct that a tenant's machine replies with
 pub tenant_status : (tenant : ℕ) (call : Call) (told : ReplyStruct) (pool pool' : PoolValue)

@@ -1,5 +1,5 @@
 -- What an instruction's call gives, step by step, and what it leaves where C reads it.
-use Rattle.std.specs.Prelude.{◌≡◌, ℕ, ◌==◌, ◌&&◌, if◌then◌else◌, List, [], ◌∷◌, map, length, slice_get, codes, Option, Result, Ok, Err, MatchResult, ◌+◌, nat_lt}
+use Rattle.std.specs.Prelude.{◌≡◌, ℕ, ◌==◌, ◌&&◌, if◌then◌else◌, List, map, length, slice_get, codes, Option, Result, Ok, Err, MatchResult, ◌+◌, nat_lt}
 use Rattle.std.specs.Option.{ok_or}
 use Rattle.std.specs.Simd.Lanes.{zip2}
 use Rattle.std.specs.Int.{w32}
@@ -89,10 +89,7 @@ each_of_two f a b count =
 
 -- the list of what a function gives of the elements of three lists at each index
 abbrev pub zip3 : {A B C D : Type 0} → (A → B → C → D) → List A → List B → List C → List D
-zip3 f [] ys zs = []
-zip3 f (x ∷ xs) [] zs = []
-zip3 f (x ∷ xs) (y ∷ ys) [] = []
-zip3 f (x ∷ xs) (y ∷ ys) (z ∷ zs) = f x y z ∷ zip3 f xs ys zs
+zip3 f xs ys zs = zip2 (λ g z. g z) (zip2 f xs ys) zs
 
 -- what a function gives of the elements of three arrays at each index, if all have as many as are to be written
 unfoldable pub each_of_three

@@ -1,8 +1,8 @@
 -- What the operands of a command write, by the word that it begins with.
-use Rattle.std.proofs.Common.{ℕ, ◌≡◌, List, [], ◌∷◌, Result, Err, bytes_eq, cond, codes, length, sym, subst}
+use Rattle.std.proofs.Common.{ℕ, ◌≡◌, ◌∙◌, List, [], ◌∷◌, Result, Err, bytes_eq, cond, codes, length, subst}
 use Rattle.std.specs.Bool.{⊤}
 use Rattle.wasmi_types.specs.declared.value.RefType.{RefType}
-use Rattle.wasmi_store.specs.Memory.{MemoryTypeValue}
+use Rattle.wasmi_grammar.proofs.Common.{MemoryTypeValue, Call, LineError, Accepts, LineWords, WritesNumber, word_at, reference_word, command_word, WritesOperands, NamesAfter, refused_through}
 use Rattle.wasmi_store.specs.Table.{TableTypeValue}
 use Rattle.wasmi_typed.specs.declared.typed_ref.TypedRawRef.{TypedRawRef}
 use Rattle.wasmi_types.specs.declared.value.ValType.{ValType}
@@ -19,13 +19,7 @@ use Rattle.wasmi_ops.specs.declared.vector.ShiftOp.{ShiftOp}
 use Rattle.wasmi_ops.specs.declared.vector.TernaryOp.{TernaryOp}
 use Rattle.wasmi_ops.specs.declared.vector.TestOp.{TestOp}
 use Rattle.wasmi_ops.specs.declared.vector.UnaryOp.{UnaryOp}
-use Rattle.wasmi_machine.specs.declared.calls.Call.{Call}
 use Rattle.wasmi_machine.specs.declared.calls.Call.TheVariants as call
-use Rattle.wasmi_operands.specs.declared.error.LineError.{LineError}
-use Rattle.wasmi_operands.specs.LineWords.{Accepts, LineWords, WritesNumber, word_at}
-use Rattle.wasmi_operands.specs.Names.{reference_word}
-use Rattle.wasmi_grammar.specs.Commands.{command_word, WritesOperands, NamesAfter}
-use Rattle.wasmi_operands.proofs.LineWordsLemmas.{refused_through}
 
 -- what parsers make a call of: the values that the operands write
 abbrev pub Form : Type 1
@@ -149,19 +143,11 @@ form words call w = (call, w)
 -- What tools/generate writes ends.
 
 -- a command is refused since the values of its form are
-pub refused_form : (word : List ℕ) (words : LineWords) (error : LineError) (result : Result Call LineError)
-    → result ≡ Err error
-    → Accepts {A = (form_in forms word).0} (Err error) ((form_in forms word).1 words)
-    → Accepts result (NamesAfter word words)
-refused_form word words error result is =
-    refused_through error result is
-    (λ call names. subst (λ name. (a : (form_in forms name).0) × (form_in forms name).1 words a)
-    names.0 (form words call names.1))
-
--- the same, where the word is known by an equation
 pub refused_named : {name word : List ℕ} (words : LineWords) {error : LineError} {result : Result Call LineError}
     → result ≡ Err error → name ≡ word
     → Accepts {A = (form_in forms word).0} (Err error) ((form_in forms word).1 words)
     → Accepts result (NamesAfter name words)
-refused_named {name} {word} words {error} {result} is same refused =
-    subst (λ name. Accepts result (NamesAfter name words)) (sym same) (refused_form word words error result is refused)
+refused_named words {error} {result} is same =
+    refused_through error result is
+    (λ call names. subst (λ name. (a : (form_in forms name).0) × (form_in forms name).1 words a)
+    (names.0 ∙ same) (form words call names.1))

@@ -1,3 +1,4 @@
+pub mod Common
 pub mod LinesLemmas
 pub mod CommandsLemmas
 pub mod LimitWordsLemmas

@@ -1,32 +1,14 @@
 -- Words write the limits of one type at most, and mean one memory type or table type at most.
-use Rattle.std.proofs.Common.{◌≡◌, ◌∙◌, ℕ, List, Option, Some, refl, sym, subst, ap}
-use Rattle.std.specs.Option.{option_map, option_and_then}
-use Rattle.wasmi_types.specs.declared.index_ty.IndexType.{IndexType}
-use Rattle.wasmi_operands.specs.LineWords.{decimal_value, WritesNumber, WritesLimit}
-use Rattle.wasmi_operands.specs.Names.{width_word, reference_word}
-use Rattle.wasmi_operands.proofs.NamesLemmas.{named, named_is, one_named}
-use Rattle.wasmi_operands.proofs.LineWordsLemmas.{limit_named, limit_is}
-use Rattle.wasmi_grammar.specs.Commands.{Limits, WritesLimits, HasSettings, NamesType, memory_limits, HasLimits, NamesTableType, table_limits}
+use Rattle.std.proofs.Common.{◌≡◌, ◌∙◌, ℕ, List, Option, Some, Result, refl, sym, subst, ap}
+use Rattle.wasmi_grammar.proofs.Common.{option_map, option_and_then, LineError, Accepts, decimal_value, WritesNumber, width_word, reference_word, named, named_is, one_named, accepts_same, limit_named, limit_is, Limits, WritesLimits, NamesType, memory_limits, NamesTableType, table_limits, MemoryTypeValue, page_log2, page_of_log2}
 use Rattle.wasmi_store.specs.declared.memory.ty.PageSize.{PageSize}
 use Rattle.wasmi_store.specs.declared.memory.ty.PageSize.TheVariants.{Byte, Wasm}
-use Rattle.wasmi_store.specs.Memory.{MemoryTypeValue, page_log2, page_of_log2}
 use Rattle.wasmi_types.specs.declared.value.RefType.{RefType}
 use Rattle.wasmi_store.specs.Table.{TableTypeValue}
+use Rattle.wasmi_store.specs.Memory as memory_type
+use Rattle.wasmi_store.specs.Table as table_type
 use Rattle.wasmi_types.specs.contracts.index_ty.IndexType as index
 use Rattle.wasmi_types.specs.contracts.value.RefType as reference_type
-
--- limits that three words write
-pub record WrittenLimits (min max width : List ℕ) : Type 0 where
-  pub value : Limits
-  pub writes : WritesLimits min max width value
-
--- words that write the parts of limits write the limits
-abbrev pub limits_written : {min max width : List ℕ} (index : IndexType) (minimum : ℕ) (maximum : Option ℕ)
-    → WritesNumber 64 min minimum → WritesLimit max maximum → width ≡ width_word index → WrittenLimits min max width
-limits_written index minimum maximum minimum_word maximum_word width_text = record {
-  value = record { index = index; minimum = minimum; maximum = maximum };
-  writes = record { minimum_word = minimum_word; maximum_word = maximum_word; width_text = width_text };
-}
 
 -- the limits that three words write
 pub limits_named : List ℕ → List ℕ → List ℕ → Option Limits
@@ -44,42 +26,30 @@ limits_are minimum maximum width limits w = λ i. option_map (λ index. record {
   maximum = limit_is maximum limits.maximum w.maximum_word i;
 }) (named_is index.enum tt width_word refl width limits.index w.width_text i)
 
--- words that write limits write what is equal to them
-pub written_too : {min max width : List ℕ} (w : WrittenLimits min max width) (limits : Limits) → limits ≡ w.value
-    → WritesLimits min max width limits
-written_too {min} {max} {width} w limits same = subst (WritesLimits min max width) (sym same) w.writes
-
--- and nothing else
-pub written_alone : {min max width : List ℕ} (w : WrittenLimits min max width) (limits : Limits)
-    → WritesLimits min max width limits → limits ≡ w.value
-written_alone {min} {max} {width} w limits writes =
-    let same : Some limits ≡ Some w.value =
-    sym (limits_are min max width limits writes) ∙ limits_are min max width w.value w.writes in
+-- three words write one limits at most
+one_limits : {minimum maximum width : List ℕ} {limits limits' : Limits} → WritesLimits minimum maximum width limits
+    → WritesLimits minimum maximum width limits' → limits' ≡ limits
+one_limits {minimum} {maximum} {width} {limits} {limits'} writes writes' =
+    let same : Some limits' ≡ Some limits =
+    sym (limits_are minimum maximum width limits' writes') ∙ limits_are minimum maximum width limits writes in
     cc
 
--- the settings of a memory type that four words write
-pub record WrittenSettings (min max log2 width : List ℕ) : Type 0 where
-  pub page_log2 : ℕ
-  pub limits : WrittenLimits min max width
-  pub writes_log2 : WritesNumber 8 log2 page_log2
-
--- words that write a type's settings name it
-pub names_of : (min max log2 width : List ℕ) (w : WrittenSettings min max log2 width) (ty : MemoryTypeValue)
-    → HasSettings w.limits.value w.page_log2 ty → NamesType min max log2 width ty
-names_of min max log2 width w ty h = record {
-  limits_words = written_too w.limits (memory_limits ty) h.same_limits;
-  log2_word = subst (WritesNumber 8 log2) (sym h.same_log2) w.writes_log2;
-  valid = h.valid;
-}
-
--- and words that name a type write its settings alone
-pub settings_of : (min max log2 width : List ℕ) (w : WrittenSettings min max log2 width) (ty : MemoryTypeValue)
-    → NamesType min max log2 width ty → HasSettings w.limits.value w.page_log2 ty
-settings_of min max log2 width w ty h = record {
-  same_limits = written_alone w.limits (memory_limits ty) h.limits_words;
-  same_log2 = h.log2_word.1 ∙ sym w.writes_log2.1;
-  valid = h.valid;
-}
+-- a memory type that has the settings which words write is the one that they name
+pub memory_read : {min max width : List ℕ} {limits : Limits} {power : ℕ} {Many : Type 0} (log2 : List ℕ)
+    (result : Result MemoryTypeValue LineError) → Many → WritesLimits min max width limits → WritesNumber 8 log2 power
+    → Accepts result (λ ty. (memory_limits ty ≡ limits) × (page_log2 ty.page ≡ power) × memory_type.IsValid ty)
+    → Accepts result (λ ty. Many × NamesType min max log2 width ty)
+memory_read {min} {max} {width} log2 result many written writes_log2 =
+    accepts_same result _ _ (λ ty has. (
+      many,
+      record {
+        limits_words = subst (WritesLimits min max width) (sym has.0) written;
+        log2_word = subst (WritesNumber 8 log2) (sym has.1) writes_log2;
+        valid = has.2;
+      },
+    )) (λ ty w.
+    let names = w.1 in
+    (one_limits written names.limits_words, names.log2_word.1 ∙ sym writes_log2.1, names.valid))
 
 -- the page size of a power of two
 page_is : (log2 : ℕ) (page : PageSize) → page_log2 page ≡ log2 → page_of_log2 log2 ≡ Some page
@@ -104,31 +74,27 @@ memory_is minimum maximum log2 width ty w = λ i.
     option_and_then (λ limits. option_map (memory_of limits) (page_is (decimal_value log2) ty.page w.log2_word.1 i))
     (limits_are minimum maximum width (memory_limits ty) w.limits_words i)
 
--- the limits of a table type that four words write, with the type of its elements
-pub record WrittenTableType (element min max width : List ℕ) : Type 0 where
-  pub element_type : RefType
-  pub writes_element : element ≡ reference_word element_type
-  pub limits : WrittenLimits min max width
-
--- words that write a type's limits name it
-pub names_table_of : (element min max width : List ℕ) (w : WrittenTableType element min max width) (ty : TableTypeValue)
-    → HasLimits w.limits.value w.element_type ty → NamesTableType element min max width ty
-names_table_of element min max width w ty h = record {
-  element_text = w.writes_element ∙ ap reference_word (sym h.same_element);
-  limits_words = written_too w.limits (table_limits ty) h.same_limits;
-  valid = h.valid;
-}
-
--- and words that name a type write its limits alone
-pub table_settings_of : (element min max width : List ℕ) (w : WrittenTableType element min max width) (ty : TableTypeValue)
-    → NamesTableType element min max width ty → HasLimits w.limits.value w.element_type ty
-table_settings_of element min max width w ty h = record {
-  same_element =
-      one_named reference_type.enum tt reference_word refl ty.element w.element_type
-      (sym h.element_text ∙ w.writes_element);
-  same_limits = written_alone w.limits (table_limits ty) h.limits_words;
-  valid = h.valid;
-}
+-- a table type that has the limits which words write is the one that they name
+pub table_read : {word min max width : List ℕ} {limits : Limits} {Many : Type 0} (element : RefType)
+    (result : Result TableTypeValue LineError) → Many → word ≡ reference_word element
+    → WritesLimits min max width limits
+    → Accepts result (λ ty. (table_limits ty ≡ limits) × (ty.element ≡ element) × table_type.IsValid ty)
+    → Accepts result (λ ty. Many × NamesTableType word min max width ty)
+table_read {word} {min} {max} {width} element result many writes_element written =
+    accepts_same result _ _ (λ ty has. (
+      many,
+      record {
+        element_text = writes_element ∙ ap reference_word (sym has.1);
+        limits_words = subst (WritesLimits min max width) (sym has.0) written;
+        valid = has.2;
+      },
+    )) (λ ty w.
+    let names = w.1 in (
+      one_limits written names.limits_words,
+      one_named reference_type.enum tt reference_word refl ty.element element
+          (sym names.element_text ∙ writes_element),
+      names.valid,
+    ))
 
 -- the table type of these limits and this type of elements
 abbrev table_of : Limits → RefType → TableTypeValue

@@ -1,44 +1,22 @@
 -- What lines add to a script, one after the other, and the parts of its calls.
-use Rattle.std.proofs.Common.{ℕ, ◌≡◌, ◌∙◌, Result, Err, bytes_eq, cond, IfErr, OnErr, List, [], ◌∷◌, Bor, get_or, length, take, drop, ◌-◌, codes, refl, sym, subst, ◌≤◌, ◌<◌, ◌+◌, ◌++◌, zero, suc, Some, None, map, arith, ap, append_assoc, append-nil, take-append-drop, length-append, length-drop, add-one, drop-cons, inl, inr}
-use Rattle.std.proofs.lemmas.List.{take_rest, drop-drop, drop-append-le, take-append-le, length-map, take-map}
-use Rattle.wasmi_grammar.specs.declared.script.Line.{Line}
-use Rattle.wasmi_grammar.specs.declared.script.Line.TheVariants.{Meter, Limiter, Region, Reserve, As, Call as Command}
-use Rattle.wasmi_grammar.specs.declared.header.RegionLine.{RegionLine}
-use Rattle.wasmi_grammar.specs.declared.script.Script.{Script}
-use Rattle.wasmi_operands.specs.declared.error.LineError.{LineError}
-use Rattle.wasmi_operands.specs.declared.error.LineError.TheVariants.{BadCommand}
-use Rattle.wasmi_operands.specs.LineWords.{Accepts, AcceptsWithMemory, LineWords, word_at}
+use Rattle.std.proofs.Common.{ℕ, ◌≡◌, ◌∙◌, Result, Err, bytes_eq, cond, IfErr, OnErr, List, [], ◌∷◌, Bor, get_or, length, take, drop, ◌-◌, codes, refl, sym, subst, ◌≤◌, ◌<◌, ◌+◌, ◌++◌, zero, suc, Some, None, map, arith, ap, rules, tests, append_assoc, append-nil, take-append-drop, length-append, length-drop, add-one, drop-cons, inl, inr}
+use Rattle.wasmi_grammar.proofs.Common.{flat_map_more, take_rest, drop-drop, drop-append-le, take-append-le, length-map, take-map, Line, Meter, Limiter, Region, Reserve, As, RegionLine, Script, LineError, BadCommand, Accepts, AcceptsWithMemory, LineWords, word_at, LimiterLine, Quota, Answers, Tenants, command_word, WritesOperands, NamesAfter, WritesMeter, WritesRegion, WritesReserve, WritesTenant, NamesLimiterAfter, NamesLine, AddsLine, AddsWords, AcceptsLine, AcceptsLines, AreTaken, calls_of, lines_in, IsBadLine, IsFirstBadLine, TenantRun, PartsValue, parts_in, calls_in, part_at, Follow, AreCut, on_refusal, refused_with_memory, with_memory, written_at, slice_get, enumerate_from, option_map, Call}
+use Rattle.wasmi_grammar.specs.declared.script.Line.TheVariants.{Call as Command}
 use Rattle.wasmi_grammar.specs.declared.header.MeterLine.{MeterLine}
-use Rattle.wasmi_grammar.specs.declared.header.LimiterLine.{LimiterLine}
-use Rattle.wasmi_grammar.specs.declared.header.LimiterLine.TheVariants.{Quota, Answers, Tenants}
-use Rattle.wasmi_grammar.specs.Commands.{command_word, WritesOperands, NamesAfter}
-use Rattle.wasmi_grammar.specs.Headers.{WritesMeter, WritesRegion, WritesReserve, WritesTenant, NamesLimiterAfter}
 use Rattle.wasmi_grammar.proofs.CommandsLemmas.{Form}
-use Rattle.wasmi_grammar.specs.Lines.{NamesLine, AddsLine, AddsWords, AcceptsLine, AcceptsLines, AreTaken, calls_of, lines_in, IsBadLine, IsFirstBadLine}
-use Rattle.wasmi_grammar.specs.Parts.{TenantRun, PartsValue, parts_in, calls_in, part_at, Follow, AreCut}
-use Rattle.wasmi_operands.proofs.LineWordsLemmas.{on_refusal, refused_with_memory, with_memory}
-use Rattle.std.specs.List.{slice_get, enumerate_from}
-use Rattle.std.specs.Option.{option_map}
 use Rattle.std.proofs.lemmas.Option.{slice_get-map, slice_get_past}
-use Rattle.std.proofs.lemmas.List.Concat.{flat_map-append}
-use Rattle.wasmi_machine.specs.declared.calls.Call.{Call}
 use Rattle.wasmi_machine.specs.declared.slots.SlotCounts.{SlotCounts}
 use Rattle.wasmi_machine.specs.declared.calls.Call.TheVariants.{GetFuel}
 use Rattle.wasmi_grammar.specs.declared.script.Span.{Span}
 use Rattle.std.proofs.lemmas.List.FromFn.{length-enumerate_from, get_or-enumerate_from}
-
--- the first word of a line, or no text at all
-first_word : (words : LineWords) (none : Bor (List ℕ)) → none.now ≡ [] → (get_or words 0 none).now ≡ word_at words 0
-first_word [] none empty = empty
-first_word (word ∷ words) none empty = refl
 
 -- what a line's first word and the words after it say, as the code takes them from the line
 pub at_places : (words : LineWords) (none : Bor (List ℕ)) (line : Line) → none.now ≡ []
     → NamesLine (get_or words 0 none).now (take (length words - 1) (drop 1 words)) line
     → NamesLine (word_at words 0) (drop 1 words) line
 at_places words none line empty names =
-    subst (λ name. NamesLine name (drop 1 words) line) (first_word words none empty)
-    (subst (λ operands. NamesLine (get_or words 0 none).now operands line) (take_rest words 1) names)
+    written_at (λ name. NamesLine name (drop 1 words) line → NamesLine (word_at words 0) (drop 1 words) line) words 0 none
+    empty (λ here. here) (subst (λ operands. NamesLine (get_or words 0 none).now operands line) (take_rest words 1) names)
 
 -- what the words after a first word write, by that word
 abbrev after_word : List ℕ → Form
@@ -93,17 +71,11 @@ refused_header {name} {word} words {error} is same refused =
 pub command_only : (name : List ℕ) (words : LineWords) → ¬ (name ≡ codes "meter") → ¬ (name ≡ codes "quota")
     → ¬ (name ≡ codes "answers") → ¬ (name ≡ codes "tenants") → ¬ (name ≡ codes "region") → ¬ (name ≡ codes "reserve")
     → ¬ (name ≡ codes "as") → (line : Line) → NamesLine name words line → (call : Call) × NamesAfter name words call
-command_only name words meter quota answers tenants region reserve as_line (Meter line) w = absurd (meter w.0)
+command_only name words meter quota answers tenants region reserve as_line (Command call) w = (call, w)
 command_only name words meter quota answers tenants region reserve as_line (Limiter (Quota caps)) w =
     absurd (quota (sym w.0))
-command_only name words meter quota answers tenants region reserve as_line (Limiter (Answers list)) w =
-    absurd (answers (sym w.0))
-command_only name words meter quota answers tenants region reserve as_line (Limiter (Tenants line)) w =
-    absurd (tenants (sym w.0))
-command_only name words meter quota answers tenants region reserve as_line (Region line) w = absurd (region w.0)
-command_only name words meter quota answers tenants region reserve as_line (Reserve slots) w = absurd (reserve w.0)
-command_only name words meter quota answers tenants region reserve as_line (As tenant) w = absurd (as_line w.0)
-command_only name words meter quota answers tenants region reserve as_line (Command call) w = (call, w)
+command_only name words meter quota answers tenants region reserve as_line line w =
+    absurd (search (rules, tests, w))
 
 -- a refused line of one kind adds nothing
 pub refused_as : {A : Type 0} (old : Script) (line kind : Line) (result : Result A LineError) → line ≡ kind
@@ -115,8 +87,7 @@ refused_as old line kind result is =
 -- the calls of parts with a last one
 pub with_last : (parts : List TenantRun) (last : TenantRun)
     → calls_in (parts ++ last ∷ []) ≡ calls_in parts ++ last.calls
-with_last parts last = flat_map-append (λ part. part.calls) parts (last ∷ [])
-    ∙ ap (λ calls. calls_in parts ++ calls) (append-nil last.calls)
+with_last parts last = sym (flat_map_more (λ part. part.calls) [] parts last)
 
 -- places that follow one another go forward
 forward : (from : ℕ) (spans : List Span) (to : ℕ) → Follow from spans to → from ≤ to
@@ -280,10 +251,6 @@ same_count old new same = omega (arith, ap (λ parts. length (calls_in (parts_in
 -- a line adds one call at most
 line_count : (old : Script) (line : Line) (new : Script) → AddsLine old line new
     → length (calls_of new) ≤ length (calls_of old) + 1
-line_count old (Meter line) new a = same_count old new a.parts
-line_count old (Limiter line) new a = same_count old new a.parts
-line_count old (Region line) new a = same_count old new a.parts
-line_count old (Reserve slots) new a = same_count old new a.parts
 line_count old (As tenant) new a =
     let parts = parts_in old.parts in
     omega (
@@ -303,6 +270,7 @@ line_count old (Command call) new a =
       length-append calls (call ∷ []),
       length-append (calls_in earlier) calls,
     )
+line_count old line new a = same_count old new a.parts
 
 -- and so do words
 pub added_count : (old : Script) (words : LineWords) (new : Script) → AddsWords old words new

@@ -1,7 +1,6 @@
 -- What a line adds is told by its words: what is said after it is a function of them and of what was said before.
 use Rattle.std.proofs.Common.{ℕ, ◌≡◌, ◌∙◌, ◌++◌, List, [], ◌∷◌, Option, Some, None, bytes_eq, cond, codes, map, drop, inl, inr, refl, sym, ap}
-use Rattle.std.specs.Option.{option_map, option_map_or, option_and_then}
-use Rattle.std.proofs.lemmas.List.{map-append}
+use Rattle.wasmi_grammar.proofs.Common.{option_map, option_map_or, option_and_then, map-append, Call, Line, Meter, Limiter, Region, Reserve, As, NamesLine, AddsLine, AddsWords, TenantRun, PartsValue, Script, Quota, Answers, Tenants, RegionLine, LineWords, WritesEach, word_at, WritesNumber, decimal_value, IsName, reference_word, value_word, mutability_word, command_word, WritesOperands, named, named_is, reference_named, reference_is, lane_named, lane_is, each_named}
 use Rattle.wasmi_raw.specs.RawVal.{raw_of}
 use Rattle.wasmi_types.specs.contracts.value.RefType as reference_type
 use Rattle.wasmi_types.specs.contracts.value.ValType as value_type
@@ -22,27 +21,13 @@ use Rattle.wasmi_ops.specs.contracts.vector.StoreLaneKind as store_lane
 use Rattle.wasmi_ops.specs.LoadStoreOps.{load_name, store_name}
 use Rattle.wasmi_ops.specs.VectorOps.{make_name, unary_name, binary_name, ternary_name, shift_name, test_name, vector_load_name}
 use Rattle.wasmi_ops.specs.LaneOps.{extract_name, extract_op, replace_name, replace_op, load_lane_name, load_lane_op, store_lane_name, store_lane_op}
-use Rattle.wasmi_machine.specs.declared.calls.Call.{Call}
 use Rattle.wasmi_machine.specs.declared.slots.SlotCounts.{SlotCounts}
 use Rattle.wasmi_machine.specs.declared.calls.Call.TheVariants as call
-use Rattle.wasmi_grammar.specs.declared.script.Line.{Line}
-use Rattle.wasmi_grammar.specs.declared.script.Line.TheVariants.{Meter, Limiter, Region, Reserve, As, Call as Command}
-use Rattle.wasmi_grammar.specs.Lines.{NamesLine, AddsLine, AddsWords}
-use Rattle.wasmi_grammar.specs.Parts.{TenantRun, PartsValue}
-use Rattle.wasmi_grammar.specs.declared.script.Script.{Script}
+use Rattle.wasmi_grammar.specs.declared.script.Line.TheVariants.{Call as Command}
 use Rattle.wasmi_grammar.specs.declared.header.Header.{Header}
 use Rattle.wasmi_grammar.specs.declared.header.MeterLine.{MeterLine}
 use Rattle.wasmi_grammar.specs.declared.header.MeterLine.TheVariants.{Off, On}
-use Rattle.wasmi_grammar.specs.declared.header.LimiterLine.{LimiterLine}
-use Rattle.wasmi_grammar.specs.declared.header.LimiterLine.TheVariants.{Quota, Answers, Tenants}
-use Rattle.wasmi_grammar.specs.declared.header.RegionLine.{RegionLine}
-use Rattle.wasmi_operands.specs.LineWords.{LineWords, WritesEach, word_at, WritesNumber, decimal_value}
-use Rattle.wasmi_operands.specs.Names.{IsName, reference_word, value_word, mutability_word}
-use Rattle.wasmi_grammar.specs.Commands.{command_word, WritesOperands}
-use Rattle.wasmi_grammar.specs.Headers.{WritesMeter, WritesLimiter, WritesRegion, WritesReserve, limiter_word}
 use Rattle.wasmi_grammar.specs.Meanings.{CallMeaning, WriteMeaning, SegmentMeaning, DataMeaning, OtherCall as Other, call_meaning, LimiterMeaning, AnswersMeaning, OtherLimiter, limiter_meaning, PartMeaning, part_meaning}
-use Rattle.wasmi_operands.proofs.NamesLemmas.{named, named_is, reference_named, reference_is, lane_named, lane_is}
-use Rattle.wasmi_operands.proofs.LineWordsLemmas.{each_named}
 use Rattle.wasmi_grammar.proofs.LimitWordsLemmas.{memory_named, memory_is, table_named, table_is}
 use Rattle.wasmi_grammar.proofs.HeadersLemmas.{answers_named, answers_is}
 
@@ -294,75 +279,31 @@ module _ (words : LineWords) where
 
   -- What tools/generate writes ends.
 
-  -- what the operands of each header line say, and those of `as`
-  abbrev meter_named : MeterLine
-  meter_named = cond (bytes_eq (word 0) (codes "off")) Off (On (number 1))
-
-  abbrev quota_named : LimiterMeaning
-  quota_named = OtherLimiter (Quota (record { bytes = number 0; elements = number 1 }))
-
-  abbrev tenants_named : LimiterMeaning
-  tenants_named =
-      OtherLimiter (Tenants (record { count = number 0; caps = record { bytes = number 1; elements = number 2 } }))
-
-  abbrev region_named : RegionLine
-  region_named = record { len = number 0; byte = number 1 }
-
-  abbrev reserve_named : SlotCounts
-  reserve_named = record {
-    memories = number 0;
-    tables = number 1;
-    segments = number 2;
-    data_segments = number 3;
-    globals = number 4;
-  }
-
   -- the line that operands write, by the word before them
   abbrev lines_named : List (List ℕ × Option LineMeaning)
   lines_named =
-      (codes "meter", Some (MeterMeaning meter_named)) ∷
-      (codes "quota", Some (LimiterTold quota_named)) ∷
-      (codes "answers", Some (LimiterTold (AnswersMeaning (answers_named words)))) ∷
-      (codes "tenants", Some (LimiterTold tenants_named)) ∷
-      (codes "region", Some (RegionMeaning region_named)) ∷
-      (codes "reserve", Some (ReserveMeaning reserve_named)) ∷
+      (codes "meter", Some (MeterMeaning (cond (bytes_eq (word 0) (codes "off")) Off (On (number 1))))) ∷
+      (codes "quota", Some (LimiterTold (OtherLimiter (Quota (record { bytes = number 0; elements = number 1 }))))) ∷
+      (codes "answers", Some (LimiterTold (AnswersMeaning (answers_named words)))) ∷ (
+        codes "tenants",
+        Some (LimiterTold (OtherLimiter
+            (Tenants (record { count = number 0; caps = record { bytes = number 1; elements = number 2 } })))),
+      ) ∷
+      (codes "region", Some (RegionMeaning (record { len = number 0; byte = number 1 }))) ∷ (
+        codes "reserve",
+        Some (ReserveMeaning (record {
+          memories = number 0;
+          tables = number 1;
+          segments = number 2;
+          data_segments = number 3;
+          globals = number 4;
+        })),
+      ) ∷
       (codes "as", Some (TenantMeaning (number 0))) ∷
       []
 
   abbrev line_named : List ℕ → Option LineMeaning
   line_named name = found_or lines_named name (option_map CallTold (beside calls_named name))
-
-  -- operands that write a meter line give it
-  meter_is : (line : MeterLine) → WritesMeter words line → meter_named ≡ line
-  meter_is Off w = λ i. cond (bytes_eq (w.1 i) (codes "off")) Off (On (number 1))
-  meter_is (On bytes) w = (λ i. cond (bytes_eq (w.1 i) (codes "off")) Off (On (number 1))) ∙ (λ i. On (sym w.2.1 i))
-
-  -- operands that write a region line give it
-  region_is : (line : RegionLine) → WritesRegion words line → region_named ≡ line
-  region_is line w = λ i. record { len = sym w.1.1 i; byte = sym w.2.1 i }
-
-  -- operands that write a reserve line give its slots
-  reserve_is : (slots : SlotCounts) → WritesReserve words slots → reserve_named ≡ slots
-  reserve_is slots w = λ i. record {
-    memories = sym w.1.1 i;
-    tables = sym w.2.1 i;
-    segments = sym w.3.1 i;
-    data_segments = sym w.4.1 i;
-    globals = sym w.5.1 i;
-  }
-
-  -- operands that write a limiter line give what the line says, beside its word
-  limiter_is : (line : LimiterLine) → WritesLimiter words line
-      → line_named (limiter_word line) ≡ Some (LimiterTold (limiter_meaning line))
-  limiter_is (Quota caps) w =
-      λ i. Some (LimiterTold (OtherLimiter (Quota (record { bytes = sym w.1.1 i; elements = sym w.2.1 i }))))
-  limiter_is (Answers answers) w = λ i. Some (LimiterTold (AnswersMeaning (answers_is words answers.items w i)))
-  limiter_is (Tenants line) w =
-      let count = sym w.1.1 in
-      let bytes = sym w.4.1 in
-      let elements = sym w.5.1 in
-      λ i. Some (LimiterTold (OtherLimiter
-      (Tenants (record { count = count i; caps = record { bytes = bytes i; elements = elements i } }))))
 
   -- a command's word is the word of no other line
   told_by_call : (call : Call) (other : Option LineMeaning) → found_or lines_named (command_word call) other ≡ other
@@ -371,11 +312,31 @@ module _ (words : LineWords) where
 
   -- a first word and operands that say a line give what it says
   pub line_is : (name : List ℕ) (line : Line) → NamesLine name words line → line_named name ≡ Some (line_meaning line)
-  line_is name (Meter line) w = ap line_named w.0 ∙ ap (λ m. Some (MeterMeaning m)) (meter_is line w.1)
-  line_is name (Limiter line) w = ap line_named (sym w.0) ∙ limiter_is line w.1
-  line_is name (Region line) w = ap line_named w.0 ∙ ap (λ r. Some (RegionMeaning r)) (region_is line w.1)
-  line_is name (Reserve slots) w = ap line_named w.0 ∙ ap (λ s. Some (ReserveMeaning s)) (reserve_is slots w.1)
-  line_is name (As tenant) w = ap line_named w.0 ∙ ap (λ t. Some (TenantMeaning t)) (sym w.1.1.1)
+  line_is name (Meter Off) (is, (many, off)) =
+      ap line_named is ∙ (λ i. Some (MeterMeaning (cond (bytes_eq (off i) (codes "off")) Off (On (number 1)))))
+  line_is name (Meter (On bytes)) (is, (many, on, fuel)) =
+      ap line_named is ∙ (λ i. Some (MeterMeaning (cond (bytes_eq (on i) (codes "off")) Off (On (sym fuel.1 i)))))
+  line_is name (Limiter (Quota line)) (is, (many, bytes, elements)) =
+      ap line_named (sym is)
+      ∙ (λ i. Some (LimiterTold (OtherLimiter (Quota (record { bytes = sym bytes.1 i; elements = sym elements.1 i })))))
+  line_is name (Limiter (Answers answers)) w =
+      ap line_named (sym w.0) ∙ (λ i. Some (LimiterTold (AnswersMeaning (answers_is words answers.items w.1 i))))
+  line_is name (Limiter (Tenants line)) (is, (many, count, some, most, bytes, elements)) =
+      ap line_named (sym is)
+      ∙ (λ i. Some (LimiterTold (OtherLimiter (Tenants (record {
+        count = sym count.1 i;
+        caps = record { bytes = sym bytes.1 i; elements = sym elements.1 i };
+      })))))
+  line_is name (Region line) (is, (many, len, byte)) =
+      ap line_named is ∙ (λ i. Some (RegionMeaning (record { len = sym len.1 i; byte = sym byte.1 i })))
+  line_is name (Reserve slots) (is, (many, a, b, c, d, e)) = ap line_named is ∙ (λ i. Some (ReserveMeaning (record {
+    memories = sym a.1 i;
+    tables = sym b.1 i;
+    segments = sym c.1 i;
+    data_segments = sym d.1 i;
+    globals = sym e.1 i;
+  })))
+  line_is name (As tenant) (is, (many, index)) = ap line_named is ∙ (λ i. Some (TenantMeaning (sym index.1 i)))
   line_is name (Command call) w =
       ap line_named (sym w.0) ∙ told_by_call call (option_map CallTold (beside calls_named (command_word call)))
       ∙ ap (option_map CallTold) (call_is call w.1)
@@ -430,10 +391,6 @@ meaning_after words said = option_map_or (meaning_with said) (line_named (drop 1
 -- a line leads from what is said before it to what is said after it
 line_added : (old : Script) (line : Line) (new : Script) → AddsLine old line new
     → lines_meaning new ≡ meaning_with (lines_meaning old) (line_meaning line)
-line_added old (Meter line) new a = λ i. meaning_of (a.header i) (a.parts i)
-line_added old (Limiter line) new a = λ i. meaning_of (a.header i) (a.parts i)
-line_added old (Region line) new a = λ i. meaning_of (a.header i) (a.parts i)
-line_added old (Reserve slots) new a = λ i. meaning_of (a.header i) (a.parts i)
 line_added old (As tenant) new a =
     let part : TenantRun = record { tenant = old.parts.tenant; calls = old.parts.calls } in
     let said = meaning_of old.header (record { earlier = []; tenant = tenant; calls = [] }) in
@@ -442,6 +399,7 @@ line_added old (As tenant) new a =
 line_added old (Command call) new a =
     (λ i. meaning_of (a.header i) (a.parts i))
     ∙ ap (λ calls. record (lines_meaning old) { calls = calls }) (map-append call_meaning old.parts.calls (call ∷ []))
+line_added old line new a = λ i. meaning_of (a.header i) (a.parts i)
 
 -- and so do words
 pub added : (old : Script) (words : LineWords) (new : Script) → AddsWords old words new

@@ -1,20 +1,12 @@
 -- A text writes one script, and has one first bad line at most.
-use Rattle.std.proofs.Common.{ℕ, ◌+◌, ◌≡◌, ◌∙◌, ◌++◌, List, [], ◌∷◌, Option, Some, None, length, map, ◌≤◌, drop, inl, inr, arith, refl, suc, sym, ap, subst}
-use Rattle.std.specs.Option.{option_map}
-use Rattle.std.proofs.lemmas.List.{map-append}
-use Rattle.wasmi_grammar.specs.declared.script.Line.{Line}
-use Rattle.wasmi_grammar.specs.declared.script.Line.TheVariants.{Meter, Limiter, Region, Reserve, As, Call as Command}
-use Rattle.wasmi_grammar.specs.declared.script.Script.{Script}
-use Rattle.wasmi_grammar.specs.declared.header.LimiterLine.{LimiterLine}
-use Rattle.wasmi_grammar.specs.declared.header.LimiterLine.TheVariants.{Quota, Answers, Tenants}
-use Rattle.wasmi_grammar.specs.declared.header.RegionLine.{RegionLine}
-use Rattle.wasmi_operands.specs.LineWords.{LineWords, word_at}
-use Rattle.wasmi_grammar.specs.Headers.{AreApart, tenants_of}
-use Rattle.wasmi_grammar.specs.Lines.{HasNoCommands, NamesLine, AddsLine, AddsWords, AcceptsLine, AcceptsLines, IsNewScript, lines_in, IsBadLine, IsFirstBadLine}
-use Rattle.wasmi_grammar.specs.Parts.{TenantRun, parts_in}
-use Rattle.wasmi_grammar.specs.Meanings.{call_meaning, limiter_meaning, LimiterMeaning, OtherLimiter, part_meaning, ScriptMeaning, script_meaning, TextsWriteOneScript, FirstBadLinesAreOne, WrittenTextsHaveNoBadLine}
-use Rattle.wasmi_grammar.proofs.MeaningLemmas.{line_meaning, line_is, LinesMeaning, meaning_of, lines_meaning, LinesHaveSameMeaning, meaning_after, added}
-use Rattle.wasmi_grammar.proofs.TextsLemmas.{retell}
+use Rattle.std.proofs.Common.{ℕ, ◌≡◌, ◌∙◌, ◌++◌, List, [], ◌∷◌, Option, Some, None, length, map, ◌≤◌, ◌-◌, take, drop, inl, inr, arith, refl, suc, sym, ap, subst}
+use Rattle.std.proofs.lemmas.Bool.{cases_lt}
+use Rattle.wasmi_grammar.proofs.Common.{option_map, map-append, take_at, Line, Meter, Limiter, Region, Reserve, As, Script, LimiterLine, Tenants, RegionLine, LineWords, word_at, AreApart, tenants_of, HasNoCommands, NamesLine, AddsLine, AddsWords, AcceptsLine, AcceptsLines, IsNewScript, AreTaken, lines_in, IsBadLine, IsFirstBadLine, TenantRun, PartsValue, parts_in}
+use Rattle.std.proofs.Math.Seq.{take-append-add}
+use Rattle.wasmi_grammar.specs.declared.script.Line.TheVariants.{Call as Command}
+use Rattle.wasmi_grammar.specs.Meanings.{call_meaning, limiter_meaning, LimiterMeaning, OtherLimiter, part_meaning, TextsWriteOneScript, FirstBadLinesAreOne, WrittenTextsHaveNoBadLine}
+use Rattle.wasmi_grammar.proofs.MeaningLemmas.{line_meaning, line_is, meaning_of, lines_meaning, LinesHaveSameMeaning, meaning_after, added}
+use Rattle.wasmi_grammar.proofs.TextsLemmas.{none_mapped, retell}
 
 -- a line leads from scripts that say the same to scripts that say the same
 line_unique : (line : List ℕ) (old old' new new' : Script) → LinesHaveSameMeaning old old' → AcceptsLine old line new
@@ -31,44 +23,10 @@ lines_unique [] old old' new new' same is is' = ap lines_meaning is ∙ same ∙
 lines_unique (line ∷ lines) old old' new new' same (middle, taken, later) (middle', taken', later') =
     lines_unique lines middle middle' new new' (line_unique line old old' middle middle' same taken taken') later later'
 
--- what is said without a line
-nothing_meaning : LinesMeaning
-nothing_meaning = record {
-  meter = None;
-  limiter = None;
-  region = None;
-  reserve = None;
-  earlier = [];
-  tenant = 0;
-  calls = [];
-}
-
--- a script without lines says nothing
-empty_meaning : (script : Script) → IsNewScript script → lines_meaning script ≡ nothing_meaning
-unfolding nothing_meaning
-empty_meaning script new = λ i. meaning_of (new.no_header i) (new.no_commands i)
-
 -- any two scripts without lines say the same
 empties_same : (script script' : Script) → IsNewScript script → IsNewScript script' → LinesHaveSameMeaning script script'
-empties_same script script' new new' = empty_meaning script new ∙ sym (empty_meaning script' new')
-
--- what a script says whose lines say this
-whole_meaning : LinesMeaning → ScriptMeaning
-whole_meaning said = record {
-  meter = said.meter;
-  limiter = said.limiter;
-  region = said.region;
-  reserve = said.reserve;
-  parts = said.earlier ++ (record { tenant = said.tenant; calls = said.calls }) ∷ [];
-}
-
--- a script says what its lines say
-script_is : (script : Script) → script_meaning script ≡ whole_meaning (lines_meaning script)
-unfolding whole_meaning
-script_is script =
-    let last : TenantRun = record { tenant = script.parts.tenant; calls = script.parts.calls } in
-    ap (λ parts. record (script_meaning script) { parts = parts })
-    (map-append part_meaning script.parts.earlier (last ∷ []))
+empties_same script script' new new' =
+    λ i. meaning_of ((new.no_header ∙ sym new'.no_header) i) ((new.no_commands ∙ sym new'.no_commands) i)
 
 -- two scripts that one text writes say the same
 pub texts_unique : TextsWriteOneScript
@@ -76,12 +34,18 @@ texts_unique text script script' writes writes' =
     let empties = empties_same writes.empty writes'.empty writes.is_new writes'.is_new in
     let lines = lines_unique
     (lines_in text) writes.empty writes'.empty script script' empties writes.lines writes'.lines in
-    script_is script ∙ ap whole_meaning lines ∙ sym (script_is script')
-
--- what has no image is nothing
-none_mapped : {A B : Type 0} (f : A → B) (xs : List A) → map f xs ≡ [] → xs ≡ []
-none_mapped f [] e = refl
-none_mapped f (x ∷ xs) e = absurd cc
+    let last : PartsValue → TenantRun = λ parts. record { tenant = parts.tenant; calls = parts.calls } in
+    let parts : map part_meaning (parts_in script.parts) ≡ map part_meaning (parts_in script'.parts) =
+    map-append part_meaning script.parts.earlier (last script.parts ∷ [])
+    ∙ (λ i. (lines i).earlier ++ record { tenant = (lines i).tenant; calls = (lines i).calls } ∷ [])
+    ∙ sym (map-append part_meaning script'.parts.earlier (last script'.parts ∷ [])) in
+    λ i. record {
+      meter = (lines i).meter;
+      limiter = (lines i).limiter;
+      region = (lines i).region;
+      reserve = (lines i).reserve;
+      parts = parts i;
+    }
 
 -- an option whose image is nothing is nothing
 none_of : {A B : Type 0} (f : A → B) (x : Option A) → option_map f x ≡ None → x ≡ None
@@ -92,14 +56,10 @@ none_of f (Some x) e = absurd cc
 apart_too : (limiter limiter' : Option LimiterLine) (region : Option RegionLine)
     → option_map limiter_meaning limiter ≡ option_map limiter_meaning limiter'
     → AreApart limiter region → AreApart limiter' region
-apart_too limiter None region same apart = tt
-apart_too limiter (Some (Quota line)) region same apart = tt
-apart_too limiter (Some (Answers answers)) region same apart = tt
-apart_too limiter (Some (Tenants line)) None same apart = tt
-apart_too None (Some (Tenants line)) (Some region) same apart = absurd cc
-apart_too (Some (Quota other)) (Some (Tenants line)) (Some region) same apart = absurd cc
-apart_too (Some (Answers answers)) (Some (Tenants line)) (Some region) same apart = absurd cc
 apart_too (Some (Tenants other)) (Some (Tenants line)) (Some region) same apart = apart
+apart_too None (Some (Tenants line)) (Some region) same apart = absurd cc
+apart_too (Some other) (Some (Tenants line)) (Some region) same apart = absurd cc
+apart_too limiter limiter' region same apart = tt
 
 -- how many tenants there are, by what the limiter line says
 tenants_meaning : Option LimiterMeaning → ℕ
@@ -109,10 +69,8 @@ tenants_meaning other = 0
 -- how many tenants a limiter line asks for is how many it says
 tenants_is : (limiter : Option LimiterLine) → tenants_of limiter ≡ tenants_meaning (option_map limiter_meaning limiter)
 unfolding tenants_meaning
-tenants_is None = refl
-tenants_is (Some (Quota line)) = refl
-tenants_is (Some (Answers answers)) = refl
 tenants_is (Some (Tenants line)) = refl
+tenants_is limiter = refl
 
 -- of scripts whose lines say the same one takes what the other takes
 module _ (old old' : Script) (same : LinesHaveSameMeaning old old') where
@@ -196,11 +154,6 @@ module _ (old old' : Script) (same : LinesHaveSameMeaning old old') where
   line_too : (line : List ℕ) (new : Script) → AcceptsLine old line new → (new' : Script) × AcceptsLine old' line new'
   line_too line new taken = let after = words_too taken.1 new taken.3 in (after.0, (taken.0, taken.1, taken.2, after.1))
 
--- so a line that one of them can't take isn't taken by the other
-refused : (old old' new' : Script) (line : List ℕ) → LinesHaveSameMeaning old old' → IsBadLine old line
-    → ¬ (AcceptsLine old' line new')
-refused old old' new' line same bad taken = let t = line_too old' old (sym same) line new' taken in bad t.0 t.1
-
 -- words add nothing if a line that they say can't be added
 pub no_words : (old : Script) (words : LineWords) (line : Line) → 1 ≤ length words
     → NamesLine (word_at words 0) (drop 1 words) line → ((new : Script) → ¬ (AddsLine old line new))
@@ -216,54 +169,44 @@ no_words old words line some names refused new (inr (other, names', adds)) =
 not_taken : (before after : List (List ℕ)) (bad : List ℕ) (old old' script new : Script) → LinesHaveSameMeaning old old'
     → AcceptsLines before old script → IsBadLine script bad → ¬ (AcceptsLines (before ++ bad ∷ after) old' new)
 not_taken [] after bad old old' script new same is wrong (middle, taken, later) =
-    refused script old' middle bad (ap lines_meaning is ∙ same) wrong taken
+    let t = line_too old' script (sym (ap lines_meaning is ∙ same)) bad middle taken in wrong t.0 t.1
 not_taken (line ∷ before) after bad old old' script new same (m, t, l) wrong (m', t', l') =
     not_taken before after bad m m' script new (line_unique line old old' m m' same t t') l wrong l'
 
+-- lines that are taken aren't those before a first bad line, that line and more
+none_bad : (texts after : List (List ℕ)) (script : Script) (text : List ℕ) (number : ℕ) → AreTaken texts script
+    → (bad : IsFirstBadLine text number) → ¬ (texts ≡ bad.before ++ bad.bad ∷ after)
+none_bad texts after script text number taken bad split =
+    not_taken bad.before after bad.bad bad.taken.empty taken.empty bad.script script
+    (empties_same bad.taken.empty taken.empty bad.taken.is_new taken.is_new) bad.taken.lines bad.is_bad
+    (subst (λ lines. AcceptsLines lines taken.empty script) split taken.lines)
+
 -- a text that writes a script has no bad line
 pub no_bad_line : WrittenTextsHaveNoBadLine
-no_bad_line text script number made bad =
-    not_taken bad.before bad.after bad.bad bad.taken.empty made.empty bad.script script
-    (empties_same bad.taken.empty made.empty bad.taken.is_new made.is_new) bad.taken.lines bad.is_bad
-    (subst (λ lines. AcceptsLines lines made.empty script) bad.lines made.lines)
+no_bad_line text script number made bad = none_bad (lines_in text) bad.after script text number made bad bad.lines
 
--- lines of which those before a bad one are taken: that line, those after it and what the ones before it lead to
-abbrev StopsAfter : List (List ℕ) → Script → List (List ℕ) → Type 0
-StopsAfter lines old before =
-    (bad : List ℕ) × (after : List (List ℕ)) × (lines ≡ before ++ bad ∷ after) × (end : Script)
-    × AcceptsLines before old end × IsBadLine end bad
-
--- a bad line stands at one place
-one_place : (before before' lines : List (List ℕ)) (old old' : Script) → LinesHaveSameMeaning old old'
-    → StopsAfter lines old before → StopsAfter lines old' before' → length before ≡ length before'
-one_place [] [] lines old old' same s s' = refl
-one_place [] (line ∷ before') lines old old' same (bad, after, split, end, is, wrong)
-    (bad', after', split', end', (m', t', l'), wrong') =
-    let here : line ≡ bad = cc in
-    let taken = subst (λ line. AcceptsLine old' line m') here t' in
-    absurd (refused end old' m' bad (ap lines_meaning is ∙ same) wrong taken)
-one_place (line ∷ before) [] lines old old' same (bad, after, split, end, (m, t, l), wrong)
-    (bad', after', split', end', is', wrong') =
-    let here : line ≡ bad' = cc in
-    let taken = subst (λ line. AcceptsLine old line m) here t in
-    absurd (refused end' old m bad' (ap lines_meaning is' ∙ sym same) wrong' taken)
-one_place (line ∷ before) (line' ∷ before') lines old old' same (bad, after, split, end, (m, t, l), wrong)
-    (bad', after', split', end', (m', t', l'), wrong') =
-    let here : line' ≡ line = cc in
-    let rest : before ++ bad ∷ after ≡ before' ++ bad' ∷ after' = cc in
-    let next = line_unique line old old' m m' same t (subst (λ line. AcceptsLine old' line m') here t') in
-    ap (λ n. suc n) (one_place before before' (before ++ bad ∷ after) m m' next
-    (bad, after, refl, end, l, wrong) (bad', after', rest, end', l', wrong'))
-
--- so does the first bad line of a text
-stops : (text : List ℕ) (number : ℕ) (bad : IsFirstBadLine text number)
-    → StopsAfter (lines_in text) bad.taken.empty bad.before
-stops text number bad = (bad.bad, bad.after, bad.lines, bad.script, bad.taken.lines, bad.is_bad)
+-- as many lines at most are before one first bad line as before another
+at_most : (text : List ℕ) (number number' : ℕ) (bad : IsFirstBadLine text number) (bad' : IsFirstBadLine text number')
+    → length bad'.before ≤ length bad.before
+at_most text number number' bad bad' = elim (cases_lt (length bad.before) (length bad'.before)) as
+    (λ _. length bad'.before ≤ length bad.before) [
+      | inl less ↦
+          let more = length bad'.before - length bad.before - 1 in
+          let split : bad'.before ≡ bad.before ++ bad.bad ∷ take more bad.after =
+          sym (take_at bad'.before _ _ refl) ∙ ap (take (length bad'.before)) (sym bad'.lines ∙ bad.lines)
+          ∙ ap (λ n. take n (bad.before ++ bad.bad ∷ bad.after)) (omega (arith, less))
+          ∙ take-append-add bad.before (bad.bad ∷ bad.after) (suc more) in
+          absurd (none_bad bad'.before (take more bad.after) bad'.script text number bad'.taken bad split)
+      | inr fewer ↦ fewer
+    ]
 
 -- the first bad line of a text is one number
 pub bad_lines_once : FirstBadLinesAreOne
 bad_lines_once text number number' bad bad' =
-    let empties = empties_same bad.taken.empty bad'.taken.empty bad.taken.is_new bad'.taken.is_new in
-    let places = one_place bad.before bad'.before (lines_in text) bad.taken.empty bad'.taken.empty empties
-    (stops text number bad) (stops text number' bad') in
-    bad.counted ∙ ap (λ n. n + 1) places ∙ sym bad'.counted
+    omega (
+      arith,
+      at_most text number number' bad bad',
+      at_most text number' number bad' bad,
+      bad.counted,
+      bad'.counted,
+    )

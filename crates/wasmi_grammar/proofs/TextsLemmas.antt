@@ -1,23 +1,9 @@
 -- What a line adds is told by the texts of its words alone.
 use Rattle.std.proofs.Common.{ℕ, ◌≡◌, ◌∙◌, List, [], ◌∷◌, length, map, drop, slice_index_or, inl, inr, refl, sym, ap, subst}
-use Rattle.std.proofs.lemmas.List.{length-map, drop-map}
-use Rattle.std.specs.List.{AllZip}
-use Rattle.wasmi_machine.specs.declared.calls.Call.{Call}
-use Rattle.wasmi_machine.specs.declared.slots.SlotCounts.{SlotCounts}
+use Rattle.wasmi_grammar.proofs.Common.{length-map, drop-map, AllZip, Call, Line, Meter, Limiter, Region, Reserve, As, Script, Quota, Answers, Tenants, LineWords, WritesEach, word_at, IsDecimal, WritesNumber, decimal_value, WritesLanes, WritesAnswer, OperandsWrite, WritesOperands, NamesLine, AddsWords}
 use Rattle.wasmi_machine.specs.declared.calls.Call.TheVariants.{Write, NewData, NewSegment, Shuffle}
-use Rattle.wasmi_grammar.specs.declared.script.Line.{Line}
-use Rattle.wasmi_grammar.specs.declared.script.Line.TheVariants.{Meter, Limiter, Region, Reserve, As, Call as Command}
-use Rattle.wasmi_grammar.specs.declared.script.Script.{Script}
-use Rattle.wasmi_grammar.specs.declared.header.MeterLine.{MeterLine}
+use Rattle.wasmi_grammar.specs.declared.script.Line.TheVariants.{Call as Command}
 use Rattle.wasmi_grammar.specs.declared.header.MeterLine.TheVariants.{Off, On}
-use Rattle.wasmi_grammar.specs.declared.header.LimiterLine.{LimiterLine}
-use Rattle.wasmi_grammar.specs.declared.header.LimiterLine.TheVariants.{Quota, Answers, Tenants}
-use Rattle.wasmi_grammar.specs.declared.header.RegionLine.{RegionLine}
-use Rattle.wasmi_operands.specs.LineWords.{LineWords, WritesEach, word_at, IsDecimal, WritesNumber, decimal_value}
-use Rattle.wasmi_operands.specs.Names.{WritesLanes, WritesAnswer}
-use Rattle.wasmi_grammar.specs.Commands.{OperandsWrite, WritesOperands}
-use Rattle.wasmi_grammar.specs.Headers.{WritesMeter, WritesLimiter, WritesRegion, WritesReserve, WritesTenant}
-use Rattle.wasmi_grammar.specs.Lines.{NamesLine, AddsWords}
 
 -- words with the same texts
 abbrev texts : LineWords → List (List ℕ)
@@ -80,48 +66,30 @@ module _ (words words' : LineWords) (same : texts words ≡ texts words') where
   )
   retell_operands call w = retell_first call w
 
-  -- operands with the same texts write the same limiter line
-  retell_limiter : (line : LimiterLine) → WritesLimiter words line → WritesLimiter words' line
-  retell_limiter (Quota line) w = (as_many ∙ w.0, number 0 w.1, number 1 w.2)
-  retell_limiter (Answers answers) w = retell_each WritesAnswer words words' answers.items same w
-  retell_limiter (Tenants line) w = (as_many ∙ w.0, number 0 w.1, w.2, w.3, number 1 w.4, number 2 w.5)
-
-  -- operands with the same texts write the same meter line
-  retell_meter : (line : MeterLine) → WritesMeter words line → WritesMeter words' line
-  retell_meter Off w = (as_many ∙ w.0, sym (at 0) ∙ w.1)
-  retell_meter (On bytes) w = (as_many ∙ w.0, sym (at 0) ∙ w.1, number 1 w.2)
-
-  -- operands with the same texts write the same region line
-  retell_region : (line : RegionLine) → WritesRegion words line → WritesRegion words' line
-  retell_region line w = (as_many ∙ w.0, number 0 w.1, number 1 w.2)
-
-  -- operands with the same texts write the same slots of a reserve line
-  retell_reserve : (slots : SlotCounts) → WritesReserve words slots → WritesReserve words' slots
-  retell_reserve slots w = (as_many ∙ w.0, number 0 w.1, number 1 w.2, number 2 w.3, number 3 w.4, number 4 w.5)
-
-  -- operands with the same texts write the same tenant
-  retell_tenant : (tenant : ℕ) → WritesTenant words tenant → WritesTenant words' tenant
-  retell_tenant tenant w = (as_many ∙ w.0, number 0 w.1)
-
   -- operands with the same texts say the same after a first word
   retell_line : (name : List ℕ) (line : Line) → NamesLine name words line → NamesLine name words' line
-  retell_line name (Meter line) w = (w.0, retell_meter line w.1)
-  retell_line name (Limiter line) w = (w.0, retell_limiter line w.1)
-  retell_line name (Region line) w = (w.0, retell_region line w.1)
-  retell_line name (Reserve slots) w = (w.0, retell_reserve slots w.1)
-  retell_line name (As tenant) w = (w.0, retell_tenant tenant w.1)
+  retell_line name (Meter Off) (is, (many, off)) = (is, (as_many ∙ many, sym (at 0) ∙ off))
+  retell_line name (Meter (On bytes)) (is, (many, on, fuel)) = (is, (as_many ∙ many, sym (at 0) ∙ on, number 1 fuel))
+  retell_line name (Limiter (Quota line)) (is, (many, bytes, elements)) =
+      (is, (as_many ∙ many, number 0 bytes, number 1 elements))
+  retell_line name (Limiter (Answers list)) w = (w.0, retell_each WritesAnswer words words' list.items same w.1)
+  retell_line name (Limiter (Tenants line)) (is, (many, count, some, most, bytes, elements)) =
+      (is, (as_many ∙ many, number 0 count, some, most, number 1 bytes, number 2 elements))
+  retell_line name (Region line) (is, (many, len, byte)) = (is, (as_many ∙ many, number 0 len, number 1 byte))
+  retell_line name (Reserve slots) (is, (many, a, b, c, d, e)) =
+      (is, (as_many ∙ many, number 0 a, number 1 b, number 2 c, number 3 d, number 4 e))
+  retell_line name (As tenant) (is, (many, index)) = (is, (as_many ∙ many, number 0 index))
   retell_line name (Command call) w = (w.0, retell_operands call w.1)
 
--- where the one are no words, the other are none
-none_left : (words words' : LineWords) → texts words ≡ texts words' → words ≡ [] → words' ≡ []
-none_left words [] same empty = refl
-none_left words (word ∷ words') same empty =
-    let none : texts (word ∷ words') ≡ [] = sym same ∙ ap texts empty in absurd cc
+-- what has no image is nothing
+pub none_mapped : {A B : Type 0} (f : A → B) (xs : List A) → map f xs ≡ [] → xs ≡ []
+none_mapped f [] e = refl
+none_mapped f (x ∷ xs) e = absurd cc
 
 -- words add what all words with the same texts add
 pub retell : (words words' : LineWords) → texts words ≡ texts words' → (old new : Script) → AddsWords old words new
     → AddsWords old words' new
-retell words words' same old new (inl a) = inl (none_left words words' same a.0, a.1)
+retell words words' same old new (inl a) = inl (none_mapped (λ word. word.now) words' (sym same ∙ ap texts a.0), a.1)
 retell words words' same old new (inr (line, names, adds)) =
     let name = word_at words' 0 in
     let here = subst (λ name. NamesLine name (drop 1 words) line) (at words words' same 0) names in

@@ -4,7 +4,6 @@ use Rattle.wasmi_types.specs.declared.index_ty.IndexType.{IndexType}
 use Rattle.wasmi_operands.specs.LineWords.{WritesNumber, WritesLimit, LineWords, WritesEach, word_at}
 use Rattle.wasmi_operands.specs.Names.{width_word, reference_word, value_word, mutability_word, WritesReference, IsName, NamesLane, WritesLanes}
 use Rattle.wasmi_store.specs.Memory.{MemoryTypeValue, page_log2}
-use Rattle.wasmi_types.specs.declared.value.RefType.{RefType}
 use Rattle.wasmi_store.specs.Table.{TableTypeValue}
 use Rattle.wasmi_raw.specs.RawVal.{raw_of}
 use Rattle.wasmi_ops.specs.LoadStoreOps.{load_name, store_name}
@@ -31,12 +30,6 @@ pub record WritesLimits (minimum maximum width : List ℕ) (limits : Limits) : T
 abbrev pub memory_limits : MemoryTypeValue → Limits
 memory_limits ty = record { index = ty.index; minimum = ty.minimum; maximum = ty.maximum }
 
--- a memory type, which there is, of these limits and this page size
-pub record HasSettings (limits : Limits) (log2 : ℕ) (ty : MemoryTypeValue) : Type 0 where
-  pub same_limits : memory_limits ty ≡ limits
-  pub same_log2 : page_log2 ty.page ≡ log2
-  pub valid : memory_type.IsValid ty
-
 -- four words name this memory type, which there is: its minimum, its maximum, its page size and the width of its
 -- addresses
 pub record NamesType (minimum maximum log2 width : List ℕ) (ty : MemoryTypeValue) : Type 0 where
@@ -47,12 +40,6 @@ pub record NamesType (minimum maximum log2 width : List ℕ) (ty : MemoryTypeVal
 -- the limits of a table type
 abbrev pub table_limits : TableTypeValue → Limits
 table_limits ty = record { index = ty.index; minimum = ty.minimum; maximum = ty.maximum }
-
--- a table type, which there is, of these limits and this type of elements
-pub record HasLimits (limits : Limits) (element : RefType) (ty : TableTypeValue) : Type 0 where
-  pub same_limits : table_limits ty ≡ limits
-  pub same_element : ty.element ≡ element
-  pub valid : table_type.IsValid ty
 
 -- four words name this table type, which there is: the type of its elements, its minimum, its maximum and the width of
 -- its indices

@@ -1,11 +1,7 @@
 -- The bits of a word that belong to one lane (`field`), as those of the operands give them.
 use Rattle.std.proofs.Common.{◌≡◌, ℕ, zero, suc, ◌+◌, ◌-◌, ◌*◌, ◌/◌, ◌%◌, ◌^◌, ◌<◌, ◌≤◌, sym, ap, ap₂, subst, ◌∙◌, arith, zero-mul, suc-mul, add-mul, mul-suc, mul-zero, mul_comm, le_refl, div-one, mod-lt, mod-eq_of_lt, replicate, bit_and, bit_or, bit_xor}
-use Rattle.std.specs.Int.{bit_at}
-use Rattle.std.specs.Simd.Lanes.{number_l}
-use Rattle.std.proofs.Math.Nat.{zero-div, zero-mod, add-mod, add-mod_right, add-mul-mod_self_right, add-mul-mod_self_left, mod-add-mod, mod-mod}
+use Rattle.wasmi_lanes.proofs.Common.{bit_at, number_l, zero-div, zero-mod, add-mod, add-mod_right, add-mul-mod_self_right, add-mul-mod_self_left, mod-add-mod, mod-mod, pow_pos, mul-le, shr-shr, and_mask, div-add-mod', div-mul-add, mod-mul-add, and_shr, and_mod, or_shr, or_mod, xor_shr, xor_mod, field_of, shr_below, field}
 use Rattle.std.proofs.Math.Pow.{ones_split, shr_mono, mod-mod-pow}
-use Rattle.std.proofs.lemmas.Nat.{pow_pos, mul-le, shr-shr, and_mask, div-add-mod', div-mul-add, mod-mul-add, and_shr, and_mod, or_shr, or_mod, xor_shr, xor_mod, field_of, shr_below}
-use Rattle.wasmi_lanes.specs.Words.{field}
 
 -- a field of w bits is below 2 ^ w
 pub field_lt : (k w a : ℕ) → field k w a < 2 ^ w

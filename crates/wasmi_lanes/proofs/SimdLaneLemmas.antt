@@ -1,15 +1,10 @@
 -- Lanes as std::simd computes them: the digits of a number, lanes that a comparison chooses, and sums.
 use Rattle.std.proofs.Common.{ℕ, ◌+◌, ◌-◌, ◌%◌, ◌<◌, ◌≡◌, List, [], ◌∷◌, length, get_or, map, replicate, refl, sym, ap, ◌∙◌, arith, Bool, false, cond, ltb, nat_lt, if◌then◌else◌, zero, suc, pos, ◌*◌, ◌/◌, ◌^◌, ◌≤◌, subst, mul_comm, zero-mul, suc-mul}
-use Rattle.std.specs.Simd.Lanes.{zip2, sel_l, digits_l, number_l, Each1}
-use Rattle.std.proofs.lemmas.Simd.{length-zip2, get_or-zip2, get_or-sel_l, get_or-replicate, length-replicate, Each1-from_get_or, tops_compared}
+use Rattle.wasmi_lanes.proofs.Common.{zip2, sel_l, digits_l, number_l, Each1, length-zip2, get_or-zip2, get_or-sel_l, get_or-replicate, length-replicate, Each1-from_get_or, tops_compared, mod-one, mod-pow-add, div-mul-add, mod-mul-add, pow-add, mul-le, get_or-map, Width, w16, w32, bits, signed, lane, field}
 use lib.Lanes.{top}
 use mir.Val.{hbits}
-use Rattle.std.proofs.Math.Nat.{mod-one, mul-add, mul-one, mod-eq_of_lt}
-use Rattle.std.proofs.lemmas.Nat.{mod-pow-add, div-mul-add, mod-mul-add, pow-add, mul-le}
-use Rattle.std.proofs.lemmas.List.{get_or-map}
-use Rattle.wasmi_types.specs.Numbers.{Width, w8, w16, w32, w64, bits, signed}
-use Rattle.wasmi_lanes.specs.Vector.{lane}
-use Rattle.wasmi_lanes.specs.Words.{field}
+use Rattle.std.proofs.Math.Nat.{mul-add, mul-one, mod-eq_of_lt}
+use Rattle.wasmi_types.specs.Numbers.{w8, w64}
 use Rattle.wasmi_lanes.proofs.FieldLemmas.{first_lane, next_lane}
 
 module _ (w : Width) (n : ℕ) (a b chosen other : List ℕ) (long_a : length a ≡ n) (long_b : length b ≡ n)

@@ -1,13 +1,9 @@
 -- One lane of a vector: by its bytes, and among lanes that are chosen by their numbers.
 use Rattle.std.proofs.Common.{ℕ, ◌+◌, ◌-◌, ◌*◌, ◌/◌, ◌%◌, ◌^◌, ◌<◌, ◌≡◌, List, [], ◌∷◌, length, get_or, replicate, map, refl, sym, ap, ap₂, ◌∙◌, arith, if◌then◌else◌, Bool, true, false, cond, eqb, ltb, bit_and, zero-add, mul_comm, mul-add, mul-one, add-mul}
-use Rattle.std.proofs.lemmas.Nat.{shr-shr, mod-pow-add, and_mask}
-use Rattle.std.specs.Simd.Lanes.{zip2, sel_l, number_l, digits_l}
-use Rattle.std.proofs.lemmas.Bool.{ltb-true}
-use Rattle.std.proofs.lemmas.Simd.{swz_l, SwzOk, SwzOk-from_below, Each1-from_get_or, length-zip2, get_or-zip2, get_or-replicate, length-replicate, get_or-swz_l_below, get_or-sel_l, tops_compared}
+use Rattle.wasmi_lanes.proofs.Common.{shr-shr, mod-pow-add, and_mask, zip2, sel_l, number_l, digits_l, ltb-true, swz_l, SwzOk, SwzOk-from_below, Each1-from_get_or, length-zip2, get_or-zip2, get_or-replicate, length-replicate, get_or-swz_l_below, get_or-sel_l, tops_compared, Width, bits, lane, with_lane}
 use Rattle.std.proofs.lemmas.List.FromFn.{get_or-range_with_len, length-range_with_len, get_or-map-range_with_len}
 use Rattle.std.specs.List.{range_with_len}
-use Rattle.wasmi_types.specs.Numbers.{Width, w8, bits}
-use Rattle.wasmi_lanes.specs.Vector.{lane, with_lane}
+use Rattle.wasmi_types.specs.Numbers.{w8}
 use Rattle.wasmi_lanes.proofs.SimdLaneLemmas.{digit_at}
 use Rattle.wasmi_lanes.proofs.VectorLemmas.{lanes_make_vector, lane_below}
 use mir.Val.{hbits}

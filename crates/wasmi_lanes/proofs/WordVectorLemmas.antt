@@ -1,15 +1,10 @@
 -- Vectors by their two words, and words of equal lanes.
 use Rattle.std.proofs.Common.{◌≡◌, ℕ, zero, suc, ◌+◌, ◌-◌, ◌*◌, ◌/◌, ◌%◌, ◌^◌, ◌<◌, ◌≤◌, ◌⊎◌, inl, inr, refl, sym, ap, ap₂, subst, ◌∙◌, arith, mul-suc, mul-zero, mul-add, mul_comm}
-use Rattle.std.proofs.lemmas.Bool.{cases_lt}
-use Rattle.std.proofs.lemmas.Nat.{pow_pos, shr-shr, field_of}
-use Rattle.std.proofs.Math.Nat.{zero-mod, mod_self}
+use Rattle.wasmi_lanes.proofs.Common.{cases_lt, pow_pos, shr-shr, field_of, zero-mod, mod_self, bit_at, Width, w16, w32, bits, lane, from_lanes, field, IsLane, IsLastLane, lanes_in_word, in_each_lane}
 use Rattle.std.proofs.Math.Pow.{mod-mod-pow}
 use Rattle.std.proofs.lemmas.Nat.Bits.{bit_at-pow_same}
-use Rattle.std.specs.Int.{bit_at}
 use Rattle.wasmi_raw.specs.RawVal.{vector_of}
-use Rattle.wasmi_types.specs.Numbers.{Width, w8, w16, w32, w64, bits}
-use Rattle.wasmi_lanes.specs.Vector.{lane, from_lanes}
-use Rattle.wasmi_lanes.specs.Words.{field, IsLane, IsLastLane, lanes_in_word, in_each_lane}
+use Rattle.wasmi_types.specs.Numbers.{w8, w64}
 use Rattle.wasmi_lanes.proofs.FieldLemmas.{field_mod, lane_ends, top_of_lane, repeated_lane}
 use Rattle.wasmi_lanes.proofs.VectorLemmas.{lanes_make_vector}
 use mir.Syntax.{w128}

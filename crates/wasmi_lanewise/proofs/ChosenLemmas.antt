@@ -1,13 +1,8 @@
 -- Bytes chosen by indices, as std::simd chooses them.
 use Rattle.std.proofs.Common.{ℕ, ◌%◌, ◌<◌, ◌≤◌, ◌≡◌, List, length, get_or, replicate, map, ◌+◌, ◌*◌, ◌/◌, ◌⊎◌, refl, sym, subst, ap, ap₂, ◌∙◌, arith, inl, inr, nat_lt, if◌then◌else◌, Bool, true, false, not, ◌||◌, cond, ltb, leb, bit_and, w8, Fits}
-use Rattle.std.specs.Simd.Lanes.{zip2, sel_l, Each1}
-use Rattle.std.proofs.lemmas.Bool.{cases_lt, lt-ltb, le-ltb}
-use Rattle.std.proofs.lemmas.Nat.{and_mask}
-use Rattle.std.proofs.lemmas.Simd.{swz_l, SwzOk, SwzOk-from_below, SwzOk-from_Each1, Each1-from_get_or, Each1-get_or, below_from_Fits, length-zip2, get_or-zip2, get_or-replicate, get_or-swz_l, get_or-swz_l_below, get_or-sel_l, length-sel_l, tops_compared}
+use Rattle.wasmi_lanewise.proofs.Common.{zip2, sel_l, Each1, cases_lt, lt-ltb, le-ltb, and_mask, swz_l, SwzOk, SwzOk-from_below, SwzOk-from_Each1, Each1-from_get_or, Each1-get_or, below_from_Fits, length-zip2, get_or-zip2, get_or-replicate, get_or-swz_l, get_or-swz_l_below, get_or-sel_l, length-sel_l, tops_compared, lane, lane_below}
 use Rattle.std.proofs.Math.Nat.{mod-eq_of_lt}
-use Rattle.wasmi_lanes.specs.Vector.{lane}
 use Rattle.wasmi_lanes.proofs.VariableLaneLemmas.{computed}
-use Rattle.wasmi_lanes.proofs.VectorLemmas.{lane_below}
 use lib.Dec.{T}
 use lib.Lanes.{top}
 

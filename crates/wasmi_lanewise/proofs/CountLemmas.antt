@@ -1,13 +1,7 @@
 -- The one bits of each lane, counted in lanes of twice the width step by step.
 use Rattle.std.proofs.Common.{◌≡◌, ℕ, zero, suc, ◌+◌, ◌-◌, ◌*◌, ◌/◌, ◌%◌, ◌^◌, ◌<◌, refl, sym, ap, ap₂, subst, ◌∙◌, ◌⊎◌, ◌≤◌, inl, inr, arith, mul-add, mul-suc, mul-zero, add-mul, mul-one, mod-lt, mod-eq_of_lt, bit_and, pow-suc, lit<, count_ones}
-use Rattle.std.proofs.Math.Nat.{mod-one}
-use Rattle.std.proofs.lemmas.Nat.{pow_pos, shr-shr, mod-pow-add, and_mask, and_le_l, and_le_r, ones_cat, ones-le}
-use Rattle.std.proofs.Math.Pow.{mod-mod-pow}
-use Rattle.std.proofs.lemmas.Nat.Bits.{bit_at_and, bit_at_ones_above}
-use Rattle.std.specs.Int.{bit_at}
+use Rattle.wasmi_lanewise.proofs.Common.{mod-one, pow_pos, shr-shr, mod-pow-add, and_mask, and_le_l, and_le_r, ones_cat, ones-le, mod-mod-pow, bit_at_and, bit_at_ones_above, bit_at, field, field_and, field_add, field_lt, field_mod, field_wrapping_sub, repeated_lane, top_of_lane}
 use Rattle.std.specs.Int.Count.{ones}
-use Rattle.wasmi_lanes.specs.Words.{field}
-use Rattle.wasmi_lanes.proofs.FieldLemmas.{field_and, field_add, field_lt, field_mod, field_wrapping_sub, repeated_lane, top_of_lane}
 use Rattle.wasmi_lanes.proofs.TopLemmas.{clear_top}
 use Rattle.wasmi_lanewise.proofs.WordLemmas.{mean_low}
 

@@ -1,3 +1,4 @@
+pub mod Common
 pub mod ChosenLemmas
 pub mod CountLemmas
 pub mod MarkLemmas

@@ -1,16 +1,7 @@
 -- Words whose lanes are 0 or their top bit alone, and their lanes filled with ones.
 use Rattle.std.proofs.Common.{◌≡◌, ℕ, zero, suc, ◌+◌, ◌-◌, ◌*◌, ◌/◌, ◌%◌, ◌^◌, ◌<◌, ◌≤◌, ◌⊎◌, inl, inr, cond, eqb, Bool, true, false, not, refl, sym, ap, ap₂, subst, ◌∙◌, arith, mod-eq_of_lt, mod-lt, lit<, bit_and, bit_or, bit_xor, pow-suc, mul_comm, one-mul, mul-add, mul-one}
-use Rattle.std.proofs.Math.Nat.{zero-mod, mod_self, div-eq_of_lt, add-mod_right, mod-add-mod}
-use Rattle.std.proofs.lemmas.Nat.{pow_pos, shr-shr, mod-pow-add, field_of, shr_le, and_le_l, and_mask, or_lt, or_shifted}
-use Rattle.std.proofs.lemmas.Nat.Bits.{bit_at-zero, bit_at-pow_same}
-use Rattle.std.proofs.lemmas.Bool.{ne_eqb, cases_lt}
-use Rattle.std.proofs.Math.Pow.{mod-mod-pow}
+use Rattle.wasmi_lanewise.proofs.Common.{zero-mod, mod_self, div-eq_of_lt, add-mod_right, mod-add-mod, pow_pos, shr-shr, mod-pow-add, field_of, shr_le, and_le_l, and_mask, or_lt, or_shifted, bit_at-zero, bit_at-pow_same, ne_eqb, cases_lt, mod-mod-pow, bit_at, field, IsLane, AreMarks, Width, bits, field_and, field_or, field_sub, field_xor, field_of_zero, same_words, top_of_lane, EachLane}
 use Rattle.std.specs.Int.Bits.{and_zero_r, or_add_and, xor_self, xor_zero_l}
-use Rattle.std.specs.Int.{bit_at}
-use Rattle.wasmi_lanes.specs.Words.{field, IsLane, AreMarks}
-use Rattle.wasmi_types.specs.Numbers.{Width, bits}
-use Rattle.wasmi_lanes.proofs.FieldLemmas.{field_and, field_or, field_sub, field_xor, field_of_zero, same_words, top_of_lane}
-use Rattle.wasmi_lanes.proofs.WordVectorLemmas.{EachLane}
 
 -- the h bits of v from k are clear
 abbrev Clear : ℕ → ℕ → ℕ → Type 0

@@ -1,18 +1,11 @@
 -- The order of lanes, and what is chosen by it. Numbers of w bits, moved by half of their range, stand in the order of
 -- the signed numbers with their bits.
 use Rattle.std.proofs.Common.{ℕ, ℤ, suc, ◌+◌, ◌-◌, ◌*◌, ◌%◌, ◌^◌, ◌<◌, ◌≤◌, ◌≡◌, min, max, Bool, true, false, not, cond, if◌then◌else◌, ltb, leb, refl, sym, ap, ap₂, ◌∙◌, arith, inl, inr, pos, negsuc}
-use Rattle.std.proofs.lemmas.Nat.{pow_pos}
-use Rattle.std.specs.Int.{int_min, int_max}
+use Rattle.wasmi_lanewise.proofs.Common.{pow_pos, int_min, int_max, add-mod_right, cases_lt, lt-ltb, le-ltb, le-leb, lt-leb, ltb-true, ltb-false, Width, w16, w32, w64, bits, signed, wrap, lane, lane_count, from_lanes, comparison_of_lanes, field, field_not, field_of_zero, lane_ends, lanes_make_vector, lane_below, lane_count_fills, lane_of_comparison, v128_not}
 use Rattle.std.specs.Int.RustNames.{int_lt, int_le}
-use Rattle.std.proofs.Math.Nat.{mod-eq_of_lt, add-mod_right}
-use Rattle.std.proofs.lemmas.Bool.{cases_lt, lt-ltb, le-ltb, le-leb, lt-leb, ltb-true, ltb-false}
-use Rattle.wasmi_types.specs.Numbers.{Width, w8, w16, w32, w64, bits, signed, wrap}
+use Rattle.std.proofs.Math.Nat.{mod-eq_of_lt}
+use Rattle.wasmi_types.specs.Numbers.{w8}
 use Rattle.wasmi_types.proofs.NumbersLemmas.{wrap_of_bits}
-use Rattle.wasmi_lanes.specs.Vector.{lane, lane_count, from_lanes, comparison_of_lanes}
-use Rattle.wasmi_lanes.specs.Words.{field}
-use Rattle.wasmi_lanes.proofs.FieldLemmas.{field_not, field_of_zero, lane_ends}
-use Rattle.wasmi_lanes.proofs.VectorLemmas.{lanes_make_vector, lane_below, lane_count_fills, lane_of_comparison}
-use Rattle.wasmi_lanewise.specs.VectorTable.{v128_not}
 use mir.Syntax.{w128}
 use mir.Val.{sel, hbits}
 

@@ -1,23 +1,12 @@
 -- Clamped sums and differences, and rounded products of q15 numbers, as std::simd computes them.
 use Rattle.std.proofs.Common.{ℕ, ◌+◌, ◌-◌, ◌%◌, ◌^◌, ◌<◌, ◌≡◌, List, length, get_or, map, min, refl, sym, ap, subst, ◌∙◌, arith, Bool, true, false, cond, ltb, Fits, pos, ◌+ℤ◌, ◌-ℤ◌, ℤ, negsuc, suc, ◌*◌, ◌/◌, ◌≤◌, ◌⊎◌, inl, inr, ◌*ℤ◌, nat_lt, if◌then◌else◌, ap₂, FitsSigned, unsigned_abs, replicate, bit_xor, mod-lt}
-use Rattle.std.specs.Simd.Lanes.{zip2, sel_l, Each1}
-use Rattle.std.proofs.Math.Nat.{mod-eq_of_lt, add-mod_right, mul-le-mul, mod-add-mod}
-use Rattle.std.proofs.lemmas.Bool.{ltb-true, ltb-false, cases_lt, lt-ltb, le-ltb}
-use Rattle.std.proofs.lemmas.Int.{ints, fits_signed_from_abs, unsigned_abs-mul, of_z-to_z, wrapping_mul_is, int_wrap_fits}
+use Rattle.wasmi_lanewise.proofs.Common.{zip2, sel_l, Each1, add-mod_right, mul-le-mul, mod-add-mod, ltb-true, ltb-false, cases_lt, lt-ltb, le-ltb, ints, fits_signed_from_abs, unsigned_abs-mul, of_z-to_z, wrapping_mul_is, int_wrap_fits, length-zip2, get_or-zip2, length-sel_l, Each1-get_or, Each1-from_get_or, below_from_Fits, get_or-replicate, Width, bits, clamp_unsigned, w16, w32, signed, wrap, clamp_signed, lane, lane_count, signed_fits, binary_of_lanes, chosen_where_less, lane_below, add_sat_u, sub_sat_u, q15mulr, cast_unsigned, int_shr, pow_pos, mul-mod, mod-mod-pow}
+use Rattle.std.proofs.Math.Nat.{mod-eq_of_lt}
 use Rattle.std.proofs.lemmas.List.{length-map, get_or-map}
-use Rattle.std.proofs.lemmas.Simd.{length-zip2, get_or-zip2, length-sel_l, Each1-get_or, Each1-from_get_or, below_from_Fits, get_or-replicate}
-use Rattle.wasmi_types.specs.Numbers.{Width, bits, clamp_unsigned, w16, w32, signed, wrap, clamp_signed}
-use Rattle.wasmi_lanes.specs.Vector.{lane, lane_count, signed_fits, binary_of_lanes}
-use Rattle.wasmi_lanes.proofs.SimdLaneLemmas.{chosen_where_less}
-use Rattle.wasmi_lanes.proofs.VectorLemmas.{lane_below}
-use Rattle.wasmi_lanewise.specs.VectorTable.{add_sat_u, sub_sat_u, q15mulr}
 use Rattle.wasmi_lanewise.proofs.OrderLemmas.{rows_make_vector}
 use lib.Lanes.{top}
 use mir.Val.{hbits, sel}
-use Rattle.std.specs.Int.{cast_unsigned, int_shr}
 use Rattle.std.specs.Int.Signed.{shr_z}
-use Rattle.std.proofs.lemmas.Nat.{pow_pos, mul-mod}
-use Rattle.std.proofs.Math.Pow.{mod-mod-pow}
 use Rattle.wasmi_lanes.proofs.TopLemmas.{xor_top}
 
 -- for each lane, all ones where that of xs is less than that of ys

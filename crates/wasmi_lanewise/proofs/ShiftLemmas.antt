@@ -1,19 +1,9 @@
 -- Lanes of words that are shifted, with the bits masked that would leave their lane.
 use Rattle.std.proofs.Common.{◌≡◌, ℕ, zero, suc, ◌+◌, ◌-◌, ◌*◌, ◌/◌, ◌%◌, ◌^◌, ◌<◌, ◌≤◌, refl, sym, ap, ap₂, subst, ◌∙◌, arith, add-mul, mul-suc, mul-zero, mul_assoc, mul_right_comm, one-mul, zero-mul, le_refl, mod-lt, mod-eq_of_lt, lit<, le_of_eq, bit_and, List, [], ◌∷◌, map, replicate, length, get_or}
-use Rattle.std.proofs.lemmas.Simd.{length-replicate, Each1-replicate}
-use Rattle.std.proofs.Math.Nat.{mod-one}
-use Rattle.std.proofs.lemmas.Nat.{and_le_l, pow_pos, pow-add, mod-pow-add, and_mask, mul-mod_first, div-add-mod', div-mul-add, mod-mul-add, mul-le, shl_below, shr_le}
-use Rattle.std.proofs.Math.Pow.{pow_mono}
+use Rattle.wasmi_lanewise.proofs.Common.{length-replicate, Each1-replicate, mod-one, and_le_l, pow_pos, pow-add, mod-pow-add, and_mask, mul-mod_first, div-add-mod', div-mul-add, mod-mul-add, mul-le, shl_below, shr_le, pow_mono, Width, bits, lane, unsigned, unary_of_lanes, from_lanes, field, lanes_in_word, in_each_lane, number_below, field_and, field_mod, lane_ends, lane_shr, EachLane, lane_of_each, u64x2_of, words_make_unary, some_bits, shl, shr_u}
 use Rattle.std.specs.List.{range_with_len}
 use Rattle.std.proofs.lemmas.List.FromFn.{get_or-map-range_with_len}
-use Rattle.wasmi_types.specs.Numbers.{Width, bits}
-use Rattle.wasmi_lanes.specs.Vector.{lane, unsigned, unary_of_lanes, from_lanes}
 use Rattle.wasmi_raw.specs.RawVal.{vector_of}
-use Rattle.wasmi_lanes.specs.Words.{field, lanes_in_word, in_each_lane}
-use Rattle.wasmi_lanes.proofs.SimdLaneLemmas.{number_below}
-use Rattle.wasmi_lanes.proofs.FieldLemmas.{field_and, field_mod, lane_ends, lane_shr}
-use Rattle.wasmi_lanes.proofs.WordVectorLemmas.{EachLane, lane_of_each, u64x2_of, words_make_unary, some_bits}
-use Rattle.wasmi_lanewise.specs.VectorTable.{shl, shr_u}
 
 -- ---- products
 

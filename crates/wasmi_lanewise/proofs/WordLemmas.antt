@@ -1,19 +1,9 @@
 -- Lane by lane and bit by bit work on the words of a vector.
 use Rattle.std.proofs.Common.{◌≡◌, ℕ, zero, suc, ◌+◌, ◌-◌, ◌*◌, ◌/◌, ◌%◌, ◌^◌, ◌<◌, ◌≤◌, inl, inr, cond, eqb, Bool, true, false, not, refl, sym, ap, ◌∙◌, arith, mod-eq_of_lt, ap₂, bit_and, bit_or, bit_xor, ◌⊎◌, subst, pow-suc, mul_comm, mul_assoc}
-use Rattle.std.proofs.Math.Nat.{mod_self, add-mod_right, mul-div_cancel}
-use Rattle.std.proofs.lemmas.Nat.{pow_pos, div-add-mod', and_mod, or_mod, xor_mod, mod-pow-add, field_of, or_lt, and_le_l}
-use Rattle.std.proofs.lemmas.Bool.{eq-eqb, ne_eqb}
+use Rattle.wasmi_lanewise.proofs.Common.{mod_self, add-mod_right, mul-div_cancel, pow_pos, div-add-mod', and_mod, or_mod, xor_mod, mod-pow-add, field_of, or_lt, and_le_l, eq-eqb, ne_eqb, field, IsLane, field_lt, field_not, field_of_zero, same_words, field_or, field_xor, field_sub, lane_shr, AreWords, InnerLane, tops_each, u64x2_of, v128_not, w64, lane, unsigned, first_lanes, binary_of_lanes, bit_at_and, bit_at_not, bit_at}
 use Rattle.std.proofs.lemmas.Bool.Decides.{eqb_tells}
-use Rattle.wasmi_lanes.specs.Words.{field, IsLane}
-use Rattle.wasmi_lanes.proofs.FieldLemmas.{field_lt, field_not, field_of_zero, same_words, field_or, field_xor, field_sub, lane_shr}
-use Rattle.wasmi_lanes.proofs.WordVectorLemmas.{AreWords, InnerLane, tops_each, u64x2_of}
-use Rattle.wasmi_lanewise.specs.VectorTable.{v128_not}
 use Rattle.wasmi_raw.specs.RawVal.{vector_of}
-use Rattle.wasmi_types.specs.Numbers.{w64}
-use Rattle.wasmi_lanes.specs.Vector.{lane, unsigned, first_lanes, binary_of_lanes}
 use Rattle.std.specs.Int.Bits.{or_add_and, xor_add_and}
-use Rattle.std.proofs.lemmas.Nat.Bits.{bit_at_and, bit_at_not}
-use Rattle.std.specs.Int.{bit_at}
 
 -- a lane of the word of all ones
 ones_lane : (k w : ℕ) → k + w ≤ 64 → field k w (2 ^ 64 - 1) ≡ 2 ^ w - 1

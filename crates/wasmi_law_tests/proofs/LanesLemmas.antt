@@ -1,14 +1,12 @@
 -- Lists of numbers and of types, words divided into lanes of unequal widths, and a byte made of tests.
 use Rattle.std.proofs.Common.{◌≡◌, ℕ, ℤ, ◌<◌, ◌≤◌, ◌^◌, Bool, true, false, if◌then◌else◌, refl, sym, ap, ap₂, ◌∙◌, arith, inl, inr, lit<, lit≤, List, ◌∷◌, [], ◌+◌, ◌-◌, zero, suc, Some, length, get_or, slice_get, subst}
-use Rattle.std.proofs.lemmas.List.Elements.{All-head, All-tail}
+use Rattle.wasmi_law_tests.proofs.Common.{All-head, All-tail, ◌↔◌, FitsSigned, IsTrue, All, same_Some, slice_get_read, RelatesForward}
 use Rattle.std.proofs.lemmas.Nat.Bits.{bit_at_ones, same_from_bits_below}
 use Rattle.wasmi_types.specs.Numbers.{Width, signed, wrap}
-use Rattle.std.specs.Prelude.{◌↔◌, FitsSigned, IsTrue, All, map}
+use Rattle.std.specs.Prelude.{map}
 use Rattle.std.specs.Int.{bit_at}
 use Rattle.wasmi_lanes.specs.Words.{field, AreLanes}
 use Rattle.std.proofs.lemmas.Bool.{cases_lt}
-use Rattle.std.proofs.lemmas.Option.{same_Some, slice_get_read}
-use Rattle.wasmi_law_tests.specs.Runs.{RelatesForward}
 
 -- where each number that fits is read as itself, so is a list of such numbers
 pub read_list : ((w : Width) (z : ℤ) → FitsSigned w z → signed w (wrap w z) ≡ z) → (w : Width) (zs : List ℤ)

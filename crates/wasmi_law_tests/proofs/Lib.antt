@@ -1,3 +1,4 @@
+pub mod Common
 pub mod LimitersLemmas
 pub mod LanesLemmas
 pub mod RunsLemmas

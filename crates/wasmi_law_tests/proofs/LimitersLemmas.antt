@@ -1,33 +1,21 @@
 -- What a quota and a recorder hold after creations and growths, and growths in lent regions.
 use Rattle.std.proofs.Common.{◌≡◌, ◌∙◌, ℕ, ◌+◌, ◌*◌, ◌≤◌, Option, Some, Result, length, replicate, IfOk, refl, sym, ap, inl, inr, arith, length-append, ◌⊎◌, Ok, Err, List, subst, None, true, false, [], ◌∷◌, ◌++◌}
-use Rattle.std.proofs.lemmas.List.{length-replicate, append_assoc}
+use Rattle.wasmi_law_tests.proofs.Common.{length-replicate, append_assoc, Rules, optional_rules, Question, kind_of, IsWithinCaps, MemoryValue, GrowsMemoryCharging, pages_of, growth_of, page_bytes, Reply, Number, Memory, IsRefusal, LentGrowthsSucceed, Run, Sequence, MemoryGrown, HasEffect, effect_of, Step, live_at, with_memories, World, Turn, world, CanGrowInRegion, IsGrownOrDenied, GrowsInRegion, same_Some, KeepsQuota, Placed, limiter_of, quota_of, HoldsSums, OneQuotaHoldsEach, sizes_made}
 use Rattle.wasmi_meter.specs.declared.error.MemoryError.{MemoryError}
 use Rattle.wasmi_meter.specs.declared.limiter.Kind.{Kind}
 use Rattle.wasmi_meter.specs.Attempt.{MeteredValue, AttemptOutcome, Unasked, Denied, Met, Failed, answer_of, value_after}
-use Rattle.wasmi_meter.specs.Limiter.{Rules, optional_rules, Question, kind_of}
 use Rattle.wasmi_meter.specs.Meter.{Meter}
-use Rattle.wasmi_meter.specs.Capped.{IsWithinCaps}
 use Rattle.wasmi_store.specs.Growth.{IsDenied, metered_value}
-use Rattle.wasmi_store.specs.Memory.{MemoryValue, GrowsMemoryCharging, pages_of, growth_of, page_bytes}
 use Rattle.wasmi_law_tests.specs.Limiters.{event_of, recorder_rules, OneGrows, LeavesTrace}
-use Rattle.wasmi_machine.specs.declared.calls.Reply.{Reply}
-use Rattle.wasmi_machine.specs.declared.calls.Reply.TheVariants.{Number, Memory}
 use Rattle.wasmi_machine.specs.Effects.{ActsAt, reply_of}
-use Rattle.wasmi_machine.specs.Laws.{IsRefusal, LentGrowthsSucceed}
-use Rattle.wasmi_machine.specs.Steps.{Run, Sequence, MemoryGrown, HasEffect, effect_of, Step}
-use Rattle.wasmi_machine.specs.State.{live_at, with_memories, World, Turn, world}
 use Rattle.wasmi_machine.proofs.StoreLemmas.{each_turn}
-use Rattle.wasmi_law_tests.specs.Runs.{CanGrowInRegion, IsGrownOrDenied, GrowsInRegion}
-use Rattle.std.proofs.lemmas.Option.{same_Some}
 use Rattle.wasmi_machine.specs.Exchange.{Exchange, Nothing, Denial, Permission, Notice, Place, Nowhere, New, At, Passes, GrowsAsAsked, GrowsBy}
 use Rattle.wasmi_law_tests.specs.declared.recorder.Recorder.{Recorder}
 use Rattle.wasmi_meter.proofs.CappedLemmas.{nothing_within}
-use Rattle.wasmi_c.specs.Numbers.{KeepsQuota, Placed, limiter_of, quota_of}
 use Rattle.wasmi_c.specs.MemoryCalls.{EndsMemory}
 use Rattle.wasmi_c.specs.declared.numbers.MemoryNumbers.{MemoryNumbers}
 use Rattle.wasmi_c.specs.declared.status.TheConstants.{DONE, NOT_HELD}
 use Rattle.wasmi_meter.specs.declared.quota.Holdings.{Holdings}
-use Rattle.wasmi_c.specs.SharedQuota.{HoldsSums, OneQuotaHoldsEach, sizes_made}
 use Rattle.wasmi_c.specs.declared.numbers.QuotaNumbers.{QuotaNumbers}
 use Rattle.wasmi_c.proofs.SharedQuotaLemmas.{limiter_on}
 use Rattle.wasmi_store.specs.Memory as memory

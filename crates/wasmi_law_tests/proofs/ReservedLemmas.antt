@@ -1,30 +1,20 @@
 -- Results of runs into memory that is kept for replies, and tables that are reserved.
 use Rattle.std.proofs.Common.{Bool, Err, IsOk, List, Ok, OnOk, Result, Some, [], ap, refl, subst, sym, ℕ, ◌++◌, ◌∙◌, ◌∷◌, ◌≤◌, ◌≡◌, ◌≢◌, ⊎_elim, arith}
-use Rattle.std.proofs.lemmas.List.{append-nil}
-use Rattle.std.proofs.lemmas.Option.{same_Some}
+use Rattle.wasmi_law_tests.proofs.Common.{append-nil, same_Some, MatchOption, max, nat_eq, TableValue, optional_rules, Reply, Done, NoRoom, NoSuch, AcceptsNotices, IsDeterministic, RepliesAreOne, State, live_at, live_value, IsReservedFor, IsReservedTable, IsReservedToMaximum, ReservedRunsSucceed, RunsAlone}
 use Rattle.std.proofs.lemmas.Bool.{eq-eqb, ne_eqb}
-use Rattle.std.specs.Prelude.{MatchOption, if◌then◌else◌, max, nat_eq, slice_get}
+use Rattle.std.specs.Prelude.{if◌then◌else◌, slice_get}
 use Rattle.std.specs.Option.{option_and_then}
-use Rattle.wasmi_store.specs.Table.{TableValue}
-use Rattle.wasmi_meter.specs.Limiter.{optional_rules}
 use Rattle.wasmi_meter.specs.declared.quota.Amounts.{Amounts}
 use Rattle.wasmi_machine.specs.declared.calls.Call.{Call}
-use Rattle.wasmi_machine.specs.declared.calls.Reply.{Reply}
-use Rattle.wasmi_machine.specs.declared.calls.Reply.TheVariants.{Done, NoRoom, NoSuch}
 use Rattle.wasmi_machine.specs.declared.slots.Slot.{Slot}
 use Rattle.wasmi_machine.specs.declared.slots.Slot.TheVariants.{Live}
-use Rattle.wasmi_machine.specs.Determinism.{AcceptsNotices, IsDeterministic}
 use Rattle.wasmi_machine.specs.Effects.{OnLive}
-use Rattle.wasmi_machine.specs.Laws.{RepliesAreOne}
-use Rattle.wasmi_machine.specs.State.{State, live_at, live_value}
 use Rattle.wasmi_machine.specs.TableEffects.{ReservesElementsAt}
 use Rattle.wasmi_machine.proofs.EffectLemmas.{both_live, on_live}
 use Rattle.wasmi_machine.proofs.SlotsLemmas.{live_slot, set_same}
-use Rattle.wasmi_laws.specs.Reserved.{IsReservedFor, IsReservedTable, IsReservedToMaximum, ReservedRunsSucceed}
 use Rattle.wasmi_budget.specs.Pool.{PoolValue, RunsTenant, machine_of, pool_of, tenant_rules}
 use Rattle.wasmi_budget.specs.declared.error.RunIntoError.{RunIntoError}
 use Rattle.wasmi_budget.specs.declared.error.RunIntoError.TheVariants.{NoTenant, TooManyCalls}
-use Rattle.wasmi_law_tests.specs.Runs.{RunsAlone}
 use Rattle.wasmi_law_tests.proofs.RunsLemmas.{RunsWithMemory, pools_same}
 
 module _ {E : Type 0} where

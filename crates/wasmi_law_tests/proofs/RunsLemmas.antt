@@ -1,30 +1,16 @@
 -- Calls and runs that were answered, also on pools and by handles.
 use Rattle.std.proofs.Common.{◌≡◌, Option, Some, OnErr, Result, Ok, Err, List, [], ◌∷◌, length, map, refl, sym, ap, subst, ◌∙◌, arith, IfOk, ℕ, true, None, inl, inr}
-use Rattle.std.proofs.lemmas.List.Elements.{All-cons, All-head, All-nil, All-tail}
-use Rattle.std.proofs.lemmas.Option.{same_Some}
-use Rattle.std.specs.Prelude.{All, slice_get, ◌≢◌, nat_eq, slice_set, MatchOption}
-use Rattle.wasmi_store.specs.Memory.{MemoryTypeValue}
-use Rattle.wasmi_meter.specs.Limiter.{Rules, optional_rules}
+use Rattle.wasmi_law_tests.proofs.Common.{All-cons, All-head, All-nil, All-tail, same_Some, All, nat_eq, slice_set, MatchOption, MemoryTypeValue, Rules, optional_rules, Reply, World, Turn, world, IsValid, IsValidCall, State, HoldsTotals, Step, RepliesWith, Run, Sequence, IsRunOf, IsNotOutOfMemory, IsDeterministic, AcceptsNotices, permitting, IsWithinCapsOf, RunsOfCallsAreCut, FitsAnyRegions, HasRegionFor, IsRunInParts, RunsAlone, RunsBeside, KeepsCaps, KeepsTenant, RunsBoth, RunsList, LentRunsAreOwned, LentCreationsAreOwned, HoldsTotalsAlways, QuotasStayWithin, RunsKeepValidity, RepliesAreOne, Quota, holdings, cap_of, IsWithinCaps, SameCaps, quota_rules, IsIndependent, LeavesAlone, MemoryAt, NumberStore, store_call, get_or-set_other}
+use Rattle.std.specs.Prelude.{slice_get, ◌≢◌}
 use Rattle.wasmi_machine.specs.declared.calls.Call.{Call}
 use Rattle.wasmi_machine.specs.declared.calls.Call.TheVariants.{NewMemory, NewLentMemory}
-use Rattle.wasmi_machine.specs.declared.calls.Reply.{Reply}
-use Rattle.wasmi_machine.specs.State.{World, Turn, world, IsValid, IsValidCall, State, HoldsTotals}
-use Rattle.wasmi_machine.specs.Steps.{Step, RepliesWith, Run, Sequence, IsRunOf}
 use Rattle.wasmi_machine.specs.LentMemory.{RunInRegions, owned_world, unlent_world}
-use Rattle.wasmi_machine.specs.Determinism.{IsNotOutOfMemory, IsDeterministic, AcceptsNotices, permitting}
-use Rattle.wasmi_laws.specs.Runs.{IsWithinCapsOf, RunsOfCallsAreCut}
 use Rattle.wasmi_laws.proofs.RunsLemmas.{held_within}
-use Rattle.wasmi_law_tests.specs.Runs.{FitsAnyRegions, HasRegionFor, IsRunInParts, RunsAlone, RunsBeside, KeepsCaps, KeepsTenant, RunsBoth, RunsList}
-use Rattle.wasmi_machine.specs.Laws.{LentRunsAreOwned, LentCreationsAreOwned, HoldsTotalsAlways, QuotasStayWithin, RunsKeepValidity, RepliesAreOne}
-use Rattle.wasmi_meter.specs.declared.quota.Quota.{Quota}
-use Rattle.wasmi_meter.specs.Capped.{holdings, cap_of, IsWithinCaps, SameCaps, quota_rules}
-use Rattle.wasmi_laws.specs.Places.{IsIndependent, LeavesAlone, MemoryAt, NumberStore, store_call}
 use Rattle.std.proofs.lemmas.Bool.Decides.{nat_tests}
 use Rattle.wasmi_meter.specs.declared.quota.Amounts.{Amounts}
 use Rattle.wasmi_budget.specs.declared.tenant.Tenant.{Tenant}
 use Rattle.wasmi_budget.specs.Pool.{tenant_rules, PoolValue, machine_of, tenant_at, IsWithinCaps as IsPoolWithinCaps, RunsTenantBy, RunsTenant}
 use Rattle.wasmi_budget.specs.Laws.{CapsHold, OthersDontShow, RunsAsAlone, Ran}
-use Rattle.std.proofs.lemmas.List.{get_or-set_other}
 use Rattle.wasmi_c.specs.Machine.CallStructs.{call_of}
 use Rattle.wasmi_c.specs.Machine.Calls.{ActsOnHeld, RepliesInStruct, RepliesToStruct}
 use Rattle.wasmi_c.specs.Machine.Caps.{MachineValue}

@@ -1,36 +1,13 @@
 -- Turns whose calls are local and independent may be exchanged.
 use Rattle.std.proofs.Common.{Err, List, None, Ok, Option, Result, Some, [], ap, ap₂, refl, set, subst, sym, ℕ, ◌+◌, ◌∙◌, ◌∷◌, ◌≡◌}
-use Rattle.std.proofs.lemmas.List.Elements.{All-head, All-tail}
-use Rattle.std.proofs.lemmas.List.{set_comm}
-use Rattle.std.specs.Option.{option_and_then, option_map}
-use Rattle.std.specs.Prelude.{All, slice_get, slice_set}
-use Rattle.wasmi_machine.specs.Effects.{ChangesAt, ChangesItem, ChangesPart, DropsAt, OnLive, reply_of}
-use Rattle.wasmi_machine.specs.MemoryEffects.{ReadsBytes, StoresMemory, WritesMemoryAt, load_reply}
-use Rattle.wasmi_machine.specs.RegisterEffects.{StoresVectorAt, SetsAt, SetsRegister, given_vector, lane_loaded, of_one, of_three, of_two, raw_reply, vector_at, vector_loaded}
-use Rattle.wasmi_machine.specs.Steps.{Run, BytesRead, BytesStored, BytesWritten, Change, Changed, DataDropped, DataMade, Effect, ElementSet, GlobalMade, GlobalSet, ItemsDropped, MemoryDropped, RegisterSet, SegmentMade, Step, TableDropped, HasChange, HasEffect, Told, effect_of}
-use Rattle.wasmi_machine.specs.State.{State, live_at, live_value, with_data_segments, with_globals, with_memories, with_registers, with_segments, with_tables, byte_count, Turn, World}
-use Rattle.wasmi_machine.specs.TableEffects.{SetsElementAt, element_reply}
-use Rattle.wasmi_machine.specs.ValueEffects.{DropsDataAt, DropsItemsAt, SetsGlobalAt, global_reply}
-use Rattle.wasmi_machine.specs.declared.calls.Call.{Call}
+use Rattle.wasmi_laws.proofs.Common.{All-head, All-tail, set_comm, option_and_then, option_map, All, slice_get, slice_set, ChangesFound, ChangesPart, DropsAt, OnLive, reply_of, ReadsBytes, StoresMemory, WritesMemoryAt, load_reply, StoresVectorAt, SetsAt, SetsRegister, given_vector, lane_loaded, of_one, of_three, of_two, raw_reply, vector_at, vector_loaded, Run, BytesRead, BytesStored, BytesWritten, Change, Changed, DataDropped, DataMade, Effect, ElementSet, GlobalMade, GlobalSet, ItemsDropped, MemoryDropped, RegisterSet, SegmentMade, Step, TableDropped, HasChange, HasEffect, Told, effect_of, State, live_at, live_value, with_data_segments, with_globals, with_memories, with_registers, with_segments, with_tables, byte_count, Turn, World, SetsElementAt, element_reply, DropsDataAt, DropsItemsAt, SetsGlobalAt, global_reply, Call, Reply, Done, NoSuch, Trap, Slot, Gone, Live, set_other, Content, DataAt, GlobalAt, IndependentTurnsSwap, IsIndependent, IsLocal, Location, MemoryAt, RegisterAt, SegmentAt, TableAt, changed_location, content_at, read_locations, Rules, RawVal, MemoryValue, size_of, at, TrapCode}
 use Rattle.wasmi_machine.specs.declared.calls.Call.TheVariants as call
-use Rattle.wasmi_machine.specs.declared.calls.Reply.{Reply}
-use Rattle.wasmi_machine.specs.declared.calls.Reply.TheVariants.{Done, NoSuch, Trap}
-use Rattle.wasmi_machine.specs.declared.slots.Slot.{Slot}
-use Rattle.wasmi_machine.specs.declared.slots.Slot.TheVariants.{Gone, Live}
-use Rattle.wasmi_machine.proofs.SlotsLemmas.{set_other}
 use Rattle.wasmi_laws.proofs.LocationLemmas.{changed_by, changed_in, changed_is}
-use Rattle.wasmi_laws.specs.Places.{Content, DataAt, GlobalAt, IndependentTurnsSwap, IsIndependent, IsLocal, Location, MemoryAt, RegisterAt, SegmentAt, TableAt, changed_location, content_at, read_locations}
-use Rattle.wasmi_meter.specs.Limiter.{Rules}
 use Rattle.wasmi_lanewise.specs.VectorTable.{shuffle}
 use Rattle.wasmi_ops.specs.VectorOps.{binary_vector, made_vector, shifted_vector, ternary_vector, tested_raw, unary_vector, stored_lane}
 use Rattle.wasmi_ops.specs.LaneOps.{extracted_raw, replaced_vector}
 use Rattle.wasmi_raw.specs.RawVal.{vector_in}
-use Rattle.wasmi_raw.specs.declared.raw.RawVal.{RawVal}
-use Rattle.wasmi_store.specs.Memory.{MemoryValue}
-use Rattle.wasmi_store.specs.Table.{size_of}
-use Rattle.wasmi_types.specs.Access.{at}
 use Rattle.wasmi_types.specs.Numbers.{le_bytes}
-use Rattle.wasmi_types.specs.declared.trap.TrapCode.{TrapCode}
 
 -- what a call does to a state: nothing, or it puts something at an index
 data Edit : Type 0 where
@@ -148,43 +125,24 @@ record ListMoves {X : Type 0} (k : ℕ) (Effect : List X → Reply → List X �
   after : xs' ≡ put_in k put xs
   too : (ys : List X) → slice_get ys k ≡ slice_get xs k → Effect ys reply (put_in k put ys)
 
-module _ {X : Type 0} (k : ℕ) (Change : Reply → X → X → Type 0) where
-  -- so a change of an item
-  item_moves_by : (items : List X) (reply : Reply) (items' : List X) (found : Option X) → slice_get items k ≡ found
-      → OnLive found ((reply ≡ NoSuch) × (items' ≡ items))
-      (λ x. (x' : X) × Change reply x x' × (items' ≡ slice_set items k x'))
-      → ListMoves k (λ xs r xs'. ChangesItem k xs r xs' (Change r)) items reply items'
-  item_moves_by items reply items' None is h =
-      record { put = None; after = h.1; too = λ ys same. rw (same ∙ is) (h.0, refl) }
-  item_moves_by items reply items' (Some x) is h =
-      record { put = Some h.0; after = h.2; too = λ ys same. rw (same ∙ is) (h.0, h.1, refl) }
+module _ {X Y : Type 0} (k : ℕ) (look : Option Y → Option X) (back : X → Y) (Change : Reply → X → X → Type 0) where
+  -- a change of what is found at the index: of an item, or of a live value
+  abbrev Found : List Y → Reply → List Y → Type 0
+  Found xs r xs' = ChangesFound (look (slice_get xs k)) (λ x. slice_set xs k (back x)) xs r xs' (Change r)
 
-  -- by what is there
-  item_moves : (items : List X) (reply : Reply) (items' : List X) → ChangesItem k items reply items' (Change reply)
-      → ListMoves k (λ xs r xs'. ChangesItem k xs r xs' (Change r)) items reply items'
-  item_moves items reply items' changes = item_moves_by items reply items' (slice_get items k) refl changes
+  -- it goes by what is there
+  found_moves_by : (items : List Y) (reply : Reply) (items' : List Y) (found : Option X)
+      → look (slice_get items k) ≡ found → OnLive found ((reply ≡ NoSuch) × (items' ≡ items))
+      (λ x. (x' : X) × Change reply x x' × (items' ≡ slice_set items k (back x'))) → ListMoves k Found items reply items'
+  found_moves_by items reply items' None is h =
+      record { put = None; after = h.1; too = λ ys same. rw (ap look same ∙ is) (h.0, refl) }
+  found_moves_by items reply items' (Some x) is h =
+      record { put = Some (back h.0); after = h.2; too = λ ys same. rw (ap look same ∙ is) (h.0, h.1, refl) }
 
-  -- so a change of a live value
-  slot_moves_by : (slots : List (Slot X)) (reply : Reply) (slots' : List (Slot X)) (found : Option X)
-      → live_at slots k ≡ found → OnLive found ((reply ≡ NoSuch) × (slots' ≡ slots))
-      (λ x. (x' : X) × Change reply x x' × (slots' ≡ slice_set slots k (Live x')))
-      → ListMoves k (λ xs r xs'. ChangesAt k xs r xs' (Change r)) slots reply slots'
-  slot_moves_by slots reply slots' None is h = record {
-    put = None;
-    after = h.1;
-    too = λ ys same. rw (ap (option_and_then live_value) same ∙ is) (h.0, refl);
-  }
-  slot_moves_by slots reply slots' (Some x) is h = record {
-    put = Some (Live h.0);
-    after = h.2;
-    too = λ ys same. rw (ap (option_and_then live_value) same ∙ is) (h.0, h.1, refl);
-  }
-
-  -- by what is there
-  slot_moves : (slots : List (Slot X)) (reply : Reply) (slots' : List (Slot X))
-      → ChangesAt k slots reply slots' (Change reply)
-      → ListMoves k (λ xs r xs'. ChangesAt k xs r xs' (Change r)) slots reply slots'
-  slot_moves slots reply slots' changes = slot_moves_by slots reply slots' (live_at slots k) refl changes
+  -- whatever that is
+  found_moves : (items : List Y) (reply : Reply) (items' : List Y) → Found items reply items'
+      → ListMoves k Found items reply items'
+  found_moves items reply items' changes = found_moves_by items reply items' (look (slice_get items k)) refl changes
 
 module _ {X : Type 0} (count : X → ℕ) (k : ℕ) (slots : List (Slot X)) (reply : Reply) (slots' : List (Slot X)) where
   -- so a drop
@@ -213,7 +171,7 @@ store_moves : (k a : ℕ) (slots : List (Slot MemoryValue)) (reply : Reply) (slo
 store_moves k a slots reply slots' None stores =
     record { put = None; after = stores.1; too = λ ys same. (stores.0, refl) }
 store_moves k a slots reply slots' (Some stored) stores =
-    slot_moves k (λ r x x'. (result : Result (Unit {0}) TrapCode) × StoresMemory x a stored result x'
+    found_moves k (option_and_then live_value) Live (λ r x x'. (result : Result (Unit {0}) TrapCode) × StoresMemory x a stored result x'
     × (r ≡ reply_of (λ _. Done) Trap result)) slots reply slots' stores
 
 module _ (dst : ℕ) (registers : List RawVal) (reply : Reply) (registers' : List RawVal) where
@@ -222,10 +180,10 @@ module _ (dst : ℕ) (registers : List RawVal) (reply : Reply) (registers' : Lis
       → SetsAt given old dst registers reply registers'
       → ListMoves dst (SetsRegister dst given) registers reply registers'
   register_moves_by None old is takes = record { put = None; after = takes.1; too = λ ys same. (takes.0, refl) }
-  register_moves_by (Some given) None is takes =
-      record { put = None; after = takes.1; too = λ ys same. rw (same ∙ is) (takes.0, refl) }
   register_moves_by (Some (Ok value)) (Some old) is takes =
       record { put = Some value; after = takes.1; too = λ ys same. rw (same ∙ is) (takes.0, refl) }
+  register_moves_by (Some given) None is takes =
+      record { put = None; after = takes.1; too = λ ys same. rw (same ∙ is) (takes.0, refl) }
   register_moves_by (Some (Err trap)) (Some old) is takes =
       record { put = None; after = takes.1; too = λ ys same. rw (same ∙ is) (takes.0, refl) }
 
@@ -316,7 +274,7 @@ change_moves : (s : State) (reply : Reply) (s' : State) (change : Change) → Is
     → HasChange change s reply s' → Moves (changed_by change) (λ t t'. HasChange change t reply t') s s'
 change_moves s reply s' (BytesWritten k offset bytes) local c =
     part_moves _ (part_at (MemoryAt k)) (WritesMemoryAt k offset bytes) s reply s' c
-    (slot_moves k _ s.memories reply c.part c.effect)
+    (found_moves k (option_and_then live_value) Live _ s.memories reply c.part c.effect)
 change_moves s reply s' (BytesStored k a stored) local c =
     part_moves _ (part_at (MemoryAt k)) (StoresVectorAt k a stored) s reply s' c
     (store_moves k a s.memories reply c.part stored c.effect)
@@ -330,17 +288,15 @@ change_moves s reply s' (TableDropped k) local c = part_moves _ (part_at (TableA
     (drop_moves size_of k s.tables reply c.part c.effect)
 change_moves s reply s' (ElementSet k index value) local c =
     part_moves _ (part_at (TableAt k)) (SetsElementAt k index value) s reply s' c
-    (slot_moves k _ s.tables reply c.part c.effect)
-change_moves s reply s' (SegmentMade ty items) local c = absurd local
+    (found_moves k (option_and_then live_value) Live _ s.tables reply c.part c.effect)
 change_moves s reply s' (ItemsDropped k) local c = part_moves _ (part_at (SegmentAt k)) (DropsItemsAt k) s reply s' c
-    (item_moves k _ s.segments reply c.part c.effect)
-change_moves s reply s' (DataMade bytes) local c = absurd local
+    (found_moves k (λ x. x) (λ x. x) _ s.segments reply c.part c.effect)
 change_moves s reply s' (DataDropped k) local c = part_moves _ (part_at (DataAt k)) (DropsDataAt k) s reply s' c
-    (item_moves k _ s.data_segments reply c.part c.effect)
-change_moves s reply s' (GlobalMade global) local c = absurd local
+    (found_moves k (λ x. x) (λ x. x) _ s.data_segments reply c.part c.effect)
 change_moves s reply s' (GlobalSet k value) local c =
     part_moves _ (part_at (GlobalAt k)) (SetsGlobalAt k value) s reply s' c
-    (item_moves k _ s.globals reply c.part c.effect)
+    (found_moves k (λ x. x) (λ x. x) _ s.globals reply c.part c.effect)
+change_moves s reply s' change local c = absurd local
 
 -- an effect that is local
 abbrev IsLocalEffect : Effect → Type 0

@@ -1,3 +1,4 @@
+pub mod Common
 pub mod RunsLemmas
 pub mod RefusalLemmas
 pub mod MoreFuelLemmas

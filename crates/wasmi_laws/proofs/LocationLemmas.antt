@@ -1,93 +1,119 @@
 -- What becomes of what is at each index of a machine, in a step and in a run.
-use Rattle.std.proofs.Common.{Err, List, None, Ok, Option, Result, Some, [], ap, ⊎_elim, inl, inr, map, refl, subst, sym, ℕ, ◌∙◌, ◌∷◌, ◌≡◌, ◌⊎◌}
-use Rattle.std.proofs.lemmas.List.Elements.{All-head, All-tail}
-use Rattle.std.specs.Prelude.{slice_get}
-use Rattle.wasmi_machine.proofs.EffectLemmas.{both_live, on_live}
-use Rattle.wasmi_machine.proofs.RangeLemmas.{byte_range, source_range, value_kept, KeepsMemory, KeepsTable}
-use Rattle.wasmi_machine.specs.Effects.{AddsItem, MeteredSlots, WritesRangeAt, reply_of}
-use Rattle.wasmi_machine.specs.MemoryEffects.{ByteSource, CreatesLent, byte_write_of}
-use Rattle.wasmi_machine.specs.RegisterEffects.{StoresVectorAt, SetsAt}
-use Rattle.wasmi_machine.specs.State.{MemoryPart, State, memory_part, with_data_segments, with_globals, with_registers, with_segments, byte_count, Turn, World}
-use Rattle.wasmi_machine.specs.Steps.{BytesRead, BytesStored, BytesWritten, Change, Changed, DataDropped, DataMade, Effect, ElementSet, FuelSet, GlobalMade, GlobalSet, ItemsDropped, LentMemoryMade, MemoryDropped, MemoryGrown, MemoryMade, RangeWritten, RegisterSet, SegmentMade, Step, TableDropped, TableGrown, TableMade, MemoryWritten, TableWritten, HasChange, HasEffect, Told, effect_of}
-use Rattle.wasmi_machine.specs.TableEffects.{Source, write_of}
-use Rattle.wasmi_machine.specs.ValueEffects.{CreatesSegment}
-use Rattle.wasmi_machine.specs.declared.calls.Call.{Call}
-use Rattle.wasmi_machine.specs.declared.calls.Call.TheVariants.{SetFuel}
-use Rattle.wasmi_machine.specs.declared.calls.Reply.{Reply}
-use Rattle.wasmi_machine.specs.declared.slots.Slot.{Slot}
-use Rattle.wasmi_machine.specs.declared.slots.Slot.TheVariants.{Gone, Live}
-use Rattle.wasmi_laws.proofs.ListLemmas.{EachAfter, ItemAfter, appended, entry_added, item_changed, put, slot_acted, slot_changed, slot_dropped, slot_made, unchanged}
-use Rattle.wasmi_laws.specs.Places.{Content, DataAt, DropsNot, GlobalAt, IndicesLast, IsLater, IsLaterSlot, IsLive, LeavesAlone, LiveUntilDropped, Location, MemoryAt, OthersStay, OthersStayInRuns, RegisterAt, SegmentAt, TableAt, changed_location, content_at, dropped_location}
-use Rattle.wasmi_meter.specs.Attempt.{AttemptOutcome, Met, MeteredValue, value_after, with_value}
-use Rattle.wasmi_meter.specs.Limiter.{Rules}
-use Rattle.wasmi_meter.specs.Meter.{Meter}
-use Rattle.wasmi_meter.specs.declared.error.MemoryError.{MemoryError}
-use Rattle.wasmi_meter.specs.declared.error.TableError.{TableError}
-use Rattle.wasmi_raw.specs.declared.raw.RawVal.{RawVal}
-use Rattle.wasmi_store.proofs.GrowthLemmas.{on_test}
-use Rattle.wasmi_store.specs.Buffer.{Lent, Owned}
-use Rattle.wasmi_store.specs.Growth.{Grows, Growth, metered, metered_value}
-use Rattle.wasmi_store.specs.Memory.{GrowsMemoryCharging, MakesMemory, MemoryValue, WritesMemory, MemoryTypeValue}
+use Rattle.std.proofs.Common.{Err, List, None, Ok, Option, Result, Some, [], ap, ⊎_elim, arith, inl, inr, length, map, refl, subst, sym, ℕ, ◌*◌, ◌+◌, ◌≤◌, ◌∙◌, ◌∷◌, ◌≡◌, ◌⊎◌}
+use Rattle.wasmi_laws.proofs.Common.{All-head, All-tail, none-some, same_Some, option_and_then, option_map, slice_get, on_live, on_live_too, source_writes, AddsItem, OnLive, reply_of, ByteSource, CreatesLent, byte_write_of, StoresVectorAt, SetsAt, MemoryPart, State, Turn, World, byte_count, live_value, memory_part, BytesStored, BytesWritten, Change, Changed, DataDropped, DataMade, Effect, ElementSet, FuelSet, GlobalMade, GlobalSet, ItemsDropped, LentMemoryMade, MemoryDropped, MemoryGrown, MemoryMade, RangeWritten, RegisterSet, SegmentMade, Step, TableDropped, TableGrown, TableMade, MemoryWritten, TableWritten, HasChange, HasEffect, effect_of, OfReference, OfSegment, OfTable, Source, write_of, CreatesSegment, Call, SetFuel, Reply, Slot, Gone, Live, Content, DataAt, DropsNot, GlobalAt, HasAt, IndicesLast, IsLater, IsLaterSlot, IsLive, LeavesAlone, LiveUntilDropped, Location, MemoryAt, OthersStay, OthersStayInRuns, RegisterAt, SegmentAt, TableAt, changed_location, content_at, dropped_location, IsLent, IsLentRoom, IsReservedToMaximum, AttemptOutcome, Met, MeteredValue, answer_of, value_after, Rules, Meter, meter_set, MemoryError, TableError, RawVal, on_test, Lent, Owned, Room, room_after, Grows, Growth, metered, metered_value, GrowsMemoryCharging, MakesMemory, MemoryTypeValue, MemoryValue, MemoryWrite, WritesMemory, new_memory, page_bytes, copied, filled, GrowsTableCharging, MakesTable, SetsTable, TableValue, same_type, size_of, with_elements, TypedRawRef, overwrite, TrapCode, RefType, memory_growth, table_growth}
+use Rattle.wasmi_laws.proofs.ListLemmas.{EachAfter, appended, entry_added, item_changed, put, slot_acted, slot_changed, slot_dropped, slot_made, slot_written, unchanged}
+use Rattle.wasmi_store.specs.Memory as memory
 use Rattle.wasmi_store.specs.Segment.{SegmentValue}
-use Rattle.wasmi_store.specs.Write.{WritesCharging}
-use Rattle.wasmi_store.specs.Table.{GrowsTableCharging, MakesTable, SetsTable, TableValue, size_of, same_type}
 use Rattle.wasmi_typed.specs.Global.{GlobalInstance, SetsGlobal}
 use Rattle.wasmi_typed.specs.declared.global.GlobalError.{GlobalError}
 use Rattle.wasmi_typed.specs.declared.global.GlobalError.TheVariants.{ImmutableWrite, TypeMismatch}
 use Rattle.wasmi_typed.specs.declared.global.GlobalType.{GlobalType}
 use Rattle.wasmi_typed.specs.declared.typed.TypedRawVal.{TypedRawVal}
-use Rattle.wasmi_typed.specs.declared.typed_ref.TypedRawRef.{TypedRawRef}
-use Rattle.wasmi_types.specs.Access.{overwrite}
-use Rattle.wasmi_types.specs.declared.trap.TrapCode.{TrapCode}
-use Rattle.wasmi_types.specs.declared.value.RefType.{RefType}
 use Rattle.wasmi_machine.proofs.ValueEffectsLemmas.{var_const}
-use Rattle.wasmi_machine.proofs.MemoryEffectsLemmas.{memory_growth}
-use Rattle.wasmi_machine.proofs.TableEffectsLemmas.{table_growth}
 use Rattle.wasmi_machine.specs.declared.calls.Reply.TheVariants as replied
 
--- a memory that is written keeps its type
-written_type : (x x' : MemoryValue) (offset : ℕ) (source : List ℕ) (result : Result (Unit {0}) MemoryError)
-    → WritesMemory x offset source result x' → x'.ty ≡ x.ty
-written_type x x' offset source (Ok _) writes = writes.1
-written_type x x' offset source (Err error) writes = ap (λ (m : MemoryValue). m.ty) writes.2
+-- a memory keeps its type, and its region if it lies in one
+abbrev StaysMemory : MemoryValue → MemoryValue → Type 0
+StaysMemory x x' = (x'.ty ≡ x.ty) × (IsLent x → IsLent x')
 
--- so does what was attempted to grow, if what it grows into has its type
-attempted_type : {V E T : Type 0} (type : V → T) (g : Growth V E) (value : V) → type g.request.grown ≡ type value
-    → (outcome : AttemptOutcome E) → type (value_after g.request value outcome) ≡ type value
-attempted_type type g value grown Met = grown
-attempted_type type g value grown outcome = refl
+-- as the same does
+memory_stays : (x : MemoryValue) → StaysMemory x x
+memory_stays x = (refl, λ lent. lent)
+
+-- a table keeps its type, and stays reserved up to its maximum if it is
+abbrev StaysTable : TableValue → TableValue → Type 0
+StaysTable x x' = (x'.ty ≡ x.ty) × (IsReservedToMaximum x → IsReservedToMaximum x')
+
+-- as the same does
+table_stays : (x : TableValue) → StaysTable x x
+table_stays x = (refl, λ full. full)
+
+-- a memory that is written stays
+written_stays : (x x' : MemoryValue) (offset : ℕ) (source : List ℕ) (result : Result (Unit {0}) MemoryError)
+    → WritesMemory x offset source result x' → StaysMemory x x'
+written_stays x x' offset source (Ok _) writes = (writes.1, λ lent. subst IsLentRoom (sym writes.2) lent)
+written_stays x x' offset source (Err error) writes = subst (StaysMemory x) (sym writes.2) (memory_stays x)
+
+-- so one over a range of which is written
+bytes_stay : (x : MemoryValue) (written : Option (List ℕ)) (x' : MemoryValue)
+    → option_map (λ bytes. record x { bytes = bytes }) written ≡ Some x' → StaysMemory x x'
+bytes_stay x None x' is = absurd (none-some x' is)
+bytes_stay x (Some bytes) x' is = subst (StaysMemory x) (same_Some (record x { bytes = bytes }) x' is) (memory_stays x)
+
+-- each write to a memory, by its source
+range_stays : (source : ByteSource) (dst len : ℕ) → OnLive (byte_write_of source dst len) (Unit {0})
+    (λ w. (x x' : MemoryValue) → (w x).written ≡ Some x' → StaysMemory x x')
+range_stays source dst len = on_live_too (byte_write_of source dst len) _ _ _ _ (λ missing. missing)
+    (λ write w x x' is. bytes_stay x (w.written x.bytes) x' (ap (λ (v : MemoryWrite). v.written) (sym (w.is x)) ∙ is))
+    (source_writes source dst len)
+
+-- what is left of a lent region is lent
+rest_lent : (room : Room) (n : ℕ) → IsLentRoom room → IsLentRoom (room_after room n)
+rest_lent Owned n lent = lent
+rest_lent (Lent rest) n lent = lent
+
+-- a memory that is made in a region lies in it
+made_lent : (region : List ℕ) (ty : MemoryTypeValue) (outcome : AttemptOutcome MemoryError) (x : MemoryValue)
+    → Ok x ≡ answer_of (memory.creation_of (Lent region) ty) (new_memory (Lent region) ty) outcome → IsLent x
+made_lent region ty Met x is =
+    let same : x ≡ new_memory (Lent region) ty = cc in subst IsLent (sym same) tt
+made_lent region ty outcome x is = absurd cc
+
+-- a table whose element is set stays
+set_stays : (index : ℕ) (value : TypedRawRef) (x : TableValue) (result : Result (Unit {0}) TableError) (x' : TableValue)
+    → SetsTable index value x result x' → StaysTable x x'
+set_stays index value x result x' sets = on_test (same_type x.ty.element value.ty) _ _ sets
+    (λ raw. on_live (overwrite x.elements index (value.raw ∷ [])) _ _ raw
+    (λ outside. subst (StaysTable x) (sym outside.1) (table_stays x))
+    (λ elements found set. subst (StaysTable x) (sym set.1) (table_stays x)))
+    (λ other. subst (StaysTable x) (sym other.1) (table_stays x))
+
+-- so one over a range of which is written
+elements_stay : (x : TableValue) (written : Option (List ℕ)) (x' : TableValue)
+    → option_map (with_elements x) written ≡ Some x' → StaysTable x x'
+elements_stay x None x' is = absurd (none-some x' is)
+elements_stay x (Some elements) x' is =
+    subst (StaysTable x) (same_Some (with_elements x elements) x' is) (table_stays x)
+
+-- each write to a table, by its source
+table_range_stays : (source : Source) (dst len : ℕ) → OnLive (write_of source dst len) (Unit {0})
+    (λ w. (x x' : TableValue) → (w x).written ≡ Some x' → StaysTable x x')
+table_range_stays (OfReference value) dst len = λ x. elements_stay x (filled x.elements dst value.raw len)
+table_range_stays (OfTable None src) dst len = tt
+table_range_stays (OfTable (Some source) src) dst len = λ x. elements_stay x (copied x.elements dst source.elements src len)
+table_range_stays (OfSegment None src) dst len = tt
+table_range_stays (OfSegment (Some segment) src) dst len = λ x. elements_stay x (copied x.elements dst segment.items src len)
+
+-- what was attempted to grow stays, if what it grows into does
+attempted_stays : {V E : Type 0} (Stays : V → V → Type 0) (g : Growth V E) (value : V) → Stays value value
+    → Stays value g.request.grown → (outcome : AttemptOutcome E) → Stays value (value_after g.request value outcome)
+attempted_stays Stays g value same grown Met = grown
+attempted_stays Stays g value same grown outcome = same
 
 -- and what grows
-grown_type : {V E S T : Type 0} (type : V → T) (rules : Rules S) (g : Growth V E) (s s' : MeteredValue V S)
-    (result : Result ℕ E) (charge : ℕ) → type g.request.grown ≡ type s.value → Grows rules g s result charge s'
-    → type s'.value ≡ type s.value
-grown_type {V} {E} {S} type rules g s s' result charge grown (inl none) =
-    ap (λ (t : MeteredValue V S). type t.value) none.same
-grown_type type rules g s s' result charge grown (inr some) =
-    ap type some.attempt.value ∙ attempted_type type g s.value grown some.outcome
+grown_stays : {V E S : Type 0} (Stays : V → V → Type 0) (rules : Rules S) (g : Growth V E) (s s' : MeteredValue V S)
+    (result : Result ℕ E) (charge : ℕ) → Stays s.value s.value → Stays s.value g.request.grown
+    → Grows rules g s result charge s' → Stays s.value s'.value
+grown_stays {V} {E} {S} Stays rules g s s' result charge same grown (inl none) =
+    subst (λ (t : MeteredValue V S). Stays s.value t.value) (sym none.same) same
+grown_stays Stays rules g s s' result charge same grown (inr some) =
+    subst (Stays s.value) (sym some.attempt.value) (attempted_stays Stays g s.value same grown some.outcome)
 
--- a table whose element is set keeps its type
-set_type : (index : ℕ) (value : TypedRawRef) (x : TableValue) (result : Result (Unit {0}) TableError) (x' : TableValue)
-    → SetsTable index value x result x' → x'.ty ≡ x.ty
-set_type index value x result x' sets = on_test (same_type x.ty.element value.ty) _ _ sets
-    (λ raw. on_live (overwrite x.elements index (value.raw ∷ [])) _ _ raw
-    (λ outside. ap (λ (t : TableValue). t.ty) outside.1) (λ elements found set. ap (λ (t : TableValue). t.ty) set.1))
-    (λ other. ap (λ (t : TableValue). t.ty) other.1)
-
--- a table that grows keeps its type
-table_grown_type : {S : Type 0} (rules : Rules S) (n : ℕ) (init : TypedRawRef) (s s' : MeteredValue TableValue S)
+-- a table that grows
+table_grown_stays : {S : Type 0} (rules : Rules S) (n : ℕ) (init : TypedRawRef) (s s' : MeteredValue TableValue S)
     (result : Result ℕ TableError) (charge : ℕ) → GrowsTableCharging rules n init s result charge s'
-    → s'.value.ty ≡ s.value.ty
-table_grown_type {S} rules n init s s' result charge grows = on_test (same_type s.value.ty.element init.ty) _ _ grows
-    (λ raw. grown_type (λ (t : TableValue). t.ty) rules (table_growth n init.raw s.value) s s' result charge
-    refl raw) (λ other. ap (λ (t : MeteredValue TableValue S). t.value.ty) other.2)
+    → StaysTable s.value s'.value
+table_grown_stays {S} rules n init s s' result charge grows = on_test (same_type s.value.ty.element init.ty) _ _ grows
+    (grown_stays StaysTable rules (table_growth n init.raw s.value) s s' result charge (table_stays s.value)
+    (table_stays s.value))
+    (λ other. subst (λ (t : MeteredValue TableValue S). StaysTable s.value t.value) (sym other.2) (table_stays s.value))
 
--- a memory that grows keeps its type
-memory_grown_type : {S : Type 0} (rules : Rules S) (pages : ℕ) (s s' : MeteredValue MemoryValue S)
+-- a memory that grows
+memory_grown_stays : {S : Type 0} (rules : Rules S) (pages : ℕ) (s s' : MeteredValue MemoryValue S)
     (result : Result ℕ MemoryError) (charge : ℕ) → GrowsMemoryCharging rules pages s result charge s'
-    → s'.value.ty ≡ s.value.ty
-memory_grown_type rules pages s s' result charge grows = grown_type (λ (m : MemoryValue). m.ty) rules
-    (memory_growth pages s.value) s s' result charge refl grows
+    → StaysMemory s.value s'.value
+memory_grown_stays rules pages s s' result charge = grown_stays StaysMemory rules (memory_growth pages s.value) s s' result
+    charge (memory_stays s.value) (refl, rest_lent s.value.room (pages * page_bytes s.value.ty.page))
 
 -- a global that is set keeps its type, and a constant its value
 global_later : (k : ℕ) (x : GlobalInstance) (value : TypedRawVal) (result : Result (Unit {0}) GlobalError)
@@ -97,199 +123,6 @@ global_later k x value (Ok _) x' sets =
 global_later k x value (Err ImmutableWrite) x' sets = (ap (λ (g : GlobalInstance). g.ty) sets.1, λ const. sets.1)
 global_later k x value (Err TypeMismatch) x' sets = (ap (λ (g : GlobalInstance). g.ty) sets.2, λ const. sets.2)
 
--- what may become of what is at an index, where a call may change what is at one and drop what is at one
-record May (changed dropped : Option Location) (location : Location) (x x' : Content location) : Type 0 where
-  named : changed ≡ Some location
-  later : IsLater location x x'
-  live : IsLive location x → IsLive location x' ⊎ (dropped ≡ Some location)
-
--- a live memory stays of its type, and a table
-same_memory : (dropped : Option Location) (k : ℕ) (x x' : MemoryValue) → x'.ty ≡ x.ty
-    → May (Some (MemoryAt k)) dropped (MemoryAt k) (Live x) (Live x')
-same_memory dropped k x x' same = record { named = refl; later = same; live = λ live. inl live }
-
--- so a table
-same_table : (dropped : Option Location) (k : ℕ) (x x' : TableValue) → x'.ty ≡ x.ty
-    → May (Some (TableAt k)) dropped (TableAt k) (Live x) (Live x')
-same_table dropped k x x' same = record { named = refl; later = same; live = λ live. inl live }
-
--- each item of a list may stay
-stays : {X : Type 0} (Becomes : ℕ → X → X → Type 0) (xs : List X) → EachAfter Becomes xs xs
-stays Becomes xs = unchanged Becomes xs xs refl
-
--- what becomes of each part of a state
-record EachPart (changed dropped : Option Location) (s s' : State) : Type 0 where
-  memories : EachAfter (λ k. May changed dropped (MemoryAt k)) s.memories s'.memories
-  tables : EachAfter (λ k. May changed dropped (TableAt k)) s.tables s'.tables
-  segments : EachAfter (λ k. May changed dropped (SegmentAt k)) s.segments s'.segments
-  data_segments : EachAfter (λ k. May changed dropped (DataAt k)) s.data_segments s'.data_segments
-  globals : EachAfter (λ k. May changed dropped (GlobalAt k)) s.globals s'.globals
-  registers : EachAfter (λ k. May changed dropped (RegisterAt k)) s.registers s'.registers
-
-module _ (changed dropped : Option Location) where
-  -- so of what is at an index
-  at_location : (s s' : State) → EachPart changed dropped s s' → (location : Location) (x : Content location)
-      → content_at location s ≡ Some x → ItemAfter (May changed dropped location) x (content_at location s')
-  at_location s s' parts (MemoryAt k) x found = parts.memories k x found
-  at_location s s' parts (TableAt k) x found = parts.tables k x found
-  at_location s s' parts (SegmentAt k) x found = parts.segments k x found
-  at_location s s' parts (DataAt k) x found = parts.data_segments k x found
-  at_location s s' parts (GlobalAt k) x found = parts.globals k x found
-  at_location s s' parts (RegisterAt k) x found = parts.registers k x found
-
-  -- each part stays
-  all_stay : (s s' : State) → s' ≡ s → EachPart changed dropped s s'
-  all_stay s s' same = record {
-    memories = unchanged _ _ _ (ap (λ (t : State). t.memories) same);
-    tables = unchanged _ _ _ (ap (λ (t : State). t.tables) same);
-    segments = unchanged _ _ _ (ap (λ (t : State). t.segments) same);
-    data_segments = unchanged _ _ _ (ap (λ (t : State). t.data_segments) same);
-    globals = unchanged _ _ _ (ap (λ (t : State). t.globals) same);
-    registers = unchanged _ _ _ (ap (λ (t : State). t.registers) same);
-  }
-
-  -- the memories change, the meter and the spare region
-  memories_change : (s : State) (memories : _) (m : Meter) (spare : Option (List ℕ))
-      → EachAfter (λ k. May changed dropped (MemoryAt k)) s.memories memories
-      → EachPart changed dropped s (record s { memories = memories; meter = m; spare = spare })
-  memories_change s memories m spare each = record {
-    memories = each;
-    tables = stays _ _;
-    segments = stays _ _;
-    data_segments = stays _ _;
-    globals = stays _ _;
-    registers = stays _ _;
-  }
-
-  -- the tables change, and the meter
-  tables_change : (s : State) (tables : _) (m : Meter)
-      → EachAfter (λ k. May changed dropped (TableAt k)) s.tables tables
-      → EachPart changed dropped s (record s { tables = tables; meter = m })
-  tables_change s tables m each = record {
-    memories = stays _ _;
-    tables = each;
-    segments = stays _ _;
-    data_segments = stays _ _;
-    globals = stays _ _;
-    registers = stays _ _;
-  }
-
-  -- the element segments change
-  segments_change : (s : State) (segments : _) → EachAfter (λ k. May changed dropped (SegmentAt k)) s.segments segments
-      → EachPart changed dropped s (with_segments s segments)
-  segments_change s segments each = record {
-    memories = stays _ _;
-    tables = stays _ _;
-    segments = each;
-    data_segments = stays _ _;
-    globals = stays _ _;
-    registers = stays _ _;
-  }
-
-  -- the data segments change
-  data_change : (s : State) (segments : _) → EachAfter (λ k. May changed dropped (DataAt k)) s.data_segments segments
-      → EachPart changed dropped s (with_data_segments s segments)
-  data_change s segments each = record {
-    memories = stays _ _;
-    tables = stays _ _;
-    segments = stays _ _;
-    data_segments = each;
-    globals = stays _ _;
-    registers = stays _ _;
-  }
-
-  -- the globals change
-  globals_change : (s : State) (globals : _) → EachAfter (λ k. May changed dropped (GlobalAt k)) s.globals globals
-      → EachPart changed dropped s (with_globals s globals)
-  globals_change s globals each = record {
-    memories = stays _ _;
-    tables = stays _ _;
-    segments = stays _ _;
-    data_segments = stays _ _;
-    globals = each;
-    registers = stays _ _;
-  }
-
-  -- the registers change
-  registers_change : (s : State) (registers : _)
-      → EachAfter (λ k. May changed dropped (RegisterAt k)) s.registers registers
-      → EachPart changed dropped s (with_registers s registers)
-  registers_change s registers each = record {
-    memories = stays _ _;
-    tables = stays _ _;
-    segments = stays _ _;
-    data_segments = stays _ _;
-    globals = stays _ _;
-    registers = each;
-  }
-
--- a store to a memory, whose bytes may be missing
-stored_parts : (k a : ℕ) (slots : List (Slot MemoryValue)) (reply : Reply) (slots' : List (Slot MemoryValue))
-    (stored : Option (List ℕ)) → StoresVectorAt k a stored slots reply slots'
-    → EachAfter (λ j. May (Some (MemoryAt k)) None (MemoryAt j)) slots slots'
-stored_parts k a slots reply slots' None stores = unchanged _ slots slots' stores.1
-stored_parts k a slots reply slots' (Some stored) stores =
-    slot_changed _ k slots reply slots' _ (λ x x' c. same_memory None k x x' c.1.1) stores
-
--- a register that takes what it is given
-register_parts : (given : Option (Result RawVal TrapCode)) (old : Option RawVal) (dst : ℕ) (registers : List RawVal)
-    (reply : Reply) (registers' : List RawVal) → slice_get registers dst ≡ old
-    → SetsAt given old dst registers reply registers'
-    → EachAfter (λ j. May (Some (RegisterAt dst)) None (RegisterAt j)) registers registers'
-register_parts None old dst registers reply registers' is takes = unchanged _ registers registers' takes.1
-register_parts (Some given) None dst registers reply registers' is takes = unchanged _ registers registers' takes.1
-register_parts (Some (Ok value)) (Some old) dst registers reply registers' is takes =
-    put _ registers registers' dst old value is (record { named = refl; later = tt; live = λ live. inl live }) takes.1
-register_parts (Some (Err trap)) (Some old) dst registers reply registers' is takes =
-    unchanged _ registers registers' takes.1
-
--- an element segment that is made
-segment_made : {Lacks : Type 0} (ty : RefType) (items : List ℕ) (segments : List SegmentValue) (reply : Reply)
-    (segments' : List SegmentValue) → CreatesSegment Lacks ty items segments reply segments'
-    → EachAfter (λ j. May None None (SegmentAt j)) segments segments'
-segment_made ty items segments reply segments' (inl none) = unchanged _ segments segments' none.1
-segment_made ty items segments reply segments' (inr (result, is, adds)) =
-    entry_added _ (λ x. x) replied.Segment result segments reply segments' adds
-
--- an item that is added
-item_added : {Lacks X : Type 0} (Becomes : ℕ → X → X → Type 0) (x : X) (items : List X) (reply : Reply)
-    (items' : List X) → AddsItem Lacks x items reply items' → EachAfter Becomes items items'
-item_added Becomes x items reply items' (inl none) = unchanged Becomes items items' none.1
-item_added Becomes x items reply items' (inr made) = appended Becomes items items' x made.1
-
--- a memory that is made in the spare region
-lent_made : {S : Type 0} (rules : Rules S) (ty : MemoryTypeValue) (part : MemoryPart) (l : S) (reply : Reply)
-    (part' : MemoryPart) (l' : S) → CreatesLent rules ty part l reply part' l'
-    → EachAfter (λ j. May None None (MemoryAt j)) part.slots part'.slots
-lent_made rules ty part l reply part' l' creates = on_live part.spare _ _ creates
-    (λ none. unchanged _ part.slots part'.slots (ap (λ (p : MemoryPart). p.slots) none.1))
-    (λ region found h. slot_made _ replied.Memory (MakesMemory rules (Lent region) ty) part.slots l reply part'.slots
-    l' h.0)
-
--- a range of a table that is written over
-range_parts : (k : ℕ) (source : Source) (dst len : ℕ) (s : MeteredSlots TableValue) (reply : Reply) (charge : ℕ)
-    (s' : MeteredSlots TableValue) → WritesRangeAt replied.Table k (write_of source dst len) s reply charge s'
-    → EachAfter (λ j. May (Some (TableAt k)) None (TableAt j)) s.value s'.value
-range_parts k source dst len s reply charge s' writes =
-    let write = write_of source dst len in
-    on_live write _ _ (both_live write _ _ _ _ (source_range source dst len) writes)
-    (λ missing. unchanged _ s.value s'.value (ap (λ (t : MeteredSlots TableValue). t.value) missing.1.2))
-    (λ w found h. slot_acted _ k (reply_of (λ _. replied.Done) replied.Table) (WritesCharging w) s s' reply charge
-    (λ x x' result acts. same_table None k x x' (value_kept KeepsTable w h.0.keeps (λ x. (refl, refl))
-    (with_value s x) result charge (with_value s' x') acts).0) h.1)
-
--- a range of a memory that is written over
-byte_parts : (k : ℕ) (source : ByteSource) (dst len : ℕ) (s : MeteredSlots MemoryValue) (reply : Reply) (charge : ℕ)
-    (s' : MeteredSlots MemoryValue) → WritesRangeAt replied.Memory k (byte_write_of source dst len) s reply charge s'
-    → EachAfter (λ j. May (Some (MemoryAt k)) None (MemoryAt j)) s.value s'.value
-byte_parts k source dst len s reply charge s' writes =
-    let write = byte_write_of source dst len in
-    on_live write _ _ (both_live write _ _ _ _ (byte_range source dst len) writes)
-    (λ missing. unchanged _ s.value s'.value (ap (λ (t : MeteredSlots MemoryValue). t.value) missing.1.2))
-    (λ w found h. slot_acted _ k (reply_of (λ _. replied.Done) replied.Memory) (WritesCharging w) s s' reply charge
-    (λ x x' result acts. same_memory None k x x' (value_kept KeepsMemory w h.0.keeps (λ x. (refl, refl))
-    (with_value s x) result charge (with_value s' x') acts).0) h.1)
-
 -- the index at which a change may change what is there, and the one at which it drops it
 abbrev pub changed_by : Change → Option Location
 changed_by (BytesWritten k offset bytes) = Some (MemoryAt k)
@@ -298,15 +131,13 @@ changed_by (RegisterSet dst given) = Some (RegisterAt dst)
 changed_by (MemoryDropped k) = Some (MemoryAt k)
 changed_by (TableDropped k) = Some (TableAt k)
 changed_by (ElementSet k index value) = Some (TableAt k)
-changed_by (SegmentMade ty items) = None
 changed_by (ItemsDropped k) = Some (SegmentAt k)
-changed_by (DataMade bytes) = None
 changed_by (DataDropped k) = Some (DataAt k)
-changed_by (GlobalMade global) = None
 changed_by (GlobalSet k value) = Some (GlobalAt k)
+changed_by change = None
 
 -- dropped
-abbrev dropped_by : Change → Option Location
+abbrev pub dropped_by : Change → Option Location
 dropped_by (MemoryDropped k) = Some (MemoryAt k)
 dropped_by (TableDropped k) = Some (TableAt k)
 dropped_by change = None
@@ -321,11 +152,149 @@ changed_in (RangeWritten (MemoryWritten k source dst len)) = Some (MemoryAt k)
 changed_in effect = None
 
 -- dropped
-abbrev dropped_in : Effect → Option Location
+abbrev pub dropped_in : Effect → Option Location
 dropped_in (Changed change) = dropped_by change
 dropped_in effect = None
 
--- as the call names them
+-- what an effect makes may take memory that isn't reserved
+abbrev pub TakesMemory : Effect → Type 0
+TakesMemory (MemoryMade ty) = Unit {0}
+TakesMemory (TableMade ty init) = Unit {0}
+TakesMemory effect = ⊥
+
+-- how many more there may be of the kind of an index
+abbrev pub made_in : Effect → Location → ℕ
+made_in (MemoryMade ty) (MemoryAt k) = 1
+made_in (LentMemoryMade ty) (MemoryAt k) = 1
+made_in (TableMade ty init) (TableAt k) = 1
+made_in (Changed (SegmentMade ty items)) (SegmentAt k) = 1
+made_in (Changed (DataMade bytes)) (DataAt k) = 1
+made_in (Changed (GlobalMade global)) (GlobalAt k) = 1
+made_in effect location = 0
+
+-- how many there are of the kind of an index
+abbrev pub count_at : Location → State → ℕ
+count_at (MemoryAt k) s = length s.memories
+count_at (TableAt k) s = length s.tables
+count_at (SegmentAt k) s = length s.segments
+count_at (DataAt k) s = length s.data_segments
+count_at (GlobalAt k) s = length s.globals
+count_at (RegisterAt k) s = length s.registers
+
+-- what is at an index has its memory reserved, if there is something that can have it: a memory lies in a lent region, and
+-- a table is reserved up to its maximum
+abbrev pub IsReservedIn : (location : Location) → Option (Content location) → Type 0
+IsReservedIn (MemoryAt k) slot = OnLive (option_and_then live_value slot) (Unit {0}) IsLent
+IsReservedIn (TableAt k) slot = OnLive (option_and_then live_value slot) (Unit {0}) IsReservedToMaximum
+IsReservedIn location item = Unit {0}
+
+-- what may become of what is at an index, where a call may change what is at one and drop what is at one
+pub record May (changed dropped : Option Location) (location : Location) (x x' : Content location) : Type 0 where
+  named : changed ≡ Some location
+  later : IsLater location x x'
+  live : IsLive location x → IsLive location x' ⊎ (dropped ≡ Some location)
+  reserved : IsReservedIn location (Some x) → IsReservedIn location (Some x')
+
+-- so by an effect, also where nothing was at the index: what is made there may take memory that isn't reserved
+abbrev pub MayAt : Effect → (location : Location) → Option (Content location) → Option (Content location) → Type 0
+MayAt effect location None new = TakesMemory effect ⊎ IsReservedIn location new
+MayAt effect location (Some x) None = ⊥
+MayAt effect location (Some x) (Some x') = May (changed_in effect) (dropped_in effect) location x x'
+
+module _ (dropped : Option Location) (k : ℕ) where
+  -- a live memory stays of its type, and in its region
+  same_memory : (x x' : MemoryValue) → StaysMemory x x'
+      → May (Some (MemoryAt k)) dropped (MemoryAt k) (Live x) (Live x')
+  same_memory x x' stays = record { named = refl; later = stays.0; live = λ live. inl live; reserved = stays.1 }
+
+  -- so a table
+  same_table : (x x' : TableValue) → StaysTable x x' → May (Some (TableAt k)) dropped (TableAt k) (Live x) (Live x')
+  same_table x x' stays = record { named = refl; later = stays.0; live = λ live. inl live; reserved = stays.1 }
+
+-- by an effect each index has what it had, if anything, or what that may become, and of its kind there are at most so
+-- many more
+abbrev pub EachLocation : Effect → State → State → Type 0
+EachLocation effect s s' = (location : Location) → ((content_at location s' ≡ content_at location s)
+    ⊎ MayAt effect location (content_at location s) (content_at location s'))
+    × (count_at location s' ≤ count_at location s + made_in effect location)
+
+module _ (effect : Effect) (location : Location) where
+  -- what holds of what was there, and of what that may become, holds of what is there
+  item_after : (x : Content location) (old new : Option (Content location)) → old ≡ Some x
+      → (new ≡ old) ⊎ MayAt effect location old new → (Holds : Content location → Type 0) → Holds x
+      → ((now : Content location) → May (changed_in effect) (dropped_in effect) location x now → Holds now)
+      → (now : Content location) × (new ≡ Some now) × Holds now
+  item_after x old new found (inl same) Holds own becomes = (x, same ∙ found, own)
+  item_after x None new found (inr may) Holds own becomes = absurd (none-some x found)
+  item_after x (Some y) None found (inr may) Holds own becomes = absurd may
+  item_after x (Some y) (Some z) found (inr may) Holds own becomes =
+      (z, refl, becomes z (subst (λ v. May (changed_in effect) (dropped_in effect) location v z) (same_Some y x found) may))
+
+  -- what is reserved there stays so, where nothing is made that takes memory
+  pub stays_reserved : (TakesMemory effect → ⊥) → (old new : Option (Content location))
+      → (new ≡ old) ⊎ MayAt effect location old new → IsReservedIn location old → IsReservedIn location new
+  stays_reserved none old new (inl same) holds = subst (IsReservedIn location) (sym same) holds
+  stays_reserved none None new (inr may) holds = ⊎_elim (λ takes. absurd (none takes)) (λ made. made) may
+  stays_reserved none (Some x) None (inr may) holds = absurd may
+  stays_reserved none (Some x) (Some x') (inr may) holds = may.reserved holds
+
+-- another meter leaves what is at each index, and how much there is
+at_metered : (s : State) (m : Meter) (location : Location)
+    → (content_at location (record s { meter = m }) ≡ content_at location s)
+    × (count_at location (record s { meter = m }) ≡ count_at location s)
+at_metered s m (MemoryAt k) = (refl, refl)
+at_metered s m location = (refl, refl)
+
+-- a store to a memory, whose bytes may be missing
+memory_stored : (Becomes : ℕ → Option (Slot MemoryValue) → Option (Slot MemoryValue) → Type 0) (k a : ℕ)
+    (slots : List (Slot MemoryValue)) (reply : Reply) (slots' : List (Slot MemoryValue)) (stored : Option (List ℕ))
+    → ((x x' : MemoryValue) → StaysMemory x x' → Becomes k (Some (Live x)) (Some (Live x')))
+    → StoresVectorAt k a stored slots reply slots' → EachAfter 0 Becomes slots slots'
+memory_stored Becomes k a slots reply slots' None becomes stores = unchanged Becomes slots slots' 0 stores.1
+memory_stored Becomes k a slots reply slots' (Some stored) becomes stores = slot_changed Becomes k slots reply slots' _
+    (λ x x' c. becomes x x' (c.1.1, λ lent. subst IsLentRoom (sym c.1.2) lent)) stores
+
+-- a register that takes what it is given
+register_set : (Becomes : ℕ → Option RawVal → Option RawVal → Type 0) (dst : ℕ) (registers : List RawVal)
+    (reply : Reply) (registers' : List RawVal) (given : Option (Result RawVal TrapCode)) (old : Option RawVal)
+    → ((x x' : RawVal) → Becomes dst (Some x) (Some x')) → slice_get registers dst ≡ old
+    → SetsAt given old dst registers reply registers' → EachAfter 0 Becomes registers registers'
+register_set Becomes dst registers reply registers' (Some given) None becomes is takes =
+    unchanged Becomes registers registers' 0 takes.1
+register_set Becomes dst registers reply registers' (Some (Ok value)) (Some old) becomes is takes =
+    put Becomes registers registers' dst old value is (becomes old value) takes.1
+register_set Becomes dst registers reply registers' given old becomes is takes =
+    unchanged Becomes registers registers' 0 takes.1
+
+-- an element segment that is made
+segment_made : {Lacks : Type 0} (Becomes : ℕ → Option SegmentValue → Option SegmentValue → Type 0) (ty : RefType)
+    (items : List ℕ) (segments : List SegmentValue) (reply : Reply) (segments' : List SegmentValue)
+    → ((j : ℕ) (x : SegmentValue) → Becomes j None (Some x))
+    → CreatesSegment Lacks ty items segments reply segments' → EachAfter 1 Becomes segments segments'
+segment_made Becomes ty items segments reply segments' new (inl none) = unchanged Becomes segments segments' 1 none.1
+segment_made Becomes ty items segments reply segments' new (inr (result, is, adds)) =
+    entry_added Becomes (λ x. x) replied.Segment result segments reply segments' (λ j x is. new j x) adds
+
+-- an item that is added
+item_added : {Lacks X : Type 0} (Becomes : ℕ → Option X → Option X → Type 0) (x : X) (items : List X) (reply : Reply)
+    (items' : List X) → ((j : ℕ) → Becomes j None (Some x)) → AddsItem Lacks x items reply items'
+    → EachAfter 1 Becomes items items'
+item_added Becomes x items reply items' new (inl none) = unchanged Becomes items items' 1 none.1
+item_added Becomes x items reply items' new (inr made) = appended Becomes items items' x new made.1
+
+-- a memory that is made in the spare region
+lent_made : {S : Type 0} (rules : Rules S) (ty : MemoryTypeValue) (part : MemoryPart) (l : S) (reply : Reply)
+    (part' : MemoryPart) (l' : S) → CreatesLent rules ty part l reply part' l'
+    → EachAfter 1 (λ j. MayAt (LentMemoryMade ty) (MemoryAt j)) part.slots part'.slots
+lent_made rules ty part l reply part' l' creates =
+    on_live part.spare _ _ creates
+    (λ none. unchanged (λ j. MayAt (LentMemoryMade ty) (MemoryAt j)) part.slots part'.slots 1
+    (ap (λ (p : MemoryPart). p.slots) none.1))
+    (λ region found h. slot_made (λ j. MayAt (LentMemoryMade ty) (MemoryAt j)) replied.Memory
+    (MakesMemory rules (Lent region) ty) part.slots l reply part'.slots l'
+    (λ j x makes. inr (made_lent region ty makes.0 x makes.2)) h.0)
+
+-- what the effect of a call may change is what the call names
 pub changed_is : (s : State) (call : Call) → changed_in (effect_of s call) ≡ changed_location call
 changed_is s (SetFuel fuel) = refl
 changed_is s call = refl
@@ -336,112 +305,116 @@ dropped_is s (SetFuel fuel) = refl
 dropped_is s call = refl
 
 module _ (s : State) (reply : Reply) (s' : State) where
-  -- what becomes of each part by a change
-  change_parts : (change : Change) → HasChange change s reply s' → EachPart (changed_by change) (dropped_by change) s s'
-  change_parts (BytesWritten k offset bytes) c = subst (EachPart _ _ s) (sym c.after)
-      (memories_change _ _ s c.part s.meter s.spare (slot_changed _ k s.memories reply c.part _
-      (λ x x' h. same_memory None k x x' (written_type x x' offset bytes h.0 h.1)) c.effect))
-  change_parts (BytesStored k a stored) c = subst (EachPart _ _ s) (sym c.after)
-      (memories_change _ _ s c.part s.meter s.spare (stored_parts k a s.memories reply c.part stored c.effect))
-  change_parts (RegisterSet dst given) c = subst (EachPart _ _ s) (sym c.after) (registers_change _ _ s c.part
-      (register_parts given (slice_get s.registers dst) dst s.registers reply c.part refl c.effect))
-  change_parts (MemoryDropped k) c = subst (EachPart _ _ s) (sym c.after) (memories_change _ _ s c.part s.meter s.spare
-      (slot_dropped _ byte_count k s.memories reply c.part
-      (λ x. record { named = refl; later = tt; live = λ live. inr refl }) c.effect))
-  change_parts (TableDropped k) c = subst (EachPart _ _ s) (sym c.after) (tables_change _ _ s c.part s.meter
-      (slot_dropped _ size_of k s.tables reply c.part
-      (λ x. record { named = refl; later = tt; live = λ live. inr refl }) c.effect))
-  change_parts (ElementSet k index value) c = subst (EachPart _ _ s) (sym c.after) (tables_change _ _ s c.part s.meter
-      (slot_changed _ k s.tables reply c.part _
-      (λ x x' h. same_table None k x x' (set_type index value x h.0 x' h.1)) c.effect))
-  change_parts (SegmentMade ty items) c = subst (EachPart _ _ s) (sym c.after)
-      (segments_change _ _ s c.part (segment_made ty items s.segments reply c.part c.effect))
-  change_parts (ItemsDropped k) c = subst (EachPart _ _ s) (sym c.after) (segments_change _ _ s c.part
-      (item_changed _ k s.segments reply c.part _
+  -- what becomes of what is at each index by a change
+  change_locations : (change : Change) → HasChange change s reply s'
+      → EachLocation (Changed change) s s'
+  change_locations (BytesWritten k offset bytes) c (MemoryAt j) = rw c.after
+      (slot_changed (λ i. MayAt (Changed (BytesWritten k offset bytes)) (MemoryAt i)) k s.memories reply c.part _
+      (λ x x' h. same_memory None k x x' (written_stays x x' offset bytes h.0 h.1)) c.effect j)
+  change_locations (BytesStored k a stored) c (MemoryAt j) =
+      rw c.after (memory_stored (λ i. MayAt (Changed (BytesStored k a stored)) (MemoryAt i)) k a s.memories reply c.part
+      stored (same_memory None k) c.effect j)
+  change_locations (RegisterSet dst given) c (RegisterAt j) = rw c.after
+      (register_set (λ i. MayAt (Changed (RegisterSet dst given)) (RegisterAt i)) dst s.registers reply c.part given
+      (slice_get s.registers dst)
+      (λ x x'. record { named = refl; later = tt; live = λ live. inl live; reserved = λ none. none }) refl c.effect j)
+  change_locations (MemoryDropped k) c (MemoryAt j) = rw c.after
+      (slot_dropped (λ i. MayAt (Changed (MemoryDropped k)) (MemoryAt i)) byte_count k s.memories reply c.part
+      (λ x. record { named = refl; later = tt; live = λ live. inr refl; reserved = λ lent. tt }) c.effect j)
+  change_locations (TableDropped k) c (TableAt j) = rw c.after
+      (slot_dropped (λ i. MayAt (Changed (TableDropped k)) (TableAt i)) size_of k s.tables reply c.part
+      (λ x. record { named = refl; later = tt; live = λ live. inr refl; reserved = λ full. tt }) c.effect j)
+  change_locations (ElementSet k index value) c (TableAt j) = rw c.after
+      (slot_changed (λ i. MayAt (Changed (ElementSet k index value)) (TableAt i)) k s.tables reply c.part _
+      (λ x x' h. same_table None k x x' (set_stays index value x h.0 x' h.1)) c.effect j)
+  change_locations (SegmentMade ty items) c (SegmentAt j) =
+      rw c.after (segment_made (λ i. MayAt (Changed (SegmentMade ty items)) (SegmentAt i)) ty items s.segments reply c.part
+      (λ i x. inr tt) c.effect j)
+  change_locations (ItemsDropped k) c (SegmentAt j) = rw c.after
+      (item_changed (λ i. MayAt (Changed (ItemsDropped k)) (SegmentAt i)) k s.segments reply c.part _
       (λ x x' h. record {
         named = refl;
         later = (ap (λ (y : SegmentValue). y.ty) h.1, inr (ap (λ (y : SegmentValue). y.items) h.1));
         live = λ live. inl tt;
-      }) c.effect))
-  change_parts (DataMade bytes) c = subst (EachPart _ _ s) (sym c.after)
-      (data_change _ _ s c.part (item_added _ bytes s.data_segments reply c.part c.effect))
-  change_parts (DataDropped k) c = subst (EachPart _ _ s) (sym c.after) (data_change _ _ s c.part
-      (item_changed _ k s.data_segments reply c.part _
-      (λ x x' h. record { named = refl; later = inr h.1; live = λ live. inl tt }) c.effect))
-  change_parts (GlobalMade global) c = subst (EachPart _ _ s) (sym c.after)
-      (globals_change _ _ s c.part (item_added _ global s.globals reply c.part c.effect))
-  change_parts (GlobalSet k value) c = subst (EachPart _ _ s) (sym c.after) (globals_change _ _ s c.part
-      (item_changed _ k s.globals reply c.part _
-      (λ x x' h. record { named = refl; later = global_later k x value h.0 x' h.1; live = λ live. inl tt }) c.effect))
+        reserved = λ none. none;
+      }) c.effect j)
+  change_locations (DataMade bytes) c (DataAt j) = rw c.after
+      (item_added (λ i. MayAt (Changed (DataMade bytes)) (DataAt i)) bytes s.data_segments reply c.part (λ i. inr tt) c.effect j)
+  change_locations (DataDropped k) c (DataAt j) = rw c.after
+      (item_changed (λ i. MayAt (Changed (DataDropped k)) (DataAt i)) k s.data_segments reply c.part _
+      (λ x x' h. record { named = refl; later = inr h.1; live = λ live. inl tt; reserved = λ none. none }) c.effect j)
+  change_locations (GlobalMade global) c (GlobalAt j) = rw c.after
+      (item_added (λ i. MayAt (Changed (GlobalMade global)) (GlobalAt i)) global s.globals reply c.part (λ i. inr tt) c.effect j)
+  change_locations (GlobalSet k value) c (GlobalAt j) = rw c.after
+      (item_changed (λ i. MayAt (Changed (GlobalSet k value)) (GlobalAt i)) k s.globals reply c.part _
+      (λ x x' h. record {
+        named = refl;
+        later = global_later k x value h.0 x' h.1;
+        live = λ live. inl tt;
+        reserved = λ none. none;
+      }) c.effect j)
+  change_locations change c location = (inl (ap (content_at location) c.after), rw c.after (omega arith))
 
 module _ {S : Type 0} (rules : Rules S) (w : World S) (turn : Turn) (w' : World S) where
   -- in a turn with this effect
-  effect_parts : (effect : Effect) → HasEffect rules effect w turn w'
-      → EachPart (changed_in effect) (dropped_in effect) w.state w'.state
-  effect_parts (Told told) step = all_stay _ _ w.state w'.state (ap (λ (v : World S). v.state) step.after)
-  effect_parts (BytesRead k offset len) step = all_stay _ _ w.state w'.state (ap (λ (v : World S). v.state) step.after)
-  effect_parts (FuelSet fuel) step = rw step.after (subst (EachPart None None w.state) (sym step.effect.1)
-      (memories_change None None w.state w.state.memories _ w.state.spare (unchanged _ _ _ refl)))
-  effect_parts (Changed change) step = rw step.after (change_parts w.state turn.reply step.machine change step.effect)
-  effect_parts (MemoryMade ty) step = rw step.after
-      (memories_change None None w.state step.part w.state.meter w.state.spare
-      (slot_made _ replied.Memory (MakesMemory rules Owned ty) w.state.memories w.limiter turn.reply step.part
-      step.limiter step.effect))
-  effect_parts (LentMemoryMade ty) step = rw step.after
-      (memories_change None None w.state step.part.slots w.state.meter step.part.spare
-      (lent_made rules ty (memory_part w.state) w.limiter turn.reply step.part step.limiter step.effect))
-  effect_parts (MemoryGrown k pages) step = rw step.after
-      (memories_change _ None w.state step.part step.meter w.state.spare
-      (slot_acted _ k (reply_of replied.Number replied.Memory) (GrowsMemoryCharging rules pages)
-      (metered_value w.state.memories (Some w.state.meter) w.limiter)
+  pub effect_locations : (effect : Effect) → HasEffect rules effect w turn w'
+      → EachLocation effect w.state w'.state
+  effect_locations (FuelSet fuel) step location =
+      let same = at_metered w.state (meter_set w.state.meter fuel) location in (
+        inl (ap (λ (v : World S). content_at location v.state) step.after ∙ ap (content_at location) step.effect.1 ∙ same.0),
+        rw step.after (rw step.effect.1 (omega (arith, same.1))),
+      )
+  effect_locations (Changed change) step location =
+      rw step.after (change_locations w.state turn.reply step.machine change step.effect location)
+  effect_locations (MemoryMade ty) step (MemoryAt j) = rw step.after
+      (slot_made (λ i. MayAt (MemoryMade ty) (MemoryAt i)) replied.Memory (MakesMemory rules Owned ty) w.state.memories w.limiter
+      turn.reply step.part step.limiter (λ i x makes. inl tt) step.effect j)
+  effect_locations (LentMemoryMade ty) step (MemoryAt j) = rw step.after
+      (lent_made rules ty (memory_part w.state) w.limiter turn.reply step.part step.limiter step.effect j)
+  effect_locations (MemoryGrown k pages) step (MemoryAt j) = rw step.after
+      (slot_acted (λ i. MayAt (MemoryGrown k pages) (MemoryAt i)) k (reply_of replied.Number replied.Memory)
+      (GrowsMemoryCharging rules pages) (metered_value w.state.memories (Some w.state.meter) w.limiter)
       (metered_value step.part (Some step.meter) step.limiter) turn.reply turn.charge
-      (λ x x' result acts. same_memory None k x x' (memory_grown_type rules pages
+      (λ x x' result acts. same_memory None k x x' (memory_grown_stays rules pages
       (metered_value x (Some w.state.meter) w.limiter)
-      (metered_value x' (Some step.meter) step.limiter) result turn.charge acts)) step.effect))
-  effect_parts (TableMade ty init) step = rw step.after (tables_change None None w.state step.part w.state.meter
-      (slot_made _ replied.Table (MakesTable rules ty init) w.state.tables w.limiter turn.reply step.part step.limiter
-      step.effect))
-  effect_parts (TableGrown k n init) step = rw step.after (tables_change _ None w.state step.part step.meter
-      (slot_acted _ k (reply_of replied.Number replied.Table) (GrowsTableCharging rules n init)
-      (metered_value w.state.tables (Some w.state.meter) w.limiter)
+      (metered_value x' (Some step.meter) step.limiter) result turn.charge acts)) step.effect j)
+  effect_locations (TableMade ty init) step (TableAt j) = rw step.after
+      (slot_made (λ i. MayAt (TableMade ty init) (TableAt i)) replied.Table (MakesTable rules ty init) w.state.tables w.limiter
+      turn.reply step.part step.limiter (λ i x makes. inl tt) step.effect j)
+  effect_locations (TableGrown k n init) step (TableAt j) = rw step.after
+      (slot_acted (λ i. MayAt (TableGrown k n init) (TableAt i)) k (reply_of replied.Number replied.Table)
+      (GrowsTableCharging rules n init) (metered_value w.state.tables (Some w.state.meter) w.limiter)
       (metered_value step.part (Some step.meter) step.limiter) turn.reply turn.charge
-      (λ x x' result acts. same_table None k x x' (table_grown_type rules n init
+      (λ x x' result acts. same_table None k x x' (table_grown_stays rules n init
       (metered_value x (Some w.state.meter) w.limiter)
-      (metered_value x' (Some step.meter) step.limiter) result turn.charge acts)) step.effect))
-  effect_parts (RangeWritten (TableWritten k source dst len)) step = rw step.after
-      (tables_change _ None w.state step.part step.meter
-      (range_parts k source dst len (metered w.state.tables (Some w.state.meter)) turn.reply turn.charge
-      (metered step.part (Some step.meter)) step.effect))
-  effect_parts (RangeWritten (MemoryWritten k source dst len)) step = rw step.after
-      (memories_change _ None w.state step.part step.meter w.state.spare
-      (byte_parts k source dst len (metered w.state.memories (Some w.state.meter)) turn.reply turn.charge
-      (metered step.part (Some step.meter)) step.effect))
+      (metered_value x' (Some step.meter) step.limiter) result turn.charge acts)) step.effect j)
+  effect_locations (RangeWritten (TableWritten k source dst len)) step (TableAt j) = rw step.after
+      (slot_written (λ i. MayAt (RangeWritten (TableWritten k source dst len)) (TableAt i)) replied.Table StaysTable
+      table_stays k (same_table None k) (write_of source dst len) (table_range_stays source dst len)
+      (metered w.state.tables (Some w.state.meter)) turn.reply turn.charge (metered step.part (Some step.meter))
+      step.effect j)
+  effect_locations (RangeWritten (MemoryWritten k source dst len)) step (MemoryAt j) = rw step.after
+      (slot_written (λ i. MayAt (RangeWritten (MemoryWritten k source dst len)) (MemoryAt i)) replied.Memory StaysMemory memory_stays k
+      (same_memory None k) (byte_write_of source dst len) (range_stays source dst len)
+      (metered w.state.memories (Some w.state.meter)) turn.reply turn.charge (metered step.part (Some step.meter))
+      step.effect j)
+  effect_locations effect step location =
+      (inl (ap (λ (v : World S). content_at location v.state) step.after), rw step.after (omega arith))
 
-  -- so in each turn, as its call names the indices
-  step_parts : Step rules w turn w'
-      → EachPart (changed_location turn.call) (dropped_location turn.call) w.state w'.state
-  step_parts step = subst (λ changed. EachPart changed (dropped_location turn.call) w.state w'.state)
-      (changed_is w.state turn.call)
-      (subst (λ dropped. EachPart (changed_in (effect_of w.state turn.call)) dropped w.state w'.state)
-      (dropped_is w.state turn.call) (effect_parts (effect_of w.state turn.call) step))
-
-  -- what becomes of what is at an index
-  after_step : Step rules w turn w' → (location : Location) (x : Content location)
-      → content_at location w.state ≡ Some x
-      → ItemAfter (May (changed_location turn.call) (dropped_location turn.call) location) x
-      (content_at location w'.state)
-  after_step step = at_location _ _ w.state w'.state (step_parts step)
-
--- what becomes of it stays, if the call may not change it
-left_alone : (changed dropped location : _) (x : Content location) (found : Option (Content location))
-    → (changed ≡ Some location → ⊥) → ItemAfter (May changed dropped location) x found → found ≡ Some x
-left_alone changed dropped location x found leaves after =
-    after.here ∙ ap Some (⊎_elim (λ same. same) (λ may. absurd (leaves may.named)) after.how)
+  -- so in a turn
+  after_step : Step rules w turn w' → (location : Location) (x : Content location) → content_at location w.state ≡ Some x
+      → (Holds : Content location → Type 0) → Holds x
+      → ((now : Content location) → May (changed_in (effect_of w.state turn.call))
+      (dropped_in (effect_of w.state turn.call)) location x now → Holds now) → HasAt location w'.state Holds
+  after_step step location x found = item_after (effect_of w.state turn.call) location x _ _ found
+      (effect_locations (effect_of w.state turn.call) step location).0
 
 -- each turn leaves what is at the other indices
 pub others_stay : {S : Type 0} (rules : Rules S) → OthersStay rules
 others_stay rules w turn w' step location leaves x found =
-    left_alone _ _ location x _ leaves (after_step rules w turn w' step location x found)
+    let after = after_step rules w turn w' step location x found (λ now. now ≡ x) refl
+    (λ now may. absurd (leaves (sym (changed_is w.state turn.call) ∙ may.named))) in
+    after.1 ∙ ap Some after.2
 
 -- so each run
 pub others_stay_in_runs : {S : Type 0} (rules : Rules S) → OthersStayInRuns rules
@@ -495,32 +468,13 @@ later_twice (GlobalAt k) x y z first second = (
 )
 later_twice (RegisterAt k) x y z first second = tt
 
-module _ (changed dropped : Option Location) (location : Location) (x : Content location)
-    (found : Option (Content location)) (after : ItemAfter (May changed dropped location) x found) where
-  -- what has become of it in a turn
-  later_here : (now : Content location) × (found ≡ Some now) × IsLater location x now
-  later_here = (
-    after.now,
-    after.here,
-    ⊎_elim (λ same. subst (IsLater location x) (sym same) (later_same location x)) (λ may. may.later) after.how,
-  )
-
-  -- it is live, unless the turn drops it
-  live_here : (dropped ≡ Some location → ⊥) → IsLive location x
-      → (now : Content location) × (found ≡ Some now) × IsLive location now
-  live_here not live = (
-    after.now,
-    after.here,
-    ⊎_elim (λ same. subst (IsLive location) (sym same) live)
-        (λ may. ⊎_elim (λ now. now) (λ drops. absurd (not drops)) (may.live live)) after.how,
-  )
-
 -- after a run
 pub indices_last : {S : Type 0} (rules : Rules S) → IndicesLast rules
 indices_last rules w [] w' ran location x found =
     (x, ap (λ (v : World _). content_at location v.state) ran ∙ found, later_same location x)
 indices_last rules w (turn ∷ turns) w' (v, step, ran) location x found =
-    let first = later_here _ _ location x _ (after_step rules w turn v step location x found) in
+    let first = after_step rules w turn v step location x found (IsLater location x) (later_same location x)
+    (λ now may. may.later) in
     let rest = indices_last rules v turns w' ran location first.0 first.1 in
     (rest.0, rest.1, later_twice location x first.0 rest.0 first.2 rest.2)
 
@@ -529,8 +483,9 @@ pub live_until_dropped : {S : Type 0} (rules : Rules S) → LiveUntilDropped rul
 live_until_dropped rules w [] w' ran location drops has =
     (has.0, ap (λ (v : World _). content_at location v.state) ran ∙ has.1, has.2)
 live_until_dropped rules w (turn ∷ turns) w' (v, step, ran) location drops has =
-    let first = live_here _ _ location has.0 _ (after_step rules w turn v step location has.0 has.1)
-    (All-head (DropsNot location) turn.call (map Turn.call turns) drops) has.2 in
+    let first = after_step rules w turn v step location has.0 has.1 (IsLive location) has.2
+    (λ now may. ⊎_elim (λ live. live) (λ is. absurd (All-head (DropsNot location) turn.call (map Turn.call turns) drops
+    (sym (dropped_is w.state turn.call) ∙ is))) (may.live has.2)) in
     live_until_dropped rules v turns w' ran location
     (All-tail (DropsNot location) turn.call (map Turn.call turns) drops) first
 

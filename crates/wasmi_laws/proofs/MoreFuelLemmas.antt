@@ -1,41 +1,12 @@
 -- A run that never ran short of fuel, with more of it.
 use Rattle.std.proofs.Common.{◌≡◌, ◌∙◌, ◌≤◌, ℕ, Bool, true, false, Option, Some, None, Result, Ok, Err, List, [], ◌∷◌, map, inl, inr, refl, sym, ap, subst, arith}
-use Rattle.std.proofs.lemmas.Bool.Decides.{nat_tests}
-use Rattle.std.proofs.lemmas.List.Elements.{All-head, All-tail}
-use Rattle.std.proofs.lemmas.Option.{same_Some}
-use Rattle.std.specs.Option.{option_map}
-use Rattle.std.specs.Prelude.{All, MatchBool, is_none, nat_le, ◌&&◌, if◌then◌else◌}
-use Rattle.wasmi_machine.proofs.StoreLemmas.{acts_too, asks_too, changes_too}
-use Rattle.wasmi_typed.specs.declared.typed_ref.TypedRawRef.{TypedRawRef}
-use Rattle.wasmi_meter.specs.declared.error.TableError.{TableError}
+use Rattle.wasmi_laws.proofs.Common.{nat_tests, All-head, All-tail, same_Some, option_map, All, MatchBool, is_none, nat_le, ◌&&◌, if◌then◌else◌, acts_too, asks_too, changes_too, TypedRawRef, TableError, AttemptOutcome, Met, Failed, Follows, IsFirstCause, MayEnd, MeteredValue, Request, answer_of, covers, error_of_failure, optional_due, outcome_charge, with_value, Rules, optional_rules, Meter, amount_left, meter_after, Grows, Growth, metered, metered_value, GrowsMemoryCharging, GrowsTableCharging, TableValue, same_type, EndsBy, MeteredWrite, WritesCharging, write_charge, Call, SetFuel, GetFuel, Reply, Slot, AcceptsNotices, ActsAt, OnLive, WritesRangeAt, reply_of, Run, BytesRead, BytesWritten, Change, Changed, Effect, FuelSet, MemoryGrown, RangeWritten, Step, TableGrown, MemoryWritten, TableWritten, HasChange, HasEffect, Told, effect_of, State, live_at, Turn, World, byte_write_of, write_of, both_live, on_live_too, on_test_too, IsRange, KeepsMemory, KeepsTable, byte_range, source_range, HasFuel, MoreFuelChangesNothing, NamesNoFuel, meter_with_more, world_with_more, memory_growth, table_growth}
 use Rattle.wasmi_meter.specs.declared.error.TableError.TheVariants as table_error
 use Rattle.wasmi_meter.specs.declared.error.MemoryError.TheVariants as memory_error
 use Rattle.wasmi_meter.specs.declared.fuel.CustomFuelCosts.{CustomFuelCosts}
-use Rattle.wasmi_meter.specs.Attempt.{AttemptOutcome, Unasked, Denied, Met, Failed, Follows, IsFirstCause, MayEnd, MeteredValue, Request, answer_of, covers, error_of_failure, optional_due, outcome_charge, with_value}
-use Rattle.wasmi_meter.specs.Limiter.{Rules, optional_rules}
-use Rattle.wasmi_meter.specs.Meter.{Meter, amount_left, meter_after}
-use Rattle.wasmi_store.specs.Growth.{Grows, Growth, metered, metered_value}
-use Rattle.wasmi_store.specs.Memory.{GrowsMemoryCharging}
-use Rattle.wasmi_store.specs.Table.{GrowsTableCharging, TableValue, same_type}
-use Rattle.wasmi_store.specs.Write.{EndsBy, MeteredWrite, WritesCharging, write_charge}
-use Rattle.wasmi_machine.specs.declared.calls.Call.{Call}
-use Rattle.wasmi_machine.specs.declared.calls.Call.TheVariants.{SetFuel, GetFuel}
-use Rattle.wasmi_machine.specs.declared.calls.Reply.{Reply}
 use Rattle.wasmi_machine.specs.declared.calls.Reply.TheVariants as replied
-use Rattle.wasmi_machine.specs.declared.slots.Slot.{Slot}
-use Rattle.wasmi_machine.specs.Determinism.{AcceptsNotices}
-use Rattle.wasmi_machine.specs.Effects.{ActsAt, OnLive, WritesRangeAt, reply_of}
-use Rattle.wasmi_machine.specs.Steps.{Run, BytesRead, BytesWritten, Change, Changed, Effect, FuelSet, LentMemoryMade, MemoryGrown, MemoryMade, RangeWritten, Step, TableGrown, TableMade, MemoryWritten, TableWritten, HasChange, HasEffect, Told, effect_of}
-use Rattle.wasmi_machine.specs.State.{State, live_at, Turn, World}
-use Rattle.wasmi_machine.specs.MemoryEffects.{byte_write_of}
-use Rattle.wasmi_machine.specs.TableEffects.{write_of}
 use Rattle.wasmi_machine.proofs.AccountLemmas.{Growing, after, before, growing, grows_takes}
-use Rattle.wasmi_machine.proofs.EffectLemmas.{both_live, on_live_too, on_test_too}
 use Rattle.wasmi_machine.proofs.ToldLemmas.{optional_accepts}
-use Rattle.wasmi_machine.proofs.RangeLemmas.{IsRange, KeepsMemory, KeepsTable, byte_range, source_range}
-use Rattle.wasmi_laws.specs.Runs.{HasFuel, MoreFuelChangesNothing, NamesNoFuel, meter_with_more, world_with_more}
-use Rattle.wasmi_machine.proofs.MemoryEffectsLemmas.{memory_growth}
-use Rattle.wasmi_machine.proofs.TableEffectsLemmas.{table_growth}
 
 module _ {V E : Type 0} (refusal : E → Reply) (e : Request V E) where
   -- the reply to the cause of a failure doesn't say that fuel was wanting
@@ -144,18 +115,16 @@ module _ (more : ℕ) where
       -- the attempt may end so
       may_end : (outcome : AttemptOutcome E) → Tells refusal e outcome → MayEnd e (Some m) outcome
           → MayEnd e (Some (richer m)) outcome
-      may_end (Unasked cause) told may = may
-      may_end (Denied given) told may = may
       may_end Met told may = (may.0, may.1, payable m e.price may.2)
       may_end (Failed cause notice_answer) told may = (may.0, first_cause cause told e.late may.1)
+      may_end outcome told may = may
 
       -- the attempt is charged the same
       same_charge : (outcome : AttemptOutcome E) → Tells refusal e outcome → MayEnd e (Some m) outcome
           → outcome_charge e (Some m) outcome ≡ outcome_charge e (Some (richer m)) outcome
-      same_charge (Unasked cause) told may = refl
-      same_charge (Denied given) told may = refl
       same_charge Met told may = sym (due_is m e.price)
       same_charge (Failed cause notice_answer) told may = failed_charge cause told e.late may.1
+      same_charge outcome told may = refl
 
   module _ {S : Type 0} (rules : Rules S) (accepts : AcceptsNotices rules) where
     -- a growth
@@ -334,12 +303,6 @@ module _ (more : ℕ) {S : Type 0} (rules : Rules S) (accepts : AcceptsNotices r
     effect_richer (FuelSet fuel) keeps step = absurd keeps
     effect_richer (Changed change) keeps step = changes_too step (richer_state more step.machine)
         (change_richer more change w.state turn.reply step.machine step.effect) (ap richer_world step.after)
-    effect_richer (MemoryMade ty) keeps step =
-        asks_too step step.part step.effect step.room (ap richer_world step.after)
-    effect_richer (LentMemoryMade ty) keeps step =
-        asks_too step step.part step.effect step.room (ap richer_world step.after)
-    effect_richer (TableMade ty init) keeps step =
-        asks_too step step.part step.effect step.room (ap richer_world step.after)
     effect_richer (MemoryGrown k pages) keeps step = acts_too step step.part (richer more step.meter)
         (acts_richer more k (reply_of replied.Number replied.Memory) (GrowsMemoryCharging rules pages)
         (metered_value w.state.memories (Some w.state.meter) w.limiter)
@@ -370,6 +333,7 @@ module _ (more : ℕ) {S : Type 0} (rules : Rules S) (accepts : AcceptsNotices r
       wrote = step.wrote;
       after = ap richer_world step.after;
     }
+    effect_richer effect keeps step = asks_too step step.part step.effect step.room (ap richer_world step.after)
 
     -- so each step
     step_richer : NamesNoFuel turn.call → Step rules w turn w' → Step rules (richer_world w) turn (richer_world w')

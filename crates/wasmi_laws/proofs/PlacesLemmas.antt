@@ -1,34 +1,17 @@
 -- What was stored is read back, and memories and tables by themselves, as those at an index of a machine.
 use Rattle.std.proofs.Common.{Err, List, Ok, Result, Some, ap, length, mod-eq_of_lt, pos, pow_pos, refl, subst, sym, ℕ, ◌%◌, ◌*◌, ◌+◌, ◌^◌, ◌∙◌, ◌≡◌, Option, None, inr}
 use Rattle.std.proofs.lemmas.Nat.{mod_below}
-use Rattle.std.proofs.lemmas.Option.{same_Some}
+use Rattle.wasmi_laws.proofs.Common.{same_Some, option_and_then, slice_get, MatchOption, slice_set, acts, alters, replies, on_live, reply_of, StoresMemory, load_reply, State, live_at, live_value, World, RepliesWith, Read, Done, NoSuch, Trap, Value, Memory, Live, live_slot, set_same, MemoryAt, NumberStore, StoresAreReadBack, StoresKeepOtherBytes, load_of, store_call, stored_part, stored_size, MemoriesGrowAlike, TablesGrowAlike, MemoriesReadAlike, MemoriesWriteAlike, Rules, RawVal, MemoryValue, TrapCode, at}
 use Rattle.std.specs.Int.{Width, w32, w64}
-use Rattle.std.specs.Option.{option_and_then}
-use Rattle.std.specs.Prelude.{slice_get, MatchOption, slice_set}
-use Rattle.wasmi_machine.proofs.StoreLemmas.{acts, alters, replies}
 use Rattle.wasmi_access.proofs.AccessLemmas.{loaded-stored, outside-stored}
 use Rattle.wasmi_access.specs.LoadStore.{IsSameOutside, IsStore, loaded}
-use Rattle.wasmi_machine.proofs.EffectLemmas.{on_live}
 use Rattle.wasmi_machine.proofs.MemoryEffectsLemmas.{stored_count}
-use Rattle.wasmi_machine.specs.Effects.{reply_of}
-use Rattle.wasmi_machine.specs.MemoryEffects.{StoresMemory, load_reply}
-use Rattle.wasmi_machine.specs.State.{State, live_at, live_value, World}
-use Rattle.wasmi_machine.specs.Steps.{RepliesWith}
-use Rattle.wasmi_machine.specs.declared.calls.Call.TheVariants.{Read}
-use Rattle.wasmi_machine.specs.declared.calls.Reply.TheVariants.{Done, NoSuch, Trap, Value, Bytes, Memory}
-use Rattle.wasmi_machine.specs.declared.slots.Slot.TheVariants.{Live}
-use Rattle.wasmi_machine.proofs.SlotsLemmas.{live_slot, set_same}
+use Rattle.wasmi_machine.specs.declared.calls.Reply.TheVariants.{Bytes}
 use Rattle.wasmi_laws.proofs.LocationLemmas.{others_stay_in_runs}
-use Rattle.wasmi_laws.specs.Places.{MemoryAt, NumberStore, StoresAreReadBack, StoresKeepOtherBytes, load_of, store_call, stored_part, stored_size, MemoriesGrowAlike, TablesGrowAlike, MemoriesReadAlike, MemoriesWriteAlike}
-use Rattle.wasmi_meter.specs.Limiter.{Rules}
 use Rattle.wasmi_ops.specs.LoadStoreOps.{as_raw, signed_raw, loaded_raw, stored_bytes}
 use Rattle.wasmi_ops.specs.declared.load_store.StoreOp.{StoreOp}
 use Rattle.wasmi_raw.specs.RawVal.{raw_of}
-use Rattle.wasmi_raw.specs.declared.raw.RawVal.{RawVal}
-use Rattle.wasmi_store.specs.Memory.{MemoryValue}
 use Rattle.wasmi_types.specs.Numbers.{le_bytes}
-use Rattle.wasmi_types.specs.declared.trap.TrapCode.{TrapCode}
-use Rattle.wasmi_types.specs.Access.{at}
 use Rattle.wasmi_meter.specs.declared.error.MemoryError.TheVariants.{OutOfBoundsAccess}
 use Rattle.wasmi_ops.specs.declared.load_store.StoreOp.TheVariants as store
 
@@ -59,13 +42,8 @@ module _ (value : RawVal) (a : ℕ) (old new : List ℕ) where
   -- and what it leaves
   outside : (op : StoreOp) → IsStore old a (stored_bytes op value) new (Ok (tt {0}))
       → IsSameOutside old new a (stored_size op)
-  outside store.I32Store8 is = outside-stored 1 (value.lo % 2 ^ 8) a old new is
-  outside store.I32Store16 is = outside-stored 2 (value.lo % 2 ^ 16) a old new is
-  outside store.I64Store8 is = outside-stored 1 (value.lo % 2 ^ 8) a old new is
-  outside store.I64Store16 is = outside-stored 2 (value.lo % 2 ^ 16) a old new is
-  outside store.I64Store32 is = outside-stored 4 (value.lo % 2 ^ 32) a old new is
-  outside store.Store32 is = outside-stored 4 (value.lo % 2 ^ 32) a old new is
-  outside store.Store64 is = outside-stored 8 value.lo a old new is
+  outside store.I32Store8 is = outside-stored _ _ a old new is
+  outside op is = outside-stored _ _ a old new is
 
 -- an accepted store to the memory of an index: the memory before it and after it
 record Stored (k a : ℕ) (stored : List ℕ) (s s' : State) : Type 0 where

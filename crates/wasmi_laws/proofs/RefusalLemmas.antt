@@ -1,44 +1,15 @@
 -- Refusals that leave the whole world.
 use Rattle.std.proofs.Common.{◌≡◌, ◌∙◌, ℕ, Bool, Option, Some, None, Result, Ok, Err, List, [], ◌∷◌, length, map, inl, inr, refl, sym, ap, subst}
-use Rattle.std.proofs.lemmas.List.Elements.{All-head, All-tail}
-use Rattle.std.proofs.lemmas.Option.{none-some}
-use Rattle.std.specs.Prelude.{if◌then◌else◌}
-use Rattle.wasmi_types.specs.declared.value.RefType.{RefType}
-use Rattle.wasmi_typed.specs.declared.typed_ref.TypedRawRef.{TypedRawRef}
-use Rattle.wasmi_meter.specs.declared.error.MemoryError.{MemoryError}
+use Rattle.wasmi_laws.proofs.Common.{All-head, All-tail, none-some, if◌then◌else◌, RefType, TypedRawRef, MemoryError, TableError, Attempt, AttemptOutcome, Unasked, Denied, Met, Failed, IsFirstCause, MeteredValue, Request, alone, answer_of, covers, optional_due, with_value, Failure, MemoryFailure, TableFailure, NoticeAnswer, Rules, Meter, LacksMemory, Lent, Owned, Room, Grows, Growth, Makes, metered_value, GrowsMemoryCharging, MakesMemory, MemoryValue, new_memory, MemoryTypeValue, GrowsTableCharging, TableValue, new_table, TableTypeValue, same_type, on_test, Call, NewMemory, NewLentMemory, GrowMemory, NewTable, GrowTable, Reply, Slot, Live, IsOtherFailure, ActsAt, AddsEntry, Creates, reply_of, CreatesLent, spare_after, MemoryPart, State, live_at, memory_part, IsRefusal, Turn, World, Effect, LentMemoryMade, MemoryGrown, MemoryMade, RangeWritten, Step, TableGrown, TableMade, HasEffect, effect_of, Creation, on_live, range_unasked, IsPlainRefusal, OtherRefusalsChangeNothing, PlainRefusalsChangeNothing, PlainlyRefusedRunsChangeNothing, memory_growth, table_growth}
 use Rattle.wasmi_meter.specs.declared.error.MemoryError.TheVariants as memory_error
-use Rattle.wasmi_meter.specs.declared.error.TableError.{TableError}
 use Rattle.wasmi_meter.specs.declared.error.TableError.TheVariants as table_error
-use Rattle.wasmi_meter.specs.Attempt.{Attempt, AttemptOutcome, Unasked, Denied, Met, Failed, IsFirstCause, MeteredValue, Request, alone, answer_of, covers, optional_due, with_value}
-use Rattle.wasmi_meter.specs.Limiter.{Failure, MemoryFailure, TableFailure, NoticeAnswer, Rules}
-use Rattle.wasmi_meter.specs.Meter.{Meter}
-use Rattle.wasmi_store.specs.Buffer.{LacksMemory, Lent, Owned, Room}
-use Rattle.wasmi_store.specs.Growth.{Grows, Growth, Makes, metered_value}
 use Rattle.wasmi_store.specs.Memory as memory
-use Rattle.wasmi_store.specs.Memory.{GrowsMemoryCharging, MakesMemory, MemoryValue, new_memory, MemoryTypeValue}
 use Rattle.wasmi_store.specs.Table as table
-use Rattle.wasmi_store.specs.Table.{GrowsTableCharging, TableValue, new_table, TableTypeValue, same_type}
-use Rattle.wasmi_store.proofs.GrowthLemmas.{on_test}
-use Rattle.wasmi_machine.specs.declared.calls.Call.{Call}
-use Rattle.wasmi_machine.specs.declared.calls.Call.TheVariants.{NewMemory, NewLentMemory, GrowMemory, NewTable, GrowTable}
-use Rattle.wasmi_machine.specs.declared.calls.Reply.{Reply}
 use Rattle.wasmi_machine.specs.declared.calls.Reply.TheVariants as replied
-use Rattle.wasmi_machine.specs.declared.slots.Slot.{Slot}
-use Rattle.wasmi_machine.specs.declared.slots.Slot.TheVariants.{Live}
-use Rattle.wasmi_machine.specs.Determinism.{IsOtherFailure}
-use Rattle.wasmi_machine.specs.Effects.{ActsAt, AddsEntry, Creates, reply_of}
 use Rattle.wasmi_machine.specs.Exchange.{AsksFor, At, Denial, Exchange, New, Nothing, Notice, Nowhere, Passes, Permission, failed_reply, place_of, question_of}
 use Rattle.wasmi_machine.specs.Laws.{Keeps, KeepsMeter, KeepsSpare}
-use Rattle.wasmi_machine.specs.MemoryEffects.{CreatesLent, spare_after}
-use Rattle.wasmi_machine.specs.State.{MemoryPart, State, live_at, memory_part, IsRefusal, Turn, World}
-use Rattle.wasmi_machine.specs.Steps.{Effect, LentMemoryMade, MemoryGrown, MemoryMade, RangeWritten, Step, TableGrown, TableMade, HasEffect, effect_of}
-use Rattle.wasmi_machine.proofs.EffectLemmas.{Creation, on_live}
-use Rattle.wasmi_machine.proofs.RangeLemmas.{range_unasked}
 use Rattle.wasmi_machine.proofs.ExchangeLemmas.{growths_are_permitted, late_is}
 use Rattle.wasmi_machine.proofs.RefusalLemmas.{refusals_keep_contents}
-use Rattle.wasmi_laws.specs.Runs.{IsPlainRefusal, OtherRefusalsChangeNothing, PlainRefusalsChangeNothing, PlainlyRefusedRunsChangeNothing}
-use Rattle.wasmi_machine.proofs.MemoryEffectsLemmas.{memory_growth}
-use Rattle.wasmi_machine.proofs.TableEffectsLemmas.{table_growth}
 
 -- a plain refusal is one
 plain_refusal : (reply : Reply) → IsPlainRefusal reply → IsRefusal reply
@@ -50,13 +21,29 @@ plain_refusal reply plain = plain
 abbrev IsLoud : Reply → Type 0
 IsLoud reply = IsPlainRefusal reply → ⊥
 
--- the causes of a refusal that are found after the question have replies that are no plain refusals
-record AllLoud {V E : Type 0} (refusal : E → Reply) (e : Request V E) : Type 0 where
-  denied : IsLoud (refusal e.denial)
-  refused : IsLoud (refusal e.refusal)
-  late : (c : E) → e.late ≡ Some c → IsLoud (refusal c)
-  unpaid : (n : ℕ) → IsLoud (refusal (e.unpaid n))
-  refuses : (c : E) → e.refuses c → IsLoud (refusal c)
+-- the causes of a refusal that are found after the question have a fact
+pub record LaterCauses {V E : Type 0} (Fact : E → Type 0) (e : Request V E) : Type 0 where
+  pub denied : Fact e.denial
+  pub refused : Fact e.refusal
+  pub late : (c : E) → e.late ≡ Some c → Fact c
+  pub unpaid : (n : ℕ) → Fact (e.unpaid n)
+  pub refuses : e.late ≡ None → (c : E) → e.refuses c → Fact c
+
+-- so the first cause after the permission
+pub first_has : {V E : Type 0} (Fact : E → Type 0) (e : Request V E) → LaterCauses Fact e → (m : Option Meter)
+    (late : Option E) → e.late ≡ late → (cause : E) → IsFirstCause e m late cause → Fact cause
+first_has Fact e has m (Some c) is cause first = has.late cause (is ∙ ap Some (sym first))
+first_has Fact e has m None is cause first = on_test (covers m (optional_due m e.price)) _ _ first
+    (has.refuses is cause) (λ unpaid. subst Fact (sym unpaid) (has.unpaid (optional_due m e.price)))
+
+-- a cause that a test finds has a fact
+pub tested : {E : Type 0} (Fact : E → Type 0) (test : Bool) (cause : E) → Fact cause → (c : E)
+    → (if test then None else Some cause) ≡ Some c → Fact c
+tested Fact test cause has c is = subst Fact (late_is test cause c is) has
+
+-- the later causes have replies that are no plain refusals
+abbrev AllLoud : {V E : Type 0} → (E → Reply) → Request V E → Type 0
+AllLoud refusal e = LaterCauses (λ c. IsLoud (refusal c)) e
 
 -- what an attempt returns where it is met, with the reply to it, which is no plain refusal
 record Success (T : Type 0) : Type 0 where
@@ -72,13 +59,6 @@ record IsUnasked {V E S : Type 0} (refusal : E → Reply) (e : Request V E) (l l
   same : l' ≡ l
 
 module _ {V E : Type 0} (refusal : E → Reply) (e : Request V E) (loud : AllLoud refusal e) where
-  -- the first cause after the permission
-  first_loud : (m : Option Meter) (late : Option E) → e.late ≡ late → (cause : E) → IsFirstCause e m late cause
-      → IsLoud (refusal cause)
-  first_loud m (Some c) is cause first = loud.late cause (is ∙ ap Some (sym first))
-  first_loud m None is cause first = on_test (covers m (optional_due m e.price)) _ _ first (loud.refuses cause)
-      (λ unpaid. subst (λ c. IsLoud (refusal c)) (sym unpaid) (loud.unpaid (optional_due m e.price)))
-
   -- an attempt
   attempt_unasked : {S T : Type 0} (rules : Rules S) (met : Success T) (s s' : MeteredValue V S) (charge : ℕ)
       (outcome : AttemptOutcome E) → Attempt rules e s outcome charge s'
@@ -87,11 +67,10 @@ module _ {V E : Type 0} (refusal : E → Reply) (e : Request V E) (loud : AllLou
   attempt_unasked rules met s s' charge (Unasked cause) a plain =
       record { cause = cause; early = a.may_end; plain = plain; same = a.follows }
   attempt_unasked rules met s s' charge (Denied (Ok permitted)) a plain = absurd (loud.denied plain)
-  attempt_unasked rules met s s' charge (Denied (Err error)) a plain = absurd (loud.refused plain)
   attempt_unasked rules met s s' charge Met a plain = absurd (met.loud plain)
   attempt_unasked rules met s s' charge (Failed cause (Ok _)) a plain =
-      absurd (first_loud s.meter e.late refl cause a.may_end.1 plain)
-  attempt_unasked rules met s s' charge (Failed cause (Err _)) a plain = absurd (loud.refused plain)
+      absurd (first_has (λ c. IsLoud (refusal c)) e loud s.meter e.late refl cause a.may_end.1 plain)
+  attempt_unasked rules met s s' charge outcome a plain = absurd (loud.refused plain)
 
 -- the reply to a creation
 adds_reply : {X A E : Type 0} (entry : X → A) (refusal : E → Reply) (result : Result X E) (list : List A)
@@ -142,11 +121,6 @@ module _ {S : Type 0} (rules : Rules S) where
       on_live (live_at s.value k) _ _ acts (λ missing. ap (λ (t : MeteredValue (List (Slot X)) S). t.limiter) missing.2)
       (λ x found h. grows x h.1 h.0 h.2 (subst IsPlainRefusal h.3 plain))
 
--- a cause by a test
-tested_loud : {E : Type 0} (refusal : E → Reply) (test : Bool) (cause : E) → IsLoud (refusal cause) → (c : E)
-    → (if test then None else Some cause) ≡ Some c → IsLoud (refusal c)
-tested_loud refusal test cause loud c is = subst (λ x. IsLoud (refusal x)) (late_is test cause c is) loud
-
 -- memory is refused
 lacks_loud : (room : Room) (c : MemoryError) → LacksMemory room c → IsLoud (replied.Memory c)
 lacks_loud Owned c lacks plain = subst (λ x. IsPlainRefusal (replied.Memory x)) lacks plain
@@ -161,9 +135,9 @@ memory_made_loud : (room : Room) (ty : MemoryTypeValue) → AllLoud replied.Memo
 memory_made_loud room ty = record {
   denied = λ p. p;
   refused = λ p. p;
-  late = tested_loud replied.Memory _ memory_error.InvalidStaticBufferSize (λ p. p);
+  late = tested (λ c. IsLoud (replied.Memory c)) _ memory_error.InvalidStaticBufferSize (λ p. p);
   unpaid = λ n p. p;
-  refuses = lacks_loud room;
+  refuses = λ late. lacks_loud room;
 }
 
 -- a memory grows
@@ -171,9 +145,9 @@ memory_grown_loud : (x : MemoryValue) (pages : ℕ) → AllLoud replied.Memory (
 memory_grown_loud x pages = record {
   denied = λ p. p;
   refused = λ p. p;
-  late = tested_loud replied.Memory _ memory_error.InvalidStaticBufferSize (λ p. p);
+  late = tested (λ c. IsLoud (replied.Memory c)) _ memory_error.InvalidStaticBufferSize (λ p. p);
   unpaid = λ n p. p;
-  refuses = lacks_loud x.room;
+  refuses = λ late. lacks_loud x.room;
 }
 
 -- a table is made
@@ -183,7 +157,7 @@ table_made_loud ty init = record {
   refused = λ p. p;
   late = λ c is. absurd (none-some c is);
   unpaid = λ n p. p;
-  refuses = table_lacks_loud;
+  refuses = λ late. table_lacks_loud;
 }
 
 -- a table grows
@@ -191,9 +165,9 @@ table_grown_loud : (x : TableValue) (n reference : ℕ) → AllLoud replied.Tabl
 table_grown_loud x n reference = record {
   denied = λ p. p;
   refused = λ p. p;
-  late = tested_loud replied.Table _ table_error.GrowOutOfBounds (λ p. p);
+  late = tested (λ c. IsLoud (replied.Table c)) _ table_error.GrowOutOfBounds (λ p. p);
   unpaid = λ n p. p;
-  refuses = λ cause lacks. table_lacks_loud cause lacks.0;
+  refuses = λ late cause lacks. table_lacks_loud cause lacks.0;
 }
 
 module _ {S : Type 0} (rules : Rules S) where
@@ -206,8 +180,8 @@ module _ {S : Type 0} (rules : Rules S) where
   region_unasked region ty slots l o (inr (result, makes, adds)) plain =
       let unasked = makes_unasked rules replied.Memory (memory.creation_of (Lent region) ty)
       (memory_made_loud (Lent region) ty) (new_memory (Lent region) ty) slots l o result makes adds plain in
-      absurd (tested_loud replied.Memory _ memory_error.MinimumSizeOverflow (λ p. p) unasked.cause unasked.early
-      unasked.plain)
+      absurd (tested (λ c. IsLoud (replied.Memory c)) _ memory_error.MinimumSizeOverflow (λ p. p) unasked.cause
+      unasked.early unasked.plain)
 
   -- so the limiter stays, and the spare region too
   lent_unasked : (ty : MemoryTypeValue) (part : MemoryPart) (l : S) (reply : Reply) (part' : MemoryPart) (l' : S)

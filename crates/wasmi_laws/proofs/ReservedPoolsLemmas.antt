@@ -1,17 +1,9 @@
 -- What a tenant has reserved stays reserved for its calls, whatever else is done with its pool.
 use Rattle.std.proofs.Common.{◌≡◌, ◌++◌, ◌∷◌, ◌∙◌, Bool, List, None, Some, [], ap, false, refl, subst, sym, true, ℕ}
-use Rattle.std.proofs.lemmas.Bool.Decides.{Decides-eqb}
+use Rattle.wasmi_laws.proofs.Common.{Decides-eqb, All-append, All-nil, none-some, same_Some, All, get_or, if◌then◌else◌, nat_eq, slice_set, optional_rules, IsNotOutOfMemory, State, with_reserved, world, Call, FitsSlots, IsReservedFor}
 use Rattle.std.proofs.lemmas.Bool.{false≢true}
-use Rattle.std.proofs.lemmas.List.Elements.{All-append, All-nil}
-use Rattle.std.proofs.lemmas.Option.{none-some, same_Some}
 use Rattle.std.specs.Bool.{Decides}
-use Rattle.std.specs.Prelude.{All, get_or, if◌then◌else◌, nat_eq, slice_set}
-use Rattle.wasmi_meter.specs.Limiter.{optional_rules}
-use Rattle.wasmi_machine.specs.Determinism.{IsNotOutOfMemory}
-use Rattle.wasmi_machine.specs.State.{State, with_reserved, world}
-use Rattle.wasmi_machine.specs.declared.calls.Call.{Call}
 use Rattle.wasmi_laws.proofs.ReservedLemmas.{elements_stay_reserved, front_told, more_reserved, rest_reserved, slots_suffice}
-use Rattle.wasmi_laws.specs.Reserved.{FitsSlots, IsReservedFor}
 use Rattle.wasmi_laws.specs.ReservedPools.{ReservedTenantsSucceed, SlotsSufficeForTenants, calls_of, replies_of}
 use Rattle.wasmi_budget.proofs.IsolationLemmas.{kept_added, kept_set, set_at}
 use Rattle.wasmi_budget.proofs.PoolLemmas.{IsVacant, removal_vacates, vacant_stays}
@@ -32,16 +24,8 @@ module _ (index : ℕ) where
       by rest true decides = absurd
           (none-some runs.machine (sym vacant.vacant ∙ ap (machine_of pool) (sym (decides.0 refl)) ∙ runs.found))
       by rest false decides = rest
-  none_told pool vacant (Added s ∷ turns) pool' (next, step, ran) =
-      none_told next (vacant_stays pool index vacant (Added s) next step) turns pool' ran
-  none_told pool vacant (Reserved i more ∷ turns) pool' (next, step, ran) =
-      none_told next (vacant_stays pool index vacant (Reserved i more) next step) turns pool' ran
-  none_told pool vacant (ReservedElements i table elements reply ∷ turns) pool' (next, step, ran) = none_told next
-      (vacant_stays pool index vacant (ReservedElements i table elements reply) next step) turns pool' ran
-  none_told pool vacant (Removed i s ∷ turns) pool' (next, step, ran) =
-      none_told next (vacant_stays pool index vacant (Removed i s) next step) turns pool' ran
-  none_told pool vacant (Refused ∷ turns) pool' (next, step, ran) =
-      none_told next (vacant_stays pool index vacant Refused next step) turns pool' ran
+  none_told pool vacant (turn ∷ turns) pool' (next, step, ran) =
+      none_told next (vacant_stays pool index vacant turn next step) turns pool' ran
 
   -- the machine of the index has reserved what calls need
   record IsReady (pool : PoolValue) (calls : List Call) : Type 0 where

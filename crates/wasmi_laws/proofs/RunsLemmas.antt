@@ -1,26 +1,15 @@
 -- Runs that are cut, and what runs keep: sizes, caps and the meter.
-use Rattle.std.proofs.Common.{◌≡◌, ◌∙◌, ◌≤◌, ◌++◌, ℕ, zero, suc, Some, List, [], ◌∷◌, length, map, take, drop, sum, refl, sym, ap, subst, arith, ◌-◌, Option, None}
-use Rattle.std.proofs.lemmas.Option.{none-some, same_Some}
-use Rattle.std.proofs.lemmas.List.{take-map, drop-map, take_at, drop_at, take-append-drop}
+use Rattle.std.proofs.Common.{◌≡◌, ◌∙◌, ◌≤◌, ◌++◌, ℕ, suc, Some, List, [], ◌∷◌, length, map, take, drop, sum, refl, sym, ap, subst, arith, ◌-◌, Option, None, ⊎_elim}
+use Rattle.wasmi_laws.proofs.Common.{none-some, same_Some, take-map, drop-map, take_at, drop_at, take-append-drop, ◌≢◌, slice_get, is_some, Question, Rules, optional_rules, State, World, Turn, world, sizes, HoldsTotals, Step, Sequence, Run, Run-push, CapsHoldInRuns, IsWithinCapsOf, RunsOfCallsAreCut, SizesNeverShrink, TotalsNeverShrink, CostsAreKept, FuelNeverRises, SwitchIsKept, All-head, All-tail, option_map, unwrap_or, Meter, amount_left, Call, SetFuel}
 use Rattle.std.proofs.lemmas.List.Sums.{sum_by-cons}
-use Rattle.std.specs.Prelude.{◌≢◌, slice_get, slice_set, is_some}
 use Rattle.wasmi_meter.specs.declared.limiter.Kind.{Kind}
 use Rattle.wasmi_meter.specs.declared.limiter.Kind.TheVariants.{Bytes, Elements}
-use Rattle.wasmi_meter.specs.Limiter.{Question, Rules, optional_rules}
 use Rattle.wasmi_meter.specs.declared.quota.Quota.{Quota}
 use Rattle.wasmi_meter.specs.Capped.{IsWithinCaps, SameCaps, holdings, quota_rules}
-use Rattle.wasmi_machine.specs.State.{State, World, Turn, world, sizes, HoldsTotals}
-use Rattle.wasmi_machine.specs.Steps.{Step, Sequence, Run}
 use Rattle.wasmi_machine.specs.Laws.{HoldsTotalsAlways, QuotasStayWithin}
-use Rattle.wasmi_machine.specs.Exchange.{Exchange, Nothing, Denial, Permission, Notice, Place, Nowhere, New, At, place_of, GrowsAsAsked, GrowsBy}
+use Rattle.wasmi_machine.specs.Exchange.{Exchange, Permission, Place, Nowhere, New, At, place_of, GrowsAsAsked, GrowsBy}
 use Rattle.wasmi_machine.proofs.ExchangeLemmas.{growths_are_permitted}
-use Rattle.wasmi_machine.proofs.StoreLemmas.{Run-push}
-use Rattle.wasmi_laws.specs.Runs.{CapsHoldInRuns, IsWithinCapsOf, RunsOfCallsAreCut, SizesNeverShrink, TotalsNeverShrink, CostsAreKept, FuelNeverRises, SwitchIsKept}
-use Rattle.std.proofs.lemmas.List.Elements.{All-head, All-tail}
-use Rattle.std.specs.Option.{option_map, unwrap_or}
-use Rattle.wasmi_meter.specs.Meter.{Meter, amount_left}
-use Rattle.wasmi_machine.specs.declared.calls.Call.{Call}
-use Rattle.wasmi_machine.specs.declared.calls.Call.TheVariants.{SetFuel}
+use Rattle.wasmi_laws.proofs.ListLemmas.{EachAfter, appended, put, unchanged}
 use Rattle.wasmi_machine.specs.Account.{ChangesMeter, SetsNoFuel}
 use Rattle.wasmi_machine.proofs.AccountLemmas.{step_meter}
 
@@ -66,35 +55,30 @@ module _ {S : Type 0} (rules : Rules S) where
         );
       }
 
+-- a number that was found is there, or a larger one
+abbrev Rises : ℕ → Option ℕ → Option ℕ → Type 0
+Rises k old new = (n : ℕ) → old ≡ Some n → (m : ℕ) × (new ≡ Some m) × (n ≤ m)
+
 -- each number of a list is at its place in another, or a larger one
 abbrev NoneShrinks : List ℕ → List ℕ → Type 0
-NoneShrinks xs ys = (k n : ℕ) → slice_get xs k ≡ Some n → (m : ℕ) × (slice_get ys k ≡ Some m) × (n ≤ m)
+NoneShrinks xs ys = (k : ℕ) → Rises k (slice_get xs k) (slice_get ys k)
+
+-- so where each stays or rises
+none_shrinks : (more : ℕ) (xs ys : List ℕ) → EachAfter more Rises xs ys → NoneShrinks xs ys
+none_shrinks more xs ys each k n found =
+    ⊎_elim (λ same. (n, same ∙ found, omega arith)) (λ rises. rises n found) (each k).0
 
 -- so in the same list
 same_shrinks : (xs ys : List ℕ) → ys ≡ xs → NoneShrinks xs ys
-same_shrinks xs ys same k n found = (n, ap (λ zs. slice_get zs k) same ∙ found, omega arith)
-
--- with a number more
-push_shrinks : (xs : List ℕ) (y : ℕ) → NoneShrinks xs (xs ++ y ∷ [])
-push_shrinks [] y k n found = absurd (none-some n found)
-push_shrinks (x ∷ xs) y zero n found = (n, found, omega arith)
-push_shrinks (x ∷ xs) y (suc k) n found = push_shrinks xs y k n found
-
--- where one number has grown
-set_shrinks : (xs : List ℕ) (j small large : ℕ) → small ≤ large → slice_get xs j ≡ Some small
-    → NoneShrinks xs (slice_set xs j large)
-set_shrinks [] j small large grows at_j k n found = absurd (none-some n found)
-set_shrinks (x ∷ xs) zero small large grows at_j zero n found =
-    (large, refl, omega (arith, grows, same_Some n small (sym found ∙ at_j)))
-set_shrinks (x ∷ xs) zero small large grows at_j (suc k) n found = (n, found, omega arith)
-set_shrinks (x ∷ xs) (suc j) small large grows at_j zero n found = (n, found, omega arith)
-set_shrinks (x ∷ xs) (suc j) small large grows at_j (suc k) n found = set_shrinks xs j small large grows at_j k n found
+same_shrinks xs ys same = none_shrinks 0 xs ys (unchanged Rises xs ys 0 same)
 
 -- where something grew as was asked
 asked_shrinks : (place : Place) (q : Question) (xs ys : List ℕ) → GrowsAsAsked place q xs ys → NoneShrinks xs ys
 asked_shrinks Nowhere q xs ys grows = absurd grows
-asked_shrinks New q xs ys (fresh, added) = rw added (push_shrinks xs q.desired)
-asked_shrinks (At k) q xs ys (up, found, put) = rw put (set_shrinks xs k q.current q.desired up found)
+asked_shrinks New q xs ys (fresh, added) =
+    none_shrinks 1 xs ys (appended Rises xs ys q.desired (λ j n none. absurd (none-some n none)) added)
+asked_shrinks (At k) q xs ys (up, found, is) = none_shrinks 0 xs ys (put Rises xs ys k q.current q.desired found
+    (λ n was. (q.desired, refl, omega (arith, up, same_Some q.current n was))) is)
 
 module _ (before after : Kind → List ℕ) where
   -- where the sizes of one kind grow, and the others are the same
@@ -109,12 +93,9 @@ module _ (before after : Kind → List ℕ) where
   -- by an exchange
   exchange_shrinks : (place : Place) (exchange : Exchange) → GrowsBy place exchange before after
       → (kind : Kind) → NoneShrinks (before kind) (after kind)
-  exchange_shrinks place Nothing still kind = same_shrinks (before kind) (after kind) (still kind)
-  exchange_shrinks place (Denial q answer) still kind = same_shrinks (before kind) (after kind) (still kind)
   exchange_shrinks place (Permission q) (grows, others) kind =
       kind_shrinks q.kind (asked_shrinks place q (before q.kind) (after q.kind) grows) others kind
-  exchange_shrinks place (Notice q failure notice_answer) still kind =
-      same_shrinks (before kind) (after kind) (still kind)
+  exchange_shrinks place exchange still kind = same_shrinks (before kind) (after kind) (still kind)
 
 -- the sum doesn't shrink
 sum_shrinks : (xs ys : List ℕ) → NoneShrinks xs ys → sum xs ≤ sum ys

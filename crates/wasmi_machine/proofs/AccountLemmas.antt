@@ -1,33 +1,10 @@
 -- What each turn takes of the meter.
 use Rattle.std.proofs.Common.{Bool, List, Option, Result, Some, [], ap, arith, false, inl, inr, refl, subst, sym, true, ℕ, ◌+◌, ◌-◌, ◌∙◌, ◌∷◌, ◌≡◌, ◌≤◌}
-use Rattle.std.proofs.lemmas.Bool.{and_parts}
-use Rattle.std.proofs.lemmas.Bool.Decides.{nat_tests}
-use Rattle.std.proofs.lemmas.Option.{same_Some}
-use Rattle.std.specs.Option.{option_map, unwrap_or}
-use Rattle.std.specs.Prelude.{if◌then◌else◌, is_none, nat_le, ◌&&◌}
+use Rattle.wasmi_machine.proofs.Common.{and_parts, nat_tests, same_Some, option_map, unwrap_or, if◌then◌else◌, is_none, nat_le, ◌&&◌, Account, Balances, ChangesMeter, account_after, charged_by, opened, ActsAt, reply_of, Run, Changed, Effect, FuelSet, MemoryGrown, HasRangeWrite, RangeWrite, RangeWritten, Step, TableGrown, HasEffect, effect_of, State, live_at, Turn, World, Grows, Growth, metered_value, Call, SetFuel, Reply, Slot, Attempt, Denied, Request, Failed, AttemptOutcome, Met, MeteredValue, Unasked, optional_due, covers, with_value, Rules, Meter, amount_left, due, meter_after, meter_set, PaysCharge, TableError, on_test, GrowsMemoryCharging, MemoryValue, GrowsTableCharging, TableValue, same_type, TypedRawRef, memory_growth, table_growth}
 use Rattle.wasmi_machine.proofs.EffectLemmas.{on_live}
 use Rattle.wasmi_machine.proofs.RangeLemmas.{range_facts}
 use Rattle.wasmi_machine.proofs.StepsLemmas.{change_facts}
-use Rattle.wasmi_machine.specs.Account.{Account, Balances, ChangesMeter, account_after, charged_by, opened}
-use Rattle.wasmi_machine.specs.Effects.{ActsAt, reply_of}
-use Rattle.wasmi_machine.specs.Steps.{Run, Changed, Effect, FuelSet, MemoryGrown, HasRangeWrite, RangeWrite, RangeWritten, Step, TableGrown, HasEffect, effect_of}
-use Rattle.wasmi_machine.specs.State.{State, live_at, Turn, World}
-use Rattle.wasmi_store.specs.Growth.{Grows, Growth, metered_value}
-use Rattle.wasmi_machine.specs.declared.calls.Call.{Call}
-use Rattle.wasmi_machine.specs.declared.calls.Call.TheVariants.{SetFuel}
-use Rattle.wasmi_machine.specs.declared.calls.Reply.{Reply}
-use Rattle.wasmi_machine.specs.declared.slots.Slot.{Slot}
-use Rattle.wasmi_meter.specs.Attempt.{Attempt, Denied, Request, Failed, AttemptOutcome, Met, MeteredValue, Unasked, optional_due, covers, with_value}
-use Rattle.wasmi_meter.specs.Limiter.{Rules}
 use Rattle.wasmi_meter.proofs.AttemptLemmas.{meter_after_nothing}
-use Rattle.wasmi_meter.specs.Meter.{Meter, amount_left, due, meter_after, meter_set, PaysCharge}
-use Rattle.wasmi_meter.specs.declared.error.TableError.{TableError}
-use Rattle.wasmi_store.proofs.GrowthLemmas.{on_test}
-use Rattle.wasmi_store.specs.Memory.{GrowsMemoryCharging, MemoryValue}
-use Rattle.wasmi_store.specs.Table.{GrowsTableCharging, TableValue, same_type}
-use Rattle.wasmi_typed.specs.declared.typed_ref.TypedRawRef.{TypedRawRef}
-use Rattle.wasmi_machine.proofs.MemoryEffectsLemmas.{memory_growth}
-use Rattle.wasmi_machine.proofs.TableEffectsLemmas.{table_growth}
 use Rattle.wasmi_machine.specs.declared.calls.Reply.TheVariants as replied
 
 -- nothing can be paid

@@ -1,40 +1,22 @@
 -- Where the limiter leaves no choice and memory isn't wanting, a turn is decided by its call.
-use Rattle.std.proofs.Common.{Bool, Err, List, None, Ok, Option, Result, Some, [], ap, arith, false, inl, inr, map, refl, subst, sym, true, ℕ, ◌∙◌, ◌∷◌, ◌≡◌}
-use Rattle.std.proofs.lemmas.Option.{none-some, same_Some}
-use Rattle.std.specs.Option.{option_map}
-use Rattle.std.specs.Prelude.{MatchBool}
-use Rattle.wasmi_machine.proofs.MemoryEffectsLemmas.{reads_same, memory_growth}
+use Rattle.std.proofs.Common.{Bool, List, None, Ok, Option, Result, Some, [], ap, arith, false, inl, inr, map, refl, subst, sym, true, ℕ, ◌∙◌, ◌∷◌, ◌≡◌}
+use Rattle.wasmi_machine.proofs.Common.{none-some, same_Some, option_map, MatchBool, memory_growth, table_growth, IsNotOutOfMemory, AreNotOutOfMemory, IsDeterministic, IsOtherFailure, never_out_of_memory, CreatesLent, spare_after, byte_write_of, ActsMetered, ActsMeteredUnasked, Asks, Changes, Creates, OnlyReplies, reply_of, Run, BytesRead, Changed, Effect, FuelSet, LentMemoryMade, MemoryGrown, MemoryMade, RangeWritten, TableGrown, TableMade, MemoryWritten, TableWritten, HasEffect, Told, effect_of, MemoryPart, State, memory_part, Turn, World, write_of, Call, Reply, Slot, Attempt, Denied, Request, Failed, AttemptOutcome, Follows, IsFirstCause, MayEnd, Met, MeteredValue, Unasked, alone, optional_due, answer_of, covers, outcome_charge, value_after, Capped, capped_rules, capped_quota, quota_rules, Answer, AskedIf, NoticedIf, IsDenial, MemoryFailure, Rules, TableFailure, optional_rules, unlimited_rules, Meter, meter_after, MemoryError, TableError, LacksMemory, Lent, Owned, Room, Grows, Growth, Makes, metered_value, metered, GrowsMemoryCharging, MakesMemory, MemoryValue, new_memory, MemoryTypeValue, GrowsTableCharging, MakesTable, TableValue, new_table, same_type, TypedRawRef}
+use Rattle.wasmi_machine.proofs.MemoryEffectsLemmas.{reads_same}
 use Rattle.wasmi_machine.proofs.EffectLemmas.{Acted, HasOneEnding, HasOneOutcome, acts_same, creates_same, on_both}
 use Rattle.wasmi_machine.proofs.StepsLemmas.{change_facts}
 use Rattle.wasmi_machine.proofs.RangeLemmas.{range_once}
-use Rattle.wasmi_machine.proofs.TableEffectsLemmas.{table_growth}
-use Rattle.wasmi_machine.specs.Determinism.{IsNotOutOfMemory, AreNotOutOfMemory, IsDeterministic, IsOtherFailure, never_out_of_memory}
-use Rattle.wasmi_machine.specs.MemoryEffects.{CreatesLent, spare_after, byte_write_of}
-use Rattle.wasmi_machine.specs.Effects.{ActsMetered, ActsMeteredUnasked, Asks, Changes, Creates, OnlyReplies, reply_of}
-use Rattle.wasmi_machine.specs.Steps.{Run, BytesRead, Changed, Effect, FuelSet, LentMemoryMade, MemoryGrown, MemoryMade, RangeWritten, TableGrown, TableMade, MemoryWritten, TableWritten, HasEffect, Told, effect_of}
-use Rattle.wasmi_machine.specs.State.{MemoryPart, State, memory_part, Turn, World}
-use Rattle.wasmi_machine.specs.TableEffects.{write_of}
-use Rattle.wasmi_machine.specs.declared.calls.Call.{Call}
-use Rattle.wasmi_machine.specs.declared.calls.Reply.{Reply}
-use Rattle.wasmi_machine.specs.declared.slots.Slot.{Slot}
-use Rattle.wasmi_meter.specs.Attempt.{Attempt, Denied, Request, Failed, AttemptOutcome, Follows, IsFirstCause, MayEnd, Met, MeteredValue, Unasked, alone, optional_due, answer_of, covers, outcome_charge, value_after}
-use Rattle.wasmi_meter.specs.Capped.{Capped, capped_rules, capped_quota, quota_rules}
-use Rattle.wasmi_meter.specs.Limiter.{Answer, AskedIf, NoticedIf, IsDenial, MemoryFailure, Rules, TableFailure, optional_rules, unlimited_rules}
-use Rattle.wasmi_meter.specs.Meter.{Meter, meter_after}
 use Rattle.wasmi_meter.proofs.CappedLemmas.{asked_unique, noticed_unique}
-use Rattle.wasmi_meter.specs.declared.error.MemoryError.{MemoryError}
-use Rattle.wasmi_meter.specs.declared.error.TableError.{TableError}
-use Rattle.wasmi_store.proofs.GrowthLemmas.{on_test}
-use Rattle.wasmi_store.specs.Buffer.{LacksMemory, Lent, Owned, Room}
-use Rattle.wasmi_store.specs.Growth.{Grows, Growth, Makes, metered_value, metered}
-use Rattle.wasmi_store.specs.Memory.{GrowsMemoryCharging, MakesMemory, MemoryValue, new_memory, MemoryTypeValue}
-use Rattle.wasmi_store.specs.Table.{GrowsTableCharging, MakesTable, TableValue, new_table, same_type}
-use Rattle.wasmi_typed.specs.declared.typed_ref.TypedRawRef.{TypedRawRef}
 use Rattle.wasmi_store.specs.Memory as memory
 use Rattle.wasmi_machine.specs.declared.calls.Reply.TheVariants as replied
 use Rattle.wasmi_store.specs.Table as table
 
--- the last cause of an request is want of memory
+-- two facts by one test
+on_both_tests : {C : Type 0} (test : Bool) (Holds Holds' Fails Fails' : Type 0) → MatchBool test Holds Fails
+    → MatchBool test Holds' Fails' → (Holds → Holds' → C) → (Fails → Fails' → C) → C
+on_both_tests true Holds Holds' Fails Fails' h h' holds fails = holds h h'
+on_both_tests false Holds Holds' Fails Fails' h h' holds fails = fails h h'
+
+-- the last cause of a request is want of memory
 record Wants {V E : Type 0} (e : Request V E) : Type 0 where
   wants : (cause : E) → e.refuses cause → IsOtherFailure (e.notice cause) → ⊥
 
@@ -50,9 +32,8 @@ module _ {S : Type 0} {rules : Rules S} (once : IsDeterministic rules) where
           → IsFirstCause e m late cause' → IsOtherFailure (e.notice cause') → cause ≡ cause'
       first_cause (Some c) cause cause' first other first' other' = first ∙ sym first'
       first_cause None cause cause' first other first' other' =
-          on_test (covers m (optional_due m e.price)) _ _ first (λ refuses. absurd (want.wants cause refuses other))
-          (λ unpaid. on_test (covers m (optional_due m e.price)) _ _ first'
-          (λ refuses. absurd (want.wants cause' refuses other')) (λ unpaid'. unpaid ∙ sym unpaid'))
+          on_both_tests (covers m (optional_due m e.price)) _ _ _ _ first first'
+          (λ refuses refuses'. absurd (want.wants cause refuses other)) (λ unpaid unpaid'. unpaid ∙ sym unpaid')
 
       -- where nothing else refuses, memory does
       refused_at : (late : Option E) (cause : E) → late ≡ None → covers m (optional_due m e.price) ≡ true
@@ -254,17 +235,9 @@ table_growth_same : {S : Type 0} {rules : Rules S} → IsDeterministic rules
     → GrowsTableCharging (never_out_of_memory rules) n init s result' charge' s''
     → (result ≡ result') × (charge ≡ charge') × (s' ≡ s'')
 table_growth_same {rules = rules} once n init s result result' charge charge' s' s'' a b =
-    by_type (same_type s.value.ty.element init.ty) a b
-  where
-    by_type : (same : Bool)
-        → MatchBool same (table.GrowsTableRawCharging (never_out_of_memory rules) n init.raw s result charge
-        s') ((result ≡ Err TableError.ElementTypeMismatch) × (charge ≡ 0) × (s' ≡ s))
-        → MatchBool same (table.GrowsTableRawCharging (never_out_of_memory rules) n init.raw s result' charge' s'')
-        ((result' ≡ Err TableError.ElementTypeMismatch) × (charge' ≡ 0) × (s'' ≡ s))
-        → (result ≡ result') × (charge ≡ charge') × (s' ≡ s'')
-    by_type true h h' = grows_same once (table_growth n init.raw s.value)
-        (record { wants = λ cause lacks. table_wants cause lacks.0 }) s result result' charge charge' s' s'' h h'
-    by_type false h h' = (h.0 ∙ sym h'.0, h.1 ∙ sym h'.1, h.2 ∙ sym h'.2)
+    on_both_tests (same_type s.value.ty.element init.ty) _ _ _ _ a b
+    (grows_same once (table_growth n init.raw s.value) (record { wants = λ cause lacks. table_wants cause lacks.0 }) s
+    result result' charge charge' s' s'') (λ h h'. (h.0 ∙ sym h'.0, h.1 ∙ sym h'.1, h.2 ∙ sym h'.2))
 
 module _ {S : Type 0} (rules : Rules S) (once : IsDeterministic rules) (w : World S) (t t' : Turn) (v v' : World S)
     (room : IsNotOutOfMemory t.reply) (room' : IsNotOutOfMemory t'.reply) where

@@ -1,28 +1,26 @@
 -- What holds of each effect, and of each kind of effect.
-use Rattle.std.proofs.Common.{Bool, Err, List, None, Ok, Option, Result, Some, ap, false, inl, inr, map, refl, set, subst, sym, true, ℕ, ◌∙◌, ◌≡◌}
-use Rattle.std.proofs.lemmas.List.Elements.{All-get_or, All-push, All-set}
-use Rattle.std.proofs.lemmas.Option.{get_or_from_slice_get, slice_get_within}
-use Rattle.std.specs.Prelude.{All, MatchBool, slice_get, slice_set}
+use Rattle.std.proofs.Common.{Err, List, None, Ok, Option, Result, Some, ap, inl, inr, length, map, refl, set, subst, sym, ℕ, ◌∙◌, ◌≡◌}
+use Rattle.wasmi_machine.proofs.Common.{All-get_or, All-push, All-set, get_or_from_slice_get, slice_get_within, All, slice_get, slice_set, IsNotOutOfMemory, ActsAt, AddsEntry, AddsItem, ChangesAt, ChangesFound, ChangesItem, Creates, DropsAt, DropsContents, IfNoRoom, OnLive, reply_of, live_at, slot_count, IsValidSlot, Change, Reply, Slot, Gone, Live, Denied, Failed, AttemptOutcome, Met, MeteredValue, Unasked, answer_of, value_after, with_value, Rules, Grows, Growth, Makes}
 use Rattle.wasmi_machine.proofs.SlotsLemmas.{live_slot, set_read}
 use Rattle.wasmi_machine.proofs.TotalLemmas.{counts_kept}
-use Rattle.wasmi_machine.specs.Determinism.{IsNotOutOfMemory}
 use Rattle.wasmi_machine.specs.Laws.{IsRefusal}
-use Rattle.wasmi_machine.specs.Effects.{ActsAt, AddsEntry, AddsItem, ChangesAt, ChangesFound, ChangesItem, Creates, DropsAt, DropsContents, IfNoRoom, OnLive, reply_of}
-use Rattle.wasmi_machine.specs.State.{live_at, slot_count, IsValidSlot}
-use Rattle.wasmi_machine.specs.Steps.{Change}
-use Rattle.wasmi_machine.specs.declared.calls.Reply.{Reply}
-use Rattle.wasmi_machine.specs.declared.slots.Slot.{Slot}
-use Rattle.wasmi_machine.specs.declared.slots.Slot.TheVariants.{Gone, Live}
-use Rattle.wasmi_meter.specs.Attempt.{Denied, Failed, AttemptOutcome, Met, MeteredValue, Unasked, answer_of, value_after, with_value}
-use Rattle.wasmi_meter.specs.Limiter.{Rules}
-use Rattle.wasmi_store.specs.Growth.{Grows, Growth, Makes}
 use Rattle.wasmi_machine.specs.declared.calls.Reply.TheVariants as replied
+
+-- whether an index names something live, and what it names
+pub on_found : {X C : Type 0} (o : Option X) (Missing : Type 0) (Fact : X → Type 0) → OnLive o Missing Fact
+    → (o ≡ None → Missing → C) → ((x : X) → o ≡ Some x → Fact x → C) → C
+on_found None Missing Fact h missing live = missing refl h
+on_found (Some x) Missing Fact h missing live = live x refl h
 
 -- whether an index names something live
 pub on_live : {X C : Type 0} (o : Option X) (Missing : Type 0) (Fact : X → Type 0) → OnLive o Missing Fact
     → (Missing → C) → ((x : X) → o ≡ Some x → Fact x → C) → C
-on_live None Missing Fact h missing live = missing h
-on_live (Some x) Missing Fact h missing live = live x refl h
+on_live o Missing Fact h missing live = on_found o Missing Fact h (λ none. missing) live
+
+-- a refusal leaves what a relation changes
+abbrev pub LeavesRefused : {A : Type 0} → (A → Reply → A → Type 0) → Type 0
+LeavesRefused {A} Becomes =
+    (part : A) (reply : Reply) (part' : A) → IsRefusal reply → Becomes part reply part' → part' ≡ part
 
 -- two facts of one live value, or of none
 pub both_live : {X : Type 0} (o : Option X) (Missing Missing' : Type 0) (Fact Fact' : X → Type 0)
@@ -60,20 +58,17 @@ module _ {X : Type 0} where
       found_back (slice_get items k) (slice_set items k) items reply items' Change (set_read items k) same changes
 
   -- a refused addition of an item leaves the list
-  pub adds_back : (Lacks : Type 0) (x : X) (items : List X) (reply : Reply) (items' : List X) → IsRefusal reply
-      → AddsItem Lacks x items reply items' → items' ≡ items
+  pub adds_back : (Lacks : Type 0) (x : X) → LeavesRefused (AddsItem Lacks x)
   adds_back Lacks x items reply items' refused (inl none) = none.1
   adds_back Lacks x items reply items' refused (inr made) = absurd (rw made.0 at refused)
 
   -- a refused drop of what an item has leaves the list
-  pub contents_back : (without : X → X) (k : ℕ) (items : List X) (reply : Reply) (items' : List X) → IsRefusal reply
-      → DropsContents without k items reply items' → items' ≡ items
+  pub contents_back : (without : X → X) (k : ℕ) → LeavesRefused (DropsContents without k)
   contents_back without k items reply items' refused drops =
       item_back k items reply items' _ (λ x x' c. absurd (rw c.0 at refused)) drops
 
   -- a refused drop leaves the slots
-  pub drops_back : (count : X → ℕ) (k : ℕ) (slots : List (Slot X)) (reply : Reply) (slots' : List (Slot X))
-      → IsRefusal reply → DropsAt count k slots reply slots' → slots' ≡ slots
+  pub drops_back : (count : X → ℕ) (k : ℕ) → LeavesRefused (DropsAt count k)
   drops_back count k slots reply slots' refused drops =
       on_live (live_at slots k) _ _ drops (λ missing. missing.1) (λ x found h. absurd (rw h.0 at refused))
 
@@ -108,6 +103,16 @@ module _ {E : Type 0} (refusal : E → Reply) where
         → Grows rules g s result charge s' → s'.value ≡ s.value
     grows_back result refused (inl none) = ap (λ (t : MeteredValue V S). t.value) none.same
     grows_back result refused (inr some) = attempt_back some.outcome (rw some.answered at refused) some.attempt.value
+
+-- a refused call with a charge leaves the slots, if it leaves what it acts on
+pub acts_back : {X R S : Type 0} (k : ℕ) (reply_to : R → Reply)
+    (Acts : MeteredValue X S → R → ℕ → MeteredValue X S → Type 0)
+    → ((s s' : MeteredValue X S) (charge : ℕ) (result : R) → IsRefusal (reply_to result) → Acts s result charge s'
+    → s'.value ≡ s.value) → (s s' : MeteredValue (List (Slot X)) S) (reply : Reply) (charge : ℕ) → IsRefusal reply
+    → ActsAt k reply_to Acts s reply charge s' → s'.value ≡ s.value
+acts_back {X} {R} {S} k reply_to Acts back s s' reply charge refused acts = on_live (live_at s.value k) _ _ acts
+    (λ missing. ap (λ (t : MeteredValue (List (Slot X)) S). t.value) missing.2)
+    (λ x found a. a.4 ∙ put_back s.value k x a.1 found (back _ _ charge a.0 (rw a.3 at refused) a.2))
 
 -- two facts of one live value, or of none
 pub on_both : {X C : Type 0} (o : Option X) (Missing Missing' : Type 0) (Fact Fact' : X → Type 0)
@@ -322,8 +327,62 @@ pub on_live_too : {X : Type 0} (o : Option X) (Missing Missing' : Type 0) (Fact 
 on_live_too None Missing Missing' Fact Fact' missing live h = missing h
 on_live_too (Some x) Missing Missing' Fact Fact' missing live h = live x h
 
--- facts by a test, from others by it
-pub on_test_too : (test : Bool) (Holds Holds' Fails Fails' : Type 0) → (Holds → Holds') → (Fails → Fails')
-    → MatchBool test Holds Fails → MatchBool test Holds' Fails'
-on_test_too true Holds Holds' Fails Fails' holds fails h = holds h
-on_test_too false Holds Holds' Fails Fails' holds fails h = fails h
+-- ---- a value is put, or it is refused
+
+-- what holds of a change of slots: a refused one leaves them, it is decided, and it keeps the sizes and validity
+pub record SlotFacts {X : Type 0} (count : X → ℕ) (Valid : X → Type 0)
+    (Becomes : List (Slot X) → Reply → List (Slot X) → Type 0) : Type 0 where
+  pub back : LeavesRefused Becomes
+  pub same : (slots : List (Slot X)) → IsDecided (Becomes slots)
+  pub kept : (slots : List (Slot X)) (reply : Reply) (slots' : List (Slot X)) → Becomes slots reply slots'
+      → map (slot_count count) slots' ≡ map (slot_count count) slots
+  pub valid : (slots : List (Slot X)) (reply : Reply) (slots' : List (Slot X)) → Becomes slots reply slots'
+      → AllValid Valid slots → AllValid Valid slots'
+
+-- items are put into a value, or they are refused with this error, and the value is the same
+abbrev pub PutsOr : {X E : Type 0} → Option (List ℕ) → (List ℕ → X) → E → X → Result (Unit {0}) E → X → Type 0
+PutsOr written put error x result x' =
+    OnLive written ((result ≡ Err error) × (x' ≡ x)) (λ items. (result ≡ Ok tt) × (x' ≡ put items))
+
+-- a change by which items are put into a value, as many as it has, or are refused
+module _ {X E : Type 0} (count : X → ℕ) (Valid : X → Type 0) (refusal : E → Reply)
+    (Sets : X → Result (Unit {0}) E → X → Type 0) (written : X → Option (List ℕ)) (put : X → List ℕ → X) (error : X → E)
+    (puts : (x : X) (result : Result (Unit {0}) E) (x' : X) → Sets x result x'
+    → PutsOr (written x) (put x) (error x) x result x')
+    (long : (x : X) (items : List ℕ) → written x ≡ Some items → length items ≡ count x)
+    (keeps : (x : X) (items : List ℕ) → length items ≡ count x
+    → (count (put x items) ≡ count x) × (Valid x → Valid (put x items))) where
+  -- it, with its reply
+  abbrev Setting : Reply → X → X → Type 0
+  Setting reply x x' = (result : Result (Unit {0}) E) × Sets x result x'
+      × (reply ≡ reply_of (λ _. replied.Done) refusal result)
+
+  -- a refused one leaves the value
+  setting_back : (reply : Reply) → IsRefusal reply → (x x' : X) → Setting reply x x' → x' ≡ x
+  setting_back reply refused x x' c = on_live (written x) _ _ (puts x c.0 x' c.1) (λ none. none.1)
+      (λ items is done. absurd (rw (c.2, done.0) at refused))
+
+  -- two are one
+  setting_once : ChangesOnce Setting
+  setting_once x reply reply' x' x'' c c' =
+      let both : (c.0 ≡ c'.0) × (x' ≡ x'') = on_both (written x) _ _ _ _ (puts x c.0 x' c.1) (puts x c'.0 x'' c'.1)
+      (λ h h'. (h.0 ∙ sym h'.0, h.1 ∙ sym h'.1)) (λ items h h'. (h.0 ∙ sym h'.0, h.1 ∙ sym h'.1)) in
+      (c.2 ∙ ap (reply_of (λ _. replied.Done) refusal) both.0 ∙ sym c'.2, both.1)
+
+  -- it keeps the count and validity
+  setting_kept : (reply : Reply) (x x' : X) → Setting reply x x' → (count x' ≡ count x) × (Valid x → Valid x')
+  setting_kept reply x x' c = on_live (written x) _ _ (puts x c.0 x' c.1)
+      (λ none. (ap count none.1, λ valid. subst Valid (sym none.1) valid))
+      (λ items is done. subst (λ y. (count y ≡ count x) × (Valid x → Valid y)) (sym done.1) (keeps x items (long x items is)))
+
+  -- so a change of a slot by it
+  pub setting_facts : (k : ℕ)
+      → SlotFacts count Valid (λ slots reply slots'. ChangesAt k slots reply slots' (Setting reply))
+  setting_facts k = record {
+    back = λ slots reply slots' refused. changes_back k slots reply slots' (Setting reply) (setting_back reply refused);
+    same = λ slots. slot_same k slots Setting setting_once;
+    kept = λ slots reply slots'. changes_kept count k slots reply slots' (Setting reply)
+        (λ x x' c. (setting_kept reply x x' c).0);
+    valid = λ slots reply slots'. changes_valid Valid k slots reply slots' (Setting reply)
+        (λ x x' valid c. (setting_kept reply x x' c).1 valid);
+  }

@@ -1,42 +1,13 @@
 -- What passes between a machine and its limiter in each turn, what has grown by it, and what was charged for it.
 use Rattle.std.proofs.Common.{Bool, Err, List, None, Ok, Option, Result, Some, [], ap, arith, false, inl, inr, length, map, refl, replicate, subst, sym, true, ℕ, ◌*◌, ◌++◌, ◌+◌, ◌-◌, ◌<◌, ◌∙◌, ◌∷◌, ◌≡◌, ◌≢◌, ◌≤◌, ◌⊎◌}
-use Rattle.std.proofs.lemmas.Bool.Decides.{nat_tests}
-use Rattle.std.proofs.lemmas.List.{length-append, length-replicate, map_push}
-use Rattle.std.proofs.lemmas.Option.{none-some, same_Some}
-use Rattle.std.specs.Option.{option_and_then}
-use Rattle.std.specs.Prelude.{MatchBool, if◌then◌else◌, is_none, nat_eq, slice_get, slice_set, ◌&&◌}
+use Rattle.wasmi_machine.proofs.Common.{nat_tests, length-append, length-replicate, map-set, map_push, none-some, same_Some, option_and_then, MatchBool, if◌then◌else◌, is_none, nat_eq, slice_get, slice_set, ◌&&◌, CustomFuelCosts, IsOtherFailure, AsksFor, At, Denial, Exchange, Exchanges, GrowsAsAsked, GrowsBy, New, Nothing, NothingGrows, Notice, Nowhere, Passes, Permission, Place, RepliesTo, charge_at, writing_price, failed_charge, failed_reply, growth_charge, growth_due, growth_question, place_of, question_in, question_of, table_growth_question, writing_charge, RunsGrowAsPermitted, CreatesLent, ActsAt, AddsEntry, Creates, reply_of, MemoryPart, live_at, memory_part, byte_count, sizes, slot_count, Turn, World, Changed, Effect, FuelSet, LentMemoryMade, MemoryGrown, MemoryMade, RangeWritten, Step, TableGrown, TableMade, HasEffect, effect_of, Grows, Growth, Makes, metered_value, Call, GrowMemory, GrowTable, NewLentMemory, NewMemory, NewTable, Reply, Slot, Live, AttemptOutcome, Denied, Failed, Follows, IsFirstCause, MayEnd, Met, MeteredValue, Request, Unasked, answer_of, covers, error_of_answer, error_of_failure, optional_due, outcome_charge, value_after, copy_cost, Meter, due, Failure, MemoryFailure, NoticeAnswer, Question, Rules, TableFailure, kind_of, MemoryError, TableError, Kind, Bytes, Elements, LacksMemory, Lent, Owned, Room, fits_room, GrowsMemoryCharging, MakesMemory, MemoryValue, new_memory, MemoryTypeValue, minimum_bytes, page_bytes, GrowsTableCharging, MakesTable, TableValue, new_table, size_of, TableTypeValue, is_within_maximum, same_type, TypedRawRef, memory_growth, table_growth}
+use Rattle.wasmi_machine.proofs.EffectLemmas.{on_found}
 use Rattle.wasmi_machine.proofs.AccountLemmas.{step_meter}
-use Rattle.wasmi_meter.specs.declared.fuel.CustomFuelCosts.{CustomFuelCosts}
 use Rattle.wasmi_machine.proofs.RangeLemmas.{range_charge, range_price, range_still, range_unasked}
 use Rattle.wasmi_machine.proofs.StepsLemmas.{change_facts}
-use Rattle.wasmi_machine.proofs.TotalLemmas.{count_at, counts_kept, counts_set}
+use Rattle.wasmi_machine.proofs.TotalLemmas.{count_at, counts_kept, each_kind}
 use Rattle.wasmi_machine.proofs.StoreLemmas.{each_turn}
-use Rattle.wasmi_machine.specs.Determinism.{IsOtherFailure}
-use Rattle.wasmi_machine.specs.Exchange.{AsksFor, At, Denial, Exchange, Exchanges, GrowsAsAsked, GrowsBy, New, Nothing, NothingGrows, Notice, Nowhere, Passes, Permission, Place, RepliesTo, charge_at, writing_price, failed_charge, failed_reply, growth_charge, growth_due, growth_question, place_of, question_in, question_of, table_growth_question, writing_charge}
-use Rattle.wasmi_machine.specs.Laws.{RunsGrowAsPermitted}
-use Rattle.wasmi_machine.specs.MemoryEffects.{CreatesLent}
-use Rattle.wasmi_machine.specs.Effects.{ActsAt, AddsEntry, Creates, OnLive, reply_of}
-use Rattle.wasmi_machine.specs.State.{MemoryPart, State, live_at, memory_part, byte_count, sizes, slot_count, IsRefusal, Turn, World}
-use Rattle.wasmi_machine.specs.Steps.{Changed, Effect, FuelSet, LentMemoryMade, MemoryGrown, MemoryMade, RangeWritten, Step, TableGrown, TableMade, HasEffect, effect_of}
-use Rattle.wasmi_store.specs.Growth.{Grows, Growth, Makes, metered_value}
-use Rattle.wasmi_machine.specs.declared.calls.Call.{Call}
-use Rattle.wasmi_machine.specs.declared.calls.Call.TheVariants.{GrowMemory, GrowTable, NewLentMemory, NewMemory, NewTable}
-use Rattle.wasmi_machine.specs.declared.calls.Reply.{Reply}
-use Rattle.wasmi_machine.specs.declared.slots.Slot.{Slot}
-use Rattle.wasmi_machine.specs.declared.slots.Slot.TheVariants.{Live}
-use Rattle.wasmi_meter.specs.Attempt.{AttemptOutcome, Denied, Failed, Follows, IsFirstCause, MayEnd, Met, MeteredValue, Request, Unasked, answer_of, covers, error_of_answer, error_of_failure, optional_due, outcome_charge, value_after}
-use Rattle.wasmi_meter.specs.Meter.{copy_cost, Meter, due}
-use Rattle.wasmi_meter.specs.Limiter.{Failure, MemoryFailure, NoticeAnswer, Question, Rules, TableFailure, kind_of}
-use Rattle.wasmi_meter.specs.declared.error.MemoryError.{MemoryError}
-use Rattle.wasmi_meter.specs.declared.error.TableError.{TableError}
-use Rattle.wasmi_meter.specs.declared.limiter.Kind.{Kind}
-use Rattle.wasmi_meter.specs.declared.limiter.Kind.TheVariants.{Bytes, Elements}
-use Rattle.wasmi_store.specs.Buffer.{LacksMemory, Lent, Owned, Room, fits_room}
-use Rattle.wasmi_store.specs.Memory.{GrowsMemoryCharging, MakesMemory, MemoryValue, new_memory, MemoryTypeValue, minimum_bytes, page_bytes}
-use Rattle.wasmi_store.specs.Table.{GrowsTableCharging, MakesTable, TableValue, new_table, size_of, TableTypeValue, is_within_maximum, same_type}
-use Rattle.wasmi_typed.specs.declared.typed_ref.TypedRawRef.{TypedRawRef}
-use Rattle.wasmi_machine.proofs.MemoryEffectsLemmas.{memory_growth}
-use Rattle.wasmi_machine.proofs.TableEffectsLemmas.{table_growth}
+use Rattle.wasmi_machine.specs.State.{IsRefusal}
 use Rattle.wasmi_store.specs.Memory as memory
 use Rattle.wasmi_store.specs.Table as table
 use Rattle.wasmi_machine.specs.declared.calls.Reply.TheVariants as replied
@@ -45,16 +16,8 @@ use Rattle.wasmi_meter.specs.declared.error.TableError.TheVariants as table_erro
 
 -- what holds of one kind, and of the other, holds of each
 of_each : (P : Kind → Type 0) (one : Kind) → P one → ((kind : Kind) → kind ≢ one → P kind) → (kind : Kind) → P kind
-of_each P Bytes own others Bytes = own
-of_each P Bytes own others Elements = others Elements (λ e. cc)
-of_each P Elements own others Bytes = others Bytes (λ e. cc)
-of_each P Elements own others Elements = own
-
--- whether an index names something live, and what it names
-on_found : {X C : Type 0} (o : Option X) (Missing : Type 0) (Fact : X → Type 0) → OnLive o Missing Fact
-    → (o ≡ None → Missing → C) → ((x : X) → o ≡ Some x → Fact x → C) → C
-on_found None Missing Fact h missing live = missing refl h
-on_found (Some x) Missing Fact h missing live = live x refl h
+of_each P Bytes own others = each_kind P own (others Elements (λ e. cc))
+of_each P Elements own others = each_kind P (others Bytes (λ e. cc)) own
 
 -- a test, with what it found
 on_tested : {C : Type 0} (test : Bool) (Holds Fails : Type 0) → MatchBool test Holds Fails
@@ -62,24 +25,17 @@ on_tested : {C : Type 0} (test : Bool) (Holds Fails : Type 0) → MatchBool test
 on_tested true Holds Fails h holds fails = holds refl h
 on_tested false Holds Fails h holds fails = fails refl h
 
--- what is asked where no cause is found before the question
-question_unrefused : {V E : Type 0} (e : Request V E) → e.early ≡ None → question_in e ≡ Some e.question
-question_unrefused {E = E} e early = ap (λ (o : Option E). if is_none o then Some e.question else None) early
-
--- nothing is asked where a cause is found before the question
-no_question_refused : {V E : Type 0} (e : Request V E) (cause : E) → e.early ≡ Some cause → question_in e ≡ None
-no_question_refused {E = E} e cause early = ap (λ (o : Option E). if is_none o then Some e.question else None) early
-
--- whether a growth is by some
-question_by_test : {V E : Type 0} (amount : ℕ) (e : Request V E) (none : Bool) → nat_eq amount 0 ≡ none → 0 < amount
-    → (if none then None else question_in e) ≡ question_in e
-question_by_test amount e true is some = absurd (grind (arith, nat_tests, is, some))
-question_by_test amount e false is some = refl
+-- what is asked, where no cause is found before the question
+question_unrefused : {V E : Type 0} (e : Request V E) (early : Option E) → e.early ≡ early
+    → question_in e ≡ (if is_none early then Some e.question else None)
+question_unrefused {E = E} e early = ap (λ (o : Option E). if is_none o then Some e.question else None)
 
 -- a growth by some asks what its request does
 growth_question_by_request : {V E : Type 0} (amount : ℕ) (e : Request V E) → 0 < amount
     → growth_question amount e ≡ question_in e
-growth_question_by_request amount e some = question_by_test amount e (nat_eq amount 0) refl some
+growth_question_by_request amount e some =
+    let none : nat_eq amount 0 ≡ false = grind (arith, nat_tests, some) in
+    ap (λ b. if b then None else question_in e) none
 
 -- what a limiter is told of is want of memory, and then a price is charged, or it isn't, and then nothing is
 abbrev pub IsOutOfMemoryOrFree : Failure → Type 0
@@ -140,24 +96,20 @@ module _ {V E : Type 0} (e : Request V E) (m : Meter) (charge : ℕ) (priced : I
       charged ∙ sym (subst (λ x. failed_charge (e.notice x) (growth_due m e.question) ≡ 0) (sym first)
       (priced.late c is (growth_due m e.question)))
   failed_charged cause None is true enough first charged =
-      let due = optional_due (Some m) e.price in
-      let wants : e.refuses cause = subst (λ b. MatchBool b (e.refuses cause) (cause ≡ e.unpaid due)) enough first in
-      charged ∙ priced.price ∙ sym (priced.refuses cause wants (growth_due m e.question))
+      charged ∙ priced.price ∙ sym (priced.refuses cause (rw enough at first) (growth_due m e.question))
   failed_charged cause None is false enough first charged =
       let due = optional_due (Some m) e.price in
-      let short : cause ≡ e.unpaid due = subst (λ b. MatchBool b (e.refuses cause) (cause ≡ e.unpaid due)) enough first
-      in
+      let short : cause ≡ e.unpaid due = rw enough at first in
       charged ∙ sym (subst (λ x. failed_charge (e.notice x) (growth_due m e.question) ≡ 0) (sym short)
       (priced.unpaid due (growth_due m e.question)))
 
   -- the charge of a growth, by its outcome
   charged_by_outcome : (outcome : AttemptOutcome E) → MayEnd e (Some m) outcome
       → charge ≡ outcome_charge e (Some m) outcome → charge ≡ growth_charge (exchange_of e outcome) m
-  charged_by_outcome (Unasked cause) may charged = charged
-  charged_by_outcome (Denied answer) may charged = charged
   charged_by_outcome Met may charged = charged ∙ priced.price
   charged_by_outcome (Failed cause notice_answer) may charged =
       failed_charged cause e.late refl (covers (Some m) (optional_due (Some m) e.price)) refl may.1 charged
+  charged_by_outcome outcome may charged = charged
 
 -- an attempt that may end so asks what the call does, and what came of it is the reply
 record IsAnswered {S V E : Type 0} (t : Meeting S) (e : Request V E) (meter : Option Meter)
@@ -197,10 +149,8 @@ module _ {S : Type 0} (rules : Rules S) (t : Meeting S) (place : Place) where
       (others : (kind : Kind) → kind ≢ e.question.kind → t.after kind ≡ t.before kind) where
     -- the sizes of the kind after it
     abbrev GrowsByOutcome : AttemptOutcome E → Type 0
-    GrowsByOutcome (Unasked cause) = t.after e.question.kind ≡ t.before e.question.kind
-    GrowsByOutcome (Denied answer) = t.after e.question.kind ≡ t.before e.question.kind
     GrowsByOutcome Met = GrowsAsAsked place e.question (t.before e.question.kind) (t.after e.question.kind)
-    GrowsByOutcome (Failed cause notice_answer) = t.after e.question.kind ≡ t.before e.question.kind
+    GrowsByOutcome outcome = t.after e.question.kind ≡ t.before e.question.kind
 
     -- the kind that is watched stays too
     still : t.after e.question.kind ≡ t.before e.question.kind → NothingGrows t.before t.after
@@ -211,10 +161,10 @@ module _ {S : Type 0} (rules : Rules S) (t : Meeting S) (place : Place) where
         → Follows e rules t.first outcome t.last → GrowsByOutcome outcome
         → IsCharged place (exchange_of e outcome) t.meter t.charge → Passed
     attempt_passes meter (Unasked cause) is follows own charged =
-        nothing_passes (inl (is.asks ∙ no_question_refused e cause is.may_end)) follows (still own) charged
+        nothing_passes (inl (is.asks ∙ question_unrefused e (Some cause) is.may_end)) follows (still own) charged
     attempt_passes meter (Denied answer) is follows own charged = record {
       exchange = Denial e.question answer;
-      asks = is.asks ∙ question_unrefused e is.may_end.0;
+      asks = is.asks ∙ question_unrefused e None is.may_end.0;
       passes = (is.may_end.1, follows);
       replies = is.replies;
       grows = still own;
@@ -222,7 +172,7 @@ module _ {S : Type 0} (rules : Rules S) (t : Meeting S) (place : Place) where
     }
     attempt_passes meter Met is follows own charged = record {
       exchange = Permission e.question;
-      asks = is.asks ∙ question_unrefused e is.may_end.0;
+      asks = is.asks ∙ question_unrefused e None is.may_end.0;
       passes = follows;
       replies = is.replies;
       grows = (own, others);
@@ -230,7 +180,7 @@ module _ {S : Type 0} (rules : Rules S) (t : Meeting S) (place : Place) where
     }
     attempt_passes meter (Failed cause notice_answer) is follows own charged = record {
       exchange = Notice e.question (e.notice cause) notice_answer;
-      asks = is.asks ∙ question_unrefused e is.may_end.0;
+      asks = is.asks ∙ question_unrefused e None is.may_end.0;
       passes = (tells cause, follows.0, follows.1, follows.2);
       replies = is.replies;
       grows = still own;
@@ -301,17 +251,13 @@ module _ {S X : Type 0} (rules : Rules S) (v : Watch S X) where
     made_sizes : (refusal : E → Reply) (outcome : AttemptOutcome E) (reply : Reply)
         → AddsEntry Live refusal (answer_of e made outcome) v.slots reply v.later
         → GrowsByOutcome rules v.meeting New e new.tells watched.others outcome
-    made_sizes refusal (Unasked cause) reply appends =
-        watched.own' ∙ ap (map (slot_count v.count)) appends.1 ∙ sym watched.own
-    made_sizes refusal (Denied answer) reply appends =
-        watched.own' ∙ ap (map (slot_count v.count)) appends.1 ∙ sym watched.own
     made_sizes refusal Met reply appends = (
       new.fresh,
       watched.own' ∙ ap (map (slot_count v.count)) appends.1 ∙ map_push (slot_count v.count) v.slots (Live made)
           ∙ ap (λ n. map (slot_count v.count) v.slots ++ n ∷ []) new.full
           ∙ ap (λ (ns : List ℕ). ns ++ e.question.desired ∷ []) (sym watched.own),
     )
-    made_sizes refusal (Failed cause notice_answer) reply appends =
+    made_sizes refusal outcome reply appends =
         watched.own' ∙ ap (map (slot_count v.count)) appends.1 ∙ sym watched.own
 
     -- the reply to it
@@ -348,17 +294,15 @@ module _ {S X : Type 0} (rules : Rules S) (v : Watch S X) where
     -- the sizes after it, by its outcome
     grown_sizes : (outcome : AttemptOutcome E) → x' ≡ value_after g.request x outcome
         → GrowsByOutcome rules v.meeting (At k) g.request growth.tells watched.others outcome
-    grown_sizes (Unasked cause) same = unchanged same
-    grown_sizes (Denied answer) same = unchanged same
     grown_sizes Met same = (
       growth.up,
       ap (λ (ns : List ℕ). slice_get ns k) watched.own ∙ count_at v.count v.slots k x replaced.found
           ∙ ap Some (sym growth.now),
-      watched.own' ∙ ap (map (slot_count v.count)) replaced.put ∙ counts_set v.count v.slots k (Live x')
+      watched.own' ∙ ap (map (slot_count v.count)) replaced.put ∙ map-set (slot_count v.count) v.slots k (Live x')
           ∙ ap (slice_set (map (slot_count v.count) v.slots) k) (ap v.count same ∙ growth.full)
           ∙ ap (λ (ns : List ℕ). slice_set ns k g.request.question.desired) (sym watched.own),
     )
-    grown_sizes (Failed cause notice_answer) same = unchanged same
+    grown_sizes outcome same = unchanged same
 
     -- the exchange of a growth
     grows_passes : (m' : Meter) (result : Result ℕ E) → IsReplied v g growth.refusal result
@@ -394,16 +338,6 @@ module _ {S X : Type 0} (rules : Rules S) (v : Watch S X) where
       (ap (λ (s : MeteredValue (List (Slot X)) S). map (slot_count v.count) s.value) missing.2) missing.1)
       (λ x found h. passes x h.1 h.0 (record { found = found; put = h.4 }) (is ∙ ap (option_and_then asked) found) h.3
       h.2)
-
--- what holds of the other kind
-but_bytes : (P : Kind → Type 0) → P Elements → (kind : Kind) → kind ≢ Bytes → P kind
-but_bytes P elements Bytes other = absurd (other refl)
-but_bytes P elements Elements other = elements
-
--- and the other way round
-but_elements : (P : Kind → Type 0) → P Bytes → (kind : Kind) → kind ≢ Elements → P kind
-but_elements P bytes Bytes other = bytes
-but_elements P bytes Elements other = absurd (other refl)
 
 -- what is due for a difference, as it is for what was added
 due_again : (m : Meter) (bytes old added : ℕ)
@@ -547,7 +481,8 @@ module _ {S : Type 0} (rules : Rules S) (w : World S) (turn : Turn) (w' : World 
     memories_watched same = record {
       own = refl;
       own' = refl;
-      others = but_bytes (λ kind. sizes w'.state kind ≡ sizes w.state kind) (ap (map (slot_count size_of)) same);
+      others = each_kind (λ kind. kind ≢ Bytes → sizes w'.state kind ≡ sizes w.state kind) (λ other. absurd (other refl))
+          (λ other. ap (map (slot_count size_of)) same);
     }
 
     -- its tables, where the memories stay
@@ -555,7 +490,8 @@ module _ {S : Type 0} (rules : Rules S) (w : World S) (turn : Turn) (w' : World 
     tables_watched same = record {
       own = refl;
       own' = refl;
-      others = but_elements (λ kind. sizes w'.state kind ≡ sizes w.state kind) (ap (map (slot_count byte_count)) same);
+      others = each_kind (λ kind. kind ≢ Elements → sizes w'.state kind ≡ sizes w.state kind)
+          (λ other. ap (map (slot_count byte_count)) same) (λ other. absurd (other refl));
     }
 
     -- a memory is made
@@ -630,33 +566,14 @@ module _ {S : Type 0} (rules : Rules S) (w : World S) (turn : Turn) (w' : World 
       (ap (λ (s : MeteredValue TableValue S). s.limiter) h.2) (same_count rules watch k x x' replaced
       (ap (λ (s : MeteredValue TableValue S). size_of s.value) h.2)) h.1)) acts
 
--- where an effect makes something grow
-abbrev place_by : Effect → Place
-place_by (MemoryMade ty) = New
-place_by (LentMemoryMade ty) = New
-place_by (MemoryGrown k pages) = At k
-place_by (TableMade ty init) = New
-place_by (TableGrown k n init) = At k
-place_by effect = Nowhere
-
--- what it asks
-abbrev question_by : State → Effect → Option Question
-question_by s (MemoryMade ty) = question_of s (NewMemory ty)
-question_by s (LentMemoryMade ty) = question_of s (NewLentMemory ty)
-question_by s (MemoryGrown k pages) = question_of s (GrowMemory k pages)
-question_by s (TableMade ty init) = question_of s (NewTable ty init)
-question_by s (TableGrown k n init) = question_of s (GrowTable k n init)
-question_by s effect = None
-
--- the place of an effect is that of its call
-same_place : (s : State) (call : Call) → place_by (effect_of s call) ≡ place_of call
-same_place s (NewMemory ty) = refl
-same_place s call = refl
-
--- the question of an effect is that of its call
-same_question : (s : State) (call : Call) → question_by s (effect_of s call) ≡ question_of s call
-same_question s (NewMemory ty) = refl
-same_question s call = refl
+-- an effect makes nothing grow
+abbrev GrowsNothing : Effect → Type 0
+GrowsNothing (MemoryMade ty) = ⊥
+GrowsNothing (LentMemoryMade ty) = ⊥
+GrowsNothing (MemoryGrown k pages) = ⊥
+GrowsNothing (TableMade ty init) = ⊥
+GrowsNothing (TableGrown k n init) = ⊥
+GrowsNothing effect = Unit {0}
 
 -- nothing is charged where nothing is paid for
 free_writing : (m : Meter) (reply : Reply) → writing_charge m None reply ≡ 0
@@ -668,74 +585,75 @@ abbrev price_by : Effect → Option (CustomFuelCosts → ℕ)
 price_by (RangeWritten write) = range_price write
 price_by effect = None
 
--- what it is charged, unless it is a growth
-abbrev IsChargedForWriting : Effect → Meter → Reply → ℕ → Type 0
-IsChargedForWriting (MemoryGrown k pages) m reply charge = Unit {0}
-IsChargedForWriting (TableGrown k n init) m reply charge = Unit {0}
-IsChargedForWriting effect m reply charge = charge ≡ writing_charge m (price_by effect) reply
-
--- the charge of an effect is that of the call
-same_charge : (s : State) (call : Call) (exchange : Exchange) (m : Meter) (reply : Reply) (charge : ℕ)
-    → IsCharged (place_by (effect_of s call)) exchange m charge → IsChargedForWriting (effect_of s call) m reply charge
-    → charge ≡ charge_at (place_of call) exchange m (writing_charge m (writing_price call) reply)
-same_charge s (NewMemory ty) exchange m reply charge charged writing = charged
-same_charge s (NewLentMemory ty) exchange m reply charge charged writing = charged
-same_charge s (GrowMemory k pages) exchange m reply charge charged writing = charged
-same_charge s (NewTable ty init) exchange m reply charge charged writing = charged
-same_charge s (GrowTable k n init) exchange m reply charge charged writing = charged
-same_charge s call exchange m reply charge charged writing = writing
-
 module _ {S : Type 0} (rules : Rules S) (w : World S) (turn : Turn) (w' : World S) where
-  -- each effect
-  effect_passes : (effect : Effect) → HasEffect rules effect w turn w'
-      → Passed rules (meeting_of w turn (question_by w.state effect) w') (place_by effect)
-  effect_passes (FuelSet fuel) step =
-      idle rules w turn w' step.after refl (λ kind. ap (λ t. sizes t kind) step.effect.1)
-  effect_passes (Changed change) step = idle rules w turn w' step.after refl
-      ((change_facts w.state change).still turn.reply step.machine step.effect)
-  effect_passes (MemoryMade ty) step = memory_made rules w turn w' (question_of w.state (NewMemory ty))
-      (ap (λ (v : World S). v.state.tables) step.after) step.free.0 Owned ty refl (rw step.after step.effect)
-  effect_passes (LentMemoryMade ty) step =
-      lent_made rules w turn w' (ap (λ (v : World S). v.state.tables) step.after) step.free.0 ty
-      (rw step.after step.effect)
-  effect_passes (MemoryGrown k pages) step =
-      memory_grows rules w turn w' (ap (λ (v : World S). v.state.tables) step.after) k pages step.meter
-      (rw step.after step.effect)
-  effect_passes (TableMade ty init) step =
-      table_made rules w turn w' (ap (λ (v : World S). v.state.memories) step.after) step.free.0 ty init
-      (rw step.after step.effect)
-  effect_passes (TableGrown k n init) step =
-      table_grows rules w turn w' (ap (λ (v : World S). v.state.memories) step.after) k n init step.meter
-      (rw step.after step.effect)
-  effect_passes (RangeWritten write) step =
-      idle rules w turn w' refl (range_unasked w write turn w' step) (range_still w write turn w' step)
-  effect_passes effect step = idle rules w turn w' step.after refl (λ kind. refl)
+  -- each effect that makes nothing grow
+  effect_idles : (effect : Effect) → GrowsNothing effect → HasEffect rules effect w turn w'
+      → Passed rules (meeting_of w turn None w') Nowhere
+      × (turn.charge ≡ writing_charge w.state.meter (price_by effect) turn.reply)
+  effect_idles (MemoryMade ty) nothing step = absurd nothing
+  effect_idles (LentMemoryMade ty) nothing step = absurd nothing
+  effect_idles (MemoryGrown k pages) nothing step = absurd nothing
+  effect_idles (TableMade ty init) nothing step = absurd nothing
+  effect_idles (TableGrown k n init) nothing step = absurd nothing
+  effect_idles (RangeWritten write) nothing step = (
+    idle rules w turn w' refl (range_unasked w write turn w' step) (range_still w write turn w' step),
+    range_charge w write turn w' step,
+  )
+  effect_idles (FuelSet fuel) nothing step = (
+    idle rules w turn w' step.after refl (λ kind. ap (λ t. sizes t kind) step.effect.1),
+    step.free.0 ∙ sym (free_writing w.state.meter turn.reply),
+  )
+  effect_idles (Changed change) nothing step = (
+    idle rules w turn w' step.after refl ((change_facts w.state change).still turn.reply step.machine step.effect),
+    step.free.0 ∙ sym (free_writing w.state.meter turn.reply),
+  )
+  effect_idles effect nothing step = (
+    idle rules w turn w' step.after refl (λ kind. refl),
+    step.free.0 ∙ sym (free_writing w.state.meter turn.reply),
+  )
 
-  -- what it is charged, unless it is a growth
-  effect_writing : (effect : Effect) → HasEffect rules effect w turn w'
-      → IsChargedForWriting effect w.state.meter turn.reply turn.charge
-  effect_writing (MemoryGrown k pages) step = tt
-  effect_writing (TableGrown k n init) step = tt
-  effect_writing (RangeWritten write) step = range_charge w write turn w' step
-  effect_writing effect step = step.free.0 ∙ sym (free_writing w.state.meter turn.reply)
+  -- what passes in a turn by this call, and the charge
+  abbrev CallPasses : Call → Type 0
+  CallPasses call = (passed : Passed rules (meeting_of w turn (question_of w.state call) w') (place_of call))
+      × (turn.charge ≡ charge_at (place_of call) passed.exchange w.state.meter
+      (writing_charge w.state.meter (writing_price call) turn.reply))
+
+  -- each call
+  call_passes : (call : Call) → HasEffect rules (effect_of w.state call) w turn w' → CallPasses call
+  call_passes (NewMemory ty) step =
+      let passed = memory_made rules w turn w' (question_of w.state (NewMemory ty))
+      (ap (λ (v : World S). v.state.tables) step.after) step.free.0 Owned ty refl (rw step.after step.effect) in
+      (passed, passed.charged)
+  call_passes (NewLentMemory ty) step =
+      let passed = lent_made rules w turn w' (ap (λ (v : World S). v.state.tables) step.after) step.free.0 ty
+      (rw step.after step.effect) in
+      (passed, passed.charged)
+  call_passes (GrowMemory k pages) step =
+      let passed = memory_grows rules w turn w' (ap (λ (v : World S). v.state.tables) step.after) k pages step.meter
+      (rw step.after step.effect) in
+      (passed, passed.charged)
+  call_passes (NewTable ty init) step =
+      let passed = table_made rules w turn w' (ap (λ (v : World S). v.state.memories) step.after) step.free.0 ty init
+      (rw step.after step.effect) in
+      (passed, passed.charged)
+  call_passes (GrowTable k n init) step =
+      let passed = table_grows rules w turn w' (ap (λ (v : World S). v.state.memories) step.after) k n init step.meter
+      (rw step.after step.effect) in
+      (passed, passed.charged)
+  call_passes call step = effect_idles (effect_of w.state call) tt step
 
 -- each step
 pub growths_are_permitted : {S : Type 0} (rules : Rules S) (w : World S) (turn : Turn) (w' : World S)
     → Step rules w turn w' → Exchanges rules w turn w'
 growths_are_permitted rules w turn w' step =
-    let effect = effect_of w.state turn.call in
-    let passed : Passed rules (meeting_of w turn (question_by w.state effect) w') (place_by effect) =
-    effect_passes rules w turn w' effect step in
+    let (passed, charged) = call_passes rules w turn w' turn.call step in
     record {
       exchange = passed.exchange;
-      asks = subst (λ question. AsksFor question passed.exchange turn.reply) (same_question w.state turn.call)
-          passed.asks;
+      asks = passed.asks;
       passes = passed.passes;
       replies = passed.replies;
-      grows = subst (λ place. GrowsBy place passed.exchange (sizes w.state) (sizes w'.state))
-          (same_place w.state turn.call) passed.grows;
-      charged = same_charge w.state turn.call passed.exchange w.state.meter turn.reply turn.charge passed.charged
-          (effect_writing rules w turn w' effect step);
+      grows = passed.grows;
+      charged = charged;
       meter = step_meter rules w turn w' step;
     }
 

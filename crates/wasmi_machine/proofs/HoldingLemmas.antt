@@ -1,16 +1,7 @@
 -- What a limiter keeps in a run: the caps of a quota, and the totals that it holds.
-use Rattle.std.proofs.Common.{◌≡◌, ◌≢◌, ℕ, ◌+◌, ◌-◌, Option, Some, None, Result, Ok, Err, true, false, List, [], ◌∷◌, sum, refl, sym, ap, ◌∙◌, arith, subst, IfOk, OnErr, OnOk}
-use Rattle.std.proofs.lemmas.Option.{same_Some}
-use Rattle.wasmi_meter.specs.declared.limiter.Kind.{Kind}
-use Rattle.wasmi_meter.specs.declared.limiter.Kind.TheVariants.{Bytes, Elements}
+use Rattle.std.proofs.Common.{◌≡◌, ◌≢◌, ℕ, ◌+◌, ◌-◌, Option, Some, None, Result, Ok, Err, true, List, [], ◌∷◌, sum, refl, sym, ap, ◌∙◌, arith, subst, IfOk, OnErr}
+use Rattle.wasmi_machine.proofs.Common.{same_Some, Kind, Bytes, Elements, HoldsTheSame, Reserves, GivesBack, with_more, Asked, Noticed, SameCaps, IsWithinCaps, capped_quota, quota_rules, Question, Answer, IsDenial, Failure, kind_of, NoticeAnswer, Rules, AskedIf, NoticedIf, optional_rules, Call, Reply, State, World, Turn, world, sizes, HoldsTotals, Run, IsRunOf, Step, Exchange, Nothing, Denial, Permission, Notice, Place, Nowhere, New, At, place_of, Passes, NothingGrows, GrowsAsAsked, GrowsBy}
 use Rattle.wasmi_meter.specs.declared.quota.Holdings.{Holdings}
-use Rattle.wasmi_meter.specs.Capped.{HoldsTheSame, Reserves, GivesBack, with_more, without_last, Asked, Noticed, SameCaps, IsWithinCaps, capped_quota, quota_rules}
-use Rattle.wasmi_meter.specs.Limiter.{Question, Answer, IsDenial, Failure, kind_of, NoticeAnswer, Rules, optional_rules}
-use Rattle.wasmi_machine.specs.declared.calls.Call.{Call}
-use Rattle.wasmi_machine.specs.declared.calls.Reply.{Reply}
-use Rattle.wasmi_machine.specs.State.{State, World, Turn, world, sizes, HoldsTotals}
-use Rattle.wasmi_machine.specs.Steps.{Run, IsRunOf}
-use Rattle.wasmi_machine.specs.Exchange.{Exchange, Nothing, Denial, Permission, Notice, Place, Nowhere, New, At, place_of, Passes, NothingGrows, GrowsAsAsked, GrowsBy}
 use Rattle.wasmi_machine.proofs.TotalLemmas.{sum_set, sum_push}
 use Rattle.wasmi_machine.proofs.ExchangeLemmas.{growths_are_permitted}
 use Rattle.wasmi_meter.specs.declared.quota.Quota.{Quota}
@@ -20,26 +11,13 @@ use Rattle.wasmi_meter.proofs.CappedLemmas.{caps_kept, asked_is_within, noticed_
 pub denial_keeps : (q : Question) (answer : Answer) (h h' : Holdings) → IsDenial answer → Reserves q answer h h'
     → HoldsTheSame h h'
 denial_keeps q (Ok true) h h' denial reserves = absurd denial
-denial_keeps q (Ok false) h h' denial reserves = reserves
-denial_keeps q (Err error) h h' denial reserves = reserves
+denial_keeps q answer h h' denial reserves = reserves
 
 -- a difference that was added and taken back
 given_back : (kind : Kind) (n : ℕ) (h p h' : Holdings) → p ≡ with_more h kind n → GivesBack kind p h'
     → HoldsTheSame h h'
-given_back Bytes n h p h' more gives =
-    let less = gives ∙ ap (without_last Bytes) more in
-    record {
-      bytes = ap (λ (x : Holdings). x.held.bytes) less
-          ∙ omega arith;
-      elements = ap (λ (x : Holdings). x.held.elements) less;
-    }
-given_back Elements n h p h' more gives =
-    let less = gives ∙ ap (without_last Elements) more in
-    record {
-      bytes = ap (λ (x : Holdings). x.held.bytes) less;
-      elements = ap (λ (x : Holdings). x.held.elements) less
-          ∙ omega arith;
-    }
+given_back Bytes n h p h' more gives = rw (gives, more) (record { bytes = omega arith; elements = refl })
+given_back Elements n h p h' more gives = rw (gives, more) (record { bytes = refl; elements = omega arith })
 
 -- the sum after a growth
 grown_sum : (place : Place) (q : Question) (xs ys : List ℕ) → GrowsAsAsked place q xs ys
@@ -136,48 +114,68 @@ module _ {L : Type 0} (rules : Rules L) (holdings : L → Holdings) (keeps : Kee
       subst (λ k. HoldsTotals (holdings k) w'.state) (sym (same_Some w'.limiter after.0 after.1)) after.2
   run_holds items w w' calls held (Err error) ran same = rw (same.0, same.1) held
 
-  -- so a run whose replies are put into memory that is there
-  pub run_into_holds : {E : Type 0} (Same : Type 0) (replies : List Reply) (w w' : World L) (calls : List Call)
-      → HoldsTotals (holdings w.limiter) w.state → (result : Result (Unit {0}) E)
-      → OnOk result (IsRunOf (optional_rules rules) calls (world w.state (Some w.limiter)) replies
-      (world w'.state (Some w'.limiter)))
-      → OnErr result ((w'.state ≡ w.state) × (w'.limiter ≡ w.limiter) × Same)
-      → HoldsTotals (holdings w'.limiter) w'.state
-  run_into_holds {E} Same replies w w' calls held (Ok done) ran same =
-      run_holds {E = E} (λ _. replies) w w' calls held (Ok done) ran same
-  run_into_holds Same replies w w' calls held (Err error) ran same = rw (same.0, same.1) held
+-- a limiter in one of these states stays in them
+pub record StaysIn {S : Type 0} (rules : Rules S) (Kept : S → Type 0) : Type 0 where
+  pub asked : (l : S) (question : Question) (answer : Answer) (l' : S) → Kept l → rules.asked l question answer l'
+      → Kept l'
+  pub noticed : (l : S) (failure : Failure) (notice_answer : NoticeAnswer) (l' : S) → Kept l
+      → rules.noticed l failure notice_answer l' → Kept l'
 
-module _ {L : Type 0} (rules : Rules L) (Kept : L → Type 0)
-    (asked : (l : L) (q : Question) (answer : Answer) (l' : L) → Kept l → rules.asked l q answer l' → Kept l')
-    (noticed : (l : L) (failure : Failure) (notice_answer : NoticeAnswer) (l' : L) → Kept l
-    → rules.noticed l failure notice_answer l' → Kept l') where
-  -- the limiter is there, and is as it was
-  abbrev IsKept : Option L → Type 0
-  IsKept limiter = (l : L) × (limiter ≡ Some l) × Kept l
+module _ {S : Type 0} (rules : Rules S) (Kept : S → Type 0) (stays : StaysIn rules Kept) where
+  -- an exchange leaves the limiter in them
+  exchange_stays : (l l' : S) (exchange : Exchange) → Kept l → Passes rules l exchange l' → Kept l'
+  exchange_stays l l' Nothing kept passes = subst Kept (sym passes) kept
+  exchange_stays l l' (Denial question answer) kept (denial, asks) = stays.asked l question answer l' kept asks
+  exchange_stays l l' (Permission question) kept asks = stays.asked l question (Ok true) l' kept asks
+  exchange_stays l l' (Notice question failure notice_answer) kept (kind, permitted, asks, notices) =
+      stays.noticed permitted failure notice_answer l' (stays.asked l question (Ok true) permitted kept asks) notices
 
-  -- an exchange keeps it
-  exchange_keeps : (l : L) (limiter : Option L) (exchange : Exchange) → Kept l
-      → Passes (optional_rules rules) (Some l) exchange limiter → IsKept limiter
-  exchange_keeps l limiter Nothing kept passes = (l, passes, kept)
-  exchange_keeps l (Some l') (Denial q answer) kept (denial, asks) = (l', refl, asked l q answer l' kept asks)
-  exchange_keeps l None (Denial q answer) kept (denial, asks) = absurd asks
-  exchange_keeps l (Some l') (Permission q) kept asks = (l', refl, asked l q _ l' kept asks)
-  exchange_keeps l None (Permission q) kept asks = absurd asks
-  exchange_keeps l (Some l') (Notice q failure notice_answer) kept (kind, Some p, asks, notices) =
-      (l', refl, noticed p failure notice_answer l' (asked l q _ p kept asks) notices)
-  exchange_keeps l None (Notice q failure notice_answer) kept (kind, Some p, asks, notices) = absurd notices
-  exchange_keeps l limiter (Notice q failure notice_answer) kept (kind, None, asks, notices) = absurd asks
+  -- a step leaves it in them
+  pub step_stays : (w : World S) (turn : Turn) (w' : World S) → Kept w.limiter → Step rules w turn w'
+      → Kept w'.limiter
+  step_stays w turn w' kept step =
+      let passed = growths_are_permitted rules w turn w' step in
+      exchange_stays w.limiter w'.limiter passed.exchange kept passed.passes
 
-  -- a run keeps it
-  pub run_keeps : (w : World (Option L)) (l : L) → w.limiter ≡ Some l → Kept l
-      → (turns : List Turn) (w' : World (Option L)) → Run (optional_rules rules) w turns w' → IsKept w'.limiter
-  run_keeps w l is kept [] w' ran = rw ran (l, is, kept)
-  run_keeps w l is kept (turn ∷ turns) w' (v, step, ran) =
-      let passed = growths_are_permitted (optional_rules rules) w turn v step in
-      let passes = subst (λ limiter. Passes (optional_rules rules) limiter passed.exchange v.limiter) is passed.passes
-      in
-      let next = exchange_keeps l v.limiter passed.exchange kept passes in
-      run_keeps v next.0 next.1 next.2 turns w' ran
+  -- a run leaves it in them
+  pub run_stays : (w : World S) (turns : List Turn) (w' : World S) → Kept w.limiter → Run rules w turns w'
+      → Kept w'.limiter
+  run_stays w [] w' kept ran = subst (λ (v : World S). Kept v.limiter) (sym ran) kept
+  run_stays w (turn ∷ turns) w' kept (v, step, ran) = run_stays v turns w' (step_stays w turn v kept step) ran
+
+-- what leads a limiter that may be absent from one state to another does something else too, where it does where there
+-- is one, and where there is none, and where it neither comes nor goes
+pub if_there : {L : Type 0} (Leads Leads' : Option L → Option L → Type 0)
+    → ((l l' : L) → Leads (Some l) (Some l') → Leads' (Some l) (Some l')) → (Leads None None → Leads' None None)
+    → ((l : L) → (Leads (Some l) None → ⊥) × (Leads None (Some l) → ⊥)) → (l l' : Option L) → Leads l l'
+    → Leads' l l'
+if_there Leads Leads' some none never (Some l) (Some l') leads = some l l' leads
+if_there Leads Leads' some none never (Some l) None leads = absurd ((never l).0 leads)
+if_there Leads Leads' some none never None (Some l') leads = absurd ((never l').1 leads)
+if_there Leads Leads' some none never None None leads = none leads
+
+-- a limiter is there, in one of these states
+abbrev pub IsThere : {L : Type 0} → (L → Type 0) → Option L → Type 0
+IsThere Kept (Some l) = Kept l
+IsThere Kept None = ⊥
+
+-- which one is there
+there : {L : Type 0} (Kept : L → Type 0) (limiter : Option L) → IsThere Kept limiter
+    → (l : L) × (limiter ≡ Some l) × Kept l
+there Kept (Some l) kept = (l, refl, kept)
+there Kept None kept = absurd kept
+
+-- a limiter that may be absent stays there
+pub stays_there : {L : Type 0} (rules : Rules L) (Kept : L → Type 0) → StaysIn rules Kept
+    → StaysIn (optional_rules rules) (IsThere Kept)
+stays_there rules Kept stays = record {
+  asked = λ l question answer l' kept asks. if_there (λ l l'. AskedIf rules l question answer l')
+      (λ l l'. IsThere Kept l → IsThere Kept l') (λ l l' asks kept. stays.asked l question answer l' kept asks)
+      (λ permits none. none) (λ l. (λ h. h, λ h. h)) l l' asks kept;
+  noticed = λ l failure answer l' kept notices. if_there (λ l l'. NoticedIf rules l failure answer l')
+      (λ l l'. IsThere Kept l → IsThere Kept l') (λ l l' notices kept. stays.noticed l failure answer l' kept notices)
+      (λ accepts none. none) (λ l. (λ h. h, λ h. h)) l l' notices kept;
+}
 
 -- a quota that became of another one: within its caps, which are the other's
 pub record IsLater (first later : Quota) : Type 0 where
@@ -209,6 +207,7 @@ pub quota_stays_within : (s : State) (l : Quota) → IsWithinCaps l → (turns :
     → Run (optional_rules quota_rules) (world s (Some l)) turns w'
     → (l' : Quota) × (w'.limiter ≡ Some l') × IsWithinCaps l' × SameCaps l l'
 quota_stays_within s l within turns w' ran =
-    let kept = run_keeps quota_rules (IsLater l) (asked_later l) (noticed_later l) (world s (Some l)) l refl
-    (record { within = within; caps = λ kind. refl }) turns w' ran in
+    let stays = stays_there quota_rules (IsLater l) (record { asked = asked_later l; noticed = noticed_later l }) in
+    let kept = there (IsLater l) w'.limiter (run_stays (optional_rules quota_rules) (IsThere (IsLater l)) stays
+    (world s (Some l)) turns w' (record { within = within; caps = λ kind. refl }) ran) in
     (kept.0, kept.1, kept.2.within, kept.2.caps)

@@ -1,121 +1,20 @@
 -- What holds of memories in lent regions as of memories of their own.
-use Rattle.std.proofs.Common.{Bool, Err, List, None, Ok, Option, Result, Some, [], ap, arith, false, inl, inr, length, map, refl, subst, sym, true, ℕ, ◌*◌, ◌+◌, ◌∙◌, ◌∷◌, ◌≡◌, ◌≤◌, ◌⊎◌}
-use Rattle.std.proofs.lemmas.Bool.Decides.{nat_tests}
-use Rattle.std.proofs.lemmas.List.{length-map, map-set, map_push}
-use Rattle.std.proofs.lemmas.Option.{none-some, same_Some, slice_get-map}
-use Rattle.std.specs.Option.{option_and_then, option_map}
-use Rattle.std.specs.Prelude.{MatchBool, MatchOption, if◌then◌else◌, is_none, slice_get, slice_set, ◌&&◌}
+use Rattle.std.proofs.Common.{Err, List, None, Ok, Option, Result, Some, [], ap, arith, inl, inr, length, map, refl, subst, sym, true, ℕ, ◌*◌, ◌+◌, ◌∙◌, ◌∷◌, ◌≡◌, ◌≤◌, ◌⊎◌}
+use Rattle.wasmi_machine.proofs.Common.{cond-false, cond-true, nat_tests, length-map, map-set, map_push, none-some, same_Some, slice_get-map, option_and_then, option_map, MatchOption, slice_get, slice_set, ByteSource, OfBytes, StoresMemoryAt, WritesMemoryAt, byte_write_of, bytes_appended, bytes_in, load_reply, StoresVectorAt, lane_loaded, vector_at, vector_loaded, ActsAt, AddsEntry, ChangesAt, Creates, DropsAt, IfNoRoom, IsNoSuch, MeteredSlots, OnLive, WritesAt, WritesRangeAt, reply_of, Run, BytesRead, BytesStored, BytesWritten, Change, Changed, Effect, FuelSet, LacksSlot, LentMemoryMade, MemoryDropped, MemoryGrown, MemoryMade, RangeWritten, RegisterSet, Step, TableGrown, MemoryWritten, TableWritten, TableMade, HasChange, HasEffect, Told, effect_of, State, live_at, live_value, byte_count, Turn, World, Call, CopyMemory, Load, LoadLane, NewLentMemory, NewMemory, VectorLoad, Reply, Slot, Gone, Live, AttemptOutcome, Met, MeteredValue, optional_due, answer_of, covers, with_value, Rules, Meter, meter_after, MemoryError, on_test_too, IsDenied, metered, metered_value, LacksMemory, Lent, Owned, Room, fits_room, GrowsMemory, GrowsMemoryCharging, MakesMemory, MemoryValue, MemoryWrite, WritesMemory, bytes_write, new_memory, pages_of, MemoryTypeValue, in_bounds, minimum_bytes, page_bytes}
 use Rattle.std.specs.Result.{result_map_both}
-use Rattle.wasmi_machine.proofs.EffectLemmas.{both_live, no_room_too, on_live_too, on_test_too}
+use Rattle.wasmi_machine.proofs.EffectLemmas.{both_live, no_room_too, on_live_too}
 use Rattle.wasmi_machine.proofs.RangeLemmas.{WritesBytes, source_writes}
 use Rattle.wasmi_machine.proofs.StoreLemmas.{acts_too, asks_too, changes_too}
 use Rattle.wasmi_machine.specs.LentMemory.{FitsRegions, FitsRoom, RunInRegions, owned, owned_memory, owned_slot, owned_world, unlent_world}
-use Rattle.wasmi_machine.specs.MemoryEffects.{ByteSource, OfBytes, StoresMemoryAt, WritesMemoryAt, byte_write_of, bytes_appended, bytes_in, load_reply}
-use Rattle.wasmi_machine.specs.RegisterEffects.{StoresVectorAt, lane_loaded, vector_at, vector_loaded}
-use Rattle.wasmi_machine.specs.Effects.{ActsAt, AddsEntry, ChangesAt, Creates, DropsAt, IfNoRoom, IsNoSuch, MeteredSlots, OnLive, WritesAt, WritesRangeAt, reply_of}
-use Rattle.wasmi_machine.specs.Steps.{Run, BytesRead, BytesStored, BytesWritten, Change, Changed, Effect, FuelSet, LacksSlot, LentMemoryMade, MemoryDropped, MemoryGrown, MemoryMade, RangeWritten, RegisterSet, Step, TableGrown, MemoryWritten, TableWritten, TableMade, HasChange, HasEffect, Told, effect_of}
-use Rattle.wasmi_machine.specs.State.{State, live_at, live_value, byte_count, Turn, World}
-use Rattle.wasmi_machine.specs.declared.calls.Call.{Call}
-use Rattle.wasmi_machine.specs.declared.calls.Call.TheVariants.{CopyMemory, Load, LoadLane, NewLentMemory, NewMemory, VectorLoad}
-use Rattle.wasmi_machine.specs.declared.calls.Reply.{Reply}
-use Rattle.wasmi_machine.specs.declared.slots.Slot.{Slot}
-use Rattle.wasmi_machine.specs.declared.slots.Slot.TheVariants.{Gone, Live}
-use Rattle.wasmi_meter.specs.Attempt.{Attempt, Denied, Request, Failed, AttemptOutcome, Follows, IsFirstCause, MayEnd, Met, MeteredValue, Unasked, optional_due, answer_of, covers, outcome_charge, value_after, with_value}
-use Rattle.wasmi_meter.specs.Limiter.{Rules}
-use Rattle.wasmi_meter.specs.Meter.{Meter, meter_after}
-use Rattle.wasmi_meter.specs.declared.error.MemoryError.{MemoryError}
-use Rattle.wasmi_store.specs.Growth.{IsDenied, metered, metered_value}
+use Rattle.wasmi_store.proofs.DenialLemmas.{answers, attempts, met_or_denied}
 use Rattle.wasmi_store.specs.Write.{Writes, item_price, write_charge}
-use Rattle.wasmi_store.specs.Buffer.{LacksMemory, Lent, Owned, Room, fits_room}
-use Rattle.wasmi_store.specs.Memory.{GrowsMemory, GrowsMemoryCharging, MakesMemory, MemoryValue, MemoryWrite, WritesMemory, bytes_write, new_memory, pages_of, MemoryTypeValue, in_bounds, minimum_bytes, page_bytes}
 use Rattle.wasmi_store.specs.Memory as memory
 use Rattle.wasmi_machine.specs.declared.calls.Reply.TheVariants as replied
-
--- An attempt where nothing stands between the permission and the charge, and where more may refuse after it.
-module _ {V E : Type 0} (e : Request V E) (refuses : E → Type 0)
-    (lacks : (cause : E) → e.refuses cause → refuses cause) (own : V → V) where
-  -- the same request without a late cause
-  abbrev eased : Request V E
-  eased = record e { late = None; refuses = refuses; grown = own e.grown }
-
-  -- no late cause is met: there is none, or an early one stands before it
-  abbrev IsEasy : Type 0
-  IsEasy = (e.late ≡ None) ⊎ ((cause : E) × (e.early ≡ Some cause))
-
-  module _ (m : Option Meter) where
-    -- a first cause of it
-    first_cause : (late : Option E) (cause : E) → late ≡ None → IsFirstCause e m late cause
-        → IsFirstCause eased m None cause
-    first_cause (Some late) cause none first = absurd (none-some late (sym none))
-    first_cause None cause none first = by_price (covers m (optional_due m e.price)) first
-      where
-        by_price : (payable : Bool) → MatchBool payable (e.refuses cause) (cause ≡ e.unpaid (optional_due m e.price))
-            → MatchBool payable (refuses cause) (cause ≡ e.unpaid (optional_due m e.price))
-        by_price true h = lacks cause h
-        by_price false h = h
-
-    -- no late cause is met
-    none_late : IsEasy → e.early ≡ None → e.late ≡ None
-    none_late (inl none) early = none
-    none_late (inr (cause, is)) early = absurd (none-some cause (sym early ∙ is))
-
-    -- an attempt may end as the eased request does
-    ends : IsEasy → (outcome : AttemptOutcome E) → MayEnd e m outcome → MayEnd eased m outcome
-    ends easy Met may = (may.0, refl, may.2)
-    ends easy (Failed cause notice_answer) may = (may.0, first_cause e.late cause (none_late easy may.0) may.1)
-    ends easy outcome may = may
-
-    -- the eased request is charged as the attempt was
-    charges : IsEasy → (outcome : AttemptOutcome E) → MayEnd e m outcome
-        → outcome_charge e m outcome ≡ outcome_charge eased m outcome
-    charges easy (Failed cause notice_answer) may =
-        ap (λ late. if is_none late && covers m (optional_due m e.price) then optional_due m e.price else 0)
-        (none_late easy may.0)
-    charges easy outcome may = refl
-
-  -- the limiter sees the same of the eased request
-  follows : {S : Type 0} (rules : Rules S) (l l' : S) (outcome : AttemptOutcome E) → Follows e rules l outcome l'
-      → Follows eased rules l outcome l'
-  follows rules l l' Met h = h
-  follows rules l l' outcome h = h
-
-  -- what it leaves
-  values : (x : V) (outcome : AttemptOutcome E) → own (value_after e x outcome) ≡ value_after eased (own x) outcome
-  values x Met = refl
-  values x outcome = refl
-
-  -- what it answers
-  answers : {T U : Type 0} (f : T → U) (made : T) (outcome : AttemptOutcome E)
-      → result_map_both f (λ error. error) (answer_of e made outcome) ≡ answer_of eased (f made) outcome
-  answers f made Met = refl
-  answers f made outcome = refl
-
-  -- an attempt is one of the eased request
-  attempts : {S : Type 0} (rules : Rules S) (s s' : MeteredValue V S) (outcome : AttemptOutcome E) (charge : ℕ) → IsEasy
-      → Attempt rules e s outcome charge s'
-      → Attempt rules eased (with_value s (own s.value)) outcome charge (with_value s' (own s'.value))
-  attempts rules s s' outcome charge easy a = record {
-    may_end = ends s.meter easy outcome a.may_end;
-    follows = follows rules s.limiter s'.limiter outcome a.follows;
-    charged = a.charged ∙ charges s.meter easy outcome a.may_end;
-    meter = a.meter;
-    value = ap own a.value ∙ values s.value outcome;
-  }
 
 -- what a room of one's own may refuse after the charge
 lacks_owned : (room : Room) (cause : MemoryError) → LacksMemory room cause → LacksMemory Owned cause
 lacks_owned Owned cause lacks = lacks
 lacks_owned (Lent rest) cause lacks = absurd lacks
-
--- no late cause where there is place
-late_of : (place : Bool) (error : MemoryError) → place ≡ true → (if place then None else Some error) ≡ None
-late_of true error fits = refl
-late_of false error fits = absurd cc
-
--- an early cause out of bounds
-early_of : (inside : Bool) (error : MemoryError) → inside ≡ false → (if inside then None else Some error) ≡ Some error
-early_of true error outside = absurd cc
-early_of false error outside = refl
 
 -- a memory is made where its room has place for it
 makes_owned : {S : Type 0} (rules : Rules S) (room : Room) (ty : MemoryTypeValue) (l : S)
@@ -125,21 +24,19 @@ makes_owned : {S : Type 0} (rules : Rules S) (room : Room) (ty : MemoryTypeValue
 makes_owned rules room ty l result l' fits (outcome, attempt, answered) =
     let e = memory.creation_of room ty in (
       outcome,
-      attempts e (LacksMemory Owned) (lacks_owned room) (λ none. none) rules _ _ outcome 0
-          (inl (late_of (fits_room room (minimum_bytes ty)) MemoryError.InvalidStaticBufferSize fits)) attempt,
+      attempts e None (LacksMemory Owned) (lacks_owned room) (λ none. none) rules _ _ outcome 0
+          (λ early. cond-true (fits_room room (minimum_bytes ty)) None (Some MemoryError.InvalidStaticBufferSize) fits) attempt,
       ap (result_map_both owned_memory (λ error. error)) answered
-          ∙ answers e (LacksMemory Owned) (lacks_owned room) (λ none. none) owned_memory (new_memory room ty) outcome,
+          ∙ answers e None (LacksMemory Owned) (lacks_owned room) (λ none. none) owned_memory (new_memory room ty) outcome,
     )
 
 -- a memory grows within its room
-fits_easy : (pages : ℕ) (x : MemoryValue) → FitsRoom pages x
-    → IsEasy (memory.growth_of x pages) (LacksMemory Owned) (lacks_owned x.room) owned_memory
-fits_easy pages x (inl fits) =
-    inl (late_of (fits_room x.room (pages * page_bytes x.ty.page)) MemoryError.InvalidStaticBufferSize fits)
-fits_easy pages x (inr outside) = inr (
-  MemoryError.OutOfBoundsGrowth,
-  early_of (in_bounds x.ty (pages_of x + pages)) MemoryError.OutOfBoundsGrowth outside,
-)
+fits_easy : (pages : ℕ) (x : MemoryValue) → FitsRoom pages x → (memory.growth_of x pages).early ≡ None
+    → (memory.growth_of x pages).late ≡ None
+fits_easy pages x (inl fits) early =
+    cond-true (fits_room x.room (pages * page_bytes x.ty.page)) None (Some MemoryError.InvalidStaticBufferSize) fits
+fits_easy pages x (inr outside) early = absurd (none-some MemoryError.OutOfBoundsGrowth
+    (sym early ∙ cond-false (in_bounds x.ty (pages_of x + pages)) None (Some MemoryError.OutOfBoundsGrowth) outside))
 
 -- a memory that grows within its room grows as one of its own
 grows_owned : {S : Type 0} (rules : Rules S) (pages : ℕ) (s : MeteredValue MemoryValue S)
@@ -157,7 +54,7 @@ grows_owned rules pages s result charge s' fits (inr some) =
     let e = memory.growth_of s.value pages in inr (record {
       some = some.some;
       outcome = some.outcome;
-      attempt = attempts e (LacksMemory Owned) (lacks_owned s.value.room) owned_memory rules s s' some.outcome charge
+      attempt = attempts e None (LacksMemory Owned) (lacks_owned s.value.room) owned_memory rules s s' some.outcome charge
           (fits_easy pages s.value fits) some.attempt;
       answered = some.answered ∙ answered_eased some.outcome;
     })
@@ -275,14 +172,6 @@ bytes_owned : (x : MemoryValue) (m : Option Meter) (result : Result (Unit {0}) M
     → Writes (bytes_write x early written paid) (metered x m) result (metered x' m')
     → Writes (bytes_write (owned_memory x) early written paid) (metered (owned_memory x) m) result
     (metered (owned_memory x') m')
-bytes_owned x m result x' m' paid (Some cause) written writes = (
-  writes.0,
-  ap (λ (s : MeteredValue MemoryValue (Unit {0})). metered (owned_memory s.value) s.meter) writes.1,
-)
-bytes_owned x m result x' m' paid None None writes = (
-  writes.0,
-  ap (λ (s : MeteredValue MemoryValue (Unit {0})). metered (owned_memory s.value) s.meter) writes.1,
-)
 bytes_owned x m result x' m' paid None (Some bytes) writes =
     let due = optional_due m (Some (item_price 1 paid)) in
     let left = option_map (λ m. meter_after m due) m in
@@ -293,6 +182,10 @@ bytes_owned x m result x' m' paid None (Some bytes) writes =
     ((result ≡ Err (MemoryError.OutOfFuel due)) × (metered x' m' ≡ metered x m))
     ((result ≡ Err (MemoryError.OutOfFuel due)) × (metered (owned_memory x') m' ≡ metered (owned_memory x) m))
     (λ h. (h.0, ap own h.1)) (λ h. (h.0, ap own h.1)) writes
+bytes_owned x m result x' m' paid early written writes = (
+  writes.0,
+  ap (λ (s : MeteredValue MemoryValue (Unit {0})). metered (owned_memory s.value) s.meter) writes.1,
+)
 
 module _ (len : ℕ) (write : MemoryValue → MemoryWrite) (w : WritesBytes len write) (x : MemoryValue) (m : Option Meter)
     (result : Result (Unit {0}) MemoryError) where
@@ -491,57 +384,10 @@ creation_is_owned rules w turn w' ty region called spare fits step =
       after = ap unlent_world lent.after;
     }
 
--- a growth of a lent memory that nothing but the limiter can refuse
-record IsFree (pages : ℕ) {S : Type 0} (s : MeteredValue MemoryValue S) (rest : List ℕ) : Type 0 where
-  lent : s.value.room ≡ Lent rest
-  inside : in_bounds s.value.ty (pages_of s.value + pages) ≡ true
-  fits : fits_room s.value.room (pages * page_bytes s.value.ty.page) ≡ true
-  payable : covers s.meter (optional_due s.meter (memory.growth_of s.value pages).price) ≡ true
-
-module _ {S : Type 0} (rules : Rules S) (pages : ℕ) (s : MeteredValue MemoryValue S) (rest : List ℕ)
-    (free : IsFree pages s rest) (result : Result ℕ MemoryError) (charge : ℕ) (s' : MeteredValue MemoryValue S) where
-  -- a growth has succeeded, or the limiter has denied it
-  abbrev Succeeds : Type 0
-  Succeeds =
-      (result ≡ Ok (pages_of s.value)) ⊎ IsDenied rules (memory.growth_of s.value pages).question s.limiter s'.limiter
-
-  -- nothing refuses it before the limiter is asked
-  no_early : (inner : Bool) → inner ≡ true → (if inner then None else Some MemoryError.OutOfBoundsGrowth) ≡ None
-  no_early true is = refl
-  no_early false is = absurd cc
-
-  -- nothing refuses it after
-  no_cause : (cause : MemoryError) → IsFirstCause (memory.growth_of s.value pages) s.meter (memory.growth_of s.value
-      pages).late cause → ⊥
-  no_cause cause first =
-      refused s.value.room free.lent (rw free.payable at first_of (memory.growth_of s.value pages).late
-      (late_of (fits_room s.value.room (pages * page_bytes s.value.ty.page)) MemoryError.InvalidStaticBufferSize
-      free.fits) first)
-    where
-      refused : (room : Room) → room ≡ Lent rest → LacksMemory room cause → ⊥
-      refused Owned is lacks = cc
-      refused (Lent other) is lacks = lacks
-
-      first_of : (late : Option MemoryError) → late ≡ None
-          → IsFirstCause (memory.growth_of s.value pages) s.meter late cause
-          → IsFirstCause (memory.growth_of s.value pages) s.meter None cause
-      first_of None none first = first
-      first_of (Some late) none first = absurd (none-some late (sym none))
-
-  -- a growth has succeeded or was denied, by its outcome
-  by_outcome : (outcome : AttemptOutcome MemoryError) → MayEnd (memory.growth_of s.value pages) s.meter outcome
-      → Follows (memory.growth_of s.value pages) rules s.limiter outcome s'.limiter
-      → result ≡ answer_of (memory.growth_of s.value pages) (pages_of s.value) outcome → Succeeds
-  by_outcome (Unasked cause) may follows answered =
-      absurd (none-some cause (sym (no_early (in_bounds s.value.ty (pages_of s.value + pages)) free.inside) ∙ may))
-  by_outcome (Denied answer) may follows answered = inr (answer, may.1, follows)
-  by_outcome Met may follows answered = inl answered
-  by_outcome (Failed cause notice_answer) may follows answered = absurd (no_cause cause may.1)
-
-  -- a growth with its charge has succeeded, or was denied
-  growth_succeeds : GrowsMemoryCharging rules pages s result charge s' → Succeeds
-  growth_succeeds (inl none) = inl none.answered
-  growth_succeeds (inr some) = by_outcome some.outcome some.attempt.may_end some.attempt.follows some.answered
+-- what memory refuses of a lent region
+none_lacks : (room : Room) (rest : List ℕ) (cause : MemoryError) → room ≡ Lent rest → LacksMemory room cause → ⊥
+none_lacks Owned rest cause is lacks = cc
+none_lacks (Lent other) rest cause is lacks = lacks
 
 -- a growth has succeeded or was denied, by what it needs
 pub lent_growth_succeeds : {S : Type 0} (rules : Rules S) (pages : ℕ) (s : MeteredValue MemoryValue S) (rest : List ℕ)
@@ -550,6 +396,13 @@ pub lent_growth_succeeds : {S : Type 0} (rules : Rules S) (pages : ℕ) (s : Met
     → covers s.meter (optional_due s.meter (memory.growth_of s.value pages).price) ≡ true
     → (result : Result ℕ MemoryError) (s' : MeteredValue MemoryValue S) → GrowsMemory rules pages s result s'
     → (result ≡ Ok (pages_of s.value)) ⊎ IsDenied rules (memory.growth_of s.value pages).question s.limiter s'.limiter
-lent_growth_succeeds rules pages s rest lent inside fits payable result s' (charge, grows) =
-    growth_succeeds rules pages s rest (record { lent = lent; inside = inside; fits = fits; payable = payable })
-    result charge s' grows
+lent_growth_succeeds rules pages s rest lent inside fits payable result s' (charge, inl none) = inl none.answered
+lent_growth_succeeds rules pages s rest lent inside fits payable result s' (charge, inr some) =
+    met_or_denied rules (memory.growth_of s.value pages) s.meter
+    (record {
+      early = cond-true _ _ _ inside;
+      late = cond-true _ _ _ fits;
+      paid = payable;
+      room = λ cause. none_lacks s.value.room rest cause lent;
+    }) (pages_of s.value) s.limiter s'.limiter some.outcome some.attempt.may_end some.attempt.follows result
+    some.answered

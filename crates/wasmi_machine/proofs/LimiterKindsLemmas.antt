@@ -1,126 +1,37 @@
 -- A run under a limiter of one of three kinds is one by the rules of its kind.
-use Rattle.std.proofs.Common.{◌≡◌, ◌∙◌, Option, Some, None, Ok, true, List, [], ◌∷◌, map, refl, sym, ap, subst}
-use Rattle.std.proofs.lemmas.List.Elements.{All-nil, All-cons}
-use Rattle.std.proofs.lemmas.Option.{same_Some}
-use Rattle.std.specs.Prelude.{All}
+use Rattle.std.proofs.Common.{◌≡◌, ◌∙◌, Option, Some, None, List, [], ◌∷◌, refl, sym, ap, subst}
+use Rattle.wasmi_machine.proofs.Common.{option_and_then, Question, Answer, Failure, NoticeAnswer, Rules, AskedIf, NoticedIf, optional_rules, quota_rules, RelatesByKind, RepliesKeepKind, RunsKeepKind, RunsOfCallsKeepKind, IsRunOf, Run, RepliesWith, Step, State, World, Turn, world}
 use Rattle.wasmi_meter.specs.declared.any_limiter.AnyLimiter.{AnyLimiter}
 use Rattle.wasmi_meter.specs.declared.any_limiter.AnyLimiter.TheVariants as limiter
 use Rattle.wasmi_meter.specs.AnswerList.{AnswersAhead, answer_list_rules}
 use Rattle.wasmi_meter.specs.AnyLimiter.{any_limiter_rules, quota_of}
-use Rattle.wasmi_meter.specs.Attempt.{Request, Unasked, Denied, Met, Failed}
-use Rattle.wasmi_meter.specs.Limiter.{Question, Answer, Failure, NoticeAnswer, Rules, AskedIf, NoticedIf, optional_rules}
-use Rattle.wasmi_meter.specs.Capped.{quota_rules}
-use Rattle.wasmi_store.specs.Memory as memory
-use Rattle.wasmi_store.specs.Table as table
-use Rattle.wasmi_machine.specs.Determinism.{RelatesByKind, RepliesKeepKind, RunsKeepKind, RunsOfCallsKeepKind}
-use Rattle.wasmi_machine.specs.Steps.{IsRunOf, Run, RepliesWith, Step}
-use Rattle.wasmi_machine.specs.State.{State, World, Turn, world}
-use Rattle.wasmi_machine.specs.declared.calls.Reply.{Reply}
-use Rattle.wasmi_machine.specs.declared.calls.Reply.TheVariants as replied
-use Rattle.wasmi_machine.proofs.CarryingLemmas.{Carries, runs_too}
-use Rattle.wasmi_machine.proofs.HoldingLemmas.{run_keeps}
-use Rattle.wasmi_machine.proofs.RevealingLemmas.{Narrowing, Reveals, run_revealed}
-
--- a limiter in these states stays in them, and there does what another one, or none, may do in the image of its state
-pub record CarriesIn {L T : Type 0} (IsIn : L → Type 0) (image : L → Option T) (rules : Rules L) (rules' : Rules T)
-    : Type 0 where
-  pub asked : (l : L) (question : Question) (answer : Answer) (l' : L) → IsIn l → rules.asked l question answer l'
-      → IsIn l' × (optional_rules rules').asked (image l) question answer (image l')
-  pub noticed : (l : L) (failure : Failure) (notice_answer : NoticeAnswer) (l' : L) → IsIn l
-      → rules.noticed l failure notice_answer l'
-      → IsIn l' × (optional_rules rules').noticed (image l) failure notice_answer (image l')
+use Rattle.wasmi_machine.proofs.HoldingLemmas.{IsThere, if_there}
+use Rattle.wasmi_machine.proofs.RevealingLemmas.{Carries, run_carried}
 
 module _ {L T : Type 0} (IsIn : L → Type 0) (image : L → Option T) (rules : Rules L) (rules' : Rules T)
-    (carries : CarriesIn IsIn image rules rules') where
-  -- the limiter is there, in these states
-  abbrev Within : Option L → Type 0
-  Within limiter = (l : L) × (limiter ≡ Some l) × IsIn l
-
-  -- the image of a limiter that may be absent
-  abbrev image_if : Option L → Option T
-  image_if None = None
-  image_if (Some l) = image l
-
-  -- what the limiter does in these states
-  abbrev rules_within : Rules (Option L)
-  rules_within = record {
-    asked = λ l question answer l'. Within l × AskedIf rules l question answer l';
-    noticed = λ l failure notice_answer l'. Within l × NoticedIf rules l failure notice_answer l';
+    (carries : Carries IsIn image rules (optional_rules rules')) where
+  -- a limiter that may be absent does what another one, or none, may do in the image of its state, where it is there
+  optional_carries : Carries (IsThere IsIn) (option_and_then image) (optional_rules rules) (optional_rules rules')
+  optional_carries = record {
+    asked = λ l q answer l' here asks. if_there (λ l l'. AskedIf rules l q answer l')
+        (λ l l'. IsThere IsIn l
+        → IsThere IsIn l' × AskedIf rules' (option_and_then image l) q answer (option_and_then image l'))
+        (λ l l' asks here. carries.asked l q answer l' here asks) (λ permits none. absurd none)
+        (λ l. (λ h. h, λ h. h)) l l' asks here;
+    noticed = λ l failure answer l' here notices. if_there (λ l l'. NoticedIf rules l failure answer l')
+        (λ l l'. IsThere IsIn l
+        → IsThere IsIn l' × NoticedIf rules' (option_and_then image l) failure answer (option_and_then image l'))
+        (λ l l' notices here. carries.noticed l failure answer l' here notices) (λ accepts none. absurd none)
+        (λ l. (λ h. h, λ h. h)) l l' notices here;
   }
-
-  -- a run keeps it in them
-  kept_within : (w : World (Option L)) (turns : List Turn) (w' : World (Option L)) → Within w.limiter
-      → Run (optional_rules rules) w turns w' → Within w'.limiter
-  kept_within w turns w' (l, is, here) ran =
-      run_keeps rules IsIn (λ l q answer l' here asked. (carries.asked l q answer l' here asked).0)
-      (λ l failure answer l' here noticed. (carries.noticed l failure answer l' here noticed).0) w l is here turns w'
-      ran
-
-  -- the state of one that is there
-  is_in : (l : L) → Within (Some l) → IsIn l
-  is_in l (k, is, here) = subst IsIn (sym (same_Some l k is)) here
-
-  -- whatever is replied, it does what it does in these states
-  abbrev narrowing : Narrowing (Option L)
-  narrowing =
-      record { rules = optional_rules rules; narrower = rules_within; shown = λ reply. Unit {0}; within = Within }
-
-  -- in an attempt, the limiter does the same in these states
-  within_revealed : {V E : Type 0} (refusal : E → Reply) (e : Request V E) → Reveals narrowing refusal e
-  within_revealed refusal e (Unasked c) l l' within shown f = f
-  within_revealed refusal e (Denied answer) l l' within shown f = (within, f)
-  within_revealed refusal e Met l l' within shown f = (within, f)
-  within_revealed refusal e (Failed c notice_answer) (Some l) l' within shown (Some p, asks, notices) = (
-    Some p,
-    (within, asks),
-    ((p, refl, (carries.asked l e.question (Ok true) p (is_in l within) asks).0), notices),
-  )
-  within_revealed refusal e (Failed c notice_answer) (Some l) l' within shown (None, asks, notices) = absurd asks
-  within_revealed refusal e (Failed c notice_answer) None l' (l, is, here) shown f = absurd cc
-
-  -- all replies are shown
-  all_shown : (replies : List Reply) → All (λ reply. Unit {0}) replies
-  all_shown [] = All-nil (λ reply. Unit {0})
-  all_shown (reply ∷ replies) = All-cons (λ reply. Unit {0}) reply replies tt (all_shown replies)
-
-  -- what it does there, the other may do
-  carries_within : Carries image_if rules_within (optional_rules rules')
-  carries_within = record { asked = asks; noticed = notices }
-    where
-      asks : (l : Option L) (q : Question) (answer : Answer) (l' : Option L) → rules_within.asked l q answer l'
-          → (optional_rules rules').asked (image_if l) q answer (image_if l')
-      asks (Some l) q answer (Some l') (within, asked) = (carries.asked l q answer l' (is_in l within) asked).1
-      asks (Some l) q answer None (within, asked) = absurd asked
-      asks None q answer (Some l') (within, asked) = absurd asked
-      asks None q answer None (within, asked) = asked
-
-      notices : (l : Option L) (failure : Failure) (answer : NoticeAnswer) (l' : Option L)
-          → rules_within.noticed l failure answer l'
-          → (optional_rules rules').noticed (image_if l) failure answer (image_if l')
-      notices (Some l) failure answer (Some l') (within, noticed) =
-          (carries.noticed l failure answer l' (is_in l within) noticed).1
-      notices (Some l) failure answer None (within, noticed) = absurd noticed
-      notices None failure answer (Some l') (within, noticed) = absurd noticed
-      notices None failure answer None (within, noticed) = noticed
 
   -- a run under the first from these states on leaves it in them, and is one under the second
   pub run_within : (s : State) (l : L) (turns : List Turn) (s' : State) (l' : L) → IsIn l
       → Run (optional_rules rules) (world s (Some l)) turns (world s' (Some l'))
       → IsIn l' × Run (optional_rules rules') (world s (image l)) turns (world s' (image l'))
   run_within s l turns s' l' here ran =
-      let within : Within (Some l) = (l, refl, here) in
-      let narrow = run_revealed narrowing
-      (record {
-        memory_made = λ room ty. within_revealed replied.Memory (memory.creation_of room ty);
-        memory_grown = λ x pages. within_revealed replied.Memory (memory.growth_of x pages);
-        table_made = λ ty init. within_revealed replied.Table (table.creation_of ty init);
-        table_grown = λ x n reference. within_revealed replied.Table (table.growth_of x n reference);
-      }) (λ v turn v' within step. kept_within v (turn ∷ []) v' within (v', step, refl)) (world s (Some l)) turns
-      (world s' (Some l')) within (all_shown (map Turn.reply turns)) ran in (
-        is_in l' (kept_within (world s (Some l)) turns (world s' (Some l')) within ran),
-        runs_too image_if rules_within (optional_rules rules') carries_within (world s (Some l)) turns
-            (world s' (Some l')) narrow,
-      )
+      run_carried (IsThere IsIn) (option_and_then image) (optional_rules rules) (optional_rules rules')
+      optional_carries (world s (Some l)) turns (world s' (Some l')) here ran
 
 -- the limiter permits everything
 abbrev IsUnlimited : AnyLimiter → Type 0
@@ -133,7 +44,7 @@ list_of l = None
 
 -- one that permits everything does so as none does
 unlimited_carries : {T : Type 0} (rules : Rules T)
-    → CarriesIn IsUnlimited (λ l. let none : Option T = None in none) any_limiter_rules rules
+    → Carries IsUnlimited (λ l. let none : Option T = None in none) any_limiter_rules (optional_rules rules)
 unlimited_carries {T} rules = record {
   asked = λ l q answer l' is asked.
       let done = subst (λ l. any_limiter_rules.asked l q answer l') is asked in (done.1, done.0);
@@ -167,23 +78,16 @@ module _ {T : Type 0} (kind : HeldKind T) where
   IsOfKind l = (own : T) × (l ≡ kind.hold own)
 
   -- a limiter of this kind does what the one that is held does
-  kind_carries : CarriesIn IsOfKind kind.held any_limiter_rules kind.rules
-  kind_carries = record { asked = asked; noticed = noticed }
-    where
-      asked : (l : AnyLimiter) (q : Question) (answer : Answer) (l' : AnyLimiter) → IsOfKind l
-          → any_limiter_rules.asked l q answer l'
-          → IsOfKind l' × AskedIf kind.rules (kind.held l) q answer (kind.held l')
-      asked l q answer l' (own, is) done =
-          let step = kind.asks own q answer l' (subst (λ l. any_limiter_rules.asked l q answer l') is done) in
-          ((step.0, step.1), rw (is, step.1, kind.is_held own, kind.is_held step.0) step.2)
-
-      noticed : (l : AnyLimiter) (failure : Failure) (answer : NoticeAnswer) (l' : AnyLimiter) → IsOfKind l
-          → any_limiter_rules.noticed l failure answer l'
-          → IsOfKind l' × NoticedIf kind.rules (kind.held l) failure answer (kind.held l')
-      noticed l failure answer l' (own, is) done =
-          let step = kind.notices own failure answer l'
-          (subst (λ l. any_limiter_rules.noticed l failure answer l') is done) in
-          ((step.0, step.1), rw (is, step.1, kind.is_held own, kind.is_held step.0) step.2)
+  kind_carries : Carries IsOfKind kind.held any_limiter_rules (optional_rules kind.rules)
+  kind_carries = record {
+    asked = λ l q answer l' (own, is) done.
+        let step = kind.asks own q answer l' (subst (λ l. any_limiter_rules.asked l q answer l') is done) in
+        ((step.0, step.1), rw (is, step.1, kind.is_held own, kind.is_held step.0) step.2);
+    noticed = λ l failure answer l' (own, is) done.
+        let step = kind.notices own failure answer l'
+        (subst (λ l. any_limiter_rules.noticed l failure answer l') is done) in
+        ((step.0, step.1), rw (is, step.1, kind.is_held own, kind.is_held step.0) step.2);
+  }
 
   -- a run leaves a limiter of this kind, and is one under the limiter that is held
   kind_run : (turns : List Turn) (s : State) (own : T) (s' : State) (l' : AnyLimiter)

@@ -1,35 +1,13 @@
 -- What holds of each write over a range of one part of the state: it is refused, and nothing has changed, or it is paid for.
 use Rattle.std.proofs.Common.{List, None, Option, Result, Some, ap, inl, inr, refl, replicate, subst, sym, true, false, Bool, ℕ, arith, ◌∙◌, ◌≡◌, ◌≤◌, ◌⊎◌, length, ◌≢◌}
-use Rattle.std.proofs.lemmas.Bool.Decides.{nat_tests}
-use Rattle.std.proofs.lemmas.Option.{none-some, same_Some}
-use Rattle.std.proofs.lemmas.List.{set-set}
-use Rattle.std.specs.Option.{option_and_then, option_map}
-use Rattle.std.specs.Prelude.{nat_eq, nat_le, slice_set, if◌then◌else◌}
-use Rattle.wasmi_types.specs.Access.{at, overwrite}
-use Rattle.wasmi_meter.specs.declared.error.MemoryError.{MemoryError}
+use Rattle.wasmi_machine.proofs.Common.{nat_tests, none-some, same_Some, set-set, option_and_then, option_map, nat_eq, nat_le, slice_set, if◌then◌else◌, at, overwrite, MemoryError, TableError, CustomFuelCosts, MeteredValue, covers, optional_due, with_value, Meter, amount_left, cut_product, meter_after, metered, IsValidMemory, MemoryTypeValue, MemoryValue, MemoryWrite, bytes_write, IsValidTable, TableValue, element_price, elements_write, size_of, with_elements, Reply, Slot, Live, Gone, IsNotOutOfMemory, ActsMeteredUnasked, MeteredSlots, OnLive, WritesAt, WritesFrom, WritesRangeAt, item_bytes, reply_of, NothingGrows, writing_charge, IsValid, State, Turn, World, byte_count, live_at, sizes, with_memories, with_tables, live_value, HasRangeWrite, MemoryWritten, RangeWrite, TableWritten, ByteSource, OfByte, OfBytes, WritesMemoryFrom, byte_write_of, bytes_in, memory_copy_of, OfReference, OfSegment, OfTable, Source, write_of}
 use Rattle.wasmi_meter.specs.declared.error.MemoryError.TheVariants as memory_error
-use Rattle.wasmi_meter.specs.declared.error.TableError.{TableError}
 use Rattle.wasmi_meter.specs.declared.error.TableError.TheVariants.{OutOfFuel}
-use Rattle.wasmi_meter.specs.declared.fuel.CustomFuelCosts.{CustomFuelCosts}
-use Rattle.wasmi_meter.specs.Attempt.{MeteredValue, covers, optional_due, with_value}
-use Rattle.wasmi_meter.specs.Meter.{Meter, amount_left, cut_product, meter_after}
-use Rattle.wasmi_store.specs.Growth.{metered}
 use Rattle.wasmi_store.specs.Write.{MeteredWrite, WritesCharging, copied, filled, item_price}
-use Rattle.wasmi_store.specs.Memory.{IsValidMemory, MemoryTypeValue, MemoryValue, MemoryWrite, bytes_write}
-use Rattle.wasmi_store.specs.Table.{IsValidTable, TableValue, element_price, size_of, with_elements}
 use Rattle.wasmi_store.proofs.WriteLemmas.{PaidWrite, RefusedWrite, write_ends, writes_once}
-use Rattle.wasmi_machine.specs.declared.calls.Reply.{Reply}
-use Rattle.wasmi_machine.specs.declared.slots.Slot.{Slot}
-use Rattle.wasmi_machine.specs.declared.slots.Slot.TheVariants.{Live, Gone}
-use Rattle.wasmi_machine.specs.Determinism.{IsNotOutOfMemory}
-use Rattle.wasmi_machine.specs.Effects.{ActsMeteredUnasked, MeteredSlots, OnLive, WritesAt, WritesFrom, WritesRangeAt, item_bytes, reply_of}
-use Rattle.wasmi_machine.specs.Exchange.{NothingGrows, writing_charge}
-use Rattle.wasmi_machine.specs.State.{IsRefusal, IsValid, State, Turn, World, byte_count, live_at, sizes, with_memories, with_tables, live_value}
-use Rattle.wasmi_machine.specs.Steps.{HasRangeWrite, MemoryWritten, RangeWrite, TableWritten}
-use Rattle.wasmi_machine.specs.MemoryEffects.{ByteSource, OfByte, OfBytes, WritesMemoryFrom, byte_write_of, bytes_in, memory_copy_of}
-use Rattle.wasmi_machine.specs.TableEffects.{OfReference, OfSegment, OfTable, Source, write_of}
+use Rattle.wasmi_machine.specs.State.{IsRefusal}
 use Rattle.wasmi_machine.proofs.EffectLemmas.{HasOneEnding, acts_same, live_valid, on_both, on_live, on_live_too, put_back, put_valid}
-use Rattle.wasmi_machine.proofs.MemoryEffectsLemmas.{memory_as_long, overwrite_length}
+use Rattle.wasmi_machine.proofs.MemoryEffectsLemmas.{memory_as_long, overwrite_length, with_bytes}
 use Rattle.wasmi_machine.proofs.SlotsLemmas.{set_other}
 use Rattle.wasmi_machine.proofs.StepsLemmas.{KeepsMemories, KeepsTables, PartOf, the_memories, the_tables}
 use Rattle.wasmi_machine.proofs.TableEffectsLemmas.{table_as_long}
@@ -122,36 +100,31 @@ pub range_of_bytes : (source : Option MemoryValue) (k dst src len : ℕ) (s : Me
 range_of_bytes None k dst src len s reply charge s' writes = writes
 range_of_bytes (Some y) k dst src len s reply charge s' writes = writes
 
--- a copy from one index to another, where what is at the second was taken out of its slot
-module _ {X E : Type 0} (refusal : E → Reply) (write : X → X → MeteredWrite X E) (slots : List (Slot X))
-    (into from : ℕ) (other : from ≢ into) (m : Option Meter) where
-  -- the slots without it
-  abbrev rest : List (Slot X)
-  rest = slice_set slots into (Gone 0)
+-- a copy into one index from another, for which what is at the first was taken out of its slot
+module _ {X E : Type 0} (refusal : E → Reply) (write : X → X → MeteredWrite X E) (slots taken : List (Slot X))
+    (into from : ℕ) (other : into ≢ from) (m : Option Meter) (x : X) (found : Some x ≡ live_at slots into)
+    (is : taken ≡ slice_set slots into (Gone 0)) where
+  -- what the other slot has
+  beside : live_at slots from ≡ live_at taken from
+  beside = sym (ap (λ l. live_at l from) is ∙ ap (option_and_then live_value) (set_other slots into from (Gone 0) other))
 
-  -- what another slot has
-  beside : live_at rest from ≡ live_at slots from
-  beside = ap (option_and_then live_value) (set_other slots into from (Gone 0) (λ same. other (sym same)))
+  -- what is put back
+  put : (x' : X) → slice_set taken into (Live x') ≡ slice_set slots into (Live x')
+  put x' = ap (λ l. slice_set l into (Live x')) is ∙ set-set slots into (Gone 0) (Live x')
 
-  module _ (x : X) (found : live_at slots into ≡ Some x) (x' : X) (slots' : List (Slot X))
-      (put : slots' ≡ slice_set rest into (Live x')) where
-    -- it is put back as it was, where there is no source
-    pub put_without : live_at rest from ≡ None → x' ≡ x
-        → WritesFrom refusal (live_at slots from) into write (metered slots m) replied.NoSuch 0 (metered slots' m)
-    put_without none same = rw (sym beside ∙ none) (
-      refl,
-      refl,
-      ap (λ l. metered l m)
-          (put ∙ set-set slots into (Gone 0) (Live x') ∙ put_back slots into x x' found same),
-    )
+  -- it is put back as it was, where there is no source
+  pub put_without : None ≡ live_at taken from → WritesFrom refusal (live_at slots from) into write (metered slots m)
+      replied.NoSuch 0 (metered (slice_set taken into (Live x)) m)
+  put_without none =
+      rw (beside ∙ sym none) (refl, refl, ap (λ l. metered l m) (put x ∙ put_back slots into x x (sym found) refl))
 
-    -- it is put back with what was copied
-    pub put_copied : (y : X) → live_at rest from ≡ Some y → (result : Result (Unit {0}) E) (charge : ℕ)
-        (m' : Option Meter) → WritesCharging (write y) (metered x m) result charge (metered x' m')
-        → WritesFrom refusal (live_at slots from) into write (metered slots m)
-        (reply_of (λ _. replied.Done) refusal result) charge (metered slots' m')
-    put_copied y there result charge m' writes = rw (sym beside ∙ there, found)
-        (result, x', writes, refl, put ∙ set-set slots into (Gone 0) (Live x'))
+  -- it is put back with what was copied
+  pub put_copied : (y : X) → Some y ≡ live_at taken from → (x' : X) (result : Result (Unit {0}) E) (charge : ℕ)
+      (m' : Option Meter) → WritesCharging (write y) (metered x m) result charge (metered x' m')
+      → WritesFrom refusal (live_at slots from) into write (metered slots m) (reply_of (λ _. replied.Done) refusal result)
+      charge (metered (slice_set taken into (Live x')) m')
+  put_copied y there x' result charge m' writes =
+      rw (beside ∙ sym there, sym found) (result, x', writes, refl, put x')
 
 -- ---- a write in a world
 
@@ -352,38 +325,40 @@ source_pays (OfSegment segment src) len = elim (init_pays len _ refl) [
   | inr none ↦ inr none
 ]
 
--- what is written over the elements of a table keeps the type and the size
-elements_kept : (x : TableValue) (dst : ℕ) (part written : Option (List ℕ)) (x' : TableValue)
-    → written ≡ option_and_then (λ ys. overwrite x.elements dst ys) part
-    → option_map (with_elements x) written ≡ Some x' → KeepsTable x x'
-elements_kept x dst None written x' is some = absurd (none-some x' (rw is at some))
-elements_kept x dst (Some part) None x' is some = absurd (none-some x' some)
-elements_kept x dst (Some part) (Some elements) x' is some =
-    let same = same_Some (with_elements x elements) x' some in (
-      ap (λ (t : TableValue). t.ty) (sym same),
-      ap size_of (sym same) ∙ overwrite_length x.elements part elements dst (sym is),
-    )
+-- what is written over the items of a value, as many, keeps what any items as many keep
+items_kept : {X : Type 0} (many : X → ℕ) (put : X → List ℕ → X) (Keeps : X → X → Type 0)
+    → ((x : X) (xs : List ℕ) → length xs ≡ many x → Keeps x (put x xs)) → (x : X) (written : Option (List ℕ)) (x' : X)
+    → ((xs : List ℕ) → written ≡ Some xs → length xs ≡ many x) → option_map (put x) written ≡ Some x' → Keeps x x'
+items_kept many put Keeps kept x None x' long some = absurd (none-some x' some)
+items_kept many put Keeps kept x (Some xs) x' long some =
+    subst (Keeps x) (same_Some (put x xs) x' some) (kept x xs (long xs refl))
+
+-- items that are written over with a part are as many
+part_long : (dst : ℕ) (part : Option (List ℕ)) (xs ys : List ℕ)
+    → option_and_then (λ zs. overwrite xs dst zs) part ≡ Some ys → length ys ≡ length xs
+part_long dst None xs ys is = absurd (none-some ys is)
+part_long dst (Some part) xs ys is = overwrite_length xs part ys dst is
+
+-- a write over elements with a part
+part_range : (dst : ℕ) (part : Option (List ℕ)) (typed : TableValue → Bool) (outside : TableError) (paid : Option ℕ)
+    → IsRange KeepsTable (option_map element_price paid) OutOfFuel
+    (λ x. elements_write x (typed x) (option_and_then (λ ys. overwrite x.elements dst ys) part) outside paid)
+part_range dst part typed outside paid = record {
+  keeps = λ x x'. items_kept size_of with_elements KeepsTable (λ t elements long. (refl, long)) x _ x'
+      (part_long dst part x.elements);
+  priced = λ x. refl;
+  unpaid_is = λ x. refl;
+}
 
 -- what each source writes
 pub source_range : (source : Source) (dst len : ℕ) → OnLive (write_of source dst len) (Unit {0})
     (IsRange KeepsTable (option_map element_price (paid_from source len)) OutOfFuel)
-source_range (OfReference value) dst len = record {
-  keeps = λ x x' is. elements_kept x dst (Some (replicate len value.raw)) _ x' refl is;
-  priced = λ x. refl;
-  unpaid_is = λ x. refl;
-}
+source_range (OfReference value) dst len = part_range dst (Some (replicate len value.raw)) _ _ (Some len)
 source_range (OfTable None src) dst len = tt
-source_range (OfTable (Some y) src) dst len = record {
-  keeps = λ x x' is. elements_kept x dst (at y.elements src len) _ x' refl is;
-  priced = λ x. refl;
-  unpaid_is = λ x. refl;
-}
+source_range (OfTable (Some y) src) dst len = part_range dst (at y.elements src len) _ _ (Some len)
 source_range (OfSegment None src) dst len = tt
-source_range (OfSegment (Some y) src) dst len = record {
-  keeps = λ x x' is. elements_kept x dst (at y.items src len) _ x' refl is;
-  priced = λ x. refl;
-  unpaid_is = λ x. refl;
-}
+source_range (OfSegment (Some y) src) dst len =
+    part_range dst (at y.items src len) _ _ (paid_from (OfSegment (Some y) src) len)
 
 -- what a write over a range of a memory keeps
 abbrev pub KeepsMemory : MemoryValue → MemoryValue → Type 0
@@ -407,15 +382,6 @@ memory_range s = record {
   );
 }
 
--- what is written over the bytes of a memory keeps the type and the size
-bytes_kept : (x : MemoryValue) (written : Option (List ℕ)) (x' : MemoryValue)
-    → ((bytes : List ℕ) → written ≡ Some bytes → length bytes ≡ length x.bytes)
-    → option_map (λ bytes. record x { bytes = bytes }) written ≡ Some x' → KeepsMemory x x'
-bytes_kept x None x' long some = absurd (none-some x' some)
-bytes_kept x (Some bytes) x' long some =
-    let same = same_Some (record x { bytes = bytes }) x' some in
-    (ap (λ (t : MemoryValue). t.ty) (sym same), ap byte_count (sym same) ∙ long bytes refl)
-
 -- A write over so many bytes: what stands before it depends on the type of the memory, and isn't want of memory; what
 -- it writes depends on the bytes, and is as long.
 pub record WritesBytes (len : ℕ) (write : MemoryValue → MemoryWrite) : Type 0 where
@@ -425,12 +391,6 @@ pub record WritesBytes (len : ℕ) (write : MemoryValue → MemoryWrite) : Type 
   pub told : (ty : MemoryTypeValue) (cause : MemoryError) → early ty ≡ Some cause
       → IsNotOutOfMemory (replied.Memory cause)
   pub long : (bytes bytes' : List ℕ) → written bytes ≡ Some bytes' → length bytes' ≡ length bytes
-
--- bytes that are written over with a part are as many
-part_long : (dst : ℕ) (part : Option (List ℕ)) (bytes bytes' : List ℕ)
-    → option_and_then (λ ys. overwrite bytes dst ys) part ≡ Some bytes' → length bytes' ≡ length bytes
-part_long dst None bytes bytes' is = absurd (none-some bytes' is)
-part_long dst (Some part) bytes bytes' is = overwrite_length bytes part bytes' dst is
 
 -- what each source of bytes writes
 pub source_writes : (source : ByteSource) (dst len : ℕ)
@@ -455,7 +415,8 @@ source_writes (OfBytes (Some source) src) dst len = record {
 range_of_writing : (len : ℕ) (write : MemoryValue → MemoryWrite) → WritesBytes len write
     → IsRange KeepsMemory (Some (item_price 1 len)) memory_error.OutOfFuel write
 range_of_writing len write w = record {
-  keeps = λ x x' is. bytes_kept x (w.written x.bytes) x' (w.long x.bytes)
+  keeps = λ x x' is. items_kept byte_count with_bytes KeepsMemory
+      (λ y bytes long. (refl, long)) x (w.written x.bytes) x' (w.long x.bytes)
       (ap (λ (v : MemoryWrite). v.written) (sym (w.is x)) ∙ is);
   priced = λ x. ap (λ (v : MemoryWrite). v.price) (w.is x);
   unpaid_is = λ x. ap (λ (v : MemoryWrite). v.unpaid) (w.is x);

@@ -1,33 +1,15 @@
 -- What a refused turn leaves.
 use Rattle.std.proofs.Common.{List, None, Option, Some, [], ap, inl, inr, map, refl, subst, sym, ℕ, ◌∙◌, ◌∷◌, ◌≡◌}
-use Rattle.std.proofs.lemmas.List.Elements.{All-head, All-tail}
-use Rattle.std.proofs.lemmas.Option.{same_Some}
-use Rattle.std.specs.Prelude.{All, if◌then◌else◌, is_some}
-use Rattle.wasmi_machine.proofs.MemoryEffectsLemmas.{lent_back, lent_spare, memory_growth_back}
-use Rattle.wasmi_machine.proofs.EffectLemmas.{creates_back}
+use Rattle.wasmi_machine.proofs.Common.{All-head, All-tail, same_Some, All, if◌then◌else◌, is_some, memory_growth, table_growth, ChangesMeter, AsksFor, At, Exchange, Exchanges, New, Notice, Nowhere, Passes, Permission, Place, RepliesTo, charge_at, writing_price, growth_charge, growth_due, place_of, question_of, writing_charge, Keeps, KeepsMeter, KeepsSpare, RefusalsInRunsKeepContents, SameContents, reply_of, spare_after, Run, Changed, Effect, FuelSet, LentMemoryMade, MemoryGrown, MemoryMade, RangeWritten, Step, TableGrown, TableMade, HasEffect, effect_of, State, memory_part, with_memories, with_tables, Turn, World, Call, NewLentMemory, SetFuel, Reply, MeteredValue, Rules, Meter, meter_after, meter_set, PaysCharge, CustomFuelCosts, on_test, Owned, GrowsMemoryCharging, MakesMemory, GrowsTableCharging, MakesTable, TableValue, same_type, metered_value}
+use Rattle.wasmi_machine.proofs.MemoryEffectsLemmas.{lent_back, lent_spare}
+use Rattle.wasmi_machine.proofs.EffectLemmas.{acts_back, creates_back, grows_back}
 use Rattle.wasmi_machine.proofs.ExchangeLemmas.{growths_are_permitted, out_of_memory_or_free}
 use Rattle.wasmi_machine.proofs.StepsLemmas.{change_facts}
 use Rattle.wasmi_machine.proofs.RangeLemmas.{range_back, refused_writing}
-use Rattle.wasmi_machine.proofs.TableEffectsLemmas.{table_growth_back}
 use Rattle.wasmi_machine.proofs.StoreLemmas.{each_turn}
-use Rattle.wasmi_machine.specs.Account.{ChangesMeter}
-use Rattle.wasmi_machine.specs.Exchange.{AsksFor, At, Denial, Exchange, Exchanges, New, Nothing, Notice, Nowhere, Passes, Permission, Place, RepliesTo, charge_at, writing_price, growth_charge, growth_due, place_of, question_of, writing_charge}
-use Rattle.wasmi_machine.specs.Laws.{Keeps, KeepsMeter, KeepsSpare, RefusalsInRunsKeepContents, SameContents}
-use Rattle.wasmi_machine.specs.MemoryEffects.{spare_after}
-use Rattle.wasmi_machine.specs.Steps.{Run, Changed, Effect, FuelSet, LentMemoryMade, MemoryGrown, MemoryMade, RangeWritten, Step, TableGrown, TableMade, HasEffect, effect_of}
-use Rattle.wasmi_machine.specs.State.{State, memory_part, with_memories, with_tables, IsRefusal, Turn, World}
-use Rattle.wasmi_machine.specs.declared.calls.Call.{Call}
-use Rattle.wasmi_machine.specs.declared.calls.Call.TheVariants.{NewLentMemory, SetFuel}
-use Rattle.wasmi_machine.specs.declared.calls.Reply.{Reply}
+use Rattle.wasmi_machine.specs.State.{IsRefusal}
 use Rattle.wasmi_meter.proofs.AttemptLemmas.{meter_after_nothing}
-use Rattle.wasmi_meter.specs.Limiter.{Rules}
-use Rattle.wasmi_meter.specs.Meter.{Meter, meter_after, meter_set, PaysCharge}
-use Rattle.wasmi_meter.specs.declared.fuel.CustomFuelCosts.{CustomFuelCosts}
 use Rattle.wasmi_meter.specs.declared.fuel.FuelError.TheVariants.{FuelMeteringDisabled}
-use Rattle.wasmi_store.specs.Buffer.{Owned}
-use Rattle.wasmi_store.specs.Memory.{MakesMemory}
-use Rattle.wasmi_store.specs.Table.{MakesTable}
-use Rattle.wasmi_store.specs.Growth.{metered_value}
 use Rattle.wasmi_machine.specs.declared.calls.Reply.TheVariants as replied
 
 -- the spare region stays, unless the effect makes a memory in it
@@ -43,22 +25,25 @@ spare_kept s s' call reply leaves = leaves
 
 -- the turn ends in a world with the same state, or with the same state but for its meter
 module _ {S : Type 0} (w w' : World S) where
+  -- with another meter and spare region, the contents are the same
+  but_spare : (m : Meter) (spare : Option (List ℕ)) → {v : World S} → w' ≡ v
+      → v.state ≡ record w.state { meter = m; spare = spare } → SameContents w.state w'.state
+  but_spare m spare is same =
+      rw (is, same) (record {
+        memories = refl;
+        tables = refl;
+        segments = refl;
+        data_segments = refl;
+        globals = refl;
+        registers = refl;
+        reserved = refl;
+      })
+
   -- with another meter, the contents and the spare region are the same
   paid : (m : Meter) → {v : World S} → w' ≡ v → v.state ≡ record w.state { meter = m }
       → SameContents w.state w'.state × (w'.state.spare ≡ w.state.spare)
   paid m is same =
-      rw (is, same) (
-        record {
-          memories = refl;
-          tables = refl;
-          segments = refl;
-          data_segments = refl;
-          globals = refl;
-          registers = refl;
-          reserved = refl;
-        },
-        refl,
-      )
+      (but_spare m w.state.spare is same, ap (λ (x : World S). x.state.spare) is ∙ ap (λ (s : State). s.spare) same)
 
   -- with the same state, the contents and the spare region are the same
   kept : {v : World S} → w' ≡ v → v.state ≡ w.state → SameContents w.state w'.state × (w'.state.spare ≡ w.state.spare)
@@ -76,30 +61,28 @@ module _ {S : Type 0} (rules : Rules S) (w : World S) (turn : Turn) (w' : World 
       (ap (with_memories w.state) (creates_back replied.Memory (MakesMemory rules Owned ty) w.state.memories w.limiter
       turn.reply step.part step.limiter refused step.effect))
   effect_back (LentMemoryMade ty) step = (
-    rw step.after
-        (record {
-          memories = lent_back rules ty (memory_part w.state) w.limiter turn.reply step.part step.limiter refused
-              step.effect;
-          tables = refl;
-          segments = refl;
-          data_segments = refl;
-          globals = refl;
-          registers = refl;
-          reserved = refl;
-        }),
+    but_spare w w' w.state.meter step.part.spare step.after
+        (ap (λ slots. let s : State = record w.state { memories = slots; spare = step.part.spare } in s)
+        (lent_back rules ty (memory_part w.state) w.limiter turn.reply step.part step.limiter refused step.effect)),
     ap (λ (x : World S). x.state.spare) step.after
         ∙ lent_spare rules ty (memory_part w.state) w.limiter turn.reply step.part step.limiter step.effect,
   )
   effect_back (MemoryGrown k pages) step = paid w w' step.meter step.after
       (ap (λ part. let s : State = record (with_memories w.state part) { meter = step.meter } in s)
-      (memory_growth_back rules k pages (metered_value w.state.memories (Some w.state.meter) w.limiter)
+      (acts_back k (reply_of replied.Number replied.Memory) (GrowsMemoryCharging rules pages)
+      (λ s s'. grows_back replied.Memory rules (memory_growth pages s.value) s s')
+      (metered_value w.state.memories (Some w.state.meter) w.limiter)
       (metered_value step.part (Some step.meter) step.limiter) turn.reply turn.charge refused step.effect))
   effect_back (TableMade ty init) step = kept w w' step.after
       (ap (with_tables w.state) (creates_back replied.Table (MakesTable rules ty init) w.state.tables w.limiter
       turn.reply step.part step.limiter refused step.effect))
   effect_back (TableGrown k n init) step = paid w w' step.meter step.after
       (ap (λ part. let s : State = record (with_tables w.state part) { meter = step.meter } in s)
-      (table_growth_back rules k n init (metered_value w.state.tables (Some w.state.meter) w.limiter)
+      (acts_back k (reply_of replied.Number replied.Table) (GrowsTableCharging rules n init)
+      (λ s s' charge result back grows. on_test (same_type s.value.ty.element init.ty) _ _ grows
+      (grows_back replied.Table rules (table_growth n init.raw s.value) s s' charge result back)
+      (λ other. ap (λ (t : MeteredValue TableValue S). t.value) other.2))
+      (metered_value w.state.tables (Some w.state.meter) w.limiter)
       (metered_value step.part (Some step.meter) step.limiter) turn.reply turn.charge refused step.effect))
   effect_back (RangeWritten write) step = kept w w' (range_back w write turn w' step refused) refl
   effect_back effect step = kept w w' step.after refl
@@ -128,8 +111,6 @@ module _ {S : Type 0} (rules : Rules S) (w : World S) (turn : Turn) (w' : World 
       → AsksFor (question_of w.state turn.call) exchange turn.reply → Passes rules w.limiter exchange w'.limiter
       → RepliesTo exchange turn.reply → turn.charge ≡ growth_charge exchange w.state.meter
       → PaysCharge w.state.meter turn.charge w'.state.meter → KeepsMeter rules w turn w'
-  growth_meter at Nothing asks passes replies charged takes = stays takes charged
-  growth_meter at (Denial question answer) asks passes replies charged takes = stays takes charged
   growth_meter at (Permission question) asks passes replies charged takes = absurd (replies refused)
   growth_meter at (Notice question failure notice_answer) asks passes replies charged takes =
       elim (out_of_memory_or_free failure) [
@@ -148,6 +129,7 @@ module _ {S : Type 0} (rules : Rules S) (w : World S) (turn : Turn) (w' : World 
         })
         | inr free ↦ stays takes (charged ∙ free (growth_due w.state.meter question))
       ]
+  growth_meter at exchange asks passes replies charged takes = stays takes charged
 
   module _ (x : Exchanges rules w turn w') (takes : PaysCharge w.state.meter turn.charge w'.state.meter) where
     -- by its place

@@ -1,28 +1,9 @@
--- What the replies of a run reveal of its limiter: a run is one by narrower rules, where its replies show it and the
--- limiter is in states of which this holds.
-use Rattle.std.proofs.Common.{Err, List, Result, Some, [], ap, inl, inr, map, refl, subst, sym, ℕ, ◌∙◌, ◌∷◌, ◌≡◌, Ok}
-use Rattle.std.proofs.lemmas.List.Elements.{All-head, All-tail}
-use Rattle.std.specs.Prelude.{All}
-use Rattle.wasmi_machine.proofs.EffectLemmas.{Creation, on_live_too, on_test_too}
-use Rattle.wasmi_machine.proofs.StoreLemmas.{acts_too, asks_too}
-use Rattle.wasmi_machine.specs.Effects.{ActsAt, ActsMetered, AddsEntry, Asks, Creates, reply_of}
-use Rattle.wasmi_machine.specs.Steps.{Run, Effect, LentMemoryMade, MemoryGrown, MemoryMade, TableGrown, TableMade, HasEffect, effect_of, Step}
-use Rattle.wasmi_machine.specs.State.{State, live_at, Turn, World}
-use Rattle.wasmi_machine.specs.declared.calls.Reply.{Reply}
-use Rattle.wasmi_machine.specs.declared.slots.Slot.{Slot}
-use Rattle.wasmi_machine.specs.declared.slots.Slot.TheVariants.{Live}
-use Rattle.wasmi_meter.specs.Attempt.{Attempt, Denied, Request, Failed, AttemptOutcome, Follows, Met, MeteredValue, Unasked, alone, answer_of, error_of_answer, error_of_failure, with_value}
-use Rattle.wasmi_meter.specs.Limiter.{Rules}
-use Rattle.wasmi_meter.specs.declared.error.TableError.{TableError}
-use Rattle.wasmi_store.specs.Buffer.{Lent, Owned, Room}
-use Rattle.wasmi_store.specs.Growth.{Grows, Growth, Makes, metered_value}
-use Rattle.wasmi_store.specs.Memory.{GrowsMemoryCharging, MemoryValue, new_memory, MemoryTypeValue}
-use Rattle.wasmi_store.specs.Table.{GrowsTableCharging, TableValue, new_table, TableTypeValue, same_type}
-use Rattle.wasmi_typed.specs.declared.typed_ref.TypedRawRef.{TypedRawRef}
-use Rattle.wasmi_types.specs.declared.value.RefType.{RefType}
-use Rattle.wasmi_machine.specs.Determinism.{permitting, TellsNoDenial}
-use Rattle.wasmi_machine.proofs.MemoryEffectsLemmas.{memory_growth}
-use Rattle.wasmi_machine.proofs.TableEffectsLemmas.{table_growth}
+-- What the replies of a run reveal of its limiter: a run is one under another limiter too, where its replies show it and
+-- the limiter is in states of which this holds.
+use Rattle.std.proofs.Common.{Err, List, Result, Some, [], ap, inl, inr, map, refl, subst, sym, true, ℕ, ◌∙◌, ◌∷◌, ◌≡◌, Ok}
+use Rattle.wasmi_machine.proofs.Common.{All-head, All-tail, All, on_test_too, ActsAt, ActsMetered, AddsEntry, Asks, Creates, reply_of, Run, BytesRead, Effect, LentMemoryMade, MemoryGrown, MemoryMade, MemoryWritten, RangeWritten, TableGrown, TableMade, TableWritten, HasEffect, Told, effect_of, Step, State, live_at, Turn, World, Reply, Slot, Live, Attempt, Denied, Request, Failed, AttemptOutcome, Follows, Met, MeteredValue, Unasked, alone, answer_of, error_of_answer, error_of_failure, with_value, Answer, Failure, NoticeAnswer, Question, Rules, TableError, Lent, Owned, Room, Grows, Growth, Makes, metered_value, GrowsMemoryCharging, MemoryValue, new_memory, MemoryTypeValue, GrowsTableCharging, TableValue, new_table, TableTypeValue, same_type, TypedRawRef, RefType, permitting, TellsNoDenial, memory_growth, table_growth}
+use Rattle.wasmi_machine.proofs.EffectLemmas.{Creation, on_live_too}
+use Rattle.wasmi_machine.proofs.HoldingLemmas.{StaysIn, step_stays, run_stays}
 use Rattle.wasmi_store.specs.Memory as memory
 use Rattle.wasmi_machine.specs.declared.calls.Reply.TheVariants as replied
 use Rattle.wasmi_store.specs.Table as table
@@ -42,37 +23,47 @@ answered_error e value (Denied answer) c is = ap Err (sym is)
 answered_error e value Met c is = absurd is
 answered_error e value (Failed cause notice_answer) c is = ap Err (sym is)
 
--- a call on a slot
-acts_revealed : {S X R : Type 0} (k : ℕ) (reply_to : R → Reply)
-    (Acts Acts' : MeteredValue X S → R → ℕ → MeteredValue X S → Type 0)
-    (s s' : MeteredValue (List (Slot X)) S) (reply : Reply) (charge : ℕ)
-    → ((x x' : X) (result : R) → reply ≡ reply_to result → Acts (with_value s x) result charge (with_value s' x')
-    → Acts' (with_value s x) result charge (with_value s' x'))
-    → ActsAt k reply_to Acts s reply charge s' → ActsAt k reply_to Acts' s reply charge s'
-acts_revealed k reply_to Acts Acts' s s' reply charge too acts =
-    on_live_too (live_at s.value k) _ _ _ _ (λ missing. missing)
-    (λ x h. (h.0, h.1, too x h.1 h.0 h.3 h.2, h.3, h.4)) acts
-
--- the rules of a limiter and narrower ones, with the replies that show that it keeps to the narrower ones, and the
--- states of the limiter in which they do
-pub record Narrowing (S : Type 0) : Type 1 where
+-- the rules of a limiter and narrower ones, of another limiter in the image of its state, with the replies that show that
+-- it keeps to the narrower ones, and the states of the limiter in which they do
+pub record Narrowing (S T : Type 0) : Type 1 where
   pub rules : Rules S
-  pub narrower : Rules S
+  pub image : S → T
+  pub narrower : Rules T
   pub shown : Reply → Type 0
   pub within : S → Type 0
 
-module _ {S : Type 0} (n : Narrowing S) where
+module _ {S T : Type 0} (n : Narrowing S T) where
+  -- the metered value with the image of its limiter
+  abbrev moved : {V : Type 0} → MeteredValue V S → MeteredValue V T
+  moved s = record { value = s.value; meter = s.meter; limiter = n.image s.limiter }
+
+  -- the world with the image of its limiter
+  abbrev pub carried : World S → World T
+  carried w = record { state = w.state; limiter = n.image w.limiter }
+
+  -- a call on a slot
+  acts_revealed : {X R : Type 0} (k : ℕ) (reply_to : R → Reply)
+      (Acts : MeteredValue X S → R → ℕ → MeteredValue X S → Type 0)
+      (Acts' : MeteredValue X T → R → ℕ → MeteredValue X T → Type 0)
+      (s s' : MeteredValue (List (Slot X)) S) (reply : Reply) (charge : ℕ)
+      → ((x x' : X) (result : R) → reply ≡ reply_to result → Acts (with_value s x) result charge (with_value s' x')
+      → Acts' (with_value (moved s) x) result charge (with_value (moved s') x'))
+      → ActsAt k reply_to Acts s reply charge s' → ActsAt k reply_to Acts' (moved s) reply charge (moved s')
+  acts_revealed k reply_to Acts Acts' s s' reply charge too acts =
+      on_live_too (live_at s.value k) _ _ _ _ (λ missing. (missing.0, missing.1, ap moved missing.2))
+      (λ x h. (h.0, h.1, too x h.1 h.0 h.3 h.2, h.3, h.4)) acts
+
   -- where the replies to an attempt's errors show it, what the limiter sees is by the narrower rules
   abbrev pub Reveals : {V E : Type 0} → (E → Reply) → Request V E → Type 0
   Reveals {V} {E} refusal e =
       (outcome : AttemptOutcome E) (l l' : S) → n.within l → ((c : E) → IsErrorOf e outcome c → n.shown (refusal c))
-      → Follows e n.rules l outcome l' → Follows e n.narrower l outcome l'
+      → Follows e n.rules l outcome l' → Follows e n.narrower (n.image l) outcome (n.image l')
 
   -- where the replies to an attempt's errors show it, the attempt is one by the narrower rules
   attempt_revealed : {V E : Type 0} (refusal : E → Reply) (e : Request V E) → Reveals refusal e
       → (s s' : MeteredValue V S) (outcome : AttemptOutcome E) (charge : ℕ) → n.within s.limiter
       → ((c : E) → IsErrorOf e outcome c → n.shown (refusal c)) → Attempt n.rules e s outcome charge s'
-      → Attempt n.narrower e s outcome charge s'
+      → Attempt n.narrower e (moved s) outcome charge (moved s')
   attempt_revealed refusal e reveals s s' outcome charge within shown a = record {
     may_end = a.may_end;
     follows = reveals outcome s.limiter s'.limiter within shown a.follows;
@@ -85,8 +76,8 @@ module _ {S : Type 0} (n : Narrowing S) where
   creates_revealed : {X E : Type 0} (refusal : E → Reply) (e : Request (Unit {0}) E) → Reveals refusal e
       → (made : X) (slots : List (Slot X)) (l : S) (o : Creation (List (Slot X)) S) → n.within l → n.shown o.reply
       → Creates refusal (Makes n.rules e made) slots l o.reply o.part o.limiter
-      → Creates refusal (Makes n.narrower e made) slots l o.reply o.part o.limiter
-  creates_revealed refusal e reveals made slots l o within shows (inl none) = inl none
+      → Creates refusal (Makes n.narrower e made) slots (n.image l) o.reply o.part (n.image o.limiter)
+  creates_revealed refusal e reveals made slots l o within shows (inl none) = inl (none.0, none.1, ap n.image none.2)
   creates_revealed refusal e reveals made slots l o within shows (inr (result, (outcome, attempt, answered), appends)) =
       let shown : (c : _) → IsErrorOf e outcome c → n.shown (refusal c) =
       λ c is. subst n.shown (subst (λ r. AddsEntry Live refusal r slots o.reply o.part)
@@ -105,8 +96,13 @@ module _ {S : Type 0} (n : Narrowing S) where
   grows_revealed : {V E : Type 0} (g : Growth V E) (refusal : E → Reply) → Reveals refusal g.request
       → (s s' : MeteredValue V S) (result : Result ℕ E) (charge : ℕ) → n.within s.limiter
       → n.shown (reply_of replied.Number refusal result) → Grows n.rules g s result charge s'
-      → Grows n.narrower g s result charge s'
-  grows_revealed g refusal reveals s s' result charge within shows (inl none) = inl none
+      → Grows n.narrower g (moved s) result charge (moved s')
+  grows_revealed g refusal reveals s s' result charge within shows (inl none) = inl (record {
+    none = none.none;
+    answered = none.answered;
+    uncharged = none.uncharged;
+    same = ap moved none.same;
+  })
   grows_revealed g refusal reveals s s' result charge within shows (inr some) =
       let shown : (c : _) → IsErrorOf g.request some.outcome c → n.shown (refusal c) =
       λ c error. subst n.shown (ap (reply_of replied.Number refusal)
@@ -131,36 +127,54 @@ module _ {S : Type 0} (n : Narrowing S) where
         (result : Result ℕ TableError)
         (charge : ℕ) → n.within s.limiter → n.shown (reply_of replied.Number replied.Table result)
         → GrowsTableCharging n.rules delta init s result charge s'
-        → GrowsTableCharging n.narrower delta init s result charge s'
+        → GrowsTableCharging n.narrower delta init (moved s) result charge (moved s')
     table_growth_revealed delta init s s' result charge within shows grows =
         on_test_too (same_type s.value.ty.element init.ty) _ _ _ _ (grows_revealed (table_growth delta init.raw s.value)
         replied.Table (each.table_grown s.value delta init.raw) s s' result charge within shows)
-        (λ mismatch. mismatch) grows
+        (λ mismatch. (mismatch.0, mismatch.1, ap moved mismatch.2)) grows
 
     -- an effect of any call
     module _ (w : World S) (turn : Turn) (w' : World S) (within : n.within w.limiter) (shows : n.shown turn.reply) where
       -- a turn that makes something under the limiter
-      asks_revealed : {Lacks A : Type 0} {with_part : A → State} {Relation Relation' : S → Reply → A → S → Type 0}
-          (step : Asks w turn w' Lacks with_part Relation) → Relation' w.limiter turn.reply step.part step.limiter
-          → Asks w turn w' Lacks with_part Relation'
-      asks_revealed step effect = asks_too step step.part effect step.room step.after
+      asks_revealed : {Lacks A : Type 0} {with_part : A → State} {Relation : S → Reply → A → S → Type 0}
+          {Relation' : T → Reply → A → T → Type 0} (step : Asks w turn w' Lacks with_part Relation)
+          → Relation' (n.image w.limiter) turn.reply step.part (n.image step.limiter)
+          → Asks (carried w) turn (carried w') Lacks with_part Relation'
+      asks_revealed step effect = record {
+        free = step.free;
+        part = step.part;
+        limiter = n.image step.limiter;
+        effect = effect;
+        room = step.room;
+        after = ap carried step.after;
+      }
 
       -- a turn with a charge
       pays_revealed : {A : Type 0} {old : A} {with_part : A → State}
-          {Relation Relation' : MeteredValue A S → Reply → ℕ → MeteredValue A S → Type 0} {bytes : Reply → ℕ}
+          {Relation : MeteredValue A S → Reply → ℕ → MeteredValue A S → Type 0}
+          {Relation' : MeteredValue A T → Reply → ℕ → MeteredValue A T → Type 0} {bytes : Reply → ℕ}
           (step : ActsMetered w turn w' old with_part Relation bytes)
-          → Relation' (metered_value old (Some w.state.meter) w.limiter) turn.reply turn.charge
-          (metered_value step.part (Some step.meter) step.limiter) → ActsMetered w turn w' old with_part Relation' bytes
-      pays_revealed step effect = acts_too step step.part step.meter effect refl step.after
+          → Relation' (metered_value old (Some w.state.meter) (n.image w.limiter)) turn.reply turn.charge
+          (metered_value step.part (Some step.meter) (n.image step.limiter))
+          → ActsMetered (carried w) turn (carried w') old with_part Relation' bytes
+      pays_revealed step effect = record {
+        part = step.part;
+        meter = step.meter;
+        limiter = n.image step.limiter;
+        effect = effect;
+        wrote = step.wrote;
+        after = ap carried step.after;
+      }
 
       -- where its reply shows it, an effect under the one rules is one under the others
-      effect_revealed : (effect : Effect) → HasEffect n.rules effect w turn w' → HasEffect n.narrower effect w turn w'
+      effect_revealed : (effect : Effect) → HasEffect n.rules effect w turn w'
+          → HasEffect n.narrower effect (carried w) turn (carried w')
       effect_revealed (MemoryMade ty) step =
           asks_revealed step (creates_revealed replied.Memory (memory.creation_of Owned ty) (each.memory_made Owned ty)
           (new_memory Owned ty) w.state.memories w.limiter
           (record { reply = turn.reply; part = step.part; limiter = step.limiter }) within shows step.effect)
-      effect_revealed (LentMemoryMade ty) step = asks_revealed step (on_live_too w.state.spare _ _ _ _ (λ none. none)
-          (λ region h. (
+      effect_revealed (LentMemoryMade ty) step = asks_revealed step (on_live_too w.state.spare _ _ _ _
+          (λ none. (none.0, none.1, ap n.image none.2)) (λ region h. (
             creates_revealed replied.Memory (memory.creation_of (Lent region) ty)
                 (each.memory_made (Lent region) ty) (new_memory (Lent region) ty) w.state.memories w.limiter
                 (record { reply = turn.reply; part = step.part.slots; limiter = step.limiter }) within shows h.0,
@@ -183,25 +197,95 @@ module _ {S : Type 0} (n : Narrowing S) where
           (λ x x' result is. table_growth_revealed delta init (metered_value x (Some w.state.meter) w.limiter)
           (metered_value x' (Some step.meter) step.limiter) result turn.charge within
           (subst n.shown is shows)) step.effect)
-      effect_revealed effect step = step
+      effect_revealed (RangeWritten (TableWritten k source dst len)) step = record {
+        part = step.part;
+        meter = step.meter;
+        effect = step.effect;
+        wrote = step.wrote;
+        after = ap carried step.after;
+      }
+      effect_revealed (RangeWritten (MemoryWritten k source dst len)) step = record {
+        part = step.part;
+        meter = step.meter;
+        effect = step.effect;
+        wrote = step.wrote;
+        after = ap carried step.after;
+      }
+      effect_revealed (Told told) step =
+          record { free = step.free; effect = step.effect; after = ap carried step.after }
+      effect_revealed (BytesRead k offset len) step =
+          record { free = step.free; effect = step.effect; after = ap carried step.after }
+      effect_revealed effect step = record {
+        free = step.free;
+        machine = step.machine;
+        effect = step.effect;
+        after = ap carried step.after;
+      }
 
     -- a run whose turns keep the limiter in such states
     pub run_revealed : ((w : World S) (turn : Turn) (w' : World S) → n.within w.limiter → Step n.rules w turn w'
         → n.within w'.limiter) → (w : World S) (turns : List Turn) (w' : World S) → n.within w.limiter
-        → All n.shown (map Turn.reply turns) → Run n.rules w turns w' → Run n.narrower w turns w'
-    run_revealed keeps w [] w' within shown ran = ran
+        → All n.shown (map Turn.reply turns) → Run n.rules w turns w' → Run n.narrower (carried w) turns (carried w')
+    run_revealed keeps w [] w' within shown ran = ap carried ran
     run_revealed keeps w (turn ∷ turns) w' within shown (v, step, ran) = (
-      v,
+      carried v,
       effect_revealed w turn v within (All-head n.shown turn.reply (map Turn.reply turns) shown)
           (effect_of w.state turn.call) step,
       run_revealed keeps v turns w' (keeps w turn v within step)
           (All-tail n.shown turn.reply (map Turn.reply turns) shown) ran,
     )
 
+-- a limiter in these states stays in them, and there does what another one may do in the image of its state
+pub record Carries {S T : Type 0} (within : S → Type 0) (image : S → T) (rules : Rules S) (rules' : Rules T)
+    : Type 0 where
+  pub asked : (l : S) (question : Question) (answer : Answer) (l' : S) → within l → rules.asked l question answer l'
+      → within l' × rules'.asked (image l) question answer (image l')
+  pub noticed : (l : S) (failure : Failure) (notice_answer : NoticeAnswer) (l' : S) → within l
+      → rules.noticed l failure notice_answer l' → within l' × rules'.noticed (image l) failure notice_answer (image l')
+
+module _ {S T : Type 0} (within : S → Type 0) (image : S → T) (rules : Rules S) (rules' : Rules T)
+    (carries : Carries within image rules rules') where
+  -- whatever is replied, the first does so in these states
+  abbrev carrying : Narrowing S T
+  carrying =
+      record { rules = rules; image = image; narrower = rules'; shown = λ reply. Unit {0}; within = within }
+
+  -- in an attempt, the first does what the second may do
+  carries_revealed : {V E : Type 0} (refusal : E → Reply) (e : Request V E) → Reveals carrying refusal e
+  carries_revealed refusal e (Unasked c) l l' here shown f = ap image f
+  carries_revealed refusal e (Denied answer) l l' here shown f = (carries.asked l e.question answer l' here f).1
+  carries_revealed refusal e Met l l' here shown f = (carries.asked l e.question (Ok true) l' here f).1
+  carries_revealed refusal e (Failed c notice_answer) l l' here shown (permitted, asks, notices) =
+      let asked = carries.asked l e.question (Ok true) permitted here asks in
+      (image permitted, asked.1, (carries.noticed permitted (e.notice c) notice_answer l' asked.0 notices).1)
+
+  -- a run under the first from these states on leaves it in them, and is one under the second
+  pub run_carried : (w : World S) (turns : List Turn) (w' : World S) → within w.limiter → Run rules w turns w'
+      → within w'.limiter × Run rules' (carried carrying w) turns (carried carrying w')
+  run_carried w turns w' here ran =
+      let stays : StaysIn rules within = record {
+        asked = λ l question answer l' here asks. (carries.asked l question answer l' here asks).0;
+        noticed = λ l failure answer l' here notices. (carries.noticed l failure answer l' here notices).0;
+      } in (
+        run_stays rules within stays w turns w' here ran,
+        run_revealed carrying (record {
+          memory_made = λ room ty. carries_revealed replied.Memory (memory.creation_of room ty);
+          memory_grown = λ x pages. carries_revealed replied.Memory (memory.growth_of x pages);
+          table_made = λ ty init. carries_revealed replied.Table (table.creation_of ty init);
+          table_grown = λ x n reference. carries_revealed replied.Table (table.growth_of x n reference);
+        }) (step_stays rules within stays) w turns w' here (λ k d inside. tt) ran,
+      )
+
 module _ {S : Type 0} (rules : Rules S) where
   -- the replies that tell of no denial, in any state of the limiter
-  abbrev undenied : Narrowing S
-  undenied = record { rules = rules; narrower = permitting rules; shown = TellsNoDenial; within = λ l. Unit {0} }
+  abbrev undenied : Narrowing S S
+  undenied = record {
+    rules = rules;
+    image = λ l. l;
+    narrower = permitting rules;
+    shown = TellsNoDenial;
+    within = λ l. Unit {0};
+  }
 
   -- the replies to an attempt's errors tell whether it was denied, where those of a denial do
   denial_revealed : {V E : Type 0} (refusal : E → Reply) (e : Request V E) → (TellsNoDenial (refusal e.denial) → ⊥)

@@ -1,12 +1,6 @@
 -- Items of a list and slots, as they are read, set, and put back.
 use Rattle.std.proofs.Common.{List, None, Option, Some, [], ap, refl, set, suc, sym, zero, ℕ, ◌∙◌, ◌∷◌, ◌≡◌}
-use Rattle.std.proofs.lemmas.List.{set-get_or}
-use Rattle.std.proofs.lemmas.Option.{get_or_from_slice_get, none-some, same_Some}
-use Rattle.std.specs.Option.{option_and_then}
-use Rattle.std.specs.Prelude.{slice_get}
-use Rattle.wasmi_machine.specs.State.{live_value}
-use Rattle.wasmi_machine.specs.declared.slots.Slot.{Slot}
-use Rattle.wasmi_machine.specs.declared.slots.Slot.TheVariants.{Gone, Live}
+use Rattle.wasmi_machine.proofs.Common.{set-get_or, get_or_from_slice_get, none-some, same_Some, option_and_then, slice_get, live_value, Slot, Gone, Live}
 
 module _ {X : Type 0} where
   -- the item that was set

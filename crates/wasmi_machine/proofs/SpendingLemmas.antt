@@ -1,15 +1,7 @@
 -- What calls that don't set the fuel were charged.
 use Rattle.std.proofs.Common.{◌≡◌, ◌∙◌, ℕ, ◌+◌, ◌-◌, ◌*◌, ◌≤◌, Bool, true, false, Some, List, [], ◌∷◌, map, refl, ap, arith}
 use Rattle.std.proofs.Math.Nat.{mul-le-mul_left}
-use Rattle.std.proofs.lemmas.List.Elements.{All-head, All-tail}
-use Rattle.std.proofs.lemmas.List.Sums.{sum_by-cons}
-use Rattle.std.specs.Prelude.{All, if◌then◌else◌}
-use Rattle.wasmi_meter.specs.Limiter.{Rules}
-use Rattle.wasmi_machine.specs.declared.calls.Call.{Call}
-use Rattle.wasmi_machine.specs.declared.calls.Call.TheVariants.{SetFuel}
-use Rattle.wasmi_machine.specs.State.{World, Turn}
-use Rattle.wasmi_machine.specs.Steps.{Run}
-use Rattle.wasmi_machine.specs.Account.{Account, opened, charged_by, account_after, SetsNoFuel, charges, has_written, charges_for_writing, IsSpent}
+use Rattle.wasmi_machine.proofs.Common.{All-head, All-tail, sum_by-cons, All, if◌then◌else◌, Rules, Call, SetFuel, World, Turn, Run, Account, opened, charged_by, account_after, SetsNoFuel, charges, has_written, charges_for_writing, IsSpent}
 use Rattle.wasmi_machine.proofs.AccountLemmas.{fuel_balances}
 use Rattle.wasmi_machine.proofs.WritingLemmas.{writing_is_bounded}
 

@@ -1,28 +1,15 @@
 -- What holds of each change of one part of the state.
 use Rattle.std.proofs.Common.{List, [], ap, arith, length, map, refl, subst, sym, ℕ, ◌<◌, ◌^◌, ◌∙◌, ◌≡◌}
 use Rattle.std.specs.Global.{Global}
-use Rattle.std.specs.Prelude.{All, Vec, slice_get}
+use Rattle.wasmi_machine.proofs.Common.{All, Vec, slice_get, IsNotOutOfMemory, NothingGrows, AddsItem, ChangesPart, DropsAt, DropsContents, WritesMemoryAt, Rules, State, with_data_segments, with_globals, with_memories, with_registers, with_segments, with_tables, byte_count, sizes, slot_count, IsValid, IsValidSegment, BytesStored, BytesWritten, Change, DataDropped, DataMade, ElementSet, GlobalMade, GlobalSet, ItemsDropped, MemoryDropped, RegisterSet, SegmentMade, TableDropped, HasChange, RepliesWithoutLimiter, SomeCopy, Write, Reply, Slot, IsValidMemory, MemoryValue, SegmentValue, dropped, IsValidTable, TableValue, size_of}
 use denote.RawPtr.{null_ptr}
 use Rattle.wasmi_machine.proofs.MemoryEffectsLemmas.{vector_store_back, vector_store_kept, vector_store_valid, vector_stores_same, write_refused, writes_same, writes_valid, written_kept}
 use Rattle.wasmi_machine.proofs.ValueEffectsLemmas.{takes_back, takes_count, takes_same, creates_segment_valid, global_refused, global_sets_same, segment_back, segments_same}
 use Rattle.wasmi_machine.proofs.EffectLemmas.{AllValid, adds_back, adds_same, contents_back, contents_same, drops_back, drops_kept, drops_same, drops_valid, item_valid}
 use Rattle.wasmi_machine.proofs.TableEffectsLemmas.{set_kept, set_refused, set_valid, sets_same}
 use Rattle.wasmi_machine.proofs.TotalLemmas.{each_kind}
-use Rattle.wasmi_machine.specs.Determinism.{IsNotOutOfMemory}
-use Rattle.wasmi_machine.specs.Exchange.{NothingGrows}
 use Rattle.wasmi_machine.specs.Laws.{IsRefusal}
-use Rattle.wasmi_machine.specs.Effects.{AddsItem, ChangesPart, DropsAt, DropsContents}
-use Rattle.wasmi_machine.specs.MemoryEffects.{WritesMemoryAt}
-use Rattle.wasmi_meter.specs.Limiter.{Rules}
-use Rattle.wasmi_machine.specs.State.{State, with_data_segments, with_globals, with_memories, with_registers, with_segments, with_tables, byte_count, sizes, slot_count, IsValid, IsValidSegment}
-use Rattle.wasmi_machine.specs.Steps.{BytesStored, BytesWritten, Change, DataDropped, DataMade, ElementSet, GlobalMade, GlobalSet, ItemsDropped, MemoryDropped, RegisterSet, SegmentMade, TableDropped, HasChange, RepliesWithoutLimiter, SomeCopy}
-use Rattle.wasmi_machine.specs.declared.calls.Call.TheVariants.{Write}
-use Rattle.wasmi_machine.specs.declared.calls.Reply.{Reply}
-use Rattle.wasmi_machine.specs.declared.slots.Slot.{Slot}
 use Rattle.wasmi_raw.specs.declared.raw.RawVal.{RawVal}
-use Rattle.wasmi_store.specs.Memory.{IsValidMemory, MemoryValue}
-use Rattle.wasmi_store.specs.Segment.{SegmentValue, dropped}
-use Rattle.wasmi_store.specs.Table.{IsValidTable, TableValue, size_of}
 
 -- a `Vec` with these items
 abbrev pub vec_of : (items : List ℕ) → length items < 2 ^ 63 → Vec ℕ Global

@@ -1,15 +1,6 @@
 -- A turn by what its call leaves, and turns one after another.
 use Rattle.std.proofs.Common.{Some, refl, ℕ, ◌∙◌, ◌≡◌, ◌+◌, ◌<◌, List, [], ◌∷◌, ◌++◌, length, take, get_or, map, sym, ap, subst}
-use Rattle.wasmi_machine.specs.Effects.{ActsMetered, ActsMeteredUnasked, Asks, Changes, ChangesPart, IfNoRoom, OnlyReplies}
-use Rattle.wasmi_machine.specs.State.{State, Turn, World, world}
-use Rattle.wasmi_store.specs.Growth.{metered, metered_value, WithCharge}
-use Rattle.wasmi_machine.specs.declared.calls.Call.{Call}
-use Rattle.wasmi_machine.specs.declared.calls.Reply.{Reply}
-use Rattle.wasmi_meter.specs.Attempt.{MeteredValue}
-use Rattle.wasmi_meter.specs.Meter.{Meter}
-use Rattle.std.proofs.lemmas.List.{take_more, map_push, map-append}
-use Rattle.wasmi_meter.specs.Limiter.{Rules}
-use Rattle.wasmi_machine.specs.Steps.{Step, RepliesWith, Sequence, Run, IsRunOf}
+use Rattle.wasmi_machine.proofs.Common.{ActsMetered, ActsMeteredUnasked, Asks, Changes, ChangesPart, IfNoRoom, OnlyReplies, State, Turn, World, world, metered, metered_value, WithCharge, Call, Reply, MeteredValue, Meter, take_more, map_push, map-append, Rules, Step, RepliesWith, Sequence, Run, IsRunOf}
 
 -- a free turn by this call with this reply
 abbrev pub free_turn : Call → Reply → Turn
@@ -117,19 +108,25 @@ module _ {S : Type 0} {v v' w w' : World S} {turn : Turn} where
       after = after;
     }
 
--- one call more: the turns so far are by the calls up to a place, and the next turn is by the one there
-pub calls_more : (turns : List Turn) (calls : List Call) (i : ℕ) (turn : Turn) → map Turn.call turns ≡ take i calls
-    → i < length calls → turn.call ≡ get_or calls i turn.call → map Turn.call (turns ++ turn ∷ []) ≡ take (i + 1) calls
-calls_more turns calls i turn so_far within here =
-    map_push Turn.call turns turn ∙ ap (λ cs. cs ++ turn.call ∷ []) so_far
-    ∙ ap (λ c. take i calls ++ c ∷ []) here ∙ sym (take_more calls i turn.call within)
-
 module _ {S : Type 0} (rules : Rules S) where
   -- a run and one more turn
   pub Run-push : (u : World S) (turns : List Turn) (v : World S) → Run rules u turns v → (turn : Turn) (w : World S)
       → Step rules v turn w → Run rules u (turns ++ turn ∷ []) w
   Run-push u [] v ran turn w step = (w, rw (← ran) step, refl)
   Run-push u (t ∷ turns) v ran turn w step = (ran.0, ran.1, Run-push ran.0 turns v ran.2 turn w step)
+
+  -- a run of the calls up to a place, and an answer to the call there, are a run of one call more
+  pub run_more : (calls : List Call) (i : ℕ) (call : Call) (u v w : World S) (replies : List Reply) (reply : Reply)
+      → i < length calls → call ≡ get_or calls i call → IsRunOf rules (take i calls) u replies v
+      → RepliesWith rules call v reply w → IsRunOf rules (take (i + 1) calls) u (replies ++ reply ∷ []) w
+  run_more calls i call u v w replies reply within here (turns, made, told, ran) (charge, written, step) =
+      let turn : Turn = record { call = call; reply = reply; charge = charge; written = written } in (
+        turns ++ turn ∷ [],
+        map_push Turn.call turns turn ∙ ap (λ cs. cs ++ call ∷ []) made
+            ∙ ap (λ c. take i calls ++ c ∷ []) here ∙ sym (take_more calls i call within),
+        map_push Turn.reply turns turn ∙ ap (λ rs. rs ++ reply ∷ []) told,
+        Run-push u turns v ran turn w step,
+      )
 
   -- two runs in a row are one
   pub runs_joined : (u : World S) (turns : List Turn) (v : World S) (turns' : List Turn) (w : World S)

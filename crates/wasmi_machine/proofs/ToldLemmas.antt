@@ -1,25 +1,13 @@
 -- Where each notice is accepted, the replies show whether anybody is told of want of memory.
 use Rattle.std.proofs.Common.{◌≡◌, ◌∙◌, Option, Some, None, Ok, true, List, [], ◌∷◌, map, refl, sym, ap, subst}
-use Rattle.std.proofs.lemmas.List.Elements.{All-nil, All-cons, All-head, All-tail}
-use Rattle.std.specs.Prelude.{All}
-use Rattle.wasmi_meter.specs.declared.error.MemoryError.{MemoryError}
+use Rattle.wasmi_machine.proofs.Common.{All-nil, All-cons, All-head, All-tail, All, MemoryError, TableError, MemoryFailure, TableFailure, Rules, AskedIf, NoticedIf, unlimited_rules, optional_rules, quota_rules, Request, Failed, error_of_failure, Call, Reply, World, Turn, Run, IsRunOf, AcceptsNotices, StaysAccepting, IsIn, IsOtherFailure, IsDeterministic, never_out_of_memory, IsNotOutOfMemory, AreNotOutOfMemory}
 use Rattle.wasmi_meter.specs.declared.error.MemoryError.TheVariants as memerr
-use Rattle.wasmi_meter.specs.declared.error.TableError.{TableError}
 use Rattle.wasmi_meter.specs.declared.error.TableError.TheVariants as taberr
-use Rattle.wasmi_meter.specs.Limiter.{Question, Answer, Failure, NoticeAnswer, MemoryFailure, TableFailure, Rules, AskedIf, NoticedIf, unlimited_rules, optional_rules}
-use Rattle.wasmi_meter.specs.Capped.{quota_rules}
-use Rattle.wasmi_meter.specs.Attempt.{Request, Failed, error_of_failure}
 use Rattle.wasmi_store.specs.Memory as memory
 use Rattle.wasmi_store.specs.Table as table
-use Rattle.wasmi_machine.specs.declared.calls.Call.{Call}
-use Rattle.wasmi_machine.specs.declared.calls.Reply.{Reply}
 use Rattle.wasmi_machine.specs.declared.calls.Reply.TheVariants as replied
-use Rattle.wasmi_machine.specs.State.{World, Turn}
-use Rattle.wasmi_machine.specs.Exchange.{Exchange, Nothing, Denial, Permission, Notice, Passes}
-use Rattle.wasmi_machine.specs.Steps.{Step, Run, IsRunOf}
-use Rattle.wasmi_machine.specs.Determinism.{AcceptsNotices, StaysAccepting, IsIn, IsOtherFailure, IsDeterministic, never_out_of_memory, IsNotOutOfMemory, AreNotOutOfMemory}
 use Rattle.wasmi_machine.proofs.DeterminismLemmas as determinism
-use Rattle.wasmi_machine.proofs.ExchangeLemmas.{growths_are_permitted}
+use Rattle.wasmi_machine.proofs.HoldingLemmas.{if_there, step_stays}
 use Rattle.wasmi_machine.proofs.RevealingLemmas.{Narrowing, Reveals, run_revealed}
 
 -- an error of which a reply that has memory tells is no want of it
@@ -34,9 +22,14 @@ no_table c has = tt
 
 module _ {S : Type 0} (rules : Rules S) (IsAccepting : S → Type 0) (stays : StaysAccepting rules IsAccepting) where
   -- the replies that have memory, in these states of the limiter
-  abbrev telling : Narrowing S
-  telling =
-      record { rules = rules; narrower = never_out_of_memory rules; shown = IsNotOutOfMemory; within = IsAccepting }
+  abbrev telling : Narrowing S S
+  telling = record {
+    rules = rules;
+    image = λ l. l;
+    narrower = never_out_of_memory rules;
+    shown = IsNotOutOfMemory;
+    within = IsAccepting;
+  }
 
   -- the replies to an attempt's errors tell whether the limiter is told of want of memory
   want_revealed : {V E : Type 0} (refusal : E → Reply) (e : Request V E)
@@ -53,22 +46,6 @@ module _ {S : Type 0} (rules : Rules S) (IsAccepting : S → Type 0) (stays : St
       )
   want_revealed refusal e nowant outcome l l' within shown f = f
 
-  -- an exchange leaves the limiter in these states
-  exchange_stays : (exchange : Exchange) (l l' : S) → Passes rules l exchange l' → IsAccepting l → IsAccepting l'
-  exchange_stays Nothing l l' passes within = subst IsAccepting (sym passes) within
-  exchange_stays (Denial question answer) l l' passes within = stays.asked l question answer l' within passes.1
-  exchange_stays (Permission question) l l' passes within = stays.asked l question (Ok true) l' within passes
-  exchange_stays (Notice question failure notice_answer) l l' (kind, permitted, asks, notices) within =
-      (stays.noticed permitted failure notice_answer l' (stays.asked l question (Ok true) permitted within asks)
-      notices).1
-
-  -- a step leaves the limiter in these states
-  step_stays : (w : World S) (turn : Turn) (w' : World S) → IsAccepting w.limiter → Step rules w turn w'
-      → IsAccepting w'.limiter
-  step_stays w turn w' within step =
-      let exchanged = growths_are_permitted rules w turn w' step in
-      exchange_stays exchanged.exchange w.limiter w'.limiter exchanged.passes within
-
   -- a run whose replies have memory is one under these rules
   pub told_run : (w : World S) (turns : List Turn) (w' : World S) → IsAccepting w.limiter
       → All IsNotOutOfMemory (map Turn.reply turns) → Run rules w turns w' → Run (never_out_of_memory rules) w turns w'
@@ -78,7 +55,10 @@ module _ {S : Type 0} (rules : Rules S) (IsAccepting : S → Type 0) (stays : St
         memory_grown = λ x pages. want_revealed replied.Memory (memory.growth_of x pages) no_memory;
         table_made = λ ty init. want_revealed replied.Table (table.creation_of ty init) no_table;
         table_grown = λ x n reference. want_revealed replied.Table (table.growth_of x n reference) no_table;
-      }) step_stays
+      }) (step_stays rules IsAccepting (record {
+        asked = stays.asked;
+        noticed = λ l failure answer l' within notices. (stays.noticed l failure answer l' within notices).1;
+      }))
 
 -- turns whose replies have memory, and their replies
 all_shown : (turns : List Turn) → AreNotOutOfMemory turns → All IsNotOutOfMemory (map Turn.reply turns)
@@ -108,34 +88,25 @@ accepts_always rules accepts = record {
 
 -- a limiter that may be absent stays in the states in which the limiter stays
 module _ {L : Type 0} (rules : Rules L) (IsAccepting : L → Type 0) (stays : StaysAccepting rules IsAccepting) where
-  -- by a question
-  asked_stays : (l : Option L) (question : Question) (answer : Answer) (l' : Option L) → IsIn IsAccepting l
-      → AskedIf rules l question answer l' → IsIn IsAccepting l'
-  asked_stays (Some l) question answer (Some l') within asks = stays.asked l question answer l' within asks
-  asked_stays (Some l) question answer None within asks = tt
-  asked_stays None question answer (Some l') within asks = absurd asks
-  asked_stays None question answer None within asks = tt
-
-  -- by a notice
-  noticed_stays : (l : Option L) (failure : Failure) (notice_answer : NoticeAnswer) (l' : Option L)
-      → IsIn IsAccepting l → NoticedIf rules l failure notice_answer l' → (notice_answer ≡ Ok tt) × IsIn IsAccepting l'
-  noticed_stays (Some l) failure notice_answer (Some l') within notices =
-      stays.noticed l failure notice_answer l' within notices
-  noticed_stays (Some l) failure notice_answer None within notices = absurd notices
-  noticed_stays None failure notice_answer (Some l') within notices = absurd notices
-  noticed_stays None failure notice_answer None within notices = (notices, tt)
-
-  -- by both
+  -- by each question, and by each notice
   optional_stays : StaysAccepting (optional_rules rules) (IsIn IsAccepting)
-  optional_stays = record { asked = asked_stays; noticed = noticed_stays }
+  optional_stays = record {
+    asked = λ l question answer l' within asks. if_there (λ l l'. AskedIf rules l question answer l')
+        (λ l l'. IsIn IsAccepting l → IsIn IsAccepting l')
+        (λ l l' asks within. stays.asked l question answer l' within asks) (λ permits within. within)
+        (λ l. (λ h. h, λ h. h)) l l' asks within;
+    noticed = λ l failure notice_answer l' within notices. if_there (λ l l'. NoticedIf rules l failure notice_answer l')
+        (λ l l'. IsIn IsAccepting l → (notice_answer ≡ Ok tt) × IsIn IsAccepting l')
+        (λ l l' notices within. stays.noticed l failure notice_answer l' within notices)
+        (λ accepts within. (accepts, within)) (λ l. (λ h. h, λ h. h)) l l' notices within;
+  }
 
 -- a limiter that may be absent accepts each notice if the limiter does
 pub optional_accepts : {L : Type 0} (rules : Rules L) → AcceptsNotices rules → AcceptsNotices (optional_rules rules)
-optional_accepts rules accepts (Some l) failure notice_answer (Some l') notices =
-    accepts l failure notice_answer l' notices
-optional_accepts rules accepts (Some l) failure notice_answer None notices = absurd notices
-optional_accepts rules accepts None failure notice_answer (Some l') notices = absurd notices
-optional_accepts rules accepts None failure notice_answer None notices = notices
+optional_accepts rules accepts l failure notice_answer l' notices =
+    if_there (λ l l'. NoticedIf rules l failure notice_answer l') (λ l l'. notice_answer ≡ Ok tt)
+    (λ l l' notices. accepts l failure notice_answer l' notices) (λ accepts. accepts) (λ l. (λ h. h, λ h. h)) l l'
+    notices
 
 -- the limiter that permits everything
 pub unlimited_accepts : {S : Type 0} → AcceptsNotices (unlimited_rules {S = S})

@@ -1,22 +1,9 @@
 -- What each turn does to a valid state: it stays valid.
 use Rattle.std.proofs.Common.{List, Option, [], ap, map, subst, sym, ℕ, ◌∷◌, ◌≡◌}
-use Rattle.std.proofs.lemmas.List.Elements.{All-head, All-tail}
-use Rattle.std.specs.Prelude.{All}
+use Rattle.wasmi_machine.proofs.Common.{All-head, All-tail, All, reply_of, Run, RepliesWith, Changed, Effect, FuelSet, LentMemoryMade, MemoryGrown, MemoryMade, RangeWritten, TableGrown, TableMade, HasEffect, effect_of, MemoryPart, State, IsValid, IsValidCall, Turn, World, Call, NewMemory, Reply, Slot, Rules, Meter, Lent, Owned, GrowsMemoryCharging, IsValidMemory, MakesMemory, MemoryValue, GrowsTableCharging, IsValidTable, MakesTable, TableValue}
 use Rattle.wasmi_machine.proofs.EffectLemmas.{AllValid, acts_valid, creates_valid, on_live}
 use Rattle.wasmi_machine.proofs.RangeLemmas.{range_valid}
 use Rattle.wasmi_machine.proofs.StepsLemmas.{change_facts}
-use Rattle.wasmi_machine.specs.Effects.{reply_of}
-use Rattle.wasmi_machine.specs.Steps.{Run, RepliesWith, Changed, Effect, FuelSet, LentMemoryMade, MemoryGrown, MemoryMade, RangeWritten, TableGrown, TableMade, HasEffect, effect_of}
-use Rattle.wasmi_machine.specs.State.{MemoryPart, State, IsValid, IsValidCall, Turn, World}
-use Rattle.wasmi_machine.specs.declared.calls.Call.{Call}
-use Rattle.wasmi_machine.specs.declared.calls.Call.TheVariants.{NewMemory}
-use Rattle.wasmi_machine.specs.declared.calls.Reply.{Reply}
-use Rattle.wasmi_machine.specs.declared.slots.Slot.{Slot}
-use Rattle.wasmi_meter.specs.Limiter.{Rules}
-use Rattle.wasmi_meter.specs.Meter.{Meter}
-use Rattle.wasmi_store.specs.Buffer.{Lent, Owned}
-use Rattle.wasmi_store.specs.Memory.{GrowsMemoryCharging, IsValidMemory, MakesMemory, MemoryValue}
-use Rattle.wasmi_store.specs.Table.{GrowsTableCharging, IsValidTable, MakesTable, TableValue}
 use Rattle.wasmi_store.specs.Memory as memory_type
 use Rattle.wasmi_machine.specs.declared.calls.Reply.TheVariants as replied
 use Rattle.wasmi_store.proofs.ValidityLemmas as store

@@ -1,15 +1,10 @@
 -- What holds of each effect on element segments, globals and registers; the segment that is read of an iterator over a
 -- list.
 use Rattle.std.proofs.Common.{Err, List, Ok, Result, ap, arith, inl, inr, length, refl, subst, sym, ℕ, ◌∙◌, ◌≡◌, ◌≤◌, [], ◌∷◌, ◌++◌, Option, Some, None, Iter, length-set}
-use Rattle.std.specs.Prelude.{All}
-use Rattle.wasmi_machine.proofs.EffectLemmas.{IsDecided, appended_valid, appends_back, appends_same, item_back, item_same}
-use Rattle.wasmi_machine.specs.Determinism.{IsNotOutOfMemory}
+use Rattle.wasmi_machine.proofs.Common.{All, IsNotOutOfMemory, AddsEntry, reply_of, IsValidSegment, Reply, SegmentValue, most_items, IsReading, RefType, unwrap_or, append-nil, length-append, nil_from_length, SetsAt}
+use Rattle.wasmi_machine.proofs.EffectLemmas.{IsDecided, LeavesRefused, appended_valid, appends_back, appends_same, item_back, item_same}
 use Rattle.wasmi_machine.specs.Laws.{IsRefusal}
-use Rattle.wasmi_machine.specs.Effects.{AddsEntry, reply_of}
-use Rattle.wasmi_machine.specs.State.{IsValidSegment}
 use Rattle.wasmi_machine.specs.ValueEffects.{CreatesSegment, IsSegmentOf, SetsGlobalAt}
-use Rattle.wasmi_machine.specs.declared.calls.Reply.{Reply}
-use Rattle.wasmi_store.specs.Segment.{SegmentValue, most_items, IsReading}
 use Rattle.wasmi_store.specs.declared.table.element.SegmentError.{SegmentError}
 use Rattle.wasmi_store.specs.declared.table.element.SegmentError.TheVariants.{OutOfSystemMemory, TooManyItems}
 use Rattle.wasmi_typed.specs.Global.{GlobalInstance, SetsGlobal}
@@ -18,14 +13,10 @@ use Rattle.wasmi_typed.specs.declared.global.GlobalError.TheVariants.{ImmutableW
 use Rattle.wasmi_typed.specs.declared.global.Mutability.{Mutability}
 use Rattle.wasmi_typed.specs.declared.global.Mutability.TheVariants.{Const, Var}
 use Rattle.wasmi_typed.specs.declared.typed.TypedRawVal.{TypedRawVal}
-use Rattle.wasmi_types.specs.declared.value.RefType.{RefType}
-use Rattle.std.specs.Option.{unwrap_or}
 use Rattle.std.specs.Iterator.{Yields}
 use Rattle.std.specs.Iterator.Adapters.{copied_steps, copied_source}
 use Rattle.std.specs.Slice.Iter.{iter_steps, iter_rest}
 use Rattle.std.specs.declared.iter.Copied.{Copied}
-use Rattle.std.proofs.lemmas.List.{append-nil, length-append, nil_from_length}
-use Rattle.wasmi_machine.specs.RegisterEffects.{SetsAt}
 use Rattle.wasmi_raw.specs.declared.raw.RawVal.{RawVal}
 use Rattle.wasmi_types.specs.declared.trap.TrapCode.{TrapCode}
 use Rattle.wasmi_machine.specs.declared.calls.Reply.TheVariants as replied
@@ -38,17 +29,13 @@ global_back x x' value (Err ImmutableWrite) refused sets = sets.1
 global_back x x' value (Err TypeMismatch) refused sets = sets.2
 
 -- a refused creation of an element segment leaves the list
-pub segment_back : (Lacks : Type 0) (ty : RefType) (items : List ℕ) (segments : List SegmentValue) (reply : Reply)
-    (segments' : List SegmentValue) → IsRefusal reply → CreatesSegment Lacks ty items segments reply segments'
-    → segments' ≡ segments
+pub segment_back : (Lacks : Type 0) (ty : RefType) (items : List ℕ) → LeavesRefused (CreatesSegment Lacks ty items)
 segment_back Lacks ty items segments reply segments' refused (inl none) = none.1
 segment_back Lacks ty items segments reply segments' refused (inr (result, is, appends)) =
     appends_back replied.Segment (λ x. x) result segments reply segments' refused appends
 
 -- a global that is not set leaves the list
-pub global_refused : (k : ℕ) (value : TypedRawVal) (globals : List GlobalInstance) (reply : Reply)
-    (globals' : List GlobalInstance) → IsRefusal reply → SetsGlobalAt k value globals reply globals'
-    → globals' ≡ globals
+pub global_refused : (k : ℕ) (value : TypedRawVal) → LeavesRefused (SetsGlobalAt k value)
 global_refused k value globals reply globals' refused sets =
     item_back k globals reply globals' _ (λ x x' c. global_back x x' value c.0 (rw c.2 at refused) c.1) sets
 

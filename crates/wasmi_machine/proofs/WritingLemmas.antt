@@ -1,39 +1,12 @@
 -- What each turn writes, and what it is charged for that.
 use Rattle.std.proofs.Common.{Bool, Err, List, None, Ok, Option, Result, Some, [], ap, arith, false, inl, inr, refl, subst, true, ℕ, ◌*◌, ◌+◌, ◌-◌, ◌/◌, ◌<◌, ◌^◌, ◌∙◌, ◌∷◌, ◌≡◌, ◌≤◌}
 use Rattle.std.proofs.Math.Nat.{add-mul, lt-div-mul-add, mul-add, mul-le-mul_left, mul_comm}
-use Rattle.std.proofs.lemmas.Bool.{and_parts}
-use Rattle.std.proofs.lemmas.Bool.Decides.{nat_tests}
-use Rattle.std.proofs.lemmas.List.Sums.{sum_by-cons}
-use Rattle.std.proofs.lemmas.Option.{same_Some}
-use Rattle.std.specs.Option.{option_map, option_map_or}
-use Rattle.std.specs.Prelude.{cond, if◌then◌else◌, is_some, nat_eq, nat_le, nat_lt, ◌&&◌}
+use Rattle.wasmi_machine.proofs.Common.{and_parts, nat_tests, sum_by-cons, same_Some, option_map, option_map_or, cond, if◌then◌else◌, is_some, nat_eq, nat_le, nat_lt, ◌&&◌, bytes_appended, IsBounded, amount_set, amounts_set, bytes_written, charges_for_writing, has_written, is_accepted, writing_turns, ActsAt, reply_of, Run, Changed, Effect, FuelSet, MemoryGrown, HasRangeWrite, RangeWrite, RangeWritten, TableGrown, HasEffect, effect_of, is_charged, State, live_at, Turn, World, element_bytes, Grows, Growth, Call, SetFuel, Reply, Slot, Denied, Failed, AttemptOutcome, MayEnd, Met, MeteredValue, Unasked, optional_due, answer_of, outcome_charge, copy_cost, cut_product, Meter, due, meter_after, meter_set, PaysCharge, Rules, MemoryError, TableError, CustomFuelCosts, on_test, GrowsMemoryCharging, MemoryValue, pages_of, greatest_pages, in_bounds, page_bytes, GrowsTableCharging, TableValue, same_type, TypedRawRef, memory_growth, table_growth}
 use Rattle.wasmi_machine.proofs.AccountLemmas.{Growing, after, before, growing, grows_takes, charged_value, rest_left}
 use Rattle.wasmi_machine.proofs.EffectLemmas.{on_live}
 use Rattle.wasmi_machine.proofs.RangeLemmas.{IsPriced, range_facts, range_price}
 use Rattle.wasmi_machine.proofs.StepsLemmas.{change_facts}
-use Rattle.wasmi_machine.specs.MemoryEffects.{bytes_appended}
-use Rattle.wasmi_machine.specs.Account.{IsBounded, amount_set, amounts_set, bytes_written, charges_for_writing, has_written, is_accepted, writing_turns}
-use Rattle.wasmi_machine.specs.Effects.{ActsAt, reply_of}
-use Rattle.wasmi_machine.specs.Steps.{Run, Changed, Effect, FuelSet, MemoryGrown, HasRangeWrite, RangeWrite, RangeWritten, TableGrown, HasEffect, effect_of, is_charged}
-use Rattle.wasmi_machine.specs.State.{IsRefusal, State, live_at, Turn, World}
-use Rattle.wasmi_machine.specs.TableEffects.{element_bytes}
-use Rattle.wasmi_store.specs.Growth.{Grows, Growth}
-use Rattle.wasmi_machine.specs.declared.calls.Call.{Call}
-use Rattle.wasmi_machine.specs.declared.calls.Call.TheVariants.{SetFuel}
-use Rattle.wasmi_machine.specs.declared.calls.Reply.{Reply}
-use Rattle.wasmi_machine.specs.declared.slots.Slot.{Slot}
-use Rattle.wasmi_meter.specs.Attempt.{Denied, Failed, AttemptOutcome, MayEnd, Met, MeteredValue, Unasked, optional_due, answer_of, outcome_charge}
-use Rattle.wasmi_meter.specs.Meter.{copy_cost, cut_product, Meter, due, meter_after, meter_set, PaysCharge}
-use Rattle.wasmi_meter.specs.Limiter.{Rules}
-use Rattle.wasmi_meter.specs.declared.error.MemoryError.{MemoryError}
-use Rattle.wasmi_meter.specs.declared.error.TableError.{TableError}
-use Rattle.wasmi_meter.specs.declared.fuel.CustomFuelCosts.{CustomFuelCosts}
-use Rattle.wasmi_store.proofs.GrowthLemmas.{on_test}
-use Rattle.wasmi_store.specs.Memory.{GrowsMemoryCharging, MemoryValue, pages_of, greatest_pages, in_bounds, page_bytes}
-use Rattle.wasmi_store.specs.Table.{GrowsTableCharging, TableValue, same_type}
-use Rattle.wasmi_typed.specs.declared.typed_ref.TypedRawRef.{TypedRawRef}
-use Rattle.wasmi_machine.proofs.MemoryEffectsLemmas.{memory_growth}
-use Rattle.wasmi_machine.proofs.TableEffectsLemmas.{table_growth}
+use Rattle.wasmi_machine.specs.State.{IsRefusal}
 use Rattle.wasmi_machine.specs.declared.calls.Reply.TheVariants as replied
 
 -- the bytes that a fuel pays for

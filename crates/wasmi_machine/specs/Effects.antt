@@ -8,7 +8,7 @@ use Rattle.wasmi_machine.specs.declared.calls.Reply.{Reply}
 use Rattle.wasmi_machine.specs.declared.calls.Reply.TheVariants.{Done, Made, Number, NoSuch, NoRoom}
 use Rattle.wasmi_machine.specs.declared.slots.Slot.{Slot}
 use Rattle.wasmi_machine.specs.declared.slots.Slot.TheVariants.{Live, Gone}
-use Rattle.wasmi_machine.specs.State.{State, live_value, live_at, World, world, Turn, IsFree}
+use Rattle.wasmi_machine.specs.State.{State, live_at, World, world, Turn, IsFree}
 
 -- the reply to a call that returns a value or is refused
 abbrev pub reply_of : {T E : Type 0} → (T → Reply) → (E → Reply) → Result T E → Reply
@@ -101,14 +101,6 @@ WritesFrom refusal source k write s reply charge s' =
 abbrev pub WritesRangeAt : {X E : Type 0} → (E → Reply) → ℕ → Option (X → MeteredWrite X E) → MeteredSlots X → Reply
     → ℕ → MeteredSlots X → Type 0
 WritesRangeAt refusal k write = WritesFrom refusal write k (λ w. w)
-
--- a slot's value is written over with what another slot's value has
-abbrev pub CopiesSlot : {X E : Type 0} → (E → Reply) → (X → X → MeteredWrite X E) → Slot X
-    → MeteredValue (Slot X) (Unit {0}) → Reply → ℕ → MeteredValue (Slot X) (Unit {0}) → Type 0
-CopiesSlot refusal write source s reply charge s' = OnLive (live_value source) (IsNoSuch s reply charge s')
-    (λ y. OnLive (live_value s.value) (IsNoSuch s reply charge s')
-    (λ x. (result : _) × (x' : _) × WritesCharging (write y) (with_value s x) result charge (with_value s' x')
-    × (reply ≡ reply_of (λ _. Done) refusal result) × (s'.value ≡ Live x')))
 
 -- the bytes that an accepted call on so many items, of so many bytes each, has written
 abbrev pub item_bytes : ℕ → ℕ → Reply → ℕ

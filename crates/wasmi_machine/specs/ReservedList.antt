@@ -1,6 +1,5 @@
 -- Lists with memory for items that are still to be added.
-use Rattle.std.specs.Prelude.{ℕ, List, length, slice_set}
-use Rattle.std.specs.List.{refill}
+use Rattle.std.specs.Prelude.{ℕ, List, slice_set}
 
 -- a list: its items, up to how many of them are reserved, and for how many there is memory
 pub record ReservedListValue (X : Type 0) : Type 0 where
@@ -11,7 +10,3 @@ pub record ReservedListValue (X : Type 0) : Type 0 where
 -- the list with another item at an index
 abbrev pub with_item : {X : Type 0} → ReservedListValue X → ℕ → X → ReservedListValue X
 with_item list k x = record list { items = slice_set list.items k x }
-
--- the list whose items were written over, by as many
-abbrev pub with_items : {X : Type 0} → ReservedListValue X → List X → ReservedListValue X
-with_items list xs = record list { items = refill (length list.items) list.items xs }

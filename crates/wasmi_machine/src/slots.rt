@@ -1,10 +1,10 @@
 //! Slots: what was made, each at the index of its making; and lists with memory for more items.
 ghost use Rattle.std.specs.Prelude.{◌≡◌, ◌+◌, ◌<◌, ◌≤◌, ◌++◌, ℕ, [], ◌∷◌, length, map, max, sum, IsSome, IfSome, IfNone, OnErr, OnOk, Some, slice_get, slice_set};
-ghost use Rattle.std.specs.Borrow.{sem, Array, Lends, LendsIf};
+ghost use Rattle.std.specs.Borrow.{sem, Lends, LendsIf};
 ghost use Rattle.std.specs.Option.{option_copied, option_copied_mut};
 ghost use Rattle.wasmi_store.specs.Table.{size_of};
 ghost use Rattle.wasmi_machine.specs.Effects.{DropsAt, reply_or_no_such};
-ghost use Rattle.wasmi_machine.specs.ReservedList.{with_item, with_items};
+ghost use Rattle.wasmi_machine.specs.ReservedList.{with_item};
 ghost use Rattle.wasmi_machine.specs.State.{live_value, live_at, with_live, slot_count};
 ghost use Rattle.wasmi_machine.specs.declared.slots.Slot.TheVariants.{Gone, Live};
 
@@ -265,15 +265,6 @@ impl<T> ReservedList<T> {
         ensures value { option_copied_mut result ≡ slice_get self.old.items index }
     {
         self.items.get_mut(index)
-    }
-
-    /// The items, to be changed.
-    pub(crate) fn as_mut_slice(&mut self) -> &mut [T]
-        ensures* writes_back { sem 𝓛
-            (Lends (the_row T.row) (Array T.row 0) self.entry result (with_items self.old)) }
-        ensures value { result.now ≡ self.old.items }
-    {
-        self.items.as_mut_slice()
     }
 
     /// Asks for memory for so many more items, unless it is there.

@@ -1,10 +1,10 @@
 //! The tables of a machine, by their indices.
-ghost use Rattle.std.specs.Prelude.{◌≡◌, ◌≢◌, ◌<◌, ◌≤◌, length, Some};
+ghost use Rattle.std.specs.Prelude.{◌≡◌, ◌≤◌, length, Some};
 ghost use Rattle.wasmi_meter.specs.Limiter.{optional_rules, lent_limiter, KeepsLoan};
 ghost use Rattle.wasmi_store.specs.Growth.{metered_value, metered, WithCharge};
 ghost use Rattle.wasmi_store.specs.Segment.{segment_of};
 ghost use Rattle.wasmi_store.specs.Table.{MakesTable, GrowsTableCharging, filling_of, copy_of, initialization_of};
-ghost use Rattle.wasmi_machine.specs.Effects.{reply_of, reply_or_no_such, ActsAt, CopiesSlot, Creates, IfNoRoom};
+ghost use Rattle.wasmi_machine.specs.Effects.{reply_of, reply_or_no_such, ActsAt, Creates, IfNoRoom};
 ghost use Rattle.wasmi_machine.specs.TableEffects.{ReservesElementsAt, SetsElementAt, WritesTableAt, WritesTableFrom};
 ghost use Rattle.wasmi_machine.specs.State.{live_at};
 
@@ -146,12 +146,13 @@ impl Slots<Table> {
         if dst_index == src_index {
             return self.copy_in_one(dst_index, dst, src, len, fuel);
         }
-        let count = self.slots.as_slice().len();
-        if dst_index >= count || src_index >= count {
-            return None;
-        }
-        let slots = self.slots.as_mut_slice();
-        copy_to_other(slots, dst_index, src_index, dst, src, len, fuel)
+        let mut table = self.take(dst_index)?;
+        let copied = match self.live(src_index) {
+            Some(source) => Some(table_reply(table.copy_metered(dst, source, src, len, fuel))),
+            None => None,
+        };
+        *self.slots.item_mut(dst_index) = Slot::Live(table);
+        copied
     }
 
     /// Copies a range of a table within it.
@@ -171,53 +172,6 @@ impl Slots<Table> {
     {
         let table = self.live_mut(index)?;
         Some(table_reply(table.copy_within_metered(dst, src, len, fuel)))
-    }
-}
-
-/// Copies a range of a table to another one.
-fn copy_to_other(
-    slots: &mut [Slot<Table>],
-    dst_index: usize,
-    src_index: usize,
-    dst: u64,
-    src: u64,
-    len: u64,
-    fuel: &mut Fuel,
-) -> Option<Reply>
-    requires dst { dst_index < length slots.old }
-    requires src { src_index < length slots.old }
-    requires other { dst_index ≢ src_index }
-    ensures copied { WithCharge
-        (WritesTableFrom (live_at slots.old src_index) dst_index
-        (copy_of dst src len))
-        (metered slots.old (Some fuel.old)) (reply_or_no_such result) (metered slots.new (Some fuel.new)) }
-{
-    if dst_index < src_index {
-        let (front, back) = slots.split_at_mut(src_index);
-        copy_from_slot(&mut front[dst_index], &back[0], dst, src, len, fuel)
-    } else {
-        let (front, back) = slots.split_at_mut(dst_index);
-        copy_from_slot(&mut back[0], &front[src_index], dst, src, len, fuel)
-    }
-}
-
-/// Copies a range of the table in a slot to that in another one, if both are live.
-fn copy_from_slot(
-    slot: &mut Slot<Table>,
-    source: &Slot<Table>,
-    dst: u64,
-    src: u64,
-    len: u64,
-    fuel: &mut Fuel,
-) -> Option<Reply>
-    ensures { WithCharge (CopiesSlot Reply.Table (copy_of dst src len) source.now)
-        (metered slot.old (Some fuel.old)) (reply_or_no_such result) (metered slot.new (Some fuel.new)) }
-{
-    match (slot, source) {
-        (Slot::Live(table), Slot::Live(source)) => {
-            Some(table_reply(table.copy_metered(dst, source, src, len, fuel)))
-        }
-        _ => None,
     }
 }
 

@@ -1,3 +1,4 @@
+pub mod Common
 mod LawsLemmas
 pub mod MemoryLemmas
 mod TableLemmas

@@ -14,23 +14,26 @@ use Rattle.wasmi_store.proofs.MemoryLemmas.{growth_asked}
 pub zeroed_none : (region : List ℕ) (size : ℕ) → zeroed region size size ≡ region
 zeroed_none region size = rw (sub_self size) (search (rules, take-append-drop))
 
+-- items from one place on up to another: what stands up to the other, and past it
+pub filled_part : (xs ys : List ℕ) (start end item : ℕ) → start ≤ end → start ≤ length xs
+    → ys ≡ take start xs ++ replicate (end - start) item ++ drop end xs
+    → (take end ys ≡ take start xs ++ replicate (end - start) item) × (drop end ys ≡ drop end xs)
+filled_part xs ys start end item grows within filled =
+    let front : List ℕ = take start xs ++ replicate (end - start) item in
+    let first = length-take-le start xs within in
+    let long : length front ≡ end = simp (length-append, length-replicate, first) (omega arith) in
+    let split : ys ≡ front ++ drop end xs = filled ∙ search rules in
+    (rw split (take_at front (drop end xs) end long), rw split (drop_at front (drop end xs) end long))
+
 -- zeros within a region leave its length, and what stands past them
 module _ (region : List ℕ) (start end : ℕ) (grows : start ≤ end) (within : end ≤ length region) where
-  abbrev front : List ℕ
-  front = take start region ++ replicate (end - start) 0
-
-  long : length front ≡ end
-  long = let first = length-take-le start region (omega arith) in simp (length-append, length-replicate, first) (omega arith)
-
-  split : zeroed region start end ≡ front ++ drop end region
-  split = search rules
-
   pub zeroed_rest : drop end (zeroed region start end) ≡ drop end region
-  zeroed_rest = rw split (drop_at front (drop end region) end long)
+  zeroed_rest = (filled_part region _ start end 0 grows (omega arith) refl).1
 
   pub zeroed_length : length (zeroed region start end) ≡ length region
   zeroed_length =
-      let left = length-drop end region in rw split (length-append front (drop end region) ∙ omega (arith, long, left))
+      let first = length-take-le start region (omega arith) in
+      simp (length-append, length-replicate, length-drop, first) (omega arith)
 
 module _ (ty : MemoryTypeValue) (region : List ℕ) (size : ℕ) (within : size ≤ length region) (pages : ℕ) where
   abbrev x : MemoryValue
@@ -69,18 +72,10 @@ module _ (ty : MemoryTypeValue) (region : List ℕ) (size : ℕ) (within : size 
 
     -- with zeros from the old size to the new one, the region has the memory that has grown
     pub grown : (region' : List ℕ) → region' ≡ take size region ++ replicate (new_size - size) 0 ++ drop new_size region
-        → memory_in ty region' new_size ≡ memory_of ty (with_zeros (buffer_of x) (new_size - length x.bytes))
+        → memory_in ty region' new_size ≡ memory_of ty (with_zeros (buffer_of x) (pages * page_bytes ty.page))
     grown region' zeroed =
-        let front : List ℕ = take size region ++ replicate (new_size - size) 0 in
-        let long : length front ≡ new_size = let grows : size ≤ new_size = omega (arith, found.1) in
-        simp (length-append, length-replicate, sized) (omega arith) in
-        let split : region' ≡ front ++ drop new_size region = zeroed ∙ search rules in
+        let part = filled_part region region' size new_size 0 (omega (arith, found.1)) within zeroed in
+        let added : new_size - size ≡ pages * page_bytes ty.page = omega (arith, found.1) in
         let rest : drop (new_size - size) (drop size region) ≡ drop new_size region =
         drop-drop (new_size - size) size region ∙ ap (λ (k : ℕ). drop k region) (omega arith) in
-        rw (
-          split,
-          take_at front (drop new_size region) new_size long,
-          drop_at front (drop new_size region) new_size long,
-          sized,
-          rest,
-        ) refl
+        rw (part.0, part.1, ← added, rest) refl

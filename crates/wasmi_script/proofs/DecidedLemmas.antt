@@ -1,46 +1,29 @@
 -- Where memory isn't wanting the bytes decide what is printed.
-use Rattle.std.proofs.Common.{ℕ, ◌≡◌, ◌∙◌, ◌++◌, List, [], ◌∷◌, Vec, All, Option, Some, None, Ok, Err, map, codes, slice_set, refl, sym, ap, subst, arith}
-use Rattle.std.specs.Fmt.{decimal}
-use Rattle.std.specs.Option.{option_map, option_map_or}
+use Rattle.std.proofs.Common.{ℕ, ◌≡◌, ◌∙◌, ◌++◌, List, [], ◌∷◌, Vec, All, Option, Some, length, None, Ok, Err, map, codes, slice_set, refl, sym, ap, subst, arith}
+use Rattle.wasmi_script.proofs.Common.{decimal, option_map, option_map_or, drop_at, map-append, take_at, Call, Reply, State, new_state, no_slots, World, world, Turn, BadCommand, OutOfMemory, Parse, TooLong, ReadFault, meter_meaning, meter_off, region_bytes, start_of, tenant_start, line, kind_text, reply_text, error_text, IsNewQuota, IsReplayBy, AnswersParts, new_pool, TenantRun, parts_in, calls_in, replies_text, held_text, answer_list_rules, new_answers}
 use Rattle.std.specs.List.{flat_map}
-use Rattle.std.proofs.lemmas.List.{map-append}
-use Rattle.std.proofs.lemmas.List.Elements.{All-nil, All-cons, All-head, All-tail}
+use Rattle.std.proofs.lemmas.List.Elements.{All-drop, All-take}
 use Rattle.wasmi_meter.specs.declared.quota.Quota as quotas
 use Rattle.wasmi_meter.specs.Attempt.{MeteredValue}
 use Rattle.wasmi_meter.specs.Limiter.{Rules, unlimited_rules, optional_rules}
 use Rattle.wasmi_meter.specs.Capped.{holdings, quota_rules}
-use Rattle.wasmi_machine.specs.declared.calls.Call.{Call}
 use Rattle.wasmi_machine.specs.declared.calls.Call.TheVariants.{Write, NewData, NewSegment}
-use Rattle.wasmi_machine.specs.declared.calls.Reply.{Reply}
 use Rattle.wasmi_machine.specs.declared.calls.Reply.TheVariants.{Made}
-use Rattle.wasmi_machine.specs.State.{State, new_state, no_slots, World, Turn}
 use Rattle.wasmi_machine.specs.Effects.{ActsMetered, Asks}
-use Rattle.wasmi_machine.specs.Steps.{Effect, Told, BytesRead, FuelSet, Changed, MemoryMade, LentMemoryMade, MemoryGrown, TableMade, TableGrown, RangeWritten, MemoryWritten, TableWritten, effect_of, HasEffect, Step, Run, IsRunOf}
-use Rattle.wasmi_machine.specs.Determinism.{IsDeterministic, AcceptsNotices, IsNotOutOfMemory}
+use Rattle.wasmi_machine.specs.Steps.{Effect, FuelSet, Changed, MemoryMade, LentMemoryMade, MemoryGrown, TableMade, TableGrown, RangeWritten, MemoryWritten, TableWritten, effect_of, HasEffect, Step, Run, IsRunOf}
+use Rattle.wasmi_machine.specs.Determinism.{IsDeterministic, IsNotOutOfMemory}
 use Rattle.wasmi_machine.proofs.DeterminismLemmas.{unlimited_unique, quota_unique}
-use Rattle.wasmi_machine.proofs.ToldLemmas.{SeenRun, replies_are_one, unlimited_accepts, quota_accepts}
+use Rattle.wasmi_machine.proofs.ToldLemmas.{replies_are_one, unlimited_accepts, quota_accepts}
 use Rattle.wasmi_budget.specs.Pool.{PoolValue, RunsTenant, tenant_at, tenant_rules}
-use Rattle.wasmi_grammar.specs.declared.error.ParseError.TheVariants.{BadCommand, OutOfMemory}
-use Rattle.wasmi_script.specs.declared.error.ReplayError.TheVariants.{Parse, TooLong, ReadFault}
-use Rattle.wasmi_script.specs.declared.replaying.Held.{Held}
 use Rattle.wasmi_script.specs.declared.replaying.Ran.{Ran}
 use Rattle.wasmi_script.specs.declared.replaying.Held.TheVariants as holding
 use Rattle.wasmi_grammar.specs.declared.script.Script.{Script}
-use Rattle.wasmi_grammar.specs.declared.header.Header.{Header}
 use Rattle.wasmi_grammar.specs.declared.header.LimiterLine.{LimiterLine}
 use Rattle.wasmi_grammar.specs.declared.header.LimiterLine.TheVariants.{Quota, Answers, Tenants}
-use Rattle.wasmi_grammar.specs.Headers.{meter_meaning, meter_off, region_bytes, start_of, tenant_start}
-use Rattle.wasmi_script.specs.Printing.{line}
-use Rattle.wasmi_script.specs.Texts.{kind_text, reply_text, error_text}
-use Rattle.wasmi_meter.specs.declared.answer_list.LimiterAnswer.{LimiterAnswer}
-use Rattle.wasmi_script.specs.ScriptRuns.{IsNewQuota, IsListedReplay, IsReplayUnder, IsReplayOnOne, IsReplayBy, IsReplayOf, AnswersParts, new_pool}
 use Rattle.wasmi_grammar.specs.Lines.{calls_of}
-use Rattle.wasmi_grammar.specs.Parts.{TenantRun, parts_in, calls_in}
-use Rattle.wasmi_script.specs.Outcomes.{replies_text, held_text}
 use Rattle.wasmi_grammar.specs.Meanings.{CallMeaning, WriteMeaning, SegmentMeaning, DataMeaning, OtherCall, call_meaning, limiter_meaning, PartMeaning, part_meaning, ScriptMeaning, HaveSameMeaning}
-use Rattle.wasmi_meter.specs.AnswerList.{answer_list_rules, new_answers, notice_answer_by}
 use Rattle.wasmi_script.specs.Decided.{HasNoComplain, OutcomesAreOne}
-use Rattle.wasmi_script.proofs.ScriptRunsLemmas.{quiet_lists_decide}
+use Rattle.wasmi_script.proofs.ScriptRunsLemmas.{quiet_lists_decide, run_from}
 use Rattle.wasmi_grammar.proofs.OneScriptLemmas.{texts_unique, bad_lines_once, no_bad_line}
 
 -- a call by what it says
@@ -97,14 +80,13 @@ reply_same call call' reply same = refl
 replies_same : (calls calls' : List Call) (replies : List Reply) → map call_meaning calls ≡ map call_meaning calls'
     → replies_text calls replies ≡ replies_text calls' replies
 replies_same [] [] replies same = refl
-replies_same [] (call' ∷ calls') replies same = absurd cc
-replies_same (call ∷ calls) [] replies same = absurd cc
 replies_same (call ∷ calls) (call' ∷ calls') [] same = refl
 replies_same (call ∷ calls) (call' ∷ calls') (reply ∷ replies) same =
     let here : call_meaning call ≡ call_meaning call' = cc in
     let later : map call_meaning calls ≡ map call_meaning calls' = cc in
     let kind = same_kind call call' (subst (λ said. HasMeaning said call') (sym here) (says call')) in
     λ i. line (sym (reply_same call call' reply kind) i) ++ replies_same calls calls' replies later i
+replies_same calls calls' replies same = absurd cc
 
 -- a turn by a call that says the same
 module _ {S : Type 0} (rules : Rules S) where
@@ -141,10 +123,6 @@ module _ {S : Type 0} (rules : Rules S) where
   -- a turn that takes an effect takes it by any other call too
   retold_effect : (w : World S) (turn : Turn) (w' : World S) (other : Call) (effect : Effect)
       → HasEffect rules effect w turn w' → HasEffect rules effect w (by_call turn other) w'
-  retold_effect w turn w' other (Told reply) step =
-      record { free = step.free; effect = step.effect; after = step.after }
-  retold_effect w turn w' other (BytesRead k offset len) step =
-      record { free = step.free; effect = step.effect; after = step.after }
   retold_effect w turn w' other (FuelSet fuel) step =
       record { free = step.free; machine = step.machine; effect = step.effect; after = step.after }
   retold_effect w turn w' other (Changed change) step =
@@ -158,6 +136,7 @@ module _ {S : Type 0} (rules : Rules S) where
       record { part = step.part; meter = step.meter; effect = step.effect; wrote = step.wrote; after = step.after }
   retold_effect w turn w' other (RangeWritten (MemoryWritten k source dst len)) step =
       record { part = step.part; meter = step.meter; effect = step.effect; wrote = step.wrote; after = step.after }
+  retold_effect w turn w' other effect step = record { free = step.free; effect = step.effect; after = step.after }
 
   -- a step by a call is one by another call that says the same
   retold_step : (w : World S) (turn : Turn) (w' : World S) (other : Call) → call_meaning other ≡ call_meaning turn.call
@@ -174,8 +153,6 @@ module _ {S : Type 0} (rules : Rules S) where
       → (retold : List Turn) × (map Turn.call retold ≡ calls) ×
       (map Turn.reply retold ≡ map Turn.reply turns) × Run rules w retold w'
   retold_run [] [] w w' same ran = ([], refl, refl, ran)
-  retold_run [] (call ∷ calls) w w' same ran = absurd cc
-  retold_run (turn ∷ turns) [] w w' same ran = absurd cc
   retold_run (turn ∷ turns) (call ∷ calls) w w' same (v, step, ran) =
       let here : call_meaning call ≡ call_meaning turn.call = cc in
       let later : map call_meaning calls ≡ map call_meaning (map Turn.call turns) = cc in
@@ -185,6 +162,7 @@ module _ {S : Type 0} (rules : Rules S) where
         ap (λ rs. turn.reply ∷ rs) rest.2,
         (v, retold_step w turn v call here step, rest.3),
       )
+  retold_run turns calls w w' same ran = absurd cc
 
   -- a run of calls is one of others that say the same
   retold : (calls calls' : List Call) (w w' : World S) (replies : List Reply)
@@ -198,32 +176,23 @@ module _ {S : Type 0} (rules : Rules S) where
 abbrev HaveBoth : List Reply → List Reply → Type 0
 HaveBoth replies replies' = All IsNotOutOfMemory replies × All IsNotOutOfMemory replies'
 
--- two runs of calls that say the same, from one machine under one limiter that leaves no choice and accepts each notice
-module _ {L : Type 0} (rules : Rules L) (once : IsDeterministic rules) (accepts : AcceptsNotices rules) where
-  -- where neither tells of want of memory, both have the same replies and end alike
-  run_unique : (calls calls' : List Call) (w : World (Option L)) → map call_meaning calls ≡ map call_meaning calls'
-      → (a : SeenRun (optional_rules rules) calls w) (b : SeenRun (optional_rules rules) calls' w)
-      → (a.replies ≡ b.replies) × (a.after ≡ b.after)
-  run_unique calls calls' w same a b =
-      replies_are_one rules accepts once calls w a (record {
-        replies = b.replies;
-        after = b.after;
-        has = b.has;
-        ran = retold (optional_rules rules) calls calls' w b.after b.replies same b.ran;
-      })
-
 -- the tenants of scripts that say the same start with the same machine
-tenants_same : (header header' : Header) → header.meter ≡ header'.meter → header.reserve ≡ header'.reserve
-    → tenant_start header ≡ tenant_start header'
-tenants_same header header' meter reserve =
-    λ i. record (new_state (option_map_or meter_meaning (meter i) meter_off))
-    { reserved = option_map_or (λ slots. slots) (reserve i) no_slots }
+tenants_same : (script script' : Script) → HaveSameMeaning script script'
+    → tenant_start script.header ≡ tenant_start script'.header
+tenants_same script script' same = λ i. record (new_state (option_map_or meter_meaning (same i).meter meter_off))
+    { reserved = option_map_or (λ slots. slots) (same i).reserve no_slots }
 
--- scripts that say the same start with the same machine
-starts_same : (header header' : Header) → header.meter ≡ header'.meter → header.reserve ≡ header'.reserve
-    → header.region ≡ header'.region → start_of header ≡ start_of header'
-starts_same header header' meter reserve region =
-    λ i. record (tenants_same header header' meter reserve i) { spare = option_map region_bytes (region i) }
+-- a run of a script's calls from the machine that it starts with is one of those of a script that says the same
+again : {L : Type 0} (rules : Rules L) (script script' : Script) (limiter limiter' : L) (replies : List Reply)
+    (after : World L) → HaveSameMeaning script script' → limiter ≡ limiter'
+    → IsRunOf rules (calls_of script') (world (start_of script'.header) limiter') replies after
+    → IsRunOf rules (calls_of script) (world (start_of script.header) limiter) replies after
+again rules script script' limiter limiter' replies after same alike run =
+    let start : start_of script.header ≡ start_of script'.header =
+    λ i. record (tenants_same script script' same i) { spare = option_map region_bytes (same i).region } in
+    retold rules (calls_of script) (calls_of script') (world (start_of script.header) limiter) after replies
+    (calls_same script script' same)
+    (run_from rules (calls_of script') _ _ limiter' limiter replies after (sym start) (sym alike) run)
 
 -- two quotas of a line that hold nothing are one
 new_quotas : (asked : _) (quota quota' : quotas.Quota) → IsNewQuota asked quota → IsNewQuota asked quota'
@@ -235,63 +204,17 @@ new_quotas asked quota quota' new new' =
       holdings = held i;
     }
 
--- two runs of calls have the same replies, and what is held then has the same text
-record SameReplies (replies replies' : List Reply) (held held' : Held) : Type 0 where
-  pub answers : replies ≡ replies'
-  pub text : held_text held ≡ held_text held'
-
--- there is no `answers` line
-abbrev HasNoAnswers : Option LimiterLine → Type 0
-HasNoAnswers (Some (Answers words)) = ⊥
-HasNoAnswers limiter = Unit {0}
-
--- so it is under limiters of the same answers, of which none is `Complain`
-listed_unique : (words : List LimiterAnswer) (start : State) (calls calls' : List Call) (replies replies' : List Reply)
-    (held held' : Held) → All (λ word. notice_answer_by word ≡ Ok tt) words → map call_meaning calls ≡ map call_meaning calls'
-    → IsListedReplay words start calls replies held × IsListedReplay words start calls' replies' held'
-    → HaveBoth replies replies' → SameReplies replies replies' held held'
-listed_unique words start calls calls' replies replies' held held' quiet same
-    ((none, after, run), (none', after', run')) has =
-    let again = retold (optional_rules answer_list_rules) calls calls' _ after' replies' same run' in
-    record {
-      answers = (quiet_lists_decide calls start (new_answers words) (record { ahead = quiet; last = refl }) replies
-          replies' _ _ has.0 has.1 run again).0;
-      text = ap held_text (none ∙ sym none');
-    }
-
--- so it is without a limiter and under a quota
-under_unique : (limiter : Option LimiterLine) (start : State) (calls calls' : List Call) (replies replies' : List Reply)
-    (held held' : Held) → HasNoAnswers limiter → map call_meaning calls ≡ map call_meaning calls'
-    → IsReplayUnder limiter start calls replies held × IsReplayUnder limiter start calls' replies' held'
-    → HaveBoth replies replies' → SameReplies replies replies' held held'
-under_unique None start calls calls' replies replies' held held' none same ((is, after, run), (is', after', run')) has =
-    record {
-      answers = (run_unique unlimited_rules unlimited_unique unlimited_accepts calls calls' _ same
-          (record { replies = replies; after = after; has = has.0; ran = run })
-          (record { replies = replies'; after = after'; has = has.1; ran = run' })).0;
-      text = ap held_text (is ∙ sym is');
-    }
-under_unique (Some (Quota asked)) start calls calls' replies replies' held held' none same
-    ((quota, new, end, after, run, totals, is), (quota', new', end', after', run', totals', is')) has =
-    let again = subst (λ (q : quotas.Quota). IsRunOf (optional_rules quota_rules) calls'
-    (record { state = start; limiter = Some q }) replies' (record { state = end'; limiter = Some after' }))
-    (sym (new_quotas asked quota quota' new new')) run' in
-    let one = run_unique quota_rules quota_unique quota_accepts calls calls' _ same
-    (record { replies = replies; after = _; has = has.0; ran = run })
-    (record { replies = replies'; after = _; has = has.1; ran = again }) in
-    let limiters : Some after ≡ Some after' = ap (λ (w : World (Option quotas.Quota)). w.limiter) one.1 in
-    let afters : after ≡ after' = cc in
-    record { answers = one.0; text = ap held_text (is ∙ ap (λ q. holding.Quota (holdings q).held) afters ∙ sym is') }
-under_unique (Some (Answers words)) start calls calls' replies replies' held held' none same replays has = absurd none
-under_unique (Some (Tenants asked)) start calls calls' replies replies' held held' none same replays has =
-    absurd replays.0
+-- two replays have the same replies, and what is held then has the same text
+record SameReplies (ran ran' : Ran) : Type 0 where
+  pub answers : ran.replies.items ≡ ran'.replies.items
+  pub text : held_text ran.held ≡ held_text ran'.held
 
 -- what holds of all items of two lists, one after the other, holds of those of each
 all_parted : {X : Type 0} (P : X → Type 0) (xs ys : List X) → All P (xs ++ ys) → All P xs × All P ys
-all_parted P [] ys all = (All-nil P, all)
-all_parted P (x ∷ xs) ys all =
-    let rest = all_parted P xs ys (All-tail P x (xs ++ ys) all) in
-    (All-cons P x xs (All-head P x (xs ++ ys) all) rest.0, rest.1)
+all_parted P xs ys all = (
+  subst (All P) (take_at xs ys _ refl) (All-take P (length xs) (xs ++ ys) all),
+  subst (All P) (drop_at xs ys _ refl) (All-drop P (length xs) (xs ++ ys) all),
+)
 
 -- a run of a tenant whose replies tell of no want of memory
 record TenantRan (pool : PoolValue) (tenant : ℕ) (calls : List Call) : Type 0 where
@@ -311,12 +234,15 @@ module _ (once : IsDeterministic tenant_rules) where
       let ran' = b.ran in
       let found : Some ran'.machine ≡ Some ran.machine = sym ran'.found ∙ ran.found in
       let machine : ran'.machine ≡ ran.machine = cc in
-      let again = subst (λ (s : State). IsRunOf (optional_rules tenant_rules) calls'
-      (record { state = s; limiter = Some (tenant_at pool tenant s) })
-      b.replies (record { state = ran'.machine'; limiter = Some ran'.tenant' })) machine ran'.ran in
-      let one = run_unique tenant_rules once (λ l failure notice_answer l' noticed. noticed.accepts) calls calls' _ same
-      (record { replies = a.replies; after = _; has = a.has; ran = ran.ran })
-      (record { replies = b.replies; after = _; has = b.has; ran = again }) in (
+      let again = run_from (optional_rules tenant_rules) calls' ran'.machine ran.machine _ _ b.replies _ machine
+      (ap (λ s. Some (tenant_at pool tenant s)) machine) ran'.ran in
+      let one = replies_are_one tenant_rules (λ l failure notice_answer l' noticed. noticed.accepts) once calls _
+      (record { replies = a.replies; after = _; has = a.has; ran = ran.ran }) (record {
+        replies = b.replies;
+        after = _;
+        has = b.has;
+        ran = retold (optional_rules tenant_rules) calls calls' _ _ b.replies same again;
+      }) in (
         one.0,
         ran.after ∙ (λ i. record pool { machines = slice_set pool.machines tenant (Some (one.1 i).state) }) ∙ sym ran'.after,
       )
@@ -328,8 +254,6 @@ module _ (once : IsDeterministic tenant_rules) where
       → (replies ≡ replies') × (after ≡ after')
   parts_unique [] [] pool same replies replies' after after' has (none, is) (none', is') =
       (none ∙ sym none', is ∙ sym is')
-  parts_unique [] (part' ∷ parts') pool same replies replies' after after' has ran ran' = absurd cc
-  parts_unique (part ∷ parts) [] pool same replies replies' after after' has ran ran' = absurd cc
   parts_unique (part ∷ parts) (part' ∷ parts') pool same replies replies' after after' has
       (answered, later, middle, split, ran, rest) (answered', later', middle', split', ran', rest') =
       let here : part_meaning part ≡ part_meaning part' = cc in
@@ -346,100 +270,62 @@ module _ (once : IsDeterministic tenant_rules) where
       let others = parts_unique parts parts' middle more later later' after after' (parted.1, parted'.1) rest
       (subst (λ (p : PoolValue). AnswersParts p parts' later' after') (sym one.1) rest') in
       (split ∙ (λ i. one.0 i ++ others.0 i) ∙ sym split', others.1)
+  parts_unique parts parts' pool same replies replies' after after' has ran ran' = absurd cc
 
-  -- replays of scripts that say the same, by the limiter line
-  by_unique : (limiter : Option LimiterLine) (script script' : Script) (ran ran' : Ran) → HasNoAnswers limiter
-      → HaveSameMeaning script script'
-      → IsReplayBy limiter script ran → IsReplayBy limiter script' ran' → HaveBoth ran.replies.items ran'.replies.items
-      → SameReplies ran.replies.items ran'.replies.items ran.held ran'.held
-  by_unique limiter script script' ran ran' none same replay replay' has = by limiter none replay replay' where
-    start : start_of script.header ≡ start_of script'.header
-    start = starts_same script.header script'.header (ap ScriptMeaning.meter same) (ap ScriptMeaning.reserve same)
-        (ap ScriptMeaning.region same)
-
-    alone : (l : Option LimiterLine) → HasNoAnswers l → IsReplayOnOne l script.header (calls_of script) ran
-        → IsReplayOnOne l script'.header (calls_of script') ran'
-        → SameReplies ran.replies.items ran'.replies.items ran.held ran'.held
-    alone l none replay replay' =
-        under_unique l (start_of script.header) (calls_of script) (calls_of script') ran.replies.items
-        ran'.replies.items ran.held ran'.held none (calls_same script script' same) (
-          replay,
-          subst (λ (s : State). IsReplayUnder l s (calls_of script') ran'.replies.items ran'.held) (sym start) replay',
-        ) has
-
-    by : (l : Option LimiterLine) → HasNoAnswers l → IsReplayBy l script ran → IsReplayBy l script' ran'
-        → SameReplies ran.replies.items ran'.replies.items ran.held ran'.held
-    by None none replay replay' = alone None none replay replay'
-    by (Some (Quota asked)) none replay replay' = alone (Some (Quota asked)) none replay replay'
-    by (Some (Answers words)) none replay replay' = absurd none
-    by (Some (Tenants asked)) none (pool, held, answers) (pool', held', answers') =
-        let first : tenant_start script'.header ≡ tenant_start script.header =
-        tenants_same script'.header script.header (ap ScriptMeaning.meter (sym same))
-        (ap ScriptMeaning.reserve (sym same)) in
-        let again = subst (λ s. AnswersParts (new_pool asked s) (parts_in script'.parts) ran'.replies.items pool') first
-        answers' in
-        let one = parts_unique (parts_in script.parts) (parts_in script'.parts) _ (ap ScriptMeaning.parts same)
-        ran.replies.items ran'.replies.items pool pool' has answers again in
-        record { answers = one.0; text = ap held_text (held ∙ ap holding.Tenants one.1 ∙ sym held') }
-
-  -- limiter lines but `answers` say all that they are
-  same_line : (limiter limiter' : Option LimiterLine) → HasNoAnswers limiter
-      → option_map limiter_meaning limiter ≡ option_map limiter_meaning limiter' → limiter ≡ limiter'
-  same_line None None none same = refl
-  same_line None (Some asked) none same = absurd cc
-  same_line (Some (Answers words)) limiter' none same = absurd none
-  same_line (Some (Quota asked)) None none same = absurd cc
-  same_line (Some (Quota asked)) (Some (Quota asked')) none same = cc
-  same_line (Some (Quota asked)) (Some (Answers words)) none same = absurd cc
-  same_line (Some (Quota asked)) (Some (Tenants asked')) none same = absurd cc
-  same_line (Some (Tenants asked)) None none same = absurd cc
-  same_line (Some (Tenants asked)) (Some (Quota asked')) none same = absurd cc
-  same_line (Some (Tenants asked)) (Some (Answers words)) none same = absurd cc
-  same_line (Some (Tenants asked)) (Some (Tenants asked')) none same = cc
-
-  -- replays of scripts that say the same, where no word is `complain`
-  replays_unique : (script script' : Script) (ran ran' : Ran) → HasNoComplain script.header.limiter_line
-      → HaveSameMeaning script script'
-      → IsReplayOf script ran → IsReplayOf script' ran' → HaveBoth ran.replies.items ran'.replies.items
-      → SameReplies ran.replies.items ran'.replies.items ran.held ran'.held
-  replays_unique script script' ran ran' quiet same replay replay' has =
-      by script.header.limiter_line script'.header.limiter_line quiet (ap ScriptMeaning.limiter same) replay replay'
-    where
-      other : (l l' : Option LimiterLine) → HasNoAnswers l → option_map limiter_meaning l ≡ option_map limiter_meaning l'
-          → IsReplayBy l script ran → IsReplayBy l' script' ran'
-          → SameReplies ran.replies.items ran'.replies.items ran.held ran'.held
-      other l l' none said replay replay' =
-          by_unique l script script' ran ran' none same replay
-          (subst (λ line. IsReplayBy line script' ran') (sym (same_line l l' none said)) replay') has
-
-      by : (l l' : Option LimiterLine) → HasNoComplain l → option_map limiter_meaning l ≡ option_map limiter_meaning l'
-          → IsReplayBy l script ran → IsReplayBy l' script' ran'
-          → SameReplies ran.replies.items ran'.replies.items ran.held ran'.held
-      by (Some (Answers words)) (Some (Answers words')) quiet said replay replay' =
-          let given : words.items ≡ words'.items = cc in
-          let start = starts_same script.header script'.header (ap ScriptMeaning.meter same)
-          (ap ScriptMeaning.reserve same) (ap ScriptMeaning.region same) in
-          let calls' = calls_of script' in
-          listed_unique words.items (start_of script.header) (calls_of script) calls' ran.replies.items
-          ran'.replies.items ran.held ran'.held quiet (calls_same script script' same) (
-            replay,
-            subst (λ (g : List LimiterAnswer).
-                IsListedReplay g (start_of script.header) calls' ran'.replies.items ran'.held) (sym given)
-                (subst (λ (s : State). IsListedReplay words'.items s calls' ran'.replies.items ran'.held) (sym start)
-                replay'),
-          ) has
-      by (Some (Answers words)) None quiet said replay replay' = absurd cc
-      by (Some (Answers words)) (Some (Quota asked)) quiet said replay replay' = absurd cc
-      by (Some (Answers words)) (Some (Tenants asked)) quiet said replay replay' = absurd cc
-      by None l' quiet said replay replay' = other None l' tt said replay replay'
-      by (Some (Quota asked)) l' quiet said replay replay' = other (Some (Quota asked)) l' tt said replay replay'
-      by (Some (Tenants asked)) l' quiet said replay replay' = other (Some (Tenants asked)) l' tt said replay replay'
+  -- replays of scripts that say the same, by their limiter lines, where no word is `complain`
+  by_unique : (limiter limiter' : Option LimiterLine) (script script' : Script) (ran ran' : Ran)
+      → HasNoComplain limiter → option_map limiter_meaning limiter ≡ option_map limiter_meaning limiter'
+      → HaveSameMeaning script script' → IsReplayBy limiter script ran → IsReplayBy limiter' script' ran'
+      → HaveBoth ran.replies.items ran'.replies.items → SameReplies ran ran'
+  by_unique None None script script' ran ran' quiet said same (is, after, run) (is', after', run') has = record {
+    answers = (replies_are_one unlimited_rules unlimited_accepts unlimited_unique (calls_of script) _
+        (record { replies = ran.replies.items; after = after; has = has.0; ran = run }) (record {
+          replies = ran'.replies.items;
+          after = after';
+          has = has.1;
+          ran = again (optional_rules unlimited_rules) script script' None None _ after' same refl run';
+        })).0;
+    text = ap held_text (is ∙ sym is');
+  }
+  by_unique (Some (Quota asked)) (Some (Quota asked')) script script' ran ran' quiet said same
+      (quota, new, end, after, run, totals, is) (quota', new', end', after', run', totals', is') has =
+      let line : asked ≡ asked' = cc in
+      let begins = new_quotas asked quota quota' new (subst (λ a. IsNewQuota a quota') (sym line) new') in
+      let retold_run = again (optional_rules quota_rules) script script' (Some quota) (Some quota') _ _ same
+      (ap (λ q. Some q) begins) run' in
+      let one = replies_are_one quota_rules quota_accepts quota_unique (calls_of script) _
+      (record { replies = ran.replies.items; after = _; has = has.0; ran = run })
+      (record { replies = ran'.replies.items; after = _; has = has.1; ran = retold_run }) in
+      let limiters : Some after ≡ Some after' = ap (λ (w : World (Option quotas.Quota)). w.limiter) one.1 in
+      let afters : after ≡ after' = cc in
+      record { answers = one.0; text = ap held_text (is ∙ ap (λ q. holding.Quota (holdings q).held) afters ∙ sym is') }
+  by_unique (Some (Answers words)) (Some (Answers words')) script script' ran ran' quiet said same
+      (none, after, run) (none', after', run') has =
+      let given : words.items ≡ words'.items = cc in
+      let retold_run = again (optional_rules answer_list_rules) script script' (Some (new_answers words.items)) _ _ _
+      same (ap (λ g. Some (new_answers g)) given) run' in
+      record {
+        answers = (quiet_lists_decide (calls_of script) (start_of script.header) (new_answers words.items)
+            (record { ahead = quiet; last = refl }) ran.replies.items ran'.replies.items _ _ has.0 has.1 run
+            retold_run).0;
+        text = ap held_text (none ∙ sym none');
+      }
+  by_unique (Some (Tenants asked)) (Some (Tenants asked')) script script' ran ran' quiet said same
+      (pool, held, answers) (pool', held', answers') has =
+      let line : asked ≡ asked' = cc in
+      let retold_parts = subst (λ (p : PoolValue). AnswersParts p (parts_in script'.parts) ran'.replies.items pool')
+      (λ i. new_pool (sym line i) (tenants_same script' script (sym same) i)) answers' in
+      let one = parts_unique (parts_in script.parts) (parts_in script'.parts) _ (ap ScriptMeaning.parts same)
+      ran.replies.items ran'.replies.items pool pool' has answers retold_parts in
+      record { answers = one.0; text = ap held_text (held ∙ ap holding.Tenants one.1 ∙ sym held') }
+  by_unique limiter limiter' script script' ran ran' quiet said same replay replay' has = absurd cc
 
   -- two outcomes of the same bytes that these decide end alike
   pub outcomes_unique : OutcomesAreOne
   outcomes_unique bytes (Ok a) (Ok b) (short, writes, replay) (short', writes', replay') (has, none) (has', none') =
       let same = texts_unique bytes a.script b.script writes writes' in
-      let ran = replays_unique a.script b.script a.ran b.ran none same replay replay' (has, has') in
+      let ran = by_unique a.script.header.limiter_line b.script.header.limiter_line a.script b.script a.ran b.ran none
+      (ap ScriptMeaning.limiter same) same replay replay' (has, has') in
       record {
         text = ap (λ t. t ++ held_text a.ran.held)
             (replies_same (calls_of a.script) (calls_of b.script) a.ran.replies.items
@@ -449,19 +335,15 @@ module _ (once : IsDeterministic tenant_rules) where
       }
   outcomes_unique bytes (Ok a) (Err (Parse (BadCommand number))) is is' decided decided' =
       absurd (no_bad_line bytes a.script number is.1 is'.1)
-  outcomes_unique bytes (Ok a) (Err TooLong) is is' decided decided' = absurd (omega (arith, is.0, is'))
   outcomes_unique bytes (Err (Parse (BadCommand number))) (Ok b) is is' decided decided' =
       absurd (no_bad_line bytes b.script number is'.1 is.1)
   outcomes_unique bytes (Err (Parse (BadCommand number))) (Err (Parse (BadCommand number'))) is is' decided decided' =
       let same = bad_lines_once bytes number number' is.1 is'.1 in
       record { text = ap (λ n. line (error_text (Parse (BadCommand n)))) same; status = refl }
-  outcomes_unique bytes (Err (Parse (BadCommand number))) (Err TooLong) is is' decided decided' =
-      absurd (omega (arith, is.0, is'))
-  outcomes_unique bytes (Err TooLong) (Ok b) is is' decided decided' = absurd (omega (arith, is'.0, is))
-  outcomes_unique bytes (Err TooLong) (Err (Parse (BadCommand number))) is is' decided decided' =
-      absurd (omega (arith, is'.0, is))
-  outcomes_unique bytes (Err TooLong) (Err TooLong) is is' decided decided' = record { text = refl; status = refl }
   outcomes_unique bytes (Err (Parse OutOfMemory)) outcome' is is' decided decided' = absurd decided
   outcomes_unique bytes (Err ReadFault) outcome' is is' decided decided' = absurd decided
   outcomes_unique bytes outcome (Err (Parse OutOfMemory)) is is' decided decided' = absurd decided'
   outcomes_unique bytes outcome (Err ReadFault) is is' decided decided' = absurd decided'
+  outcomes_unique bytes (Err TooLong) (Err TooLong) is is' decided decided' = record { text = refl; status = refl }
+  outcomes_unique bytes (Err TooLong) outcome' is is' decided decided' = absurd (omega (arith, is'.0, is))
+  outcomes_unique bytes outcome (Err TooLong) is is' decided decided' = absurd (omega (arith, is.0, is'))

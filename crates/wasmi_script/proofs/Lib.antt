@@ -1,3 +1,4 @@
+pub mod Common
 pub mod PrintingLemmas
 pub mod OutcomesLemmas
 pub mod LengthLemmas

@@ -1,76 +1,54 @@
 -- Lines that are printed one after the other, and outcomes of what a reader gave.
-use Rattle.std.proofs.Common.{ℕ, ◌+◌, ◌<◌, ◌≡◌, ◌∙◌, ◌++◌, ◌∷◌, List, [], length, take, drop, get_or, ◌≤◌, refl, sym, ap, arith, append_assoc, append-nil, take-append-drop, length-take-le, codes, Option, None, Some, Err, replicate}
-use Rattle.std.specs.List.{flat_map, enumerate_from}
-use Rattle.std.specs.Fmt.{decimal}
-use Rattle.std.proofs.lemmas.List.{take_more, take_all, length-replicate}
-use Rattle.std.proofs.lemmas.List.Concat.{flat_map-append}
-use Rattle.wasmi_machine.specs.declared.calls.Call.{Call}
-use Rattle.wasmi_machine.specs.declared.calls.Reply.{Reply}
-use Rattle.wasmi_machine.specs.State.{State}
+use Rattle.std.proofs.Common.{ℕ, zero, suc, ◌+◌, ◌<◌, ◌≡◌, ◌∙◌, ◌++◌, ◌∷◌, List, [], length, take, drop, get_or, ◌≤◌, Bor, refl, sym, ap, arith, append_assoc, codes, Option, None, Some, Err, replicate}
+use Rattle.wasmi_script.proofs.Common.{enumerate_from, decimal, take_all, length-replicate, Call, Reply, State, line, bytes_in, bytes_text, head_text, reply_text, tenant_line, tenants_text, IsReadError, script_limit, IsOutcomeOfReader, BadCommand, OutOfMemory, Parse, TooLong, ReadFault}
+use Rattle.std.specs.List.{flat_map}
+use Rattle.std.proofs.lemmas.List.FromFn.{length-enumerate_from, get_or-enumerate_from}
 use Rattle.wasmi_script.proofs.PrintingLemmas.{texts_more, texts_at}
-use Rattle.wasmi_script.specs.Printing.{line}
-use Rattle.wasmi_script.specs.Texts.{bytes_in, bytes_text, head_text, reply_text}
-use Rattle.wasmi_script.specs.Outcomes.{tenant_line, tenants_text, IsReadError, script_limit, IsOutcomeOfReader}
-use Rattle.wasmi_grammar.specs.declared.error.ParseError.TheVariants.{BadCommand, OutOfMemory}
 use Rattle.wasmi_script.specs.declared.error.ReplayError.{ReplayError}
-use Rattle.wasmi_script.specs.declared.error.ReplayError.TheVariants.{Parse, TooLong, ReadFault}
 
--- numbered items, and later ones
-enumerate_append : {X : Type 0} (n : ℕ) (xs ys : List X)
-    → enumerate_from n (xs ++ ys) ≡ enumerate_from n xs ++ enumerate_from (n + length xs) ys
-enumerate_append n [] ys = ap (λ k. enumerate_from k ys) (omega arith)
-enumerate_append n (x ∷ xs) ys =
-    let same : n + 1 + length xs ≡ n + length (x ∷ xs) = omega arith in
-    ap (λ items. (n, x) ∷ items)
-    (enumerate_append (n + 1) xs ys ∙ ap (λ k. enumerate_from (n + 1) xs ++ enumerate_from k ys) same)
+-- the first of numbered items are the first ones, numbered
+take_numbered : {X : Type 0} (n count : ℕ) (xs : List X)
+    → take count (enumerate_from n xs) ≡ enumerate_from n (take count xs)
+take_numbered n zero xs = refl
+take_numbered n (suc count) [] = refl
+take_numbered n (suc count) (x ∷ xs) = ap (λ items. (n, x) ∷ items) (take_numbered (n + 1) count xs)
 
 abbrev one_text : ℕ × Option State → List ℕ
 one_text tenant = tenant_line tenant.0 tenant.1
 
--- the lines of some tenants, and then of others, whose numbers go on after theirs
-tenants_append : (machines others : List (Option State)) → tenants_text (machines ++ others)
-    ≡ tenants_text machines ++ flat_map one_text (enumerate_from (length machines) others)
-tenants_append machines others =
-    ap (flat_map one_text) (enumerate_append 0 machines others)
-    ∙ flat_map-append one_text (enumerate_from 0 machines) (enumerate_from (0 + length machines) others)
-    ∙ ap (λ n. flat_map one_text (enumerate_from 0 machines) ++ flat_map one_text (enumerate_from n others))
-    (omega arith)
+-- the tenant of an index
+module _ (machines : List (Option State)) (index : ℕ) (within : index < length machines) where
+  abbrev numbered : List (ℕ × Option State)
+  numbered = enumerate_from 0 machines
 
--- one tenant more
-tenants_more : (machines : List (Option State)) (machine : Option State)
-    → tenants_text (machines ++ machine ∷ []) ≡ tenants_text machines ++ tenant_line (length machines) machine
-tenants_more machines machine =
-    tenants_append machines (machine ∷ [])
-    ∙ ap (λ t. tenants_text machines ++ t) (append-nil (tenant_line (length machines) machine))
+  inside : index < length numbered
+  inside = omega (arith, within, length-enumerate_from 0 machines)
 
--- the tenants up to a place, and later ones
-abbrev pub later_tenants : List (Option State) → ℕ → List ℕ
-later_tenants machines index = flat_map one_text (enumerate_from (length (take index machines)) (drop index machines))
+  -- its line
+  its_line : one_text (get_or numbered index (0, None)) ≡ tenant_line index (get_or machines index None)
+  its_line = ap one_text (get_or-enumerate_from 0 machines index (0, None) within)
+      ∙ ap (λ n. tenant_line n (get_or machines index None)) (omega arith)
 
--- the lines of all tenants are those of the tenants up to a place, and then the later ones
-pub tenants_split : (machines : List (Option State)) (index : ℕ)
-    → tenants_text machines ≡ tenants_text (take index machines) ++ later_tenants machines index
-tenants_split machines index =
-    ap tenants_text (sym (take-append-drop index machines)) ∙ tenants_append (take index machines) (drop index machines)
+  -- its line comes after those of the tenants before it
+  pub one_tenant : tenants_text (take (index + 1) machines)
+      ≡ tenants_text (take index machines) ++ tenant_line index (get_or machines index None)
+  one_tenant = ap (flat_map one_text) (sym (take_numbered 0 (index + 1) machines))
+      ∙ texts_more one_text numbered index (0, None) inside
+      ∙ (λ i. flat_map one_text (take_numbered 0 index machines i) ++ its_line i)
 
--- the line of the tenant of an index comes after those of the tenants before it
-pub one_tenant : (machines : List (Option State)) (index : ℕ) → index < length machines
-    → tenants_text (take (index + 1) machines)
-    ≡ tenants_text (take index machines) ++ tenant_line index (get_or machines index None)
-one_tenant machines index within =
-    let count : length (take index machines) ≡ index = length-take-le index machines (omega arith) in
-    ap tenants_text (take_more machines index None within)
-    ∙ tenants_more (take index machines) (get_or machines index None)
-    ∙ ap (λ n. tenants_text (take index machines) ++ tenant_line n (get_or machines index None)) count
+  -- the lines of all tenants are those of the tenants before it, its line and the later ones
+  pub tenants_whole : tenants_text machines ≡ tenants_text (take index machines)
+      ++ (tenant_line index (get_or machines index None) ++ flat_map one_text (drop (index + 1) numbered))
+  tenants_whole = texts_at one_text numbered index (0, None) inside ∙ (λ i.
+      flat_map one_text (take_numbered 0 index machines i)
+      ++ (its_line i ++ flat_map one_text (drop (index + 1) numbered)))
 
--- the lines of all tenants are those up to a place, the line there and the later ones
-pub tenants_whole : (machines : List (Option State)) (index : ℕ) → index < length machines
-    → tenants_text machines ≡ tenants_text (take index machines)
-    ++ (tenant_line index (get_or machines index None) ++ later_tenants machines (index + 1))
-tenants_whole machines index within =
-    tenants_split machines (index + 1)
-    ∙ ap (λ t. t ++ later_tenants machines (index + 1)) (one_tenant machines index within)
-    ∙ append_assoc (tenants_text (take index machines)) _ (later_tenants machines (index + 1))
+-- what is seen of a call and its reply
+abbrev pub turn_of : Bor Call × Bor Reply → Call × Reply
+turn_of turn = (turn.0.now, turn.1.now)
+
+abbrev pub turn_text : Call × Reply → List ℕ
+turn_text turn = line (reply_text turn.0 turn.1)
 
 -- a space and the number of a byte
 abbrev pub byte_text : ℕ → List ℕ
@@ -98,10 +76,9 @@ reply_at call reply bytes i same within =
     let later = bytes_text (drop (i + 1) bytes) in
     ap (λ bs. line (head ++ bytes_text bs)) (sym same)
     ∙ ap (λ t. line (head ++ t)) (texts_at byte_text bytes i 0 within)
-    ∙ append_assoc head (before ++ (here ++ later)) (codes "\n")
-    ∙ ap (λ t. head ++ t) (append_assoc before (here ++ later) (codes "\n"))
-    ∙ ap (λ t. head ++ (before ++ t)) (append_assoc here later (codes "\n"))
-    ∙ sym (append_assoc head before (here ++ (later ++ codes "\n")))
+    ∙ ap line (sym (append_assoc head before (here ++ later)))
+    ∙ append_assoc (head ++ before) (here ++ later) (codes "\n")
+    ∙ ap (λ t. (head ++ before) ++ t) (append_assoc here later (codes "\n"))
 
 -- the line of a reply is its head, the numbers of all its bytes, and a line feed
 pub reply_whole : (call : Call) (reply : Reply) (bytes : List ℕ) (i : ℕ) → bytes ≡ bytes_in reply → length bytes ≤ i

@@ -1,29 +1,22 @@
 -- Texts that are printed one after the other.
-use Rattle.std.proofs.Common.{◌≡◌, ◌∙◌, ◌+◌, ◌<◌, ℕ, List, [], ◌∷◌, ◌++◌, length, take, drop, get_or, map, add-one, take-append-drop, drop-cons, None, Some, Result, Ok, Err, IfSome, OnOk, OnErr, refl, sym, ap, append_assoc, append-nil, subst, ◌-◌, ◌/◌, ◌%◌, ◌^◌, ◌≤◌, min, inl, inr, arith, length-append, length-take, length-drop}
-use Rattle.std.specs.Fmt.{WritesInCalls, WritesText, decimal}
-use Rattle.std.proofs.lemmas.Fmt.{contents_after_writes, decimal_digit, decimal_step}
+use Rattle.std.proofs.Common.{◌≡◌, ◌∙◌, ◌+◌, ◌<◌, ℕ, zero, suc, List, [], ◌∷◌, ◌++◌, length, take, drop, get_or, map, add-one, take-append-drop, drop-cons, None, Some, Result, Ok, Err, IfSome, OnOk, OnErr, refl, sym, ap, append_assoc, append-nil, subst, ◌-◌, ◌%◌, ◌^◌, min, arith, length-append, length-take, length-drop}
+use Rattle.wasmi_script.proofs.Common.{WritesText, decimal, on_ok_weaker, on_err_weaker, flat_map_more, take_more, drop-drop, drop_at, drop_min, take_all, take_at, take_min, Appends, Appends-nil, Appends-trans, AppendsFront, AddsText, Flushes, Prints, PrintsFront, PrintsText, PrintsOut, Sends, SendsFront, AddsToFront, FillsFront, HasFront}
+use Rattle.std.proofs.lemmas.Fmt.{contents_after_writes, decimal_digit}
 use Rattle.std.specs.List.{flat_map}
-use Rattle.std.proofs.lemmas.Result.{on_ok_weaker, on_err_weaker}
-use Rattle.std.proofs.lemmas.List.{take_more, drop-drop, drop_all, drop_at, drop_min, take-append-le, take_all, take_at, take_min}
 use Rattle.std.proofs.lemmas.List.Concat.{flat_map-append}
 use Rattle.std.proofs.lemmas.List.Folds.{flat_map-map}
 use Rattle.arrayvec.specs.ArrayString.{ArrayString}
 use Rattle.std.specs.declared.option.Option.{Option}
-use Rattle.std.specs.Io.KnownBytes.{Appends}
-use Rattle.std.proofs.KnownBytes.{Appends-nil, Appends-trans}
 use Rattle.wasmi_script.specs.declared.printing.Printer.{Printer}
-use Rattle.wasmi_script.specs.Printing.{AppendsFront, AddsText, Flushes, Prints, PrintsFront, PrintsText, PrintsOut, Sends, SendsFront, AddsToFront, FillsFront, HasFront}
-use Rattle.std.proofs.lemmas.Bool.{cases_lt}
-use Rattle.std.proofs.Math.Seq.{take-append-add}
 use borrow.Rule.Slice.PartMut.{put_mid}
 
--- one text more
-passes_more : (a b c : Option (List ℕ)) (u v w s t : List ℕ) → AddsText a b u v s → AddsText b c v w t
-    → AddsText a c u w (s ++ t)
-passes_more a b c u v w s t (front, split, sent) (front', split', sent') = (
+-- a text in two parts
+passes_then : (a b c : Option (List ℕ)) (u v w s t text : List ℕ) → text ≡ s ++ t → AddsText a b u v s
+    → AddsText b c v w t → AddsText a c u w text
+passes_then a b c u v w s t text is (front, split, sent) (front', split', sent') = (
   front ++ front',
-  sym (append_assoc u s t) ∙ ap (λ l. l ++ t) split ∙ append_assoc front v t ∙ ap (λ l. front ++ l) split'
-      ∙ sym (append_assoc front front' w),
+  ap (λ l. u ++ l) is ∙ sym (append_assoc u s t) ∙ ap (λ l. l ++ t) split ∙ append_assoc front v t
+      ∙ ap (λ l. front ++ l) split' ∙ sym (append_assoc front front' w),
   Appends-trans a b c front front' sent sent',
 )
 
@@ -43,43 +36,9 @@ front_after a b c u v s t (front, split, sent) (front', rest, split', sent') = (
   Appends-trans a b c front front' sent sent',
 )
 
--- a text waits beside what waited
-passes_waits : (a : Option (List ℕ)) (u v s : List ℕ) → v ≡ u ++ s → AddsText a a u v s
-passes_waits a u v s same = ([], sym same, Appends-nil a)
-
--- what went out of a text that was printed in part goes out of a longer one
-front_part : (a b : Option (List ℕ)) (u v s t : List ℕ) → AddsText a b u v s → AppendsFront a b (u ++ (s ++ t))
-front_part a b u v s t (front, split, sent) =
-    (front, v ++ t, sym (append_assoc u s t) ∙ ap (λ l. l ++ t) split ∙ append_assoc front v t, sent)
-
--- a text that is printed, and then what waits
-passes_flushed : (a b c : Option (List ℕ)) (u v s : List ℕ) → AddsText a b u v s → Appends b c v → Appends a c (u ++ s)
-passes_flushed a b c u v s (front, split, sent) flushed =
-    subst (Appends a c) (sym split) (Appends-trans a b c front v sent flushed)
-
--- a text that is printed, and then a front of what waits
-front_flushed : (a b c : Option (List ℕ)) (u v s : List ℕ) → AddsText a b u v s → AppendsFront b c v
-    → AppendsFront a c (u ++ s)
-front_flushed a b c u v s (front, split, sent) (front', rest, split', sent') = (
-  front ++ front',
-  rest,
-  split ∙ ap (λ l. front ++ l) split' ∙ sym (append_assoc front front' rest),
-  Appends-trans a b c front front' sent sent',
-)
-
 -- a text that is written into a chunk
 abbrev pub Takes : ArrayString → List ℕ → ArrayString → Type 0
 Takes s bytes t = t.bytes ≡ s.bytes ++ bytes
-
--- a text that is written into a chunk stands after what was there
-taken : (s t : ArrayString) (bytes : List ℕ) → WritesInCalls Takes s bytes t → t.bytes ≡ s.bytes ++ bytes
-taken s t bytes writes = contents_after_writes Takes (λ x. x.bytes) (λ w bs v h. h) s bytes t writes
-
--- a text in two parts
-passes_then : (a b c : Option (List ℕ)) (u v w s t text : List ℕ) → text ≡ s ++ t → AddsText a b u v s
-    → AddsText b c v w t → AddsText a c u w text
-passes_then a b c u v w s t text is first second =
-    subst (AddsText a c u w) (sym is) (passes_more a b c u v w s t first second)
 
 -- the front of a text whose first part is printed in part
 front_first : (a b : Option (List ℕ)) (u s rest text : List ℕ) → text ≡ s ++ rest → AppendsFront a b (u ++ s)
@@ -118,11 +77,6 @@ module _ {W : Type 0} (contents : W → Option (List ℕ)) where
     sent = front_then _ _ _ _ _ s t rest text is first.passed sent.sent;
   }
 
-  -- the front of a text whose first part is printed, and its last one in part
-  prints_last : (p q r : Printer W) (s t text : List ℕ) → text ≡ s ++ t → Prints contents p q s
-      → PrintsFront contents q r t → PrintsFront contents p r text
-  prints_last p q r s t text is = prints_front p q r s t [] text (is ∙ ap (λ l. s ++ l) (sym (append-nil t)))
-
   -- a text is printed in part where the writer has failed
   pub in_part : {E : Type 0} {error : E} (result : Result (Unit {0}) E) (p q : Printer W) (text : List ℕ)
       → result ≡ Err error → PrintsFront contents p q text → PrintsText contents text p result q
@@ -134,20 +88,34 @@ module _ {W : Type 0} (contents : W → Option (List ℕ)) where
       → Prints contents p q s → PrintsText contents t q result r → PrintsText contents text p result r
   last_part result p q r s t text is first prints = (
     on_ok_weaker result (prints_then p q r s t text is first) prints.0,
-    on_err_weaker result (prints_last p q r s t text is first) prints.1,
+    on_err_weaker result (prints_front p q r s t [] text (is ∙ ap (λ l. s ++ l) (sym (append-nil t))) first) prints.1,
   )
 
   -- a text that is printed, and then what waits
   prints_out : (p q r : Printer W) (text : List ℕ) → Prints contents p q text → Sends contents q r
       → PrintsOut contents p r text
   prints_out p q r text printed sent =
-      record { writer = sent.writer ∙ printed.writer; sent = passes_flushed _ _ _ _ _ text printed.passed sent.sent }
+      let (front, split, gone) = printed.passed in
+      record {
+        writer = sent.writer ∙ printed.writer;
+        sent = subst (Appends _ _) (sym split) (Appends-trans _ _ _ front _ gone sent.sent);
+      }
 
   -- a text that is printed, and then a front of what waits
   prints_out_front : (p q r : Printer W) (text : List ℕ) → Prints contents p q text → SendsFront contents q r
       → PrintsFront contents p r text
   prints_out_front p q r text printed sent =
-      record { writer = sent.writer ∙ printed.writer; sent = front_flushed _ _ _ _ _ text printed.passed sent.sent }
+      let (front, split, gone) = printed.passed in
+      let (front', rest, split', gone') = sent.sent in
+      record {
+        writer = sent.writer ∙ printed.writer;
+        sent = (
+          front ++ front',
+          rest,
+          split ∙ ap (λ l. front ++ l) split' ∙ sym (append_assoc front front' rest),
+          Appends-trans _ _ _ front front' gone gone',
+        );
+      }
 
   -- a text that is printed or not, and then what waits if it is
   pub flushed : {E : Type 0} (printed result : Result (Unit {0}) E) (p q r : Printer W) (text : List ℕ)
@@ -164,7 +132,7 @@ module _ {W : Type 0} (contents : W → Option (List ℕ)) where
   waits p q text same is = record {
     writer = ap (λ w. w.ghost_name) same;
     passed = subst (λ w. AddsText (contents p.writer.now) (contents w.now) p.chunk.bytes q.chunk.bytes text)
-        (sym same) (passes_waits _ _ _ text is);
+        (sym same) ([], sym is, Appends-nil _);
   }
 
   -- a text that there is room for, as it is or as it is written
@@ -176,7 +144,7 @@ module _ {W : Type 0} (contents : W → Option (List ℕ)) where
   printed (Ok x) (Some bytes) written p q s text as_written room same writes =
       let known = subst (λ o. WritesText Takes q.chunk o s.chunk) (as_written bytes refl) writes in
       prints_then p q s [] (text bytes) (text bytes) refl room
-      (waits q s (text bytes) same (taken q.chunk s.chunk (text bytes) known))
+      (waits q s (text bytes) same (contents_after_writes Takes (λ x. x.bytes) (λ w bs v h. h) q.chunk (text bytes) s.chunk known))
   printed (Err e) output written p q s text as_written room same writes = tt
 
   -- a text for which there is no room, or that can't be made
@@ -196,7 +164,7 @@ module _ {W : Type 0} (contents : W → Option (List ℕ)) where
   no_text (Err e) None p q s text room same = tt
   no_text (Err e) (Some bytes) p q s text room same =
       let front : AppendsFront (contents p.writer.now) (contents q.writer.now) (p.chunk.bytes ++ text bytes) =
-      front_part _ _ _ _ [] (text bytes) room.passed in
+      front_after _ _ _ _ _ [] (text bytes) room.passed ([], _, refl, Appends-nil _) in
       record {
         writer = ap (λ w. w.ghost_name) same ∙ room.writer;
         sent = subst (λ w. AppendsFront (contents p.writer.now) (contents w.now) (p.chunk.bytes ++ text bytes))
@@ -209,8 +177,7 @@ module _ {X : Type 0} {A : Type 0} (text : X → List A) where
   pub texts_more : (xs : List X) (i : ℕ) (d : X) → i < length xs
       → flat_map text (take (i + 1) xs) ≡ flat_map text (take i xs) ++ text (get_or xs i d)
   texts_more xs i d within =
-      ap (flat_map text) (take_more xs i d within) ∙ flat_map-append text (take i xs) (get_or xs i d ∷ [])
-      ∙ ap (λ t. flat_map text (take i xs) ++ t) (append-nil (text (get_or xs i d)))
+      ap (flat_map text) (take_more xs i d within) ∙ sym (flat_map_more text [] (take i xs) (get_or xs i d))
 
   -- all of them are those up to a place, the one there and the later ones
   pub texts_at : (xs : List X) (i : ℕ) (d : X) → i < length xs
@@ -231,8 +198,7 @@ module _ {W A B : Type 0} (contents : W → Option (List ℕ)) (text : B → Lis
       → Prints contents q r (text (v x)) → Prints contents p r (yielded_text (yielded ++ x ∷ []))
   yields_more p q r yielded x =
       prints_then contents p q r (yielded_text yielded) (text (v x)) (yielded_text (yielded ++ x ∷ []))
-      (flat_map-append (λ y. text (v y)) yielded (x ∷ [])
-      ∙ ap (λ t. yielded_text yielded ++ t) (append-nil (text (v x))))
+      (sym (flat_map_more (λ y. text (v y)) [] yielded x))
 
   -- one more is printed in part
   pub yields_front : (p q r : Printer W) (yielded : List A) (x : A)
@@ -267,40 +233,35 @@ front_length text start bytes front =
     ap length front ∙ length-append (take (length start) text) (drop (length text) start)
     ∙ omega (arith, length-take (length start) text, length-drop (length text) start)
 
--- there is no room for more where the text before has filled it
-filled : (before text start bytes : List ℕ) → length start ≤ length before → FillsFront before start bytes
-    → FillsFront (before ++ text) start (put_mid (length bytes) 0 bytes (take 0 text))
-filled before text start bytes full front =
-    let whole : put_mid (length bytes) 0 bytes (take 0 text) ≡ bytes = take-append-drop (length bytes) bytes in
-    let before_alone : bytes ≡ take (length start) before =
-    front ∙ ap (λ rest. take (length start) before ++ rest) (drop_all (length before) start full) ∙ append-nil _ in
-    let longer : length start ≤ length (before ++ text) = omega (arith, length-append before text) in
-    whole ∙ before_alone ∙ sym (take-append-le (length start) before text full) ∙ sym (append-nil _)
-    ∙ ap (λ rest. take (length start) (before ++ text) ++ rest) (sym (drop_all (length (before ++ text)) start longer))
+-- the front of two lists, one after the other
+take_both : {A : Type 0} (n : ℕ) (xs ys : List A) → take n (xs ++ ys) ≡ take n xs ++ take (n - length xs) ys
+take_both zero xs ys = let none : 0 ≡ 0 - length xs = omega arith in ap (λ k. take k ys) none
+take_both (suc n) [] ys = let all : suc n ≡ suc n - 0 = omega arith in ap (λ k. take k ys) all
+take_both (suc n) (x ∷ xs) ys =
+    let later : n - length xs ≡ suc n - length (x ∷ xs) = omega arith in
+    ap (λ l. x ∷ l) (take_both n xs ys ∙ ap (λ k. take n xs ++ take k ys) later)
 
--- where there is room, as much of the text as fits comes after the one before
-fitted : (before text start bytes : List ℕ) (count : ℕ) → length before ≤ length start → FillsFront before start bytes
-    → count ≡ min (length start - length before) (length text)
-    → FillsFront (before ++ text) start (put_mid (length before) count bytes (take count text))
-fitted before text start bytes count room front is =
-    let stands : bytes ≡ before ++ drop (length before) start =
-    front ∙ ap (λ text'. text' ++ drop (length before) start) (take_all (length start) before room) in
-    let left : take (length before) bytes ≡ before = ap (take (length before)) stands ∙ take_at before _ _ refl in
-    let right : drop (length before) bytes ≡ drop (length before) start =
-    ap (drop (length before)) stands ∙ drop_at before _ _ refl in
+-- as much of a text as fits comes after the one before
+fitted : (before text start bytes : List ℕ) (from count : ℕ) → FillsFront before start bytes
+    → from ≡ min (length before) (length start) → count ≡ min (length start - length before) (length text)
+    → FillsFront (before ++ text) start (put_mid from count bytes (take count text))
+fitted before text start bytes from count front begins is =
+    let kept = take (length start) before in
+    let fits : length kept ≡ from = omega (arith, length-take (length start) before, begins) in
+    let left : take from bytes ≡ kept = ap (take from) front ∙ take_at kept _ from fits in
+    let right : drop from bytes ≡ drop (length before) start = ap (drop from) front ∙ drop_at kept _ from fits in
     let taken : take count text ≡ take (length start - length before) text =
     ap (λ n. take n text) is ∙ take_min (length start - length before) text in
-    let put : put_mid (length before) count bytes (take count text)
-    ≡ before ++ (take (length start - length before) text ++ drop (length before + count) start) =
+    let put : put_mid from count bytes (take count text)
+    ≡ kept ++ (take (length start - length before) text ++ drop (length before + count) start) =
     λ i. left i ++ (taken i ++ (ap (drop count) right ∙ drop-drop count (length before) start) i) in
-    let front_of : take (length start) (before ++ text) ≡ before ++ take (length start - length before) text =
-    ap (λ n. take n (before ++ text)) (omega arith) ∙ take-append-add before text (length start - length before) in
-    let shorter : length before + count ≡ min (length (before ++ text)) (length start) =
-    omega (arith, length-append before text) in
+    let ends : min (length before + count) (length start) ≡ min (length (before ++ text)) (length start) =
+    omega (arith, is, length-append before text) in
     let rest : drop (length before + count) start ≡ drop (length (before ++ text)) start =
-    ap (λ n. drop n start) shorter ∙ drop_min (length (before ++ text)) start in
-    put ∙ sym (append_assoc before (take (length start - length before) text) (drop (length before + count) start))
-    ∙ (λ i. sym front_of i ++ rest i)
+    sym (drop_min (length before + count) start) ∙ ap (λ n. drop n start) ends
+    ∙ drop_min (length (before ++ text)) start in
+    put ∙ sym (append_assoc kept (take (length start - length before) text) (drop (length before + count) start))
+    ∙ (λ i. sym (take_both (length start) before text) i ++ rest i)
 
 -- as much of a text as fits comes after those before it
 pub added : (text bytes : List ℕ) (written from count more : ℕ) → length bytes < 2 ^ 64
@@ -309,41 +270,23 @@ pub added : (text bytes : List ℕ) (written from count more : ℕ) → length b
     → AddsToFront text bytes written (put_mid from count bytes (take count text)) more
 added text bytes written from count more small begins counts adds before start had =
     let same : length bytes ≡ length start = front_length before start bytes had.front in
-    elim (cases_lt (length before) (length start)) as
-    (λ _. HasFront (before ++ text) start (put_mid from count bytes (take count text)) more) [
-      | inl short ↦
-          let here : from ≡ length before = omega (arith, same, had.count) in
-          let fits : count ≡ min (length start - length before) (length text) = omega (arith, same) in
-          record {
-            front = ap (λ at. put_mid at count bytes (take count text)) here
-                ∙ fitted before text start bytes count (omega arith) had.front fits;
-            count = omega (arith, length-append before text, had.count);
-          }
-      | inr full ↦
-          let here : from ≡ length bytes = omega (arith, same, had.count) in
-          let none : count ≡ 0 = omega arith in
-          record {
-            front = (λ i. put_mid (here i) (none i) bytes (take (none i) text))
-                ∙ filled before text start bytes full had.front;
-            count = omega (arith, length-append before text, had.count);
-          }
-    ]
+    let here : from ≡ min (length before) (length start) = omega (arith, same, had.count) in
+    let fits : count ≡ min (length start - length before) (length text) = omega (arith, same, here) in
+    record {
+      front = fitted before text start bytes from count had.front here fits;
+      count = omega (arith, length-append before text, had.count);
+    }
 
 -- a number below 10 is its only digit
 pub one_digit : (n : ℕ) → n < 10 → (48 + n % 10) ∷ [] ≡ decimal n
 one_digit n small = ap (λ d. (48 + d) ∷ []) (omega arith) ∙ sym (decimal_digit n small)
-
--- any other number is the number without its last digit, and then this digit
-pub last_digit : (n : ℕ) → 10 ≤ n → n < 2 ^ 64 → decimal (n / 10) ++ ((48 + n % 10) ∷ []) ≡ decimal n
-last_digit n large fits = sym (decimal_step n large fits)
 
 -- the text of one item more
 pub adds_more : {X : Type 0} (text : X → List ℕ) (yielded : List X) (x : X) (a b c : List ℕ) (i j k : ℕ)
     → AddsToFront (flat_map text yielded) a i b j → AddsToFront (text x) b j c k
     → AddsToFront (flat_map text (yielded ++ x ∷ [])) a i c k
 adds_more text yielded x a b c i j k first second =
-    subst (λ t. AddsToFront t a i c k)
-    (sym (flat_map-append text yielded (x ∷ []) ∙ ap (λ t. flat_map text yielded ++ t) (append-nil (text x))))
+    subst (λ t. AddsToFront t a i c k) (flat_map_more text [] yielded x)
     (adds_then (flat_map text yielded) (text x) a b c i j k first second)
 
 -- from nothing on

@@ -1,22 +1,13 @@
 -- Runs on a new machine, on a pool, and under a limiter that answers from a list.
-use Rattle.std.proofs.Common.{◌≡◌, ◌∙◌, ℕ, List, Option, None, Vec, refl, sym, ap, subst, ◌+◌, ◌++◌, [], ◌∷◌, Some, append-nil, append_assoc, take, All, Ok, slice_index_or}
-use Rattle.std.specs.Option.{option_map}
-use Rattle.wasmi_meter.specs.declared.limiter.NoLimits.{NoLimits}
-use Rattle.wasmi_meter.specs.Limiter.{optional_rules, unlimited_rules}
-use Rattle.wasmi_machine.specs.declared.calls.Call.{Call}
-use Rattle.wasmi_machine.specs.declared.calls.Reply.{Reply}
-use Rattle.wasmi_machine.specs.State.{State, World, world}
+use Rattle.std.proofs.Common.{◌≡◌, ◌∙◌, ℕ, List, Option, Vec, refl, sym, ap, subst, ◌+◌, ◌++◌, [], ◌∷◌, Some, append-nil, append_assoc, take, All, Ok, slice_index_or}
+use Rattle.wasmi_script.proofs.Common.{option_map, Call, Reply, State, World, world, region_bytes, start_of, tenant_start, AnswersParts, take_more, TenantRun, answer_list_rules, notice_answer_by}
+use Rattle.wasmi_meter.specs.Limiter.{Rules}
 use Rattle.wasmi_machine.specs.Steps.{IsRunOf}
 use Rattle.wasmi_grammar.specs.declared.header.Header.{Header}
-use Rattle.wasmi_grammar.specs.Headers.{region_bytes, start_of, tenant_start}
-use Rattle.wasmi_script.specs.ScriptRuns.{AnswersParts}
 use Rattle.std.specs.List.{slice_get}
-use Rattle.std.proofs.lemmas.List.{take_more}
 use Rattle.std.proofs.lemmas.Option.{slice_get_within, get_or_from_slice_get}
 use Rattle.wasmi_budget.specs.Pool.{PoolValue, RunsTenant}
-use Rattle.wasmi_grammar.specs.Parts.{TenantRun}
 use Rattle.std.proofs.lemmas.List.Elements.{All-head, All-drop}
-use Rattle.wasmi_meter.specs.AnswerList.{answer_list_rules, notice_answer_by}
 use Rattle.wasmi_meter.specs.declared.answer_list.LimiterAnswer.{LimiterAnswer}
 use Rattle.wasmi_meter.specs.declared.answer_list.LimiterAnswer.TheVariants.{Permit}
 use Rattle.wasmi_machine.specs.Determinism.{IsDeterministic}
@@ -32,14 +23,12 @@ starts header machine seen region made same filled =
     made ∙ (λ i. record (tenant_start header)
     { spare = (ap (option_map (λ bytes. bytes.items)) same ∙ filled) i })
 
--- a run from a machine that is the one to start with, and whose limiter is none
-pub run_of_none : (calls : List Call) (s start : State) (l : Option NoLimits) (replies : List Reply)
-    (w' : World (Option NoLimits)) → s ≡ start → l ≡ None
-    → IsRunOf (optional_rules unlimited_rules) calls (record { state = s; limiter = l }) replies w'
-    → IsRunOf (optional_rules unlimited_rules) calls (record { state = start; limiter = None }) replies w'
-run_of_none calls s start l replies w' same alone =
-    subst (λ (w : World (Option NoLimits)). IsRunOf (optional_rules unlimited_rules) calls w replies w')
-    (λ i. record { state = same i; limiter = alone i })
+-- a run from a machine and under a limiter is one from an equal machine and under an equal limiter
+pub run_from : {L : Type 0} (rules : Rules L) (calls : List Call) (s start : State) (l limiter : L)
+    (replies : List Reply) (w' : World L) → s ≡ start → l ≡ limiter
+    → IsRunOf rules calls (world s l) replies w' → IsRunOf rules calls (world start limiter) replies w'
+run_from {L} rules calls s start l limiter replies w' same alike =
+    subst (λ (w : World L). IsRunOf rules calls w replies w') (λ i. world (same i) (alike i))
 
 -- one part more
 one_part : (parts : List TenantRun) (replies : List Reply) (part : TenantRun) (answered : List Reply)

@@ -1,22 +1,11 @@
 -- The even and the odd lanes of a vector, as std::simd takes each out of a lane of twice the width, and their sums.
 use Rattle.std.proofs.Common.{ℕ, ℤ, pos, negsuc, suc, ◌+◌, ◌-◌, ◌*◌, ◌/◌, ◌%◌, ◌^◌, ◌<◌, ◌≤◌, ◌≡◌, List, length, get_or, map, replicate, sym, subst, ◌∙◌, ap, ap₂, arith, suc-mul, add-mul, mul_assoc, le_refl, inl, inr, Bool, true, false, ltb, bit_and, ◌+ℤ◌, ◌*ℤ◌}
-use Rattle.std.proofs.lemmas.Bool.{cases_lt}
-use Rattle.std.proofs.lemmas.List.{length-map}
-use Rattle.std.proofs.lemmas.Nat.{pow_pos, and_mask, mod-pow-add, shr-shr, div-mul-add, mod-mul-add, pow-add, mul-le, shr_below, shl_below}
-use Rattle.std.proofs.lemmas.Simd.{get_or-zip2, get_or-replicate, length-replicate, length-zip2}
-use Rattle.std.specs.Int.{cast_unsigned, cast_signed}
+use Rattle.wasmi_simd.proofs.Common.{cases_lt, length-map, pow_pos, and_mask, mod-pow-add, shr-shr, div-mul-add, mod-mul-add, pow-add, mul-le, shr_below, shl_below, get_or-zip2, get_or-replicate, length-replicate, length-zip2, cast_unsigned, cast_signed, digits_l, number_l, zip2, Width, bits, signed, wrap, lane, unsigned, lane_below, lanes_make_vector, IsWidening, hbits, sel, pairwise_unary, pairwise_binary}
 use Rattle.std.specs.Int.Signed.{shr_z}
-use Rattle.std.specs.Simd.Lanes.{digits_l, number_l, zip2}
-use Rattle.wasmi_types.specs.Numbers.{Width, bits, signed, wrap}
-use Rattle.wasmi_lanes.specs.Vector.{lane, unsigned}
-use Rattle.wasmi_lanes.proofs.VectorLemmas.{lane_below, lanes_make_vector}
 use Rattle.wasmi_lanewise.proofs.OrderLemmas.{same_less}
-use Rattle.wasmi_simd.specs.WideningProofs.{IsWidening}
 use Rattle.wasmi_simd.proofs.HalfLemmas.{AreSignedLanes, bits_at, reread}
 use Rattle.wasmi_simd.proofs.WideningLemmas.{extended_fits, product_fits, sum_below, sum_of_bits, dot_of_bits}
-use mir.Val.{hbits, sel}
 use Rattle.std.proofs.Math.Nat.{mod-eq_of_lt}
-use Rattle.wasmi_simd.specs.WideningTable.{pairwise_unary, pairwise_binary}
 
 -- ---- lanes and one number
 

@@ -1,13 +1,6 @@
 -- The highest bits of the lanes of a word, brought together by a product or a shift.
 use Rattle.std.proofs.Common.{◌≡◌, ℕ, zero, suc, ◌+◌, ◌*◌, ◌/◌, ◌%◌, ◌^◌, ◌<◌, ◌≤◌, refl, sym, ap, ap₂, subst, ◌∙◌, arith, inl, inr, Bool, true, false, leb, add-mul, zero-mul, suc-mul, mul_comm, mod-lt, mod-eq_of_lt, bit_and, pow-suc, if◌then◌else◌, replicate}
-use Rattle.std.proofs.Math.Nat.{div-eq_of_lt}
-use Rattle.std.proofs.lemmas.Nat.{pow_pos, and_le_l, and_mask, shr_below, div-add-mod'}
-use Rattle.std.proofs.lemmas.Nat.Bits.{and_pow}
-use Rattle.std.proofs.lemmas.Bool.{cases_lt, le-leb, lt-leb}
-use Rattle.std.specs.Simd.Lanes.{number_l}
-use Rattle.wasmi_lanes.specs.Words.{field}
-use Rattle.wasmi_lanes.proofs.FieldLemmas.{field_and, field_lt, first_lane, next_lane, repeated_lane}
-use Rattle.wasmi_simd.specs.WideningTable.{first_bits}
+use Rattle.wasmi_simd.proofs.Common.{div-eq_of_lt, pow_pos, and_le_l, and_mask, shr_below, div-add-mod', and_pow, cases_lt, le-leb, lt-leb, number_l, field, field_and, field_lt, first_lane, next_lane, repeated_lane, first_bits}
 
 -- the number whose n digits in base p are g 0, g 1 ..
 abbrev spelled : ℕ → ℕ → (ℕ → ℕ) → ℕ

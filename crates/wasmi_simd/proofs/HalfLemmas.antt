@@ -1,27 +1,15 @@
 -- The lanes of half a vector, as std::simd takes, extends and multiplies them.
 use Rattle.std.proofs.Common.{ℕ, suc, ℤ, pos, negsuc, ◌*ℤ◌, Bool, true, false, ltb, bit_xor, replicate, ◌+◌, ◌-◌, ◌*◌, ◌%◌, ◌^◌, ◌<◌, ◌≤◌, ◌≡◌, ◌⊎◌, inl, inr, List, ◌++◌, length, get_or, map, refl, sym, subst, ◌∙◌, ap, ap₂, arith, FitsSigned}
+use Rattle.wasmi_simd.proofs.Common.{pick_l_left, pick_l-range_with_len, get_or-chunk, length-zip2, get_or-zip2, get_or-replicate, cases_lt, ltb-true, ltb-false, get_or-map, get_or_past, length-map, pow_pos, cast_unsigned, cast_signed, digits_l, number_l, zip2, Width, w8, w16, bits, signed, wrap, lane, unsigned, digit_at, written_at, lane_below, lanes_make_vector, IsWidening, half_unary, half_binary, sel}
 use Rattle.std.proofs.Math.Nat.{mod-eq_of_lt}
-use Rattle.std.proofs.lemmas.Simd.{pick_l_left, pick_l-range_with_len, get_or-chunk, length-zip2, get_or-zip2, get_or-replicate}
 use Rattle.std.specs.List.{range_with_len}
-use Rattle.std.proofs.lemmas.Bool.{cases_lt, ltb-true, ltb-false}
 use Rattle.std.proofs.lemmas.Int.{of_z-to_z}
-use Rattle.std.proofs.lemmas.List.{get_or-map, get_or_past, length-map}
 use Rattle.std.proofs.lemmas.List.FromFn.{length-range_with_len}
-use Rattle.std.proofs.lemmas.Nat.{pow_pos}
-use Rattle.std.specs.Int.{cast_unsigned, cast_signed}
-use Rattle.std.specs.Simd.Lanes.{digits_l, number_l, zip2}
-use Rattle.wasmi_types.specs.Numbers.{Width, w8, w16, bits, signed, wrap}
-use Rattle.wasmi_lanes.specs.Vector.{lane, unsigned}
-use Rattle.wasmi_lanes.proofs.SimdLaneLemmas.{digit_at, written_at}
 use Rattle.wasmi_lanes.proofs.TopLemmas.{xor_top}
-use Rattle.wasmi_lanes.proofs.VectorLemmas.{lane_below, lanes_make_vector}
-use Rattle.wasmi_simd.specs.WideningProofs.{IsWidening}
-use Rattle.wasmi_simd.specs.WideningTable.{half_unary, half_binary}
 use Rattle.wasmi_types.proofs.NumbersLemmas.{wrap_signed}
 use Rattle.wasmi_simd.proofs.WideningLemmas.{extended_fits, product_of_bits, product_below}
 use lib.Dec.{T}
 use lib.Lanes.{pick_l, all_below}
-use mir.Val.{sel}
 use mir.ValLaws.{of_z_fits}
 
 -- neighbouring items, picked from a list and a copy of it

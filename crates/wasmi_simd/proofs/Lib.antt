@@ -1,3 +1,4 @@
+pub mod Common
 pub mod WideningLemmas
 mod GatherLemmas
 mod HalfLemmas

@@ -1,20 +1,9 @@
 -- Tests of the lanes of a vector and the bits that they give, made of those of its two words.
 use Rattle.std.proofs.Common.{◌≡◌, ℕ, zero, suc, ◌+◌, ◌-◌, ◌*◌, ◌/◌, ◌%◌, ◌^◌, ◌<◌, ◌≤◌, refl, inl, inr, sym, ap, ap₂, subst, ◌∙◌, arith, Bool, true, false, not, eqb, nat_eq, ◌&&◌, if◌then◌else◌, bit_and, bit_or, true≢false, zero-mul, mul-suc, mul-zero, mul_comm, mul-add, mul_assoc, one-mul, add-mul, le_refl, lit<, mod-eq_of_lt, pow-suc, suc-add, zero-add}
-use Rattle.std.proofs.Math.Nat.{div-eq_of_lt, mod-one, add-mod_right}
+use Rattle.wasmi_simd.proofs.Common.{div-eq_of_lt, mod-one, add-mod_right, div-mul-add, mod-pow-add, pow_pos, pow-add, mul-le, and_le_l, and_le_r, or_shifted, or_comm, and_pow, and_from, and_parts, eqb-true, eq-eqb, cases_eq, cases_lt, pow_mono, Width, bits, lane, unsigned, field, lanes_in_word, in_each_lane, field_lt, field_and, field_not, field_wrapping_sub, field_of_zero, lane_ends, same_words, lanes_of_width, AreWords, low_lane, high_lane, filled, some_bits, lane_of_each, top_in_range, holds_below, first_bits, every_lane, lane_bits}
 use Rattle.std.proofs.Math.Dec.{eqb-suc-zero}
-use Rattle.std.proofs.lemmas.Nat.{div-mul-add, mod-pow-add, pow_pos, pow-add, mul-le, and_le_l, and_le_r, or_shifted, or_comm}
-use Rattle.std.proofs.lemmas.Nat.Bits.{and_pow}
 use Rattle.std.specs.Int.Bits.{and_self}
 use Rattle.std.specs.Cmp.{both_ways}
-use Rattle.std.proofs.lemmas.Bool.{and_from, and_parts, eqb-true, eq-eqb, cases_eq, cases_lt}
-use Rattle.std.proofs.Math.Pow.{pow_mono}
-use Rattle.wasmi_types.specs.Numbers.{Width, bits}
-use Rattle.wasmi_lanes.specs.Vector.{lane, unsigned}
-use Rattle.wasmi_lanes.specs.Words.{field, lanes_in_word, in_each_lane}
-use Rattle.wasmi_lanes.proofs.FieldLemmas.{field_lt, field_and, field_not, field_wrapping_sub, field_of_zero, lane_ends, same_words}
-use Rattle.wasmi_lanes.proofs.VectorLemmas.{lanes_of_width}
-use Rattle.wasmi_lanes.proofs.WordVectorLemmas.{AreWords, low_lane, high_lane, filled, some_bits, lane_of_each, top_in_range}
-use Rattle.wasmi_simd.specs.WideningTable.{holds_below, first_bits, every_lane, lane_bits}
 
 -- ---- tests that hold of all numbers below n
 

@@ -1,18 +1,9 @@
 -- Words of one lane that are shifted, and lanes of 8 bits that are shifted with the sign.
 use Rattle.std.proofs.Common.{◌≡◌, ℕ, zero, suc, ◌+◌, ◌-◌, ◌*◌, ◌/◌, ◌%◌, ◌^◌, ◌<◌, ◌≤◌, refl, inl, inr, pos, negsuc, sym, ap, subst, ◌∙◌, arith, add-mul, one-mul, mod-lt, mod-eq_of_lt, List, map, replicate, get_or}
-use Rattle.std.proofs.lemmas.Bool.{cases_lt, lt-ltb, le-ltb}
-use Rattle.std.specs.Int.{int_shr}
-use Rattle.std.specs.Simd.Lanes.{number_l}
-use mir.Val.{sel}
-use Rattle.std.proofs.lemmas.Nat.{pow_pos, pow-add, div-add-mod', div-mul-add, shr_below, shr_le}
-use Rattle.std.proofs.Math.Pow.{pow_mono}
+use Rattle.wasmi_simd.proofs.Common.{cases_lt, lt-ltb, le-ltb, int_shr, number_l, sel, pow_pos, pow-add, div-add-mod', div-mul-add, shr_below, shr_le, pow_mono, w8, w64, signed, wrap, lane, unsigned, unary_of_lanes, field, first_lane, repeated_lane}
 use Rattle.std.specs.List.{range_with_len}
 use Rattle.std.proofs.lemmas.List.FromFn.{get_or-map-range_with_len}
-use Rattle.wasmi_types.specs.Numbers.{w8, w64, signed, wrap}
-use Rattle.wasmi_lanes.specs.Vector.{lane, unsigned, unary_of_lanes}
 use Rattle.wasmi_raw.specs.RawVal.{vector_of}
-use Rattle.wasmi_lanes.specs.Words.{field}
-use Rattle.wasmi_lanes.proofs.FieldLemmas.{first_lane, repeated_lane}
 use Rattle.wasmi_lanewise.proofs.ShiftLemmas.{words_shifted}
 
 -- a word is one lane of 64 bits

@@ -1,25 +1,14 @@
 -- Vectors made of lanes of another width, what the lanes of one vector make together, and the lanes of these.
 use Rattle.std.proofs.Common.{ℕ, zero, suc, ◌+◌, ◌-◌, ◌*◌, ◌/◌, ◌%◌, ◌^◌, ◌<◌, ◌≤◌, ◌≡◌, sym, ◌∙◌, ap, ap₂, arith, inl, inr, ℤ, pos, negsuc, unsigned_abs, leb, nat_lt, if◌then◌else◌, ◌==◌, div-one, mul-zero, mul-suc, refl, subst, le_refl, pow-suc, ◌+ℤ◌, ◌*ℤ◌, FitsSigned, ◌↔◌, Bool, true}
-use Rattle.std.proofs.lemmas.Nat.{pow_pos, mul-le, shl_below}
+use Rattle.wasmi_simd.proofs.Common.{pow_pos, mul-le, shl_below, cast_unsigned, int_wrap, bit_at, div-eq_of_lt, zero-div, pow_mono, cases_lt, lt-ltb, le-ltb, le-leb, Width, w8, w16, w32, w64, bits, wrap, signed, lane, lane_count, signed_fits, unsigned, with_lane, lane_below, lanes_make_vector, lane_of_from, some_bits, IsWidening, hbits, bit_at_lowest, bit_at-suc, half_unary, half_binary, pairwise_unary, pairwise_binary, from_low_high, first_bits, lane_bits, every_lane, holds_below}
 use Rattle.std.proofs.lemmas.Int.{of_z-to_z, wrapping_add_is, wrapping_mul_is, fits_signed_mul, to_z-of_z}
 use Rattle.std.proofs.Math.Facts.{sfits_widen}
-use Rattle.std.specs.Int.{cast_unsigned, int_wrap, bit_at}
-use Rattle.std.proofs.Math.Nat.{mod-eq_of_lt, mod-lt, div-eq_of_lt, zero-div}
+use Rattle.std.proofs.Math.Nat.{mod-eq_of_lt, mod-lt}
 use Rattle.std.proofs.Math.Dec.{eqb-suc-zero}
-use Rattle.std.proofs.Math.Pow.{pow_mono}
-use Rattle.std.proofs.lemmas.Bool.{cases_lt, lt-ltb, le-ltb, le-leb}
-use Rattle.wasmi_types.specs.Numbers.{Width, w8, w16, w32, w64, bits, wrap, signed}
 use Rattle.wasmi_types.proofs.NumbersLemmas.{wrap_below, wrap_signed}
-use Rattle.wasmi_lanes.specs.Vector.{lane, lane_count, signed_fits, unsigned, with_lane}
-use Rattle.wasmi_lanes.proofs.VectorLemmas.{lane_below, lanes_make_vector, lane_of_from}
-use Rattle.wasmi_lanes.proofs.WordVectorLemmas.{some_bits}
-use Rattle.wasmi_simd.specs.WideningProofs.{IsWidening}
 use lib.Dec.{T}
-use mir.Val.{hbits}
 use Rattle.std.proofs.lemmas.Float.{T_from_true}
-use Rattle.std.proofs.lemmas.Nat.Bits.{bit_at_lowest, bit_at-suc}
 use mir.Syntax.{w128}
-use Rattle.wasmi_simd.specs.WideningTable.{half_unary, half_binary, pairwise_unary, pairwise_binary, from_low_high, first_bits, lane_bits, every_lane, holds_below}
 use Rattle.wasmi_simd.proofs.ReductionLemmas.{bit_at_most, bits_below, holds_of_each, each_holds}
 
 -- numbers that are `low` below n and `high` from n on

@@ -1,9 +1,8 @@
 -- A buffer that was grown, by where its bytes lie.
 use Rattle.std.proofs.Common.{◌≡◌, ℕ, ◌+◌, ◌-◌, ◌≤◌, List, [], ◌++◌, length, take, drop, replicate, refl, sym, ap, ◌∙◌, arith, Vec, Global, true}
-use Rattle.std.proofs.lemmas.Bool.Decides.{nat_tests}
-use Rattle.std.proofs.lemmas.List.{take_all, drop_all, append-nil, take_at, drop_at, drop-drop, take-append-le, take-append-drop, length-append, length-replicate, length-take-le, length-drop}
+use Rattle.wasmi_store.proofs.Common.{nat_tests, take_all, drop_all, append-nil, take_at, drop_at, drop-drop, take-append-le, length-replicate, with_zeros, fits_room, refilled_front, view_of, EndsWithin}
+use Rattle.std.proofs.lemmas.List.{take-append-drop, length-append, length-take-le, length-drop}
 use Rattle.wasmi_store.specs.Buffer as buffer
-use Rattle.wasmi_store.specs.Buffer.{with_zeros, fits_room, refilled_front, view_of, EndsWithin}
 use Rattle.wasmi_store.specs.declared.memory.buffer.Storage.TheVariants.{Owned, Lent}
 
 -- a list, and n zeros

@@ -23,9 +23,7 @@ use denote.MutBor.{MutBor}
 use denote.Slice.{MutSlice, Room, slice_val}
 use denote.Follow.{follows}
 use denote.FollowSlice.{heres_id, slice_of}
-use Rattle.std.proofs.Common.{append-nil}
-use Rattle.std.proofs.lemmas.List.{take_all, drop_all}
-use Rattle.std.specs.List.{refill}
+use Rattle.wasmi_store.proofs.Common.{take_at, refill}
 use borrow.Table.Elements.{at, cut_app, join_app, length-take-le}
 
 module _ {M : Type 1} {𝓤 : Ura M} (𝓛 : Logic 𝓤) (R : RattleType) (ℓ : Lifetime) (κ : Lft) (q : Share)
@@ -59,10 +57,7 @@ module _ {M : Type 1} {𝓤 : Ura M} (𝓛 : Logic 𝓤) (R : RattleType) (ℓ :
 
   -- as many items as were lent stand in their place
   filled : (ws : List R.Denot) → length ws ≡ length front → refilled ws ≡ ws ++ back
-  filled ws e =
-      ap (λ (l : List R.Denot). take (length front) (ws ++ l) ++ back) (drop_all (length ws) front (omega arith))
-      ∙ ap (λ (l : List R.Denot). take (length front) l ++ back) (append-nil ws)
-      ∙ ap (λ (l : List R.Denot). l ++ back) (take_all (length front) ws (omega arith))
+  filled ws e = ap (λ (l : List R.Denot). l ++ back) (take_at ws (drop_list (length ws) front) (length front) e)
 
   -- the front, written over, and what follows it stand in one row
   put : m ≤ length xs → (ws : List R.Denot)

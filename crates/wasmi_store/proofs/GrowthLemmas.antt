@@ -1,32 +1,21 @@
 -- The making and the growth of a memory or a table, by what was tested on the way.
 use Rattle.std.proofs.Common.{◌≡◌, ℕ, ◌<◌, ◌≤◌, Bool, true, false, Option, Some, None, Result, Ok, Err, inl, inr, refl, ap, ◌∙◌, arith}
-use Rattle.std.specs.Prelude.{if◌then◌else◌, MatchBool}
+use Rattle.wasmi_store.proofs.Common.{cond-true, cond-false, if◌then◌else◌, MatchBool, nat_tests, CustomFuelCosts, Question, Answer, NoticeAnswer, Rules, KeepsLoan, Meter, amount_left, Charges, MeteredValue, alone, Request, AttemptOutcome, Unasked, Denied, Met, Failed, Attempt, Permits, answer_of, error_of_failure, optional_due, covers, IsPermitted, ReachesCharge, attempt_unasked, attempt_denied, attempt_late, attempt_unpaid, attempt_refused, attempt_met, IsAsked, Makes, Growth, Grows, metered_value}
 use Rattle.std.specs.Borrow.{MutBor}
-use Rattle.std.proofs.lemmas.Bool.Decides.{nat_tests}
 use Rattle.std.proofs.lemmas.Grind.{common_steps}
-use Rattle.wasmi_meter.specs.declared.fuel.CustomFuelCosts.{CustomFuelCosts}
 use Rattle.wasmi_meter.specs.declared.limiter.LimiterRef.{LimiterRef}
-use Rattle.wasmi_meter.specs.Limiter.{Question, Answer, NoticeAnswer, Rules, KeepsLoan}
-use Rattle.wasmi_meter.specs.Meter.{Meter, amount_left, Charges}
-use Rattle.wasmi_meter.specs.Attempt.{MeteredValue, alone, Request, AttemptOutcome, Unasked, Denied, Met, Failed, Attempt, Permits, answer_of, error_of_failure, optional_due, covers}
-use Rattle.wasmi_meter.proofs.AttemptLemmas.{IsPermitted, ReachesCharge, attempt_unasked, attempt_denied, attempt_late, attempt_unpaid, attempt_refused, attempt_met}
-use Rattle.wasmi_store.specs.Growth.{IsAsked, Makes, Growth, Grows, metered_value}
-
--- of a cause that is there only where a test fails: where it holds, there is none
-pub no_cause : {E : Type 0} (b : Bool) (cause : E) → b ≡ true
-    → (let none : Option E = None in if b then none else Some cause) ≡ None
-no_cause b cause h = rw h refl
-
--- where the test fails, the cause is there
-pub a_cause : {E : Type 0} (b : Bool) (cause : E) → b ≡ false
-    → (let none : Option E = None in if b then none else Some cause) ≡ Some cause
-a_cause b cause h = rw h refl
 
 -- whether a test holds
 pub on_test : {C : Type 0} (test : Bool) (Holds Fails : Type 0) → MatchBool test Holds Fails → (Holds → C) → (Fails → C)
     → C
 on_test true Holds Fails h holds fails = holds h
 on_test false Holds Fails h holds fails = fails h
+
+-- one of two facts by a test, where each leads to another
+pub on_test_too : (test : Bool) (Holds Holds' Fails Fails' : Type 0) → (Holds → Holds') → (Fails → Fails')
+    → MatchBool test Holds Fails → MatchBool test Holds' Fails'
+on_test_too true Holds Holds' Fails Fails' holds fails h = holds h
+on_test_too false Holds Holds' Fails Fails' holds fails h = fails h
 
 -- what holds of a loan's states holds of the limiter that was lent
 pub of_loan : {L : Type 0} (Holds : Option L → Option L → Type 0) (s s' : Option L) (l l' : L) → s ≡ Some l
@@ -97,6 +86,12 @@ pub record GrowthAttempt (V E S : Type 0) : Type 1 where
   pub meter : Meter
   pub limiter : S
 
+-- the growth of a value
+abbrev pub growing : {V E S : Type 0} → Rules S → (growth_of : V → Growth V E) → (x : V) → Meter → S
+    → ((growth_of x).amount ≡ 0 → ⊥) → GrowthAttempt V E S
+growing rules growth_of x m l some =
+    record { rules = rules; growth = growth_of x; some = some; value = x; meter = m; limiter = l }
+
 module _ {V E S : Type 0} (t : GrowthAttempt V E S) where
   abbrev before : MeteredValue V S
   before = record { value = t.value; meter = Some t.meter; limiter = t.limiter }
@@ -132,41 +127,59 @@ module _ {V E S : Type 0} (t : GrowthAttempt V E S) where
       (attempt_denied t.rules request before is.early answer l' denies.0 (rw is.question_is at asks)) _
       (ap Err denies.1)
 
-  module _ (permitted : S) where
-    -- where a late cause stands after the permission, the limiter gets a notice, and nothing is charged
-    pub grows_late : IsPermitted t.rules request t.limiter permitted → (cause : E) → request.late ≡ Some cause
-        → (error : E) (l' : S) → TellsOf t.rules request cause permitted error l'
-        → EndsIn (Err error) t.value t.meter l'
-    grows_late permits cause late error l' tells = grows (Failed cause tells.0) 0 _
-        (attempt_late t.rules request before permitted permits cause tells.0 l' late tells.1) _ (ap Err tells.2)
+-- a growth that the limiter permits, where a late cause stands if a test fails, and so much is due
+pub record PermitsGrowth {V E S : Type 0} (t : GrowthAttempt V E S) (p : S) (test : Bool) (cause : E) (amount : ℕ)
+    : Type 0 where
+  pub permits : IsPermitted t.rules t.growth.request t.limiter p
+  pub late : t.growth.request.late ≡ (if test then None else Some cause)
+  pub due : amount ≡ price t
 
-    module _ (reaches : ReachesCharge t.rules request t.limiter permitted) (m' : Meter) where
-      -- where the price can't be paid, the limiter gets a notice, and nothing is charged
-      pub grows_unpaid : (required : ℕ) → Charges t.meter price (Err required) m' → (error : E) (l' : S)
-          → TellsOf t.rules request (request.unpaid required) permitted error l' → EndsIn (Err error) t.value m' l'
-      grows_unpaid required short error l' tells = rw short.2 (
-          grows (Failed (request.unpaid price) tells.0) 0 _
-          (attempt_unpaid t.rules request before permitted reaches tells.0 l'
-          (unpayable t.meter price short.0) (rw short.1 at tells.1)) _
-          (ap Err (tells.2 ∙ ap (λ n. error_of_failure request.refusal (request.unpaid n) tells.0) short.1))
+module _ {V E S : Type 0} {t : GrowthAttempt V E S} {p : S} {test : Bool} {late : E} {amount : ℕ}
+    (permitted : PermitsGrowth t p test late amount) where
+  -- where the test fails, the limiter gets a notice, and nothing is charged
+  pub grows_late : test ≡ false → (error : E) (l' : S) → TellsOf t.rules (request t) late p error l'
+      → EndsIn t (Err error) t.value t.meter l'
+  grows_late fails error l' tells = grows t (Failed late tells.0) 0 _
+      (attempt_late t.rules (request t) (before t) p permitted.permits late tells.0 l'
+      (permitted.late ∙ cond-false _ _ _ fails) tells.1) _ (ap Err tells.2)
+
+  module _ (holds : test ≡ true) (m' : Meter) where
+    -- nothing stands before the charge
+    reaches : ReachesCharge t.rules (request t) t.limiter p
+    reaches = record { permits = permitted.permits; late = permitted.late ∙ cond-true _ _ _ holds }
+
+    -- where what is due can't be paid, the limiter gets a notice, and nothing is charged
+    pub grows_unpaid : (required : ℕ) → Charges t.meter amount (Err required) m' → (error : E) (l' : S)
+        → TellsOf t.rules (request t) ((request t).unpaid required) p error l' → EndsIn t (Err error) t.value m' l'
+    grows_unpaid required short error l' tells =
+        let is : required ≡ price t = short.1 ∙ permitted.due in
+        rw short.2 (
+        grows t (Failed ((request t).unpaid (price t)) tells.0) 0 _
+        (attempt_unpaid t.rules (request t) (before t) p reaches tells.0 l'
+        (unpayable t.meter (price t) (rw permitted.due at short.0)) (rw is at tells.1)) _
+        (ap Err (tells.2 ∙ ap (λ n. error_of_failure (request t).refusal ((request t).unpaid n) tells.0) is))
+        )
+
+    module _ (enough : Charges t.meter amount (Ok tt) m') where
+      -- the price is paid
+      paid : Charges t.meter (price t) (Ok tt) m'
+      paid = rw permitted.due at enough
+
+      -- where it is paid and what it grows into refuses it, the limiter gets a notice, and the value stays
+      pub grows_refused : (cause : E) → (request t).refuses cause → (x' : V) → x' ≡ t.value → (error : E) (l' : S)
+          → TellsOf t.rules (request t) cause p error l' → EndsIn t (Err error) x' m' l'
+      grows_refused cause refuses x' same error l' tells = rw (paid.1, same) (
+          grows t (Failed cause tells.0) (price t) _ (attempt_refused t.rules (request t) (before t) p reaches
+          (payable t.meter (price t) paid.0) cause tells.0 l' refuses tells.1) _ (ap Err tells.2)
           )
 
-      module _ (enough : Charges t.meter price (Ok tt) m') where
-        -- where the price is paid and what it grows into refuses it, the limiter gets a notice, and the value stays
-        pub grows_refused : (cause : E) → request.refuses cause → (x' : V) → x' ≡ t.value → (error : E) (l' : S)
-            → TellsOf t.rules request cause permitted error l' → EndsIn (Err error) x' m' l'
-        grows_refused cause refuses x' same error l' tells = rw (enough.1, same) (
-            grows (Failed cause tells.0) price _ (attempt_refused t.rules request before permitted reaches
-            (payable t.meter price enough.0) cause tells.0 l' refuses tells.1) _ (ap Err tells.2)
-            )
-
-        -- where the price is paid and no cause stands, the value has grown, and the old size is answered
-        pub grows_met : (x' : V) → x' ≡ request.grown → (old : ℕ) → old ≡ t.growth.size
-            → EndsIn (Ok old) x' m' permitted
-        grows_met x' grown old answers = rw (enough.1, grown) (
-            grows Met price _ (attempt_met t.rules request before permitted reaches (payable t.meter price enough.0)) _
-            (ap Ok answers)
-            )
+      -- where it is paid and no cause stands, the value has grown, and the old size is answered
+      pub grows_met : (x' : V) → x' ≡ (request t).grown → (old : ℕ) → old ≡ t.growth.size → EndsIn t (Ok old) x' m' p
+      grows_met x' grown old answers = rw (paid.1, grown) (
+          grows t Met (price t) _
+          (attempt_met t.rules (request t) (before t) p reaches (payable t.meter (price t) paid.0)) _
+          (ap Ok answers)
+          )
 
 module _ {V E S : Type 0} (rules : Rules S) (amount size : ℕ) (e : Request V E) (price : CustomFuelCosts → ℕ) (x : V)
     (l : S) (costs : CustomFuelCosts) (s' : MeteredValue V S) where

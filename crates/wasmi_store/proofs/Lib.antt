@@ -1,4 +1,6 @@
+pub mod Common
 mod BufferLemmas
+pub mod DenialLemmas
 pub mod FrontLemmas
 pub mod GrowthLemmas
 pub mod MemoryLemmas

@@ -1,25 +1,17 @@
 -- What is made of a valid type is valid, and what is valid grows to what is valid.
 use Rattle.std.proofs.Common.{◌≡◌, ◌∙◌, ℕ, ◌+◌, ◌*◌, ◌/◌, ◌%◌, ◌≤◌, ◌^◌, Bool, true, false, Option, Some, None, Result, Ok, length, replicate, refl, sym, ap, subst, arith, inl, inr, length-append}
-use Rattle.std.proofs.lemmas.Bool.Decides.{nat_tests}
-use Rattle.std.proofs.lemmas.List.{length-replicate}
+use Rattle.wasmi_store.proofs.Common.{nat_tests, length-replicate, ◌&&◌, nat_le, nat_lt, if◌then◌else◌, Rules, MemoryError, TableError, MeteredValue, Request, AttemptOutcome, Unasked, Denied, Met, Failed, MayEnd, value_after, Growth, Makes, Grows, MemoryTypeValue, page_bytes, minimum_bytes, in_bounds, MemoryValue, new_memory, IsValidMemory, MakesMemory, GrowsMemoryCharging, TableTypeValue, same_type, TableValue, size_of, new_table, with_added, IsValidTable, MakesTable, GrowsTableCharging}
 use Rattle.std.proofs.lemmas.Option.{none-some}
-use Rattle.std.specs.Prelude.{◌&&◌, nat_le, nat_lt, if◌then◌else◌}
 use Rattle.std.specs.Option.{option_map_or, ForSome}
-use Rattle.wasmi_meter.specs.Limiter.{Rules}
-use Rattle.wasmi_meter.specs.declared.error.MemoryError.{MemoryError}
-use Rattle.wasmi_meter.specs.declared.error.TableError.{TableError}
-use Rattle.wasmi_meter.specs.Attempt.{MeteredValue, Request, AttemptOutcome, Unasked, Denied, Met, Failed, MayEnd, value_after}
 use Rattle.wasmi_typed.specs.declared.typed_ref.TypedRawRef.{TypedRawRef}
 use Rattle.wasmi_store.specs.Buffer.{Room}
-use Rattle.wasmi_store.specs.Growth.{Growth, Makes, Grows}
 use Rattle.wasmi_store.specs.declared.memory.ty.PageSize.{PageSize}
 use Rattle.wasmi_store.specs.declared.memory.ty.PageSize.TheVariants.{Byte, Wasm}
-use Rattle.wasmi_store.specs.Memory.{MemoryTypeValue, page_bytes, minimum_bytes, in_bounds, MemoryValue, pages_of, new_memory, IsValidMemory, MakesMemory, GrowsMemoryCharging}
 use Rattle.wasmi_store.specs.Memory as memory
-use Rattle.wasmi_store.specs.Table.{TableTypeValue, same_type, TableValue, size_of, new_table, with_added, IsValidTable, MakesTable, GrowsTableCharging}
 use Rattle.wasmi_store.specs.Table as table
 use Rattle.wasmi_store.proofs.GrowthLemmas.{on_test}
-use Rattle.wasmi_store.proofs.MemoryLemmas.{sized_grown}
+use Rattle.wasmi_store.proofs.MemoryLemmas.{memory_growth, sized_grown}
+use Rattle.wasmi_store.proofs.TableLemmas.{table_growth}
 
 -- what is made is made by an attempt that was met
 made_met : {T E S : Type 0} (rules : Rules S) (e : Request (Unit {0}) E) (made x : T) (l l' : S)
@@ -98,8 +90,7 @@ pub grown_memory_is_valid : {S : Type 0} (rules : Rules S) (pages : ℕ) (s : Me
     → GrowsMemoryCharging rules pages s result charge s' → IsValidMemory s'.value
 grown_memory_is_valid rules pages s result charge s' valid grows =
     let x = s.value in
-    grown_valid rules
-    (record { amount = pages; size = pages_of x; request = memory.growth_of x pages }) IsValidMemory s s' valid
+    grown_valid rules (memory_growth pages x) IsValidMemory s s' valid
     (λ early late. record {
       type = valid.type;
       sized = sized_grown x.ty x.bytes pages valid.sized (passed _ _ early);
@@ -128,8 +119,8 @@ grown_table_is_valid rules n init s result charge s' valid grows =
     let x = s.value in
     let size : length (with_added x n init.raw).elements ≡ size_of x + n =
     length-append x.elements (replicate n init.raw) ∙ ap (λ k. size_of x + k) (length-replicate n init.raw) in
-    on_test (same_type x.ty.element init.ty) _ _ grows (λ raw. grown_valid rules
-    (record { amount = n; size = size_of x; request = table.growth_of x n init.raw }) IsValidTable s s' valid
+    on_test (same_type x.ty.element init.ty) _ _ grows (λ raw. grown_valid rules (table_growth n init.raw x)
+    IsValidTable s s' valid
     (λ early late. record {
       type = valid.type;
       sized = rw size (record {

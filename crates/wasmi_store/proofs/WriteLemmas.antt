@@ -1,28 +1,16 @@
 -- Writes over a range: one of a list of items as one of the value that has them, what a write ends in, and a copy a part at a time.
-use Rattle.std.proofs.Common.{◌≡◌, ℕ, ◌+◌, ◌⊎◌, inl, inr, Bool, true, false, Option, Some, None, Ok, Err, List, ◌++◌, length, take, drop, refl, sym, ap, ◌∙◌, arith, append_assoc, ◌-◌, ◌≤◌, length-drop}
+use Rattle.std.proofs.Common.{◌≡◌, ℕ, ◌+◌, ◌⊎◌, inl, inr, Bool, true, false, Option, Some, None, Ok, Err, List, ◌++◌, length, take, drop, refl, sym, ap, subst, ◌∙◌, arith, append_assoc, ◌-◌, ◌≤◌, length-drop, Vec, Global}
 use lib.Seq.{paste, take-add, take-paste, drop-paste}
-use Rattle.std.specs.Prelude.{Result, MatchBool}
+use Rattle.wasmi_store.proofs.Common.{MatchBool, refill, MemoryError, TableError, CustomFuelCosts, OutOfFuel, MeteredValue, covers, optional_due, Meter, meter_after, meter_after_nothing, metered, WithCharge, MeteredWrite, EndsBy, IsRefusedFor, Writes, WritesCharging, write_charge, write_due, items_write, WritesItems, BulkWrites, item_price, MemoryValue, bytes_write, elements_write, element_price, with_elements, TableValue, TableTypeValue, TableWrite, same_type, with_items_is, take-take, take_at, drop_at, drop-drop, drop-take}
+use Rattle.std.specs.Prelude.{Result}
 use Rattle.std.specs.Option.{option_map}
-use Rattle.wasmi_meter.specs.declared.error.MemoryError.{MemoryError}
-use Rattle.wasmi_meter.specs.declared.error.TableError.{TableError}
-use Rattle.wasmi_meter.specs.declared.fuel.CustomFuelCosts.{CustomFuelCosts}
-use Rattle.wasmi_meter.specs.declared.error.TableError.TheVariants.{OutOfFuel}
-use Rattle.wasmi_meter.specs.Attempt.{MeteredValue, covers, optional_due}
-use Rattle.wasmi_meter.specs.Meter.{Meter, meter_after}
-use Rattle.wasmi_meter.proofs.AttemptLemmas.{meter_after_nothing}
 use Rattle.wasmi_types.specs.declared.value.RefType.{RefType}
 use Rattle.wasmi_types.specs.declared.value.RefType.TheVariants.{Func, Extern}
-use Rattle.wasmi_store.specs.Growth.{metered, WithCharge}
-use Rattle.wasmi_store.specs.Write.{MeteredWrite, EndsBy, IsRefusedFor, Writes, WritesCharging, write_charge, write_due, items_write, WritesItems, BulkWrites, item_price}
-use Rattle.wasmi_store.specs.Memory.{MemoryValue, bytes_write}
-use Rattle.wasmi_store.specs.Table.{elements_write, element_price, with_elements, TableValue, same_type}
+use Rattle.wasmi_store.proofs.GrowthLemmas.{on_test_too}
+use Rattle.wasmi_store.proofs.MemoryLemmas.{refilled_by}
 use Rattle.wasmi_meter.specs.declared.error.MemoryError.TheVariants as memory
-use Rattle.std.proofs.lemmas.List.{length-take-le, take-take, take_at, drop_at, drop-drop, drop-take}
-
--- what holds by a test's outcomes holds of what they lead to
-on_outcome : (test : Bool) {P Q P' Q' : Type 0} → (P → P') → (Q → Q') → MatchBool test P Q → MatchBool test P' Q'
-on_outcome true met unmet h = met h
-on_outcome false met unmet h = unmet h
+use Rattle.std.specs.Vec.{with_items}
+use Rattle.std.proofs.lemmas.List.{length-take-le}
 
 module _ {A V E : Type 0} (put : List A → V) (outside : E) (price : Option (CustomFuelCosts → ℕ)) (unpaid : ℕ → E)
     (xs : List A) (m : Option Meter) (result : Result (Unit {0}) E) (xs' : List A) (m' : Option Meter) where
@@ -41,7 +29,7 @@ module _ {A V E : Type 0} (put : List A → V) (outside : E) (price : Option (Cu
         unpaid = unpaid;
       }) (metered (put xs) m) result (metered (put xs') m')
   writes_put None (is, same) = (is, same_put same)
-  writes_put (Some items) writes = on_outcome (covers m (optional_due m price))
+  writes_put (Some items) writes = on_test_too (covers m (optional_due m price)) _ _ _ _
       (λ h. (h.0, ap (λ s. metered (put s.value) s.meter) h.1)) (λ h. (h.0, same_put h.1)) writes
 
 -- a write takes place with its charge
@@ -62,14 +50,30 @@ writes_elements x typed written outside paid m result xs' m' same writes = rw sa
     (writes_put (with_elements x) outside (option_map element_price paid) OutOfFuel x.elements m result xs' m' written
     writes)
 
--- a write over bytes is one over the memory that has them
-pub writes_bytes : (x : MemoryValue) (written : Option (List ℕ)) (paid : ℕ) (m : Option Meter)
-    (result : Result (Unit {0}) MemoryError) (bytes : List ℕ) (m' : Option Meter)
-    → BulkWrites written paid (metered x.bytes m) result (metered bytes m')
-    → Writes (bytes_write x None written paid) (metered x m) result (metered (record x { bytes = bytes }) m')
-writes_bytes x written paid m result bytes m' writes =
-    writes_put (λ bytes. record x { bytes = bytes }) memory.OutOfBoundsAccess (Some (item_price 1 paid))
-    memory.OutOfFuel x.bytes m result bytes m' written writes
+module _ (ty : TableTypeValue) (reserved : ℕ) where
+  -- the table with these elements
+  abbrev pub table_with : List ℕ → TableValue
+  table_with elements = record { ty = ty; elements = elements; reserved = reserved }
+
+  -- a write over what the vector of a table lends is one over the table
+  pub table_writes : (v : Vec ℕ Global) {write : TableValue → TableWrite} {lent : List ℕ} (ws : List ℕ)
+      {m m' : Option Meter} {result : Result (Unit {0}) TableError} → lent ≡ v.items → length ws ≡ length lent
+      → Writes (write (table_with lent)) (metered (table_with lent) m) result (metered (table_with ws) m')
+      → WithCharge (WritesCharging write) (metered (table_with v.items) m) result
+      (metered (table_with (with_items v ws).items) m')
+  table_writes v {write} ws same long writes =
+      rw (with_items_is v ws (long ∙ ap length same ∙ sym v.ok.0), ← same) (charging write writes)
+
+-- a write over the bytes that a memory lends is one over the memory
+pub memory_writes : (x : MemoryValue) (written : List ℕ → Option (List ℕ)) (paid : ℕ) {lent : List ℕ} (ws : List ℕ)
+    {m m' : Option Meter} {result : Result (Unit {0}) MemoryError} → lent ≡ x.bytes → length ws ≡ length lent
+    → BulkWrites (written lent) paid (metered lent m) result (metered ws m')
+    → WithCharge (WritesCharging (λ x. bytes_write x None (written x.bytes) paid)) (metered x m) result
+    (metered (record x { bytes = refill (length x.bytes) x.bytes ws }) m')
+memory_writes x written paid ws {m} {m'} {result} same long writes = rw (refilled_by x.bytes _ ws same long)
+    (charging (λ x. bytes_write x None (written x.bytes) paid) (writes_put (λ bytes. record x { bytes = bytes })
+    memory.OutOfBoundsAccess (Some (item_price 1 paid)) memory.OutOfFuel x.bytes m result ws m' (written x.bytes)
+    (subst (λ l. BulkWrites (written l) paid (metered l m) result (metered ws m')) same writes)))
 
 -- a meter that is off
 abbrev off : CustomFuelCosts → Meter

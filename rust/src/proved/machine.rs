@@ -2466,24 +2466,6 @@ mod slots {
             self.items.get_mut(index)
         }
 
-        /// The items, to be changed.
-        ///
-        /// # Contract
-        ///
-        /// ```text
-        /// ensures* writes_back: sem 𝓛
-        ///     (Lends (the_row T.row) (Array T.row 0) self.entry result (with_items self.old))
-        /// ensures value: result.now ≡ self.old.items
-        /// ```
-        ///
-        /// Definitions: [`with_items`](crate::specs::machine::ReservedListSpecs#with_items).
-        ///
-        /// `T` is any type.
-        #[inline]
-        pub(crate) fn as_mut_slice(&mut self) -> &mut [T] {
-            self.items.as_mut_slice()
-        }
-
         /// Asks for memory for so many more items, unless it is there.
         ///
         /// # Errors
@@ -3176,12 +3158,13 @@ mod tables {
             if dst_index == src_index {
                 return self.copy_in_one(dst_index, dst, src, len, fuel);
             }
-            let count = self.slots.as_slice().len();
-            if dst_index >= count || src_index >= count {
-                return None;
-            }
-            let slots = self.slots.as_mut_slice();
-            copy_to_other(slots, dst_index, src_index, dst, src, len, fuel)
+            let mut table = self.take(dst_index)?;
+            let copied = match self.live(src_index) {
+                Some(source) => Some(table_reply(table.copy_metered(dst, source, src, len, fuel))),
+                None => None,
+            };
+            *self.slots.item_mut(dst_index) = Slot::Live(table);
+            copied
         }
 
         /// Copies a range of a table within it.
@@ -3208,67 +3191,6 @@ mod tables {
         ) -> Option<Reply> {
             let table = self.live_mut(index)?;
             Some(table_reply(table.copy_within_metered(dst, src, len, fuel)))
-        }
-    }
-
-    /// Copies a range of a table to another one.
-    ///
-    /// # Contract
-    ///
-    /// ```text
-    /// requires dst: dst_index < length slots.old
-    /// requires src: src_index < length slots.old
-    /// requires other: dst_index ≢ src_index
-    /// ensures copied: WithCharge
-    ///     (WritesTableFrom (live_at slots.old src_index) dst_index
-    ///     (copy_of dst src len))
-    ///     (metered slots.old (Some fuel.old)) (reply_or_no_such result) (metered slots.new (Some fuel.new))
-    /// ```
-    ///
-    /// Definitions: [`WithCharge`](crate::specs::store::GrowthSpecs#WithCharge), [`WritesTableFrom`](crate::specs::machine::TableEffectsSpecs#WritesTableFrom), [`live_at`](crate::specs::machine::StateSpecs#live_at), [`copy_of`](crate::specs::store::TableSpecs#copy_of), [`metered`](crate::specs::store::GrowthSpecs#metered), [`reply_or_no_such`](crate::specs::machine::EffectsSpecs#reply_or_no_such).
-    #[inline(always)]
-    fn copy_to_other(
-        slots: &mut [Slot<Table>],
-        dst_index: usize,
-        src_index: usize,
-        dst: u64,
-        src: u64,
-        len: u64,
-        fuel: &mut Fuel,
-    ) -> Option<Reply> {
-        if dst_index < src_index {
-            let (front, back) = slots.split_at_mut(src_index);
-            copy_from_slot(&mut front[dst_index], &back[0], dst, src, len, fuel)
-        } else {
-            let (front, back) = slots.split_at_mut(dst_index);
-            copy_from_slot(&mut back[0], &front[src_index], dst, src, len, fuel)
-        }
-    }
-
-    /// Copies a range of the table in a slot to that in another one, if both are live.
-    ///
-    /// # Contract
-    ///
-    /// ```text
-    /// ensures: WithCharge (CopiesSlot Reply.Table (copy_of dst src len) source.now)
-    ///     (metered slot.old (Some fuel.old)) (reply_or_no_such result) (metered slot.new (Some fuel.new))
-    /// ```
-    ///
-    /// Definitions: [`WithCharge`](crate::specs::store::GrowthSpecs#WithCharge), [`CopiesSlot`](crate::specs::machine::EffectsSpecs#CopiesSlot), [`copy_of`](crate::specs::store::TableSpecs#copy_of), [`metered`](crate::specs::store::GrowthSpecs#metered), [`reply_or_no_such`](crate::specs::machine::EffectsSpecs#reply_or_no_such).
-    #[inline(always)]
-    fn copy_from_slot(
-        slot: &mut Slot<Table>,
-        source: &Slot<Table>,
-        dst: u64,
-        src: u64,
-        len: u64,
-        fuel: &mut Fuel,
-    ) -> Option<Reply> {
-        match (slot, source) {
-            (Slot::Live(table), Slot::Live(source)) => {
-                Some(table_reply(table.copy_metered(dst, source, src, len, fuel)))
-            }
-            _ => None,
         }
     }
 

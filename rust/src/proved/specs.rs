@@ -3725,7 +3725,7 @@ use Rattle.wasmi_machine.specs.declared.calls.Reply.{Reply}
 use Rattle.wasmi_machine.specs.declared.calls.Reply.TheVariants.{Done, Made, Number, NoSuch, NoRoom}
 use Rattle.wasmi_machine.specs.declared.slots.Slot.{Slot}
 use Rattle.wasmi_machine.specs.declared.slots.Slot.TheVariants.{Live, Gone}
-use Rattle.wasmi_machine.specs.State.{<a href="../../machine/StateSpecs/index.html#State">State</a>, <a href="../../machine/StateSpecs/index.html#live_value">live_value</a>, <a href="../../machine/StateSpecs/index.html#live_at">live_at</a>, <a href="../../machine/StateSpecs/index.html#World">World</a>, <a href="../../machine/StateSpecs/index.html#world">world</a>, <a href="../../machine/StateSpecs/index.html#Turn">Turn</a>, <a href="../../machine/StateSpecs/index.html#IsFree">IsFree</a>}
+use Rattle.wasmi_machine.specs.State.{<a href="../../machine/StateSpecs/index.html#State">State</a>, <a href="../../machine/StateSpecs/index.html#live_at">live_at</a>, <a href="../../machine/StateSpecs/index.html#World">World</a>, <a href="../../machine/StateSpecs/index.html#world">world</a>, <a href="../../machine/StateSpecs/index.html#Turn">Turn</a>, <a href="../../machine/StateSpecs/index.html#IsFree">IsFree</a>}
 
 -- the reply to a call that returns a value or is refused
 abbrev pub <b id="reply_of">reply_of</b> : {T E : Type 0} → (T → Reply) → (E → Reply) → Result T E → Reply
@@ -3818,14 +3818,6 @@ abbrev pub <b id="WritesFrom">WritesFrom</b> : {X Y E : Type 0} → (E → Reply
 abbrev pub <b id="WritesRangeAt">WritesRangeAt</b> : {X E : Type 0} → (E → Reply) → ℕ → Option (X → <a href="../../store/WriteSpecs/index.html#MeteredWrite">MeteredWrite</a> X E) → <a href="../../machine/EffectsSpecs/index.html#MeteredSlots">MeteredSlots</a> X → Reply
     → ℕ → <a href="../../machine/EffectsSpecs/index.html#MeteredSlots">MeteredSlots</a> X → Type 0
 <a href="../../machine/EffectsSpecs/index.html#WritesRangeAt">WritesRangeAt</a> refusal k write = <a href="../../machine/EffectsSpecs/index.html#WritesFrom">WritesFrom</a> refusal write k (λ w. w)
-
--- a slot&#x27;s value is written over with what another slot&#x27;s value has
-abbrev pub <b id="CopiesSlot">CopiesSlot</b> : {X E : Type 0} → (E → Reply) → (X → X → <a href="../../store/WriteSpecs/index.html#MeteredWrite">MeteredWrite</a> X E) → Slot X
-    → <a href="../../meter/AttemptSpecs/index.html#MeteredValue">MeteredValue</a> (Slot X) (Unit {0}) → Reply → ℕ → <a href="../../meter/AttemptSpecs/index.html#MeteredValue">MeteredValue</a> (Slot X) (Unit {0}) → Type 0
-<a href="../../machine/EffectsSpecs/index.html#CopiesSlot">CopiesSlot</a> refusal write source s reply charge s&#x27; = <a href="../../machine/EffectsSpecs/index.html#OnLive">OnLive</a> (<a href="../../machine/StateSpecs/index.html#live_value">live_value</a> source) (<a href="../../machine/EffectsSpecs/index.html#IsNoSuch">IsNoSuch</a> s reply charge s&#x27;)
-    (λ y. <a href="../../machine/EffectsSpecs/index.html#OnLive">OnLive</a> (<a href="../../machine/StateSpecs/index.html#live_value">live_value</a> s.value) (<a href="../../machine/EffectsSpecs/index.html#IsNoSuch">IsNoSuch</a> s reply charge s&#x27;)
-    (λ x. (result : _) × (x&#x27; : _) × <a href="../../store/WriteSpecs/index.html#WritesCharging">WritesCharging</a> (write y) (<a href="../../meter/AttemptSpecs/index.html#with_value">with_value</a> s x) result charge (<a href="../../meter/AttemptSpecs/index.html#with_value">with_value</a> s&#x27; x&#x27;)
-    × (reply ≡ <a href="../../machine/EffectsSpecs/index.html#reply_of">reply_of</a> (λ _. Done) refusal result) × (s&#x27;.value ≡ Live x&#x27;)))
 
 -- the bytes that an accepted call on so many items, of so many bytes each, has written
 abbrev pub <b id="item_bytes">item_bytes</b> : ℕ → ℕ → Reply → ℕ
@@ -4531,8 +4523,7 @@ abbrev pub <b id="too_many_calls_text">too_many_calls_text</b> : List ℕ
     pub mod RepliesSpecs {}
     #[doc = r####"Lists with memory for items that are still to be added.
 
-<pre><code>use Rattle.std.specs.Prelude.{ℕ, List, length, slice_set}
-use Rattle.std.specs.List.{refill}
+<pre><code>use Rattle.std.specs.Prelude.{ℕ, List, slice_set}
 
 -- a list: its items, up to how many of them are reserved, and for how many there is memory
 pub record <b id="ReservedListValue">ReservedListValue</b> (X : Type 0) : Type 0 where
@@ -4543,10 +4534,6 @@ pub record <b id="ReservedListValue">ReservedListValue</b> (X : Type 0) : Type 0
 -- the list with another item at an index
 abbrev pub <b id="with_item">with_item</b> : {X : Type 0} → <a href="../../machine/ReservedListSpecs/index.html#ReservedListValue">ReservedListValue</a> X → ℕ → X → <a href="../../machine/ReservedListSpecs/index.html#ReservedListValue">ReservedListValue</a> X
 <a href="../../machine/ReservedListSpecs/index.html#with_item">with_item</a> list k x = record list { <a href="../../machine/ReservedListSpecs/index.html#items">items</a> = slice_set list.items k x }
-
--- the list whose items were written over, by as many
-abbrev pub <b id="with_items">with_items</b> : {X : Type 0} → <a href="../../machine/ReservedListSpecs/index.html#ReservedListValue">ReservedListValue</a> X → List X → <a href="../../machine/ReservedListSpecs/index.html#ReservedListValue">ReservedListValue</a> X
-<a href="../../machine/ReservedListSpecs/index.html#with_items">with_items</a> list xs = record list { <a href="../../machine/ReservedListSpecs/index.html#items">items</a> = refill (length list.items) list.items xs }
 </code></pre>
 "####]
     pub mod ReservedListSpecs {}
@@ -6604,7 +6591,6 @@ use Rattle.wasmi_types.specs.declared.index_ty.IndexType.{IndexType}
 use Rattle.wasmi_operands.specs.LineWords.{<a href="../../operands/LineWordsSpecs/index.html#WritesNumber">WritesNumber</a>, <a href="../../operands/LineWordsSpecs/index.html#WritesLimit">WritesLimit</a>, <a href="../../operands/LineWordsSpecs/index.html#LineWords">LineWords</a>, <a href="../../operands/LineWordsSpecs/index.html#WritesEach">WritesEach</a>, <a href="../../operands/LineWordsSpecs/index.html#word_at">word_at</a>}
 use Rattle.wasmi_operands.specs.Names.{<a href="../../operands/NamesSpecs/index.html#width_word">width_word</a>, <a href="../../operands/NamesSpecs/index.html#reference_word">reference_word</a>, <a href="../../operands/NamesSpecs/index.html#value_word">value_word</a>, <a href="../../operands/NamesSpecs/index.html#mutability_word">mutability_word</a>, <a href="../../operands/NamesSpecs/index.html#WritesReference">WritesReference</a>, <a href="../../operands/NamesSpecs/index.html#IsName">IsName</a>, <a href="../../operands/NamesSpecs/index.html#NamesLane">NamesLane</a>, <a href="../../operands/NamesSpecs/index.html#WritesLanes">WritesLanes</a>}
 use Rattle.wasmi_store.specs.Memory.{<a href="../../store/MemorySpecs/index.html#MemoryTypeValue">MemoryTypeValue</a>, <a href="../../store/MemorySpecs/index.html#page_log2">page_log2</a>}
-use Rattle.wasmi_types.specs.declared.value.RefType.{RefType}
 use Rattle.wasmi_store.specs.Table.{<a href="../../store/TableSpecs/index.html#TableTypeValue">TableTypeValue</a>}
 use Rattle.wasmi_raw.specs.RawVal.{<a href="../../raw/RawValSpecs/index.html#raw_of">raw_of</a>}
 use Rattle.wasmi_ops.specs.LoadStoreOps.{<a href="../../ops/LoadStoreOpsSpecs/index.html#load_name">load_name</a>, <a href="../../ops/LoadStoreOpsSpecs/index.html#store_name">store_name</a>}
@@ -6631,12 +6617,6 @@ pub record <b id="WritesLimits">WritesLimits</b> (<a href="../../grammar/Command
 abbrev pub <b id="memory_limits">memory_limits</b> : <a href="../../store/MemorySpecs/index.html#MemoryTypeValue">MemoryTypeValue</a> → <a href="../../grammar/CommandsSpecs/index.html#Limits">Limits</a>
 <a href="../../grammar/CommandsSpecs/index.html#memory_limits">memory_limits</a> ty = record { <a href="../../grammar/CommandsSpecs/index.html#index">index</a> = ty.index; <a href="../../grammar/CommandsSpecs/index.html#minimum">minimum</a> = ty.minimum; <a href="../../grammar/CommandsSpecs/index.html#maximum">maximum</a> = ty.maximum }
 
--- a memory type, which there is, of these limits and this page size
-pub record <b id="HasSettings">HasSettings</b> (limits : <a href="../../grammar/CommandsSpecs/index.html#Limits">Limits</a>) (log2 : ℕ) (ty : <a href="../../store/MemorySpecs/index.html#MemoryTypeValue">MemoryTypeValue</a>) : Type 0 where
-  pub <b id="same_limits">same_limits</b> : <a href="../../grammar/CommandsSpecs/index.html#memory_limits">memory_limits</a> ty ≡ limits
-  pub <b id="same_log2">same_log2</b> : <a href="../../store/MemorySpecs/index.html#page_log2">page_log2</a> ty.page ≡ log2
-  pub <b id="valid">valid</b> : <a href="../../store/MemorySpecs/index.html#IsValid">memory_type.IsValid</a> ty
-
 -- four words name this memory type, which there is: its minimum, its maximum, its page size and the width of its
 -- addresses
 pub record <b id="NamesType">NamesType</b> (<a href="../../grammar/CommandsSpecs/index.html#minimum">minimum</a> <a href="../../grammar/CommandsSpecs/index.html#maximum">maximum</a> log2 width : List ℕ) (ty : <a href="../../store/MemorySpecs/index.html#MemoryTypeValue">MemoryTypeValue</a>) : Type 0 where
@@ -6647,12 +6627,6 @@ pub record <b id="NamesType">NamesType</b> (<a href="../../grammar/CommandsSpecs
 -- the limits of a table type
 abbrev pub <b id="table_limits">table_limits</b> : <a href="../../store/TableSpecs/index.html#TableTypeValue">TableTypeValue</a> → <a href="../../grammar/CommandsSpecs/index.html#Limits">Limits</a>
 <a href="../../grammar/CommandsSpecs/index.html#table_limits">table_limits</a> ty = record { <a href="../../grammar/CommandsSpecs/index.html#index">index</a> = ty.index; <a href="../../grammar/CommandsSpecs/index.html#minimum">minimum</a> = ty.minimum; <a href="../../grammar/CommandsSpecs/index.html#maximum">maximum</a> = ty.maximum }
-
--- a table type, which there is, of these limits and this type of elements
-pub record <b id="HasLimits">HasLimits</b> (limits : <a href="../../grammar/CommandsSpecs/index.html#Limits">Limits</a>) (element : RefType) (ty : <a href="../../store/TableSpecs/index.html#TableTypeValue">TableTypeValue</a>) : Type 0 where
-  pub <b id="same_limits">same_limits</b> : <a href="../../grammar/CommandsSpecs/index.html#table_limits">table_limits</a> ty ≡ limits
-  pub <b id="same_element">same_element</b> : ty.element ≡ element
-  pub <b id="valid">valid</b> : <a href="../../store/TableSpecs/index.html#IsValid">table_type.IsValid</a> ty
 
 -- four words name this table type, which there is: the type of its elements, its minimum, its maximum and the width of
 -- its indices

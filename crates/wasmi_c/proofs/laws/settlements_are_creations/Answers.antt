@@ -1,7 +1,4 @@
-use Rattle.wasmi_meter.specs.Limiter.{optional_rules}
-use Rattle.wasmi_store.specs.Memory.{creation_of, new_memory}
-use Rattle.wasmi_store.specs.Table.{new_table}
-use Rattle.wasmi_region.specs.Table.{creation_in}
+use Rattle.wasmi_c.proofs.Common.{optional_rules, creation_of, new_memory, new_table, creation_in}
 use Rattle.wasmi_c.proofs.PlacementLemmas.{settled_creation}
 use Rattle.wasmi_c.proofs.laws.settlements_are_creations.Goals as goal
 

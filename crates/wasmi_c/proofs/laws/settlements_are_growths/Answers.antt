@@ -1,5 +1,4 @@
-use Rattle.wasmi_meter.specs.Limiter.{optional_rules}
-use Rattle.wasmi_region.specs.Table.{region_growth}
+use Rattle.wasmi_c.proofs.Common.{optional_rules, region_growth}
 use Rattle.wasmi_c.specs.Host.{memory_growth}
 use Rattle.wasmi_c.proofs.PlacementLemmas.{settled_growth}
 use Rattle.wasmi_c.proofs.laws.settlements_are_growths.Goals as goal

@@ -1,8 +1,5 @@
 use Rattle.std.proofs.Common.{◌≡◌, ◌∙◌, ℕ, List, inr, refl, arith, ap, sym, drop, length, Ok, Err}
-use Rattle.std.proofs.lemmas.List.{length-take, length-replicate}
-use Rattle.wasmi_store.specs.Buffer.{Lent}
-use Rattle.wasmi_store.specs.Memory.{MemoryValue, creation_of, minimum_bytes, new_memory}
-use Rattle.wasmi_c.specs.Numbers.{IsState}
+use Rattle.wasmi_c.proofs.Common.{length-take, length-replicate, Lent, MemoryValue, creation_of, minimum_bytes, new_memory, IsState}
 use Rattle.wasmi_c.proofs.PlacementLemmas.{made_by_quota, made_is}
 use Rattle.wasmi_c.proofs.memory.make.Goals as goal
 

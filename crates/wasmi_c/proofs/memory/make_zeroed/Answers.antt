@@ -1,9 +1,7 @@
 use Rattle.std.proofs.Common.{inr, refl, arith, Ok, Err}
-use Rattle.wasmi_store.specs.Buffer.{Lent}
-use Rattle.wasmi_store.specs.Memory.{creation_of, new_memory}
+use Rattle.wasmi_c.proofs.Common.{Lent, creation_of, new_memory, IsState}
 use Rattle.wasmi_region.specs.Memory.{zeroed}
 use Rattle.wasmi_region.proofs.MemoryLemmas.{zeroed_length, zeroed_rest}
-use Rattle.wasmi_c.specs.Numbers.{IsState}
 use Rattle.wasmi_c.proofs.PlacementLemmas.{made_by_quota}
 use Rattle.wasmi_c.proofs.SharedQuotaLemmas.{refused_status}
 use Rattle.wasmi_c.proofs.memory.make_zeroed.Goals as goal

@@ -1,6 +1,5 @@
 use Rattle.std.proofs.Common.{◌≡◌, refl, inr, rules, length}
-use Rattle.wasmi_store.specs.Table.{copy_of}
-use Rattle.wasmi_region.specs.Table.{table_in}
+use Rattle.wasmi_c.proofs.Common.{copy_of, table_in}
 use Rattle.wasmi_c.proofs.PlacementLemmas.{table_written_with}
 use Rattle.wasmi_c.proofs.table.copy_within.Goals as goal
 

@@ -1,6 +1,5 @@
 use Rattle.std.proofs.Common.{◌≡◌, refl, inr, rules, length}
-use Rattle.wasmi_store.specs.Table.{initialization_of}
-use Rattle.wasmi_region.specs.Table.{items_of}
+use Rattle.wasmi_c.proofs.Common.{initialization_of, items_of}
 use Rattle.wasmi_c.proofs.PlacementLemmas.{table_written_with}
 use Rattle.wasmi_c.proofs.table.init.Goals as goal
 

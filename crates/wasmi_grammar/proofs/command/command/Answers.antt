@@ -1,5 +1,4 @@
-use Rattle.wasmi_operands.proofs.LineWordsLemmas.{with_memory}
-use Rattle.wasmi_grammar.specs.Commands.{NamesAfter}
+use Rattle.wasmi_grammar.proofs.Common.{with_memory, NamesAfter}
 use Rattle.wasmi_grammar.proofs.command.command.Goals as goal
 
 pub returns-in-fuel : goal.returns-in-fuel

@@ -1,11 +1,5 @@
 use Rattle.std.proofs.Common.{◌≡◌, Bor, ℕ, List, Result, Ok, Err, IfErr, IfOk, length, refl, rules, subst, sym}
-use Rattle.std.proofs.lemmas.Result.{IfErr-weaker, IfOk-weaker}
-use Rattle.std.specs.List.{IsAmong}
-use Rattle.wasmi_operands.specs.declared.error.LineError.{LineError}
-use Rattle.wasmi_operands.specs.declared.error.LineError.TheVariants.{BadCommand, OutOfMemory}
-use Rattle.wasmi_operands.specs.LineWords.{Accepts, WritesNumber, LineWords, WritesEach}
-use Rattle.wasmi_operands.specs.Names.{WritesLanes}
-use Rattle.wasmi_operands.proofs.LineWordsLemmas.{each_said, not_each}
+use Rattle.wasmi_grammar.proofs.Common.{IfErr-weaker, IfOk-weaker, IsAmong, LineError, BadCommand, OutOfMemory, Accepts, WritesNumber, LineWords, WritesEach, WritesLanes, each_said, not_each}
 use Rattle.wasmi_grammar.proofs.command.lanes_of.Goals as goal
 
 -- no lanes are written
@@ -18,9 +12,7 @@ accepted : (words : LineWords) (result : Result (List ℕ) LineError) → length
     → IfErr result (λ error. (error ≡ BadCommand) × WriteNoLanes words) → Accepts result (WritesLanes words)
 accepted words (Ok lanes) count taken refused = record { sixteen = count; written = taken }
 accepted words (Err BadCommand) count taken refused = λ lanes writes. refused.1 lanes writes.written
-accepted words (Err OutOfMemory) count taken refused = absurd (variant refused.0) where
-  variant : OutOfMemory ≡ BadCommand → ⊥
-  variant is = cc
+accepted words (Err OutOfMemory) count taken refused = let same = refused.0 in absurd cc
 
 -- one word that writes no lane is a bad command
 refused_at : (words : LineWords) (word : Bor (List ℕ)) (error : LineError) → IsAmong words word

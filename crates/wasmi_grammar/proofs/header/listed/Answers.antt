@@ -1,20 +1,14 @@
 use Rattle.std.proofs.Common.{◌≡◌, Err, codes, rules, tests, sym, subst}
 use Rattle.std.specs.Global.{Vec}
 use Rattle.wasmi_meter.specs.declared.answer_list.LimiterAnswer.{LimiterAnswer}
-use Rattle.wasmi_grammar.specs.declared.header.LimiterLine.{LimiterLine}
-use Rattle.wasmi_grammar.specs.declared.header.LimiterLine.TheVariants.{Quota, Answers, Tenants}
-use Rattle.wasmi_operands.specs.LineWords.{AcceptsWithMemory, LineWords, WritesEach}
-use Rattle.wasmi_operands.specs.Names.{WritesAnswer}
-use Rattle.wasmi_grammar.specs.Headers.{NamesLimiterAfter}
-use Rattle.wasmi_operands.proofs.LineWordsLemmas.{refused_with_memory}
+use Rattle.wasmi_grammar.proofs.Common.{LimiterLine, Answers, AcceptsWithMemory, LineWords, WritesEach, WritesAnswer, NamesLimiterAfter, refused_with_memory}
 use Rattle.wasmi_grammar.proofs.header.listed.Goals as goal
 
 -- a line of answers has the words of answers
 answers_of_line : (words : LineWords) (line : LimiterLine) → NamesLimiterAfter (codes "answers") words line
     → (answers : Vec LimiterAnswer) × WritesEach WritesAnswer words answers.items
 answers_of_line words (Answers answers) names = (answers, names.1)
-answers_of_line words (Quota line) names = absurd (search (rules, tests, names))
-answers_of_line words (Tenants line) names = absurd (search (rules, tests, names))
+answers_of_line words line names = absurd (search (rules, tests, names))
 
 pub returns-in_err-list_of : goal.returns-in_err-list_of
 returns-in_err-list_of c =

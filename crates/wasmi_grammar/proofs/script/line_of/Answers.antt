@@ -1,8 +1,5 @@
 use Rattle.std.proofs.Common.{◌≡◌, Err, rules, subst, sym}
-use Rattle.wasmi_operands.proofs.LineWordsLemmas.{refused_with_memory}
-use Rattle.wasmi_operands.specs.LineWords.{AcceptsWithMemory}
-use Rattle.wasmi_grammar.specs.Commands.{NamesAfter}
-use Rattle.wasmi_grammar.specs.Lines.{NamesLine}
+use Rattle.wasmi_grammar.proofs.Common.{refused_with_memory, AcceptsWithMemory, NamesAfter, NamesLine}
 use Rattle.wasmi_grammar.proofs.LinesLemmas.{command_only, refused_header, refused_line}
 use Rattle.wasmi_grammar.proofs.script.line_of.Goals as goal
 

@@ -1,19 +1,15 @@
 use Rattle.std.proofs.Common.{ℕ, rules, tests, arith, refl, sym, ap, subst, ◌∙◌, ◌≡◌, ◌+◌, ◌∷◌, [], map, List, ◌==◌, Bor, Bool, false, Option, Some, length}
 use denote.Param.Members.{Mut}
 use Rattle.std.proofs.lemmas.Iterator.{YieldsList}
-use Rattle.std.proofs.lemmas.List.{map-append, length-map, length-append}
+use Rattle.wasmi_grammar.proofs.Common.{map-append, length-map, enumerate_from, words_in, Script, AcceptsLine, AcceptsLines, AreTaken, lines_in, IsBadLine, IsFirstBadLine, parts_in, calls_in}
+use Rattle.std.proofs.lemmas.List.{length-append}
 use Rattle.std.proofs.lemmas.Simd.{map-map}
 use Rattle.std.proofs.lemmas.Iterator.Consumers.{YieldsList-at, YieldsList-so_far, YieldsList-turn, YieldsList-end, YieldsList-from_enumerate}
 use Rattle.std.proofs.lemmas.Iterator.Splits.{YieldsList-from_slice_split}
 use Rattle.std.specs.Fn.{CalledAt}
 use Rattle.std.specs.Iterator.{Yields}
 use Rattle.std.specs.Iterator.Adapters.{enumerate_source, enumerate_count, enumerate_steps}
-use Rattle.std.specs.List.{enumerate_from}
 use Rattle.std.specs.Slice.Iter.{split_rest, split_done, split_callee, split_steps}
-use Rattle.wasmi_operands.specs.LineWords.{words_in}
-use Rattle.wasmi_grammar.specs.declared.script.Script.{Script}
-use Rattle.wasmi_grammar.specs.Lines.{AcceptsLine, AcceptsLines, AreTaken, lines_in, IsBadLine, IsFirstBadLine}
-use Rattle.wasmi_grammar.specs.Parts.{parts_in, calls_in}
 use Rattle.wasmi_grammar.proofs.TextsLemmas.{retell}
 use Rattle.wasmi_grammar.proofs.LinesLemmas.{one_more, without_numbers, stops_at, added_count}
 use Rattle.wasmi_grammar.proofs.script.parse.Goals as goal

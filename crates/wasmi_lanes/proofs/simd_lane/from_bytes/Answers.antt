@@ -1,7 +1,5 @@
 use Rattle.std.proofs.Common.{◌≡◌, ◌*◌, ◌^◌, ◌<◌, ℕ, length, ap, subst, sym, arith, ◌∙◌, Fits, w8, List}
-use Rattle.std.specs.Simd.Lanes.{number_l, Each1}
-use Rattle.std.proofs.lemmas.Simd.{below_from_Fits}
-use Rattle.wasmi_lanes.specs.Vector.{lane}
+use Rattle.wasmi_lanes.proofs.Common.{number_l, Each1, below_from_Fits, lane}
 use Rattle.wasmi_lanes.proofs.SimdLaneLemmas.{number_below, number_at}
 use Rattle.wasmi_lanes.proofs.simd_lane.from_bytes.Goals as goal
 

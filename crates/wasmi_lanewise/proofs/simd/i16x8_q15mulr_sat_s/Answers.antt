@@ -1,8 +1,5 @@
-use Rattle.std.specs.Simd.Lanes.{zip2}
+use Rattle.wasmi_lanewise.proofs.Common.{zip2, get_or-zip2, length-zip2, w16, binary_of_lanes}
 use Rattle.std.proofs.Common.{ℕ, List, sym, ◌≡◌, ◌+◌, ◌*◌, ◌/◌, ◌%◌, ◌^◌, ◌∙◌, ap, ap₂, length, rules, arith}
-use Rattle.std.proofs.lemmas.Simd.{get_or-zip2, length-zip2}
-use Rattle.wasmi_types.specs.Numbers.{w16}
-use Rattle.wasmi_lanes.specs.Vector.{binary_of_lanes}
 use Rattle.wasmi_lanewise.proofs.OrderLemmas.{rows_make_vector}
 use Rattle.wasmi_lanewise.proofs.SaturationLemmas.{extended, doubled, many_quotients, quotients, quotients_at, rounded, rounded_product}
 use Rattle.wasmi_lanewise.proofs.simd.i16x8_q15mulr_sat_s.Goals as goal

@@ -1,9 +1,5 @@
 use Rattle.std.proofs.Common.{◌∙◌, refl, arith}
-use Rattle.std.proofs.lemmas.Simd.{get_or-replicate}
-use Rattle.std.proofs.lemmas.Int.{ints, to_z-of_z}
-use Rattle.wasmi_types.specs.Numbers.{w16}
-use Rattle.wasmi_lanes.specs.Vector.{splat_of}
-use Rattle.wasmi_lanes.proofs.VectorLemmas.{lanes_make_vector}
+use Rattle.wasmi_lanewise.proofs.Common.{get_or-replicate, ints, to_z-of_z, w16, splat_of, lanes_make_vector}
 use Rattle.wasmi_lanewise.proofs.simd.i16x8_splat.Goals as goal
 
 pub returns : goal.returns

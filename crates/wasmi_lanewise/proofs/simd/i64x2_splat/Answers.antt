@@ -1,11 +1,6 @@
 use Rattle.std.proofs.Common.{ℕ, zero, suc, ◌≡◌, ◌+◌, ◌*◌, ◌%◌, ◌<◌, ◌^◌, ◌∷◌, [], ◌∙◌, refl, ap, arith, rules, length, mod-eq_of_lt}
-use Rattle.std.specs.Simd.Lanes.{number_l}
-use Rattle.std.proofs.lemmas.Int.{ints, to_z-of_z}
+use Rattle.wasmi_lanewise.proofs.Common.{number_l, ints, to_z-of_z, w32, w64, wrap, lane, splat_of, number_of_digits, lanes_make_vector}
 use Rattle.std.proofs.lemmas.List.{get_or_append_left}
-use Rattle.wasmi_types.specs.Numbers.{w32, w64, wrap}
-use Rattle.wasmi_lanes.specs.Vector.{lane, splat_of}
-use Rattle.wasmi_lanes.proofs.SimdLaneLemmas.{number_of_digits}
-use Rattle.wasmi_lanes.proofs.VectorLemmas.{lanes_make_vector}
 use Rattle.wasmi_lanewise.proofs.simd.i64x2_splat.Goals as goal
 
 -- both words of a vector with n in each

@@ -1,6 +1,5 @@
 use Rattle.std.proofs.Common.{◌-◌, ◌/◌, ◌%◌, ◌^◌, ◌≡◌, ◌∙◌, sym, ap, refl, arith, bit_and, bit_or}
-use Rattle.std.proofs.lemmas.Nat.{or_shr, or_mod, and_shr, and_mod}
-use Rattle.wasmi_lanes.proofs.WordVectorLemmas.{u64x2_of}
+use Rattle.wasmi_lanewise.proofs.Common.{or_shr, or_mod, and_shr, and_mod, u64x2_of}
 use Rattle.wasmi_lanewise.proofs.WordLemmas.{on_words}
 use Rattle.wasmi_lanewise.proofs.simd.v128_bitselect.Goals as goal
 

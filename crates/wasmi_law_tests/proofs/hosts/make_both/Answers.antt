@@ -1,7 +1,6 @@
 use Rattle.std.proofs.Common.{◌≡◌, [], ◌∷◌, inl, inr, refl, arith}
 use Rattle.std.proofs.lemmas.Bool.Decides.{nat_tests}
-use Rattle.std.proofs.lemmas.List.Elements.{All-head, All-tail}
-use Rattle.wasmi_c.specs.SharedQuota.{HoldsSums, UnderQuota, sizes_made}
+use Rattle.wasmi_law_tests.proofs.Common.{All-head, All-tail, HoldsSums, UnderQuota, sizes_made}
 use Rattle.wasmi_law_tests.proofs.LimitersLemmas.{nothing_made, both_made}
 use Rattle.wasmi_law_tests.proofs.hosts.make_both.Goals as goal
 

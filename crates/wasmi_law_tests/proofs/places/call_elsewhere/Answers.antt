@@ -1,8 +1,5 @@
 use Rattle.std.proofs.Common.{Some}
-use Rattle.wasmi_meter.specs.Limiter.{optional_rules}
-use Rattle.wasmi_machine.specs.State.{world}
-use Rattle.wasmi_machine.specs.declared.calls.Reply.TheVariants.{Done}
-use Rattle.wasmi_laws.specs.Places.{store_call}
+use Rattle.wasmi_law_tests.proofs.Common.{optional_rules, world, Done, store_call}
 use Rattle.wasmi_law_tests.proofs.RunsLemmas.{answers_as}
 use Rattle.wasmi_law_tests.proofs.places.call_elsewhere.Goals as goal
 

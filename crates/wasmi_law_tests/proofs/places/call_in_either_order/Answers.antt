@@ -1,7 +1,5 @@
 use Rattle.std.proofs.Common.{Some, [], refl, ◌∷◌}
-use Rattle.wasmi_meter.specs.Limiter.{optional_rules}
-use Rattle.wasmi_machine.specs.State.{world}
-use Rattle.wasmi_laws.specs.Places.{store_call}
+use Rattle.wasmi_law_tests.proofs.Common.{optional_rules, world, store_call}
 use Rattle.wasmi_law_tests.proofs.RunsLemmas.{answers_call, stores_apart, turn_with}
 use Rattle.wasmi_law_tests.proofs.places.call_in_either_order.Goals as goal
 

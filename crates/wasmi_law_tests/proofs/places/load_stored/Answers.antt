@@ -1,9 +1,5 @@
 use Rattle.std.proofs.Common.{Some, subst, sym}
-use Rattle.std.specs.Prelude.{All}
-use Rattle.wasmi_meter.specs.Limiter.{optional_rules}
-use Rattle.wasmi_machine.specs.State.{world}
-use Rattle.wasmi_machine.specs.declared.calls.Reply.TheVariants.{Done}
-use Rattle.wasmi_laws.specs.Places.{LeavesAlone, MemoryAt, load_call, store_call}
+use Rattle.wasmi_law_tests.proofs.Common.{All, optional_rules, world, Done, LeavesAlone, MemoryAt, load_call, store_call}
 use Rattle.wasmi_law_tests.proofs.RunsLemmas.{answers_as, answers_call}
 use Rattle.wasmi_law_tests.proofs.places.load_stored.Goals as goal
 

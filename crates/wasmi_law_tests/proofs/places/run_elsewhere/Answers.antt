@@ -1,7 +1,5 @@
 use Rattle.std.proofs.Common.{subst, sym}
-use Rattle.std.specs.Prelude.{All}
-use Rattle.wasmi_meter.specs.Limiter.{optional_rules}
-use Rattle.wasmi_laws.specs.Places.{LeavesAlone, StaysAt, DropsNot, HasAt, IsLater, IsLive}
+use Rattle.wasmi_law_tests.proofs.Common.{All, optional_rules, LeavesAlone, StaysAt, DropsNot, HasAt, IsLater, IsLive}
 use Rattle.wasmi_law_tests.proofs.RunsLemmas.{holds_after}
 use Rattle.wasmi_laws.proofs.LocationLemmas.{later_same}
 use Rattle.wasmi_law_tests.proofs.places.run_elsewhere.Goals as goal

@@ -1,6 +1,5 @@
-use Rattle.wasmi_meter.specs.Limiter.{optional_rules}
+use Rattle.wasmi_law_tests.proofs.Common.{optional_rules, sizes}
 use Rattle.wasmi_machine.specs.Exchange.{place_of}
-use Rattle.wasmi_machine.specs.State.{sizes}
 use Rattle.wasmi_law_tests.specs.Limiters.{recorder_rules}
 use Rattle.wasmi_law_tests.proofs.RunsLemmas.{if_ok_too, one_turn}
 use Rattle.wasmi_law_tests.proofs.LimitersLemmas.{traced}

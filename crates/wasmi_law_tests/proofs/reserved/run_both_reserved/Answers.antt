@@ -1,7 +1,5 @@
 use Rattle.std.proofs.Common.{Option, Some, ap}
-use Rattle.std.proofs.lemmas.Option.{same_Some}
-use Rattle.wasmi_meter.specs.declared.quota.Quota.{Quota}
-use Rattle.wasmi_machine.specs.State.{World, world}
+use Rattle.wasmi_law_tests.proofs.Common.{same_Some, Quota, World, world}
 use Rattle.wasmi_law_tests.proofs.ReservedLemmas.{accepted_too}
 use Rattle.wasmi_law_tests.proofs.reserved.run_both_reserved.Goals as goal
 

@@ -1,7 +1,5 @@
 use Rattle.std.proofs.Common.{◌∷◌, [], refl, subst, sym}
-use Rattle.std.specs.Prelude.{All}
-use Rattle.wasmi_machine.specs.Determinism.{IsNotOutOfMemory}
-use Rattle.wasmi_laws.specs.Reserved.{FitsSlots}
+use Rattle.wasmi_law_tests.proofs.Common.{All, IsNotOutOfMemory, FitsSlots}
 use Rattle.wasmi_budget.specs.Laws.{Ran}
 use Rattle.wasmi_law_tests.proofs.ReservedLemmas.{own_alone}
 use Rattle.wasmi_law_tests.proofs.reserved.run_tenant_beside.Goals as goal

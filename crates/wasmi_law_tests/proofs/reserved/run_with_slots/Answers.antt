@@ -1,6 +1,5 @@
 use Rattle.std.proofs.Common.{Some, subst, sym}
-use Rattle.wasmi_machine.specs.State.{world}
-use Rattle.wasmi_laws.specs.Reserved.{IsReservedFor}
+use Rattle.wasmi_law_tests.proofs.Common.{world, IsReservedFor}
 use Rattle.wasmi_law_tests.proofs.reserved.run_with_slots.Goals as goal
 
 pub returns : goal.returns

@@ -1,11 +1,9 @@
 use Rattle.std.proofs.Common.{sym, subst, ◌≤◌, ℕ, Some, arith}
-use Rattle.std.specs.Prelude.{All, ◌≡◌, slice_get}
-use Rattle.wasmi_meter.specs.Limiter.{optional_rules}
-use Rattle.wasmi_machine.specs.Determinism.{TellsNoDenial}
+use Rattle.wasmi_law_tests.proofs.Common.{All, optional_rules, TellsNoDenial, sizes, total}
+use Rattle.std.specs.Prelude.{◌≡◌, slice_get}
 use Rattle.wasmi_law_tests.proofs.RunsLemmas.{if_ok_too, holds_after}
 use Rattle.wasmi_law_tests.proofs.LimitersLemmas.{grows_in_regions}
 use Rattle.wasmi_meter.specs.declared.limiter.Kind.{Kind}
-use Rattle.wasmi_machine.specs.State.{sizes, total}
 use Rattle.wasmi_law_tests.proofs.runs.run_exchanged.Goals as goal
 
 pub returns-clause-exchanged : goal.returns-clause-exchanged

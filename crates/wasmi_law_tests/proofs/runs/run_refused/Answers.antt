@@ -1,8 +1,6 @@
 use Rattle.std.proofs.Common.{sym, subst}
-use Rattle.std.specs.Prelude.{All}
-use Rattle.wasmi_machine.specs.Laws.{IsRefusal}
+use Rattle.wasmi_law_tests.proofs.Common.{All, IsRefusal, IsPlainRefusal}
 use Rattle.wasmi_law_tests.proofs.RunsLemmas.{if_ok_too, same_parts}
-use Rattle.wasmi_laws.specs.Runs.{IsPlainRefusal}
 use Rattle.wasmi_law_tests.proofs.runs.run_refused.Goals as goal
 
 pub returns-clause-turns : goal.returns-clause-turns

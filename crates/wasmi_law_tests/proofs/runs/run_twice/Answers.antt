@@ -1,10 +1,5 @@
 use Rattle.std.proofs.Common.{Option, Some, ap, sym, ◌∙◌, subst}
-use Rattle.std.proofs.lemmas.Option.{same_Some}
-use Rattle.wasmi_meter.specs.declared.quota.Quota.{Quota}
-use Rattle.wasmi_meter.specs.Limiter.{optional_rules}
-use Rattle.wasmi_meter.specs.Capped.{quota_rules}
-use Rattle.wasmi_machine.specs.State.{World, world}
-use Rattle.wasmi_machine.specs.Steps.{Run}
+use Rattle.wasmi_law_tests.proofs.Common.{same_Some, Quota, optional_rules, quota_rules, World, world, Run}
 use Rattle.wasmi_machine.proofs.ToldLemmas.{replies_have}
 use Rattle.wasmi_law_tests.proofs.runs.run_twice.Goals as goal
 

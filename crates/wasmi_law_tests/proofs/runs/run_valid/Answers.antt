@@ -1,7 +1,5 @@
 use Rattle.std.proofs.Common.{sym, subst}
-use Rattle.std.specs.Prelude.{All}
-use Rattle.wasmi_meter.specs.Limiter.{optional_rules}
-use Rattle.wasmi_machine.specs.State.{IsValidCall}
+use Rattle.wasmi_law_tests.proofs.Common.{All, optional_rules, IsValidCall}
 use Rattle.wasmi_law_tests.proofs.RunsLemmas.{if_ok_too, stays_valid}
 use Rattle.wasmi_law_tests.proofs.runs.run_valid.Goals as goal
 

@@ -1,7 +1,6 @@
 use Rattle.wasmi_law_tests.proofs.RunsLemmas.{held_after, within_quota, if_ok_too}
 use Rattle.std.proofs.Common.{sym, subst}
-use Rattle.std.specs.Prelude.{All}
-use Rattle.wasmi_laws.specs.Runs.{HasFuel, NamesNoFuel}
+use Rattle.wasmi_law_tests.proofs.Common.{All, HasFuel, NamesNoFuel}
 use Rattle.wasmi_law_tests.proofs.runs.run_within_quota.Goals as goal
 
 pub returns-clause-held : goal.returns-clause-held

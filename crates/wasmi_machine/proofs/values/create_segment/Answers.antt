@@ -2,9 +2,8 @@ use Rattle.std.proofs.Common.{Iter, List, Result, Ok, Err, ap, inr, subst, refl,
 use Rattle.std.specs.Iterator.Adapters.{copied_source, copied_steps}
 use Rattle.std.specs.Slice.Iter.{iter_rest, iter_steps}
 use Rattle.std.specs.declared.iter.Copied.{Copied}
-use Rattle.wasmi_store.specs.Segment.{SegmentValue, IsReadingOf}
+use Rattle.wasmi_machine.proofs.Common.{SegmentValue, IsReadingOf, RefType}
 use Rattle.wasmi_store.specs.declared.table.element.SegmentError.{SegmentError}
-use Rattle.wasmi_types.specs.declared.value.RefType.{RefType}
 use Rattle.wasmi_machine.specs.ValueEffects.{IsSegmentOf}
 use Rattle.wasmi_machine.proofs.ValueEffectsLemmas.{first_copied, last_copied, segment_read}
 use Rattle.wasmi_machine.proofs.values.create_segment.Goals as goal

@@ -1,8 +1,6 @@
 use Rattle.std.proofs.Common.{inl, ◌∙◌, ap, Ok, false, refl, sym, arith}
-use Rattle.std.proofs.lemmas.Result.{err_from_is_err_and}
-use Rattle.wasmi_meter.specs.Limiter.{optional_rules}
+use Rattle.wasmi_region.proofs.Common.{cond-false, err_from_is_err_and, optional_rules, growing, grows_unasked, grows_met, memory_growth, growth_permitted}
 use Rattle.wasmi_region.specs.Memory.{memory_in}
-use Rattle.wasmi_store.proofs.MemoryLemmas.{grows_unasked, growth_permitted, grows_met}
 use Rattle.wasmi_region.proofs.MemoryLemmas.{zeroed_none, paged, bounds, asked_in, room_is, grown}
 use Rattle.wasmi_region.proofs.memory.grow_zeroed.Goals as goal
 
@@ -19,8 +17,8 @@ returns-then-additional-eq0-clause-grown g c = rw (zeroed_none c.args.region.now
 
 pub returns-in_default-clause-grown : goal.returns-in_default-clause-grown
 returns-in_default-clause-grown g c = rw (zeroed_none c.args.region.now c.args.size.now) (
-    grows_unasked (optional_rules g.L.ResourceLimiter.rules) _ _ _ _ c.if-additional-eq0.false
-    (bounds c.args.ty _ _ c.requires.within _ false c.in_default.ensures.size)
+    grows_unasked (growing (optional_rules g.L.ResourceLimiter.rules) (memory_growth c.args.additional) _ _ _
+    c.if-additional-eq0.false) _ (cond-false _ _ _ (bounds c.args.ty _ _ c.requires.within _ false c.in_default.ensures.size))
     )
 
 pub returns-in_err-decide_growth-clause-grown : goal.returns-in_err-decide_growth-clause-grown

@@ -1,9 +1,7 @@
 use Rattle.std.proofs.Common.{arith}
-use Rattle.std.proofs.lemmas.Result.{err_from_is_err_and}
+use Rattle.wasmi_region.proofs.Common.{err_from_is_err_and, optional_rules, makes_short}
 use Rattle.std.proofs.lemmas.Bool.Decides.{nat_tests}
-use Rattle.wasmi_meter.specs.Limiter.{optional_rules}
 use Rattle.wasmi_store.specs.Buffer.{Lent}
-use Rattle.wasmi_store.proofs.MemoryLemmas.{makes_short}
 use Rattle.wasmi_region.proofs.memory.make_zeroed.Goals as goal
 
 pub returns-in_err-size-clause-made : goal.returns-in_err-size-clause-made

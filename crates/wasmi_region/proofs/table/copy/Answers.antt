@@ -1,11 +1,8 @@
 use Rattle.std.proofs.Common.{Some}
-use Rattle.wasmi_meter.specs.declared.error.TableError.TheVariants.{CopyOutOfBounds}
-use Rattle.wasmi_store.specs.Table.{copy_of, table_of}
-use Rattle.wasmi_store.specs.Write.{copied}
-use Rattle.wasmi_store.proofs.WriteLemmas.{charging, writes_elements}
+use Rattle.wasmi_region.proofs.Common.{copy_of, table_of, charging, writes_elements}
 use Rattle.wasmi_region.proofs.table.copy.Goals as goal
 
 pub returns : goal.returns
 returns c = charging (copy_of c.args.dst c.args.src c.args.len (table_of c.args.source c.args.items.now))
-    (writes_elements (table_of c.args.ty c.args.elements.now) _ (copied c.args.elements.now c.args.dst c.args.items.now c.args.src c.args.len) CopyOutOfBounds
-    (Some c.args.len) _ _ _ _ (rw c.element.ensures at c.in_ok-ensure_element_type_matches.ensures) c.copy_items.ensures.written)
+    (writes_elements (table_of c.args.ty c.args.elements.now) _ _ _ (Some c.args.len) _ _ _ _
+    (rw c.element.ensures at c.in_ok-ensure_element_type_matches.ensures) c.copy_items.ensures.written)

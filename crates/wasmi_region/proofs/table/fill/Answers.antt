@@ -1,8 +1,7 @@
 use Rattle.std.proofs.Common.{Some, refl, true}
 use Rattle.wasmi_meter.specs.declared.error.TableError.TheVariants.{FillOutOfBounds}
-use Rattle.wasmi_store.specs.Table.{raw_filling_of, table_of}
+use Rattle.wasmi_region.proofs.Common.{raw_filling_of, table_of, charging, writes_elements}
 use Rattle.wasmi_store.specs.Write.{filled}
-use Rattle.wasmi_store.proofs.WriteLemmas.{charging, writes_elements}
 use Rattle.wasmi_region.proofs.table.fill.Goals as goal
 
 pub returns : goal.returns

@@ -1,7 +1,5 @@
-use Rattle.std.proofs.Common.{Option, sym}
-use Rattle.std.proofs.lemmas.Result.{err_from_is_err_and}
-use Rattle.wasmi_meter.specs.Limiter.{optional_rules, lent_limiter}
-use Rattle.wasmi_store.proofs.GrowthLemmas.{grows_denied}
+use Rattle.std.proofs.Common.{Option, refl, sym}
+use Rattle.wasmi_region.proofs.Common.{cond-false, err_from_is_err_and, optional_rules, lent_limiter, grows_unasked, grows_denied, grows_late, grows_unpaid, grows_refused, grows_met}
 use Rattle.wasmi_region.proofs.TableLemmas as table
 use Rattle.wasmi_region.proofs.table.grow.Given as given
 use Rattle.wasmi_region.proofs.table.grow.Goals as goal
@@ -24,7 +22,8 @@ begun g c = record {
 
 pub returns-in_default-clause-grown : goal.returns-in_default-clause-grown
 returns-in_default-clause-grown g c =
-    table.grows_unasked (begun g (goal.at.returns-in_default-clause-grown g c).Else-delta-eq0) c.in_default.ensures
+    let t = begun g (goal.at.returns-in_default-clause-grown g c).Else-delta-eq0 in
+    grows_unasked (table.attempt t) _ (cond-false _ _ _ (rw (table.sized t) at c.in_default.ensures))
 
 pub returns-in_err-permission-clause-grown : goal.returns-in_err-permission-clause-grown
 returns-in_err-permission-clause-grown g c =
@@ -39,25 +38,26 @@ pub returns-then-not-allows_size-clause-grown : goal.returns-then-not-allows_siz
 returns-then-not-allows_size-clause-grown g c =
     let is = table.permits (begun g (goal.at.returns-then-not-allows_size-clause-grown g c).Else-delta-eq0)
     c.in-Some.ensures c.maximum_size.ensures c.in_ok-permission.ensures c.table_growing-answer.ensures.asked in
-    table.grows_above _ is (sym c.if-not-allows_size.ensures) _ _ c.tell.ensures.told
+    grows_late is (sym c.if-not-allows_size.ensures) _ _ c.tell.ensures.told
 
 pub returns-in-Err-clause-grown : goal.returns-in-Err-clause-grown
 returns-in-Err-clause-grown g c =
     let is = table.permits (begun g (goal.at.returns-in-Err-clause-grown g c).Else-delta-eq0) c.in-Some.ensures
     c.maximum_size.ensures c.in_ok-permission.ensures c.table_growing-answer.ensures.asked in
-    table.grows_unpaid _ is (sym c.if-not-allows_size.ensures) _ _ c.in-Err.ensures _ _ c.tell-in-Err.ensures.told
+    grows_unpaid is (sym c.if-not-allows_size.ensures) _ _ c.in-Err.ensures _ _ c.tell-in-Err.ensures.told
 
 pub returns-then-region-desired-clause-grown : goal.returns-then-region-desired-clause-grown
 returns-then-region-desired-clause-grown g c =
-    let is = table.permits (begun g (goal.at.returns-then-region-desired-clause-grown g c).Else-delta-eq0)
-    c.in-Some.ensures c.maximum_size.ensures c.in_ok-permission.ensures c.table_growing-answer.ensures.asked in
-    table.grows_short _ is (sym c.if-not-allows_size.ensures) _ c.in_default-charge.ensures
-    c.if-region-desired.true _ _ c.tell-then-region-desired.ensures.told
+    let t = begun g (goal.at.returns-then-region-desired-clause-grown g c).Else-delta-eq0 in
+    let is = table.permits t c.in-Some.ensures c.maximum_size.ensures c.in_ok-permission.ensures
+    c.table_growing-answer.ensures.asked in
+    grows_refused is (sym c.if-not-allows_size.ensures) _ c.in_default-charge.ensures _
+    (table.is_short t c.in-Some.ensures.1 c.if-region-desired.true) _ refl _ _ c.tell-then-region-desired.ensures.told
 
 pub returns-clause-grown : goal.returns-clause-grown
 returns-clause-grown g c =
     let t = begun g (goal.at.returns-clause-grown g c).Else-delta-eq0 in
     let is = table.permits t c.in-Some.ensures c.maximum_size.ensures c.in_ok-permission.ensures
     c.table_growing-answer.ensures.asked in
-    table.grows_met t is (sym c.if-not-allows_size.ensures) _ c.in_default-charge.ensures _
-    (table.grown t _ c.in-Some.ensures.1 _ c.fill_range.ensures.filled)
+    grows_met is (sym c.if-not-allows_size.ensures) _ c.in_default-charge.ensures _
+    (table.grown t _ c.in-Some.ensures.1 _ c.fill_range.ensures.filled) _ (table.sized t)

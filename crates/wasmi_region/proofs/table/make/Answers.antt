@@ -1,9 +1,5 @@
 use Rattle.std.proofs.Common.{◌∙◌, arith, refl}
-use Rattle.std.proofs.lemmas.Result.{err_from_is_err_and}
-use Rattle.wasmi_meter.specs.Limiter.{optional_rules}
-use Rattle.wasmi_region.specs.Table.{creation_in}
-use Rattle.wasmi_store.specs.Table.{new_table}
-use Rattle.wasmi_store.proofs.GrowthLemmas.{permitted_by, makes_denied, makes_refused}
+use Rattle.wasmi_region.proofs.Common.{err_from_is_err_and, optional_rules, creation_in, new_table, permitted_by, makes_denied, makes_refused}
 use Rattle.wasmi_region.proofs.TableLemmas.{making_asked_in}
 use Rattle.wasmi_region.proofs.table.make.Goals as goal
 

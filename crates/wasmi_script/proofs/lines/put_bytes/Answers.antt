@@ -1,7 +1,5 @@
 use Rattle.std.proofs.Common.{◌≡◌, ◌++◌, ap, codes, get_or, rules, subst, sym, take, ◌∙◌}
-use Rattle.std.specs.Fmt.{decimal}
-use Rattle.wasmi_script.specs.Printing.{AddsToFront}
-use Rattle.wasmi_script.specs.Texts.{bytes_text}
+use Rattle.wasmi_script.proofs.Common.{decimal, AddsToFront, bytes_text}
 use Rattle.wasmi_script.proofs.PrintingLemmas.{adds_then, texts_more}
 use Rattle.wasmi_script.proofs.lines.put_bytes.Goals as goal
 

@@ -1,6 +1,5 @@
 use Rattle.std.proofs.Common.{take}
-use Rattle.wasmi_script.specs.Printing.{AddsToFront}
-use Rattle.wasmi_script.specs.Texts.{bytes_text}
+use Rattle.wasmi_script.proofs.Common.{AddsToFront, bytes_text}
 use Rattle.wasmi_script.proofs.lines.put_bytes.Given as goal
 
 -- the numbers so far are written

@@ -1,6 +1,5 @@
 use Rattle.std.proofs.Common.{◌++◌, codes, subst}
-use Rattle.wasmi_script.specs.Printing.{AddsToFront}
-use Rattle.wasmi_script.specs.Texts.{bytes_text}
+use Rattle.wasmi_script.proofs.Common.{AddsToFront, bytes_text}
 use Rattle.wasmi_script.proofs.PrintingLemmas.{adds_then}
 use Rattle.wasmi_script.proofs.lines.put_line.Goals as goal
 

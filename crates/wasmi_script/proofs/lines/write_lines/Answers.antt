@@ -1,20 +1,11 @@
-use Rattle.std.proofs.Common.{Bor, ℕ, List, ap, flat_map, subst, sym, ◌∙◌}
+use Rattle.std.proofs.Common.{ap, flat_map, subst, sym, ◌∙◌}
 use Rattle.std.proofs.lemmas.Iterator.{YieldsList-from_slice, YieldsList-from_zip}
 use Rattle.std.proofs.lemmas.Iterator.Consumers.{YieldsList-end}
 use Rattle.std.proofs.lemmas.List.Folds.{flat_map-map}
-use Rattle.wasmi_machine.specs.declared.calls.Call.{Call}
-use Rattle.wasmi_machine.specs.declared.calls.Reply.{Reply}
-use Rattle.wasmi_script.specs.Printing.{HasFront, line}
-use Rattle.wasmi_script.specs.Texts.{reply_text}
+use Rattle.wasmi_script.specs.Printing.{HasFront}
+use Rattle.wasmi_script.proofs.OutcomesLemmas.{turn_of, turn_text}
 use Rattle.wasmi_script.proofs.PrintingLemmas.{adds_more, fills}
 use Rattle.wasmi_script.proofs.lines.write_lines.Goals as goal
-
--- what is seen of a call and its reply
-abbrev turn_of : Bor Call × Bor Reply → Call × Reply
-turn_of turn = (turn.0.now, turn.1.now)
-
-abbrev turn_text : Call × Reply → List ℕ
-turn_text turn = line (reply_text turn.0 turn.1)
 
 pub loop-call-preserved : goal.loop-call-preserved
 loop-call-preserved c =

@@ -1,8 +1,6 @@
 use Rattle.std.proofs.Common.{◌≡◌, ◌++◌, List, rules, sym}
-use Rattle.wasmi_machine.specs.declared.calls.Call.{Call}
-use Rattle.wasmi_machine.specs.declared.calls.Reply.{Reply}
+use Rattle.wasmi_script.proofs.Common.{Call, Reply, held_text, replies_text}
 use Rattle.wasmi_script.specs.declared.replaying.Held.{Held}
-use Rattle.wasmi_script.specs.Outcomes.{held_text, replies_text}
 use Rattle.wasmi_script.proofs.LengthLemmas.{error_short}
 use Rattle.wasmi_script.proofs.PrintingLemmas.{in_part, last_part, prints_first}
 use Rattle.wasmi_script.proofs.printing.print_outcome.Goals as goal

@@ -1,20 +1,10 @@
-use Rattle.std.proofs.Common.{ℕ, List, Bor, rules}
-use Rattle.std.specs.List.{zip}
+use Rattle.std.proofs.Common.{Bor, rules}
+use Rattle.wasmi_script.proofs.Common.{zip, Call, Reply}
 use Rattle.std.proofs.lemmas.Iterator.{YieldsList-from_slice, YieldsList-from_zip}
 use Rattle.std.proofs.lemmas.Iterator.Consumers.{YieldsList-so_far, YieldsList-turn, YieldsList-end}
-use Rattle.wasmi_machine.specs.declared.calls.Call.{Call}
-use Rattle.wasmi_machine.specs.declared.calls.Reply.{Reply}
-use Rattle.wasmi_script.specs.Printing.{line}
-use Rattle.wasmi_script.specs.Texts.{reply_text}
+use Rattle.wasmi_script.proofs.OutcomesLemmas.{turn_of, turn_text}
 use Rattle.wasmi_script.proofs.PrintingLemmas.{in_part, yields_more, yields_front, yields_all}
 use Rattle.wasmi_script.proofs.printing.print_replies.Goals as goal
-
--- what is seen of a call and its reply
-abbrev turn_of : Bor Call × Bor Reply → Call × Reply
-turn_of turn = (turn.0.now, turn.1.now)
-
-abbrev turn_text : Call × Reply → List ℕ
-turn_text turn = line (reply_text turn.0 turn.1)
 
 pub loop-call-preserved : goal.loop-call-preserved
 loop-call-preserved g c =

@@ -1,6 +1,5 @@
 use Rattle.std.proofs.Common.{flat_map}
-use Rattle.wasmi_script.specs.Texts.{reply_text}
-use Rattle.wasmi_script.specs.Printing.{Prints, line}
+use Rattle.wasmi_script.proofs.Common.{reply_text, Prints, line}
 use Rattle.wasmi_script.proofs.printing.print_replies.Given as goal
 
 abbrev pub invariant-loop-call : goal.invariant-loop-call

@@ -1,6 +1,5 @@
 use Rattle.std.proofs.Common.{take}
-use Rattle.wasmi_script.specs.Outcomes.{tenants_text}
-use Rattle.wasmi_script.specs.Printing.{Prints}
+use Rattle.wasmi_script.proofs.Common.{tenants_text, Prints}
 use Rattle.wasmi_script.proofs.printing.print_tenants.Given as goal
 
 abbrev pub invariant-loop-index : goal.invariant-loop-index

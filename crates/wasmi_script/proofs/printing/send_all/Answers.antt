@@ -1,7 +1,5 @@
 use Rattle.std.proofs.Common.{Option, ◌≡◌, ℕ, List, [], ◌++◌, rules, take, drop, sym, ap, ◌∙◌, subst, append_assoc, append-nil, take-append-drop, drop_of_length-le}
-use Rattle.std.proofs.lemmas.List.{take_rest}
-use Rattle.std.specs.Io.KnownBytes.{Appends}
-use Rattle.std.proofs.KnownBytes.{Appends-nil, Appends-trans, Appends-kept}
+use Rattle.wasmi_script.proofs.Common.{take_rest, Appends, Appends-nil, Appends-trans, Appends-kept}
 use Rattle.wasmi_script.proofs.printing.send_all.Goals as goal
 
 -- what is gone from a text and so many bytes of what is left are its front, once these are appended too

@@ -1,8 +1,6 @@
 use Rattle.std.proofs.Common.{ℕ, ◌+◌, ◌<◌, ◌≤◌, ◌≡◌, ◌∙◌, ◌++◌, List, [], Some, None, IfSome, length, length-append, length-take-le, take, append-nil, rules, sym, ap, arith}
 use Rattle.std.specs.declared.option.Option.{Option}
-use Rattle.std.specs.Io.KnownBytes.{Consumes, IsAtEnd}
-use Rattle.std.proofs.KnownBytes.{Consumes-trans}
-use Rattle.wasmi_script.specs.Outcomes.{script_limit}
+use Rattle.wasmi_script.proofs.Common.{Consumes, IsAtEnd, Consumes-trans, script_limit}
 use Rattle.wasmi_script.proofs.replaying.read.Goals as goal
 
 -- a turn that gives nothing is the end

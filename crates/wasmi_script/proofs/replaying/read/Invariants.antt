@@ -1,6 +1,5 @@
 use Rattle.std.proofs.Common.{◌≡◌, ◌≤◌, vec_len}
-use Rattle.std.specs.Io.KnownBytes.{Consumes}
-use Rattle.wasmi_script.specs.Outcomes.{script_limit}
+use Rattle.wasmi_script.proofs.Common.{Consumes, script_limit}
 use Rattle.wasmi_script.proofs.replaying.read.Given as goal
 
 abbrev pub invariant-loop-turn : goal.invariant-loop-turn

@@ -1,6 +1,6 @@
 use Rattle.std.proofs.Common.{refl, ap}
 use Rattle.std.specs.Option.{option_copied_mut}
-use Rattle.wasmi_script.proofs.ScriptRunsLemmas.{run_of_none, starts}
+use Rattle.wasmi_script.proofs.ScriptRunsLemmas.{run_from, starts}
 use Rattle.wasmi_script.proofs.replaying.run_freely.Goals as goal
 
 pub returns : goal.returns
@@ -9,5 +9,5 @@ returns c =
     c.as_mut.ensures.value c.in_ok-region.ensures in (
       refl,
       _,
-      run_of_none _ _ _ _ _ _ start (ap option_copied_mut c.default-limiter.ensures) c.in_ok-replies.ensures.run,
+      run_from _ _ _ _ _ _ _ _ start (ap option_copied_mut c.default-limiter.ensures) c.in_ok-replies.ensures.run,
     )

@@ -1,11 +1,7 @@
-use Rattle.std.proofs.Common.{Bor, List, ℕ, zero, suc, ◌≡◌, ◌∙◌, ◌+◌, ◌<◌, [], ◌∷◌, Option, None, Some, arith, length, refl, sym, ap, subst, take}
+use Rattle.std.proofs.Common.{Bor, List, ℕ, ◌≡◌, ◌∙◌, ◌+◌, ◌<◌, [], Option, None, Some, arith, length, refl, sym, ap, subst, take}
 use Rattle.std.specs.Prelude.{IsSome, slice_get}
-use Rattle.std.specs.Option.{option_map}
-use Rattle.std.proofs.lemmas.List.{take_all}
-use Rattle.wasmi_grammar.specs.Headers.{tenant_start}
-use Rattle.wasmi_machine.specs.declared.calls.Call.{Call}
-use Rattle.wasmi_grammar.specs.Parts.{TenantRun, parts_in}
-use Rattle.wasmi_script.specs.ScriptRuns.{AnswersParts, new_pool}
+use Rattle.wasmi_script.proofs.Common.{option_map, take_all, tenant_start, Call, TenantRun, parts_in, AnswersParts, new_pool}
+use Rattle.std.proofs.lemmas.Option.{slice_get-get_or}
 use Rattle.wasmi_script.proofs.ScriptRunsLemmas.{next_part}
 use Rattle.wasmi_script.proofs.replaying.run_pool.Goals as goal
 
@@ -39,14 +35,12 @@ pub loop-index-init : goal.loop-index-init
 loop-index-init c = (c.in_ok-replies.ensures.items, c.in_ok-pool.ensures)
 
 -- what is got below the length is there
-there : {A B : Type 0} (f : A → B) (got : Option A) (xs : List B) (i : ℕ) → option_map f got ≡ slice_get xs i
+there : {A B : Type 0} (f : A → B) (got : Option A) (xs : List B) (i : ℕ) (d : B) → option_map f got ≡ slice_get xs i
     → i < length xs → IsSome got
-there f (Some x) xs i is within = refl
-there f None (x ∷ xs) zero is within = absurd cc
-there f None (x ∷ xs) (suc i) is within = there f None xs i is (omega arith)
-there f None [] i is within = absurd (omega arith)
+there f (Some x) xs i d is within = refl
+there f None xs i d is within = let some = is ∙ slice_get-get_or xs i d within in absurd cc
 
 pub unwrap-tenant-requires : goal.unwrap-tenant-requires
 unwrap-tenant-requires c =
-    there run_at _ (parts_in c.args.script.now.parts) c.loop-index.index c.get.ensures
+    there run_at _ (parts_in c.args.script.now.parts) c.loop-index.index (record { tenant = 0; calls = [] }) c.get.ensures
     (omega (arith, c.loop-index-test.true, c.len-index-end.ensures))

@@ -1,7 +1,5 @@
 use Rattle.std.proofs.Common.{take}
-use Rattle.wasmi_grammar.specs.Headers.{tenant_start}
-use Rattle.wasmi_grammar.specs.Parts.{parts_in}
-use Rattle.wasmi_script.specs.ScriptRuns.{AnswersParts, new_pool}
+use Rattle.wasmi_script.proofs.Common.{tenant_start, parts_in, AnswersParts, new_pool}
 use Rattle.wasmi_script.proofs.replaying.run_pool.Given as goal
 
 abbrev pub invariant-loop-index : goal.invariant-loop-index

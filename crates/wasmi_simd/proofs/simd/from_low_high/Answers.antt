@@ -1,7 +1,5 @@
 use Rattle.std.proofs.Common.{◌≡◌, ℕ, ◌+◌, ◌-◌, ◌*◌, ◌<◌, ◌∙◌, ap, sym, arith, nat_lt, if◌then◌else◌}
-use Rattle.wasmi_lanes.specs.Vector.{lane}
-use Rattle.wasmi_lanes.proofs.VectorLemmas.{items_make_vector, item_fits, lanes_of_width}
-use Rattle.wasmi_simd.specs.WideningTable.{from_low_high}
+use Rattle.wasmi_simd.proofs.Common.{lane, items_make_vector, item_fits, lanes_of_width, from_low_high}
 use Rattle.wasmi_simd.proofs.WideningLemmas.{by_halves}
 use Rattle.wasmi_simd.proofs.simd.from_low_high.Goals as goal
 

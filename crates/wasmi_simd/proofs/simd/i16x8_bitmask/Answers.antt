@@ -1,7 +1,5 @@
 use Rattle.std.proofs.Common.{ℕ, Bool, ◌+◌, ◌*◌, ◌%◌, ◌/◌, ◌^◌, ◌∙◌, ap₂, refl, leb, arith}
-use Rattle.wasmi_types.specs.Numbers.{w16}
-use Rattle.wasmi_lanes.specs.Words.{field}
-use Rattle.wasmi_lanes.proofs.WordVectorLemmas.{u64x2_of}
+use Rattle.wasmi_simd.proofs.Common.{w16, field, u64x2_of}
 use Rattle.wasmi_simd.proofs.GatherLemmas.{at_most_one, spelled_bits, tops_spelled, gathered_16}
 use Rattle.wasmi_simd.proofs.ReductionLemmas.{bits_of_words}
 use Rattle.wasmi_simd.proofs.simd.i16x8_bitmask.Goals as goal

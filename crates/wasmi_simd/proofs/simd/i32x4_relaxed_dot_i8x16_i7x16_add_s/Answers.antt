@@ -1,9 +1,7 @@
 use Rattle.std.proofs.Common.{◌+◌, ◌%◌, ◌^◌, ◌∙◌, refl, ap}
-use Rattle.wasmi_types.specs.Numbers.{w16, w32}
-use Rattle.wasmi_lanes.specs.Vector.{binary_of_lanes}
+use Rattle.wasmi_simd.proofs.Common.{w16, w32, binary_of_lanes, extadd_pairwise_s}
 use Rattle.wasmi_lanewise.specs.VectorTable.{add}
 use Rattle.wasmi_lanewise.proofs.OrderLemmas.{rows_make_vector}
-use Rattle.wasmi_simd.specs.WideningTable.{extadd_pairwise_s}
 use Rattle.wasmi_simd.proofs.simd.i32x4_relaxed_dot_i8x16_i7x16_add_s.Goals as goal
 
 pub returns : goal.returns

@@ -1,6 +1,5 @@
 use Rattle.std.proofs.Common.{ℕ, refl, arith, nat_le, ◌^◌}
-use Rattle.wasmi_types.specs.Numbers.{w64}
-use Rattle.wasmi_lanes.proofs.WordVectorLemmas.{u64x2_of}
+use Rattle.wasmi_simd.proofs.Common.{w64, u64x2_of}
 use Rattle.wasmi_simd.proofs.GatherLemmas.{one_top}
 use Rattle.wasmi_simd.proofs.ReductionLemmas.{bitmask_by_words}
 use Rattle.wasmi_simd.proofs.simd.i64x2_bitmask.Goals as goal

@@ -1,6 +1,5 @@
 use Rattle.std.proofs.Common.{refl, arith, nat_le, ◌^◌}
-use Rattle.wasmi_types.specs.Numbers.{w8}
-use Rattle.wasmi_lanes.proofs.WordVectorLemmas.{u64x2_of}
+use Rattle.wasmi_simd.proofs.Common.{w8, u64x2_of}
 use Rattle.wasmi_simd.proofs.ReductionLemmas.{bitmask_by_words}
 use Rattle.wasmi_simd.proofs.simd.i8x16_bitmask.Goals as goal
 

@@ -1,8 +1,5 @@
 use Rattle.std.proofs.Common.{ℕ, ◌+◌, ◌-◌, ◌%◌, ◌/◌, ◌^◌, ◌∙◌, ◌≡◌, ap, ap₂, refl, arith, rules, length}
-use Rattle.std.proofs.lemmas.Simd.{get_or-zip2}
-use Rattle.wasmi_types.specs.Numbers.{w8}
-use Rattle.wasmi_lanes.specs.Vector.{lane, unary_of_lanes}
-use Rattle.wasmi_lanes.proofs.VectorLemmas.{lane_below, lanes_make_vector, lane_of_lanes}
+use Rattle.wasmi_simd.proofs.Common.{get_or-zip2, w8, lane, unary_of_lanes, lane_below, lanes_make_vector, lane_of_lanes}
 use Rattle.wasmi_simd.proofs.ShiftLemmas.{moved_and_back, half_at}
 use Rattle.wasmi_simd.proofs.simd.i8x16_shr_s.Goals as goal
 

@@ -1,6 +1,5 @@
 use Rattle.std.proofs.Common.{◌<◌, ◌^◌, ◌∙◌, refl, ap, sym, arith}
-use Rattle.wasmi_types.specs.Numbers.{w32, w64}
-use Rattle.wasmi_simd.specs.WideningTable.{low_zero}
+use Rattle.wasmi_simd.proofs.Common.{w32, w64, low_zero}
 use Rattle.wasmi_simd.proofs.WideningLemmas.{low_zero_is}
 use Rattle.wasmi_simd.proofs.simd.v128_low32_zero.Goals as goal
 

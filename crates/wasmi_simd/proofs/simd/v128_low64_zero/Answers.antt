@@ -1,9 +1,5 @@
 use Rattle.std.proofs.Common.{ℕ, zero, suc, ◌≡◌, ◌<◌, ◌%◌, ◌^◌, ◌∷◌, [], ◌∙◌, refl, ap, sym, arith, rules, get_or, length, List, replicate}
-use Rattle.std.proofs.Math.Nat.{div-eq_of_lt}
-use Rattle.std.proofs.lemmas.List.{get_or_append_left, get_or-append_right}
-use Rattle.wasmi_types.specs.Numbers.{w32, w64}
-use Rattle.wasmi_lanes.specs.Vector.{lane}
-use Rattle.wasmi_lanes.proofs.VectorLemmas.{lanes_make_vector}
+use Rattle.wasmi_simd.proofs.Common.{div-eq_of_lt, get_or_append_left, get_or-append_right, w32, w64, lane, lanes_make_vector}
 use Rattle.wasmi_simd.proofs.WideningLemmas.{low_zero_is}
 use Rattle.wasmi_simd.proofs.simd.v128_low64_zero.Goals as goal
 

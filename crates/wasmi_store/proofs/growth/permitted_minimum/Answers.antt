@@ -1,6 +1,5 @@
-use Rattle.std.proofs.lemmas.Result.{err_from_is_err_and}
-use Rattle.wasmi_meter.specs.Limiter.{optional_rules}
-use Rattle.wasmi_store.proofs.MemoryLemmas.{minimum_overflows, minimum_denied, minimum_permitted}
+use Rattle.wasmi_store.proofs.Common.{err_from_is_err_and, optional_rules}
+use Rattle.wasmi_store.proofs.MemoryLemmas.{minimum_overflows, minimum_denied}
 use Rattle.wasmi_store.proofs.growth.permitted_minimum.Goals as goal
 
 pub returns-in_default-clause-permitted : goal.returns-in_default-clause-permitted
@@ -14,8 +13,3 @@ returns-in_err-permission-clause-permitted g c =
     minimum_denied (optional_rules g.L.ResourceLimiter.rules) c.args.ty _ c.in-Some.size c.in-Some.ensures.size _
     c.maximum_size.ensures _ _ c.memory_growing-answer.ensures.asked _ c.in_err-permission.ensures
     )
-
-pub returns-clause-permitted : goal.returns-clause-permitted
-returns-clause-permitted g c = minimum_permitted
-    (optional_rules g.L.ResourceLimiter.rules) c.args.ty _ c.in-Some.size c.in-Some.ensures.size _
-    c.maximum_size.ensures _ (rw c.in_ok-permission.ensures at c.memory_growing-answer.ensures.asked)

@@ -1,10 +1,6 @@
-use Rattle.std.proofs.lemmas.Grind.{common_steps}
 use Rattle.std.proofs.Common.{◌+◌, ◌≤◌, ◌∙◌, arith}
 use Rattle.wasmi_store.proofs.WriteLemmas.{copied_down, copied_up}
 use Rattle.wasmi_store.proofs.range.copy_overlapping.Goals as goal
-
-pub returns-then-len-le-CHUNK : goal.returns-then-len-le-CHUNK
-returns-then-len-le-CHUNK g c = grind (arith, common_steps)
 
 pub loop-done-preserved : goal.loop-done-preserved
 loop-done-preserved g c =
@@ -16,12 +12,6 @@ loop-done-preserved g c =
           ∙ copied_down c.args.elements.now c.loop-done.elements c.args.dst c.args.src c.loop-done.done
           c.min-count.result c.if-dst-src.true (omega (arith, within, c.requires.src)) c.loop-done.invariant.copied;
     }
-
-pub loop-done-init : goal.loop-done-init
-loop-done-init g c = grind (arith, common_steps)
-
-pub returns-after-loop-done : goal.returns-after-loop-done
-returns-after-loop-done g c = grind (arith, common_steps)
 
 pub loop-left-preserved : goal.loop-left-preserved
 loop-left-preserved g c =
@@ -35,9 +25,3 @@ loop-left-preserved g c =
           (omega (arith, c.if-dst-src.false)) some c.loop-left.invariant.within c.requires.dst
           c.loop-left.invariant.copied;
     }
-
-pub loop-left-init : goal.loop-left-init
-loop-left-init g c = grind (arith, common_steps)
-
-pub returns-after-loop-left : goal.returns-after-loop-left
-returns-after-loop-left g c = grind (arith, common_steps)

@@ -1,49 +1,15 @@
 -- `empty` puts a null pointer beside the allocator, and owns nothing.
 use mathlib.Core.Path.{refl, sym, subst}
 use mathlib.Core.List.{List, [], ◌∷◌, ◌++◌}
+use Rattle.wasmi_c.proofs.Common.{Ura, Fn, inst_fn, Val, SProp, ent, id⊢, ftrue, fsep, flft, ◌⊑◌, Memory, Routine, WpFn, Tables, Logic, Fun, fact, tables, tables_of, Item, ‵, raw, ◌⊛◌, ◌$◌, ◌∵◌, !, qed, move, join, split, fsplit, fjoin, use1, suffices, done, lit, of_opd, no_more, and_then, returns, enter, agg, alloc_all, pass_all, free_all, look_at, get, sets, RattleType, no, null_ptr, plain, nothing, Ended, Clauses, says, Stays, stay_dropped, walk_of, ends_at, proved_at, handle_tells, Goes-blank, Bx, R, P, args}
 use Rattle.std.specs.Prelude.{None}
-use seplogic.Ra.Ura.{Ura}
-use mir.Syntax.{Fn}
-use mir.MapTy.{inst_fn}
-use mir.Val.{Val, vnull, vstruct, vcons, vnil, has_ty, WT}
-use base.Logic.{SProp, ent, id⊢}
-use base.Fml.{ftrue, fsep, flft}
-use contract.BorrowLft.{◌⊑◌}
-use prog.Memory.{Memory}
-use prog.Routine.{Routine}
-use prog.Wp.{WpFn, Tables}
-use types.Logic.{Logic}
-use contract.Monad.{Fun, fact}
-use contract.Running.{tables, tables_of}
-use types.Kit.{Item, ‵, raw, ◌⊛◌, ◌$◌, ◌∵◌, !, qed, move, drop, join, split, fsplit, fjoin, fpack, feq_i, use1, suffices, done}
-use types.Run.{lit, of_opd, no_more, and_then, returns, enter}
-use types.Part.{agg}
-use types.ByLocal.{alloc_all, pass_all, free_all, look_at, get, sets}
-use denote.RattleType.{RattleType, Valss}
-use denote.Exit.{no}
-use denote.RawPtr.{RawPtr, null_ptr}
-use denote.Struct.Owning.{shape}
-use denote.Struct.Struct.{within}
-use denote.Signature.{plain}
-use denote.Param.{layout}
-use denote.Steps.{nothing}
-use denote.Triple.Clauses.{Ended, Clauses}
-use denote.Triple.Walked.{says, Stays, stay_dropped, walk_of, ends_at}
-use Rattle.std.proofs.raw_atomic.Walks.{proved_at}
-use lib.Dec.{T}
-use Rattle.std.proofs.Common.{lit<}
-use Rattle.std.proofs.alloc.Calls.{α, handle_tells, Goes-blank}
-use Rattle.std_alloc.proofs.ResultValues.{and_tt}
-use Rattle.std_alloc.proofs.BoxSteps.Form.{Bx, R, P, args, owning}
+use types.Kit.{drop}
+use Rattle.wasmi_c.proofs.HeldBoxLemmas.{pair, pair_in, pair_typed}
 use Rattle.wasmi_c.specs.contracts.held_box.HeldBox as held_box
 use Rattle.wasmi_c.specs.contracts.held_box.HeldBox.empty as F
 use Rattle.wasmi_c.specs.contracts.held_box.HeldBox.empty.Key.{name as #self}
 use Rattle.wasmi_c.proofs.held_box.HeldBox.empty.Statement as stated
 use Rattle.wasmi_c.proofs.held_box.HeldBox.empty.Code as code
-
--- a null pointer beside an allocator's value
-abbrev word : Val → Val
-word hv = vstruct (vcons vnull (vcons hv vnil))
 
 module _ (E : Bx) where
   abbrev fn' : Fn
@@ -76,20 +42,15 @@ module _ (E : Bx) where
         let made : To.Denot = record { at = null_ptr; alloc = a; held = None } in
         qed 𝓛 ((ts ⊛ ‵ (fsep ((P E).own_val a z.0.4.0) ftrue)) ∷ alive ∷ []) ∵ split ! $ move ! (1 ∷ []) $ fsplit ! $
         handle_tells E.al ! a z.0.4.0 (λ hv eh fa.
-        let w = word hv in
-        let good : T (has_ty (layout To) w) × WT w =
-        (and_tt (has_ty (α E.al) hv) fa.0, (record { fits = lit< tt }, (fa.1, tt))) in
+        let w = pair null_ptr hv in
         -- [the handle; true; the tokens; what lives]
-        nothing ! $ nothing ! $ move ! (2 ∷ 0 ∷ []) $ fjoin ! $ feq_i ! (List Val) (vnull ∷ [])
-        (vnull ∷ []) refl $ fjoin ! $ feq_i ! (List Val) (w ∷ []) (w ∷ []) refl $ fjoin ! $
-        fpack ! (Valss (RawPtr ∷ P E ∷ [])) (within (shape (owning E)) (null_ptr, (a, tt)) (w ∷ []))
-        (vnull ∷ [], (hv ∷ [], tt)) $ fjoin ! $
+        nothing ! $ pair_in E ! (null_ptr, a, None) hv $
         use1 𝓛 (‵ (To.own_val made (w ∷ []))) (id⊢ 𝓤 _) $ move ! (1 ∷ []) $ drop ! $ move ! (2 ∷ []) $ drop ! $
         suffices ! (Run (hv ∷ []))
         (subst (λ (us : List Val). ent 𝓤 (Run (hv ∷ [])) (Run us)) (sym (λ i. eh i ++ [])) (id⊢ 𝓤 (Run (hv ∷ [])))) $
         enter ! 𝓣.C 𝓣.Λ fn' (hv ∷ []) _ $ alloc_all ! (λ ls. pass_all ! refl (fa, tt) $
         sets ! (of_opd ! (get ! refl)) refl fa $
-        sets ! (agg ! (and_then ! (lit ! tt) (and_then ! (get ! refl) (no_more !)))) refl good $ returns !
+        sets ! (agg ! (and_then ! (lit ! tt) (and_then ! (get ! refl) (no_more !)))) refl (pair_typed E null_ptr hv fa) $ returns !
         (look_at ! 0 refl) $ free_all ! refl $
         suffices ! _ (ends_at 𝓛 ended stayed held z w made (tt, tt) (tt, tt)) $ says ! refl $
         nothing ! $ nothing ! $ fjoin ! $ join ! $ move ! (1 ∷ 0 ∷ []) $ join ! $ done !))

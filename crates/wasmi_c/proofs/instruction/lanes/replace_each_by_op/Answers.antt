@@ -1,6 +1,5 @@
 use Rattle.std.proofs.Common.{arith}
-use Rattle.std.proofs.lemmas.Grind.{get_or-set_at}
-use Rattle.std.proofs.lemmas.List.{get_or-set_other, get_or_default}
+use Rattle.wasmi_c.proofs.Common.{get_or-set_at, get_or-set_other, get_or_default}
 use Rattle.wasmi_c.proofs.instruction.lanes.replace_each_by_op.Goals as goal
 
 pub loop-i-preserved : goal.loop-i-preserved

@@ -1,6 +1,5 @@
 use Rattle.std.proofs.Common.{arith}
-use Rattle.std.proofs.lemmas.Option.{gets, slice_get-map}
-use Rattle.wasmi_c.specs.Instruction.{op_numbered}
+use Rattle.wasmi_c.proofs.Common.{gets, slice_get-map, op_numbered}
 use Rattle.wasmi_c.proofs.instruction.list.op_numbered.Goals as goal
 
 pub returns-in_err-op : goal.returns-in_err-op

@@ -1,8 +1,6 @@
 use Rattle.std.proofs.Common.{arith}
-use Rattle.std.proofs.lemmas.Grind.{get_or-set_at}
-use Rattle.std.proofs.lemmas.List.{get_or-set_other, get_or_default}
+use Rattle.wasmi_c.proofs.Common.{get_or-set_at, get_or-set_other, get_or_default, ternary_value}
 use Rattle.wasmi_c.proofs.InstructionLemmas.{each_three_written}
-use Rattle.wasmi_c.specs.Instruction.{ternary_value}
 use Rattle.wasmi_c.proofs.instruction.ternary.each.Goals as goal
 
 pub loop-i-preserved : goal.loop-i-preserved

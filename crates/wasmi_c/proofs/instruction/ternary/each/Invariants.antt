@@ -1,6 +1,5 @@
 use Rattle.std.proofs.Common.{◌≡◌, ℕ, ◌<◌, get_or}
-use Rattle.wasmi_c.specs.Instruction.{ternary_value}
-use Rattle.wasmi_raw.specs.declared.raw.RawVal.{RawVal}
+use Rattle.wasmi_c.proofs.Common.{ternary_value, RawVal}
 use Rattle.wasmi_c.proofs.instruction.ternary.each.Given as goal
 
 abbrev pub invariant-loop-i : goal.invariant-loop-i

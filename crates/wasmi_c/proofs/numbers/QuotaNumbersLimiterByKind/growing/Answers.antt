@@ -1,6 +1,5 @@
 use Rattle.std.proofs.Common.{sym}
-use Rattle.wasmi_meter.specs.Limiter.{AskedIf}
-use Rattle.wasmi_meter.specs.Capped.{quota_rules}
+use Rattle.wasmi_c.proofs.Common.{AskedIf, quota_rules}
 use Rattle.wasmi_c.proofs.PlacementLemmas.{of_equals}
 use Rattle.wasmi_c.proofs.numbers.QuotaNumbersLimiterByKind.growing.Goals as goal
 

@@ -1,8 +1,5 @@
-use Rattle.std.proofs.Common.{◌≡◌, ◌∙◌, Some, ap, subst, sym}
-use Rattle.std.specs.Option.{option_map}
-use Rattle.wasmi_machine.specs.declared.calls.Call.TheVariants.{Binary}
-use Rattle.wasmi_c.specs.Machine.Calls.{vector_binary}
-use Rattle.wasmi_c.specs.Pool.{TenantRepliesInStatus}
+use Rattle.std.proofs.Common.{◌≡◌, ◌∙◌, Some, ap, sym}
+use Rattle.wasmi_c.proofs.Common.{option_map, Binary, vector_binary}
 use Rattle.wasmi_c.proofs.TenantLemmas.{tenant_status}
 use Rattle.wasmi_c.proofs.pool.TenantPool.binary.Goals as goal
 
@@ -12,7 +9,5 @@ returns-clause-step c =
     ≡ Some (Binary c.in-Some.op c.args.dst c.args.a c.args.b) =
     ap (option_map (λ op. Binary op c.args.dst c.args.a c.args.b))
     (sym c.vector_binary_numbered.ensures ∙ c.in-Some.is) in
-    subst (λ one. TenantRepliesInStatus c.args.tenant one c.reply.result.status c.args.self.now c.reply.new.self)
-    (sym called)
-    (tenant_status c.args.tenant (Binary c.in-Some.op c.args.dst c.args.a c.args.b) c.reply.result c.args.self.now
+    rw called (tenant_status c.args.tenant (Binary c.in-Some.op c.args.dst c.args.a c.args.b) c.reply.result c.args.self.now
     c.reply.new.self c.reply.ensures.step)

@@ -1,6 +1,5 @@
 use Rattle.std.proofs.Common.{◌≡◌, ◌∷◌, [], Some, rules, subst}
-use Rattle.wasmi_machine.specs.declared.calls.Call.TheVariants.{SetFuel}
-use Rattle.wasmi_budget.specs.Pool.{PoolValue, RunsTenant, machine_of}
+use Rattle.wasmi_c.proofs.Common.{SetFuel, PoolValue, RunsTenant, machine_of}
 use Rattle.wasmi_c.proofs.TenantLemmas.{tenant_pays}
 use Rattle.wasmi_c.proofs.pool.TenantPool.consume_fuel.Goals as goal
 

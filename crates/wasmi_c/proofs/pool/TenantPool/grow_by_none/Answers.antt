@@ -1,6 +1,5 @@
 use Rattle.std.proofs.Common.{◌≡◌, Some, rules}
-use Rattle.wasmi_machine.specs.declared.calls.Call.TheVariants.{GrowMemory}
-use Rattle.wasmi_budget.specs.Pool.{machine_of}
+use Rattle.wasmi_c.proofs.Common.{GrowMemory, machine_of}
 use Rattle.wasmi_c.proofs.TenantLemmas.{word_in_place}
 use Rattle.wasmi_c.proofs.pool.TenantPool.grow_by_none.Goals as goal
 

@@ -1,9 +1,5 @@
-use Rattle.std.proofs.Common.{◌≡◌, ◌∙◌, Some, ap, rules, subst, sym}
-use Rattle.std.specs.Option.{option_map}
-use Rattle.wasmi_machine.specs.declared.calls.Call.TheVariants.{Load}
-use Rattle.wasmi_budget.specs.Pool.{machine_of}
-use Rattle.wasmi_c.specs.Machine.Calls.{item_load}
-use Rattle.wasmi_c.specs.Pool.{TenantRepliesInWord}
+use Rattle.std.proofs.Common.{◌≡◌, ◌∙◌, Some, ap, rules, sym}
+use Rattle.wasmi_c.proofs.Common.{option_map, Load, machine_of, item_load}
 use Rattle.wasmi_c.proofs.TenantLemmas.{word_in_place}
 use Rattle.wasmi_c.proofs.pool.TenantPool.load_of.Goals as goal
 
@@ -14,8 +10,6 @@ returns-in-Some-machine c =
     ≡ Some (Load c.in-Some.op c.args.memory c.args.ptr c.args.offset) =
     ap (option_map (λ op. Load op c.args.memory c.args.ptr c.args.offset))
     (sym c.item_load_numbered.ensures ∙ c.in-Some.is) in
-    subst (λ one. TenantRepliesInWord c.args.tenant one c.args.value.now (c.leave.result, c.leave.new.word)
-    c.args.self.now c.args.self.now) (sym called)
-    (word_in_place c.args.self.now c.args.tenant c.in-Some-machine.machine.now found
+    rw called (word_in_place c.args.self.now c.args.tenant c.in-Some-machine.machine.now found
     (Load c.in-Some.op c.args.memory c.args.ptr c.args.offset) c.load_item.result c.load_item.ensures c.args.value.now
     (c.leave.result, c.leave.new.word) c.leave.ensures.status c.leave.ensures.word)

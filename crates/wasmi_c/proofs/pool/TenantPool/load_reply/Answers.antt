@@ -1,6 +1,5 @@
 use Rattle.std.proofs.Common.{◌≡◌, Some, rules}
-use Rattle.wasmi_machine.specs.declared.calls.Call.TheVariants.{Load}
-use Rattle.wasmi_budget.specs.Pool.{machine_of}
+use Rattle.wasmi_c.proofs.Common.{Load, machine_of}
 use Rattle.wasmi_c.proofs.TenantLemmas.{struct_in_place}
 use Rattle.wasmi_c.proofs.pool.TenantPool.load_reply.Goals as goal
 

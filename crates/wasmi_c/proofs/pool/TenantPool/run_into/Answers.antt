@@ -1,8 +1,5 @@
 use Rattle.std.proofs.Common.{◌∙◌, ◌≡◌, Some, inr, refl, rules, sym}
-use Rattle.std.proofs.lemmas.List.{length-set}
-use Rattle.wasmi_budget.specs.Pool.{machine_of}
-use Rattle.wasmi_c.specs.Machine.Calls.{RepliesInTurn}
-use Rattle.wasmi_c.specs.Pool.{TenantRepliesToStruct}
+use Rattle.wasmi_c.proofs.Common.{length-set, machine_of, RepliesInTurn, TenantRepliesToStruct}
 use Rattle.wasmi_c.proofs.MachineLemmas.{all_in_turn, next_in_turn}
 use Rattle.wasmi_c.proofs.pool.TenantPool.run_into.Goals as goal
 

@@ -1,6 +1,5 @@
 use Rattle.std.proofs.Common.{◌≡◌, length, take}
-use Rattle.wasmi_c.specs.Machine.Calls.{InTurn}
-use Rattle.wasmi_c.specs.Pool.{TenantRepliesToStruct}
+use Rattle.wasmi_c.proofs.Common.{InTurn, TenantRepliesToStruct}
 use Rattle.wasmi_c.proofs.pool.TenantPool.run_into.Given as goal
 
 -- the calls so far are replied to in turn, within the caps

@@ -1,9 +1,6 @@
-use Rattle.std.proofs.Common.{◌≡◌, ◌∙◌, Some, ap, subst, sym}
-use Rattle.std.specs.Option.{option_map}
-use Rattle.wasmi_machine.specs.declared.calls.Call.TheVariants.{Store}
+use Rattle.std.proofs.Common.{◌≡◌, ◌∙◌, Some, ap, sym}
+use Rattle.wasmi_c.proofs.Common.{option_map, Store, item_store}
 use Rattle.wasmi_raw.specs.RawVal.{raw_of}
-use Rattle.wasmi_c.specs.Machine.Calls.{item_store}
-use Rattle.wasmi_c.specs.Pool.{TenantRepliesInStatus}
 use Rattle.wasmi_c.proofs.TenantLemmas.{tenant_status}
 use Rattle.wasmi_c.proofs.pool.TenantPool.store_of.Goals as goal
 
@@ -13,7 +10,5 @@ returns-clause-step c =
     ≡ Some (Store c.in-Some.op c.args.memory c.args.ptr c.args.offset (raw_of c.args.value)) =
     ap (option_map (λ op. Store op c.args.memory c.args.ptr c.args.offset (raw_of c.args.value)))
     (sym c.item_store_numbered.ensures ∙ c.in-Some.is) in
-    subst (λ one. TenantRepliesInStatus c.args.tenant one c.store_reply.result.status c.args.self.now
-    c.store_reply.new.self) (sym called)
-    (tenant_status c.args.tenant (Store c.in-Some.op c.args.memory c.args.ptr c.args.offset (raw_of c.args.value))
+    rw called (tenant_status c.args.tenant (Store c.in-Some.op c.args.memory c.args.ptr c.args.offset (raw_of c.args.value))
     c.store_reply.result c.args.self.now c.store_reply.new.self c.store_reply.ensures.step)

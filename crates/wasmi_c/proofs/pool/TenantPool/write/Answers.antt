@@ -1,8 +1,6 @@
 use Rattle.std.proofs.Common.{◌≡◌, ◌∙◌, ◌∷◌, [], None, inl, inr, refl, rules, subst}
 use Rattle.wasmi_machine.proofs.StepsLemmas.{vec_of}
-use Rattle.wasmi_machine.specs.declared.calls.Call.TheVariants.{Write}
-use Rattle.wasmi_budget.specs.Pool.{PoolValue, RunsTenant, machine_of}
-use Rattle.wasmi_c.specs.Pool.{TenantReplies, TenantRepliesToItems}
+use Rattle.wasmi_c.proofs.Common.{Write, PoolValue, RunsTenant, machine_of, TenantReplies, TenantRepliesToItems}
 use Rattle.wasmi_c.proofs.pool.TenantPool.write.Goals.{in-Ok, in-Err}
 use Rattle.wasmi_c.proofs.pool.TenantPool.write.Goals as goal
 

@@ -1,8 +1,6 @@
 use Rattle.std.proofs.Common.{◌≡◌, ◌∙◌, ◌-◌, ◌<◌, Some, length, take, drop, arith, refl, sym, ap}
-use Rattle.std.specs.List.{slice_get}
-use Rattle.std.proofs.lemmas.List.{take_rest}
+use Rattle.wasmi_grammar.proofs.Common.{slice_get, take_rest, parts_in}
 use Rattle.std.proofs.lemmas.Option.{slice_get_read}
-use Rattle.wasmi_grammar.specs.Parts.{parts_in}
 use Rattle.wasmi_grammar.proofs.LinesLemmas.{span_within, at_earlier, at_last, at_none}
 use Rattle.wasmi_grammar.proofs.script.Parts.get.Goals as goal
 

@@ -1,6 +1,5 @@
 use Rattle.std.proofs.Common.{subst}
-use Rattle.std.proofs.lemmas.Result.{IfErr-weaker}
-use Rattle.wasmi_grammar.specs.Lines.{AddsLine}
+use Rattle.wasmi_grammar.proofs.Common.{IfErr-weaker, AddsLine}
 use Rattle.wasmi_grammar.proofs.LinesLemmas.{refused_as}
 use Rattle.wasmi_grammar.proofs.script.Script.take.Goals as goal
 

@@ -1,6 +1,5 @@
 use Rattle.std.proofs.Common.{get_or, arith}
-use Rattle.std.proofs.lemmas.Grind.{common_steps}
-use Rattle.std.proofs.lemmas.List.{get_or_default}
+use Rattle.wasmi_lanes.proofs.Common.{common_steps, get_or_default}
 use Rattle.wasmi_lanes.proofs.LanesLemmas.{set_both_more}
 use Rattle.wasmi_lanes.proofs.lanes.LaneArrayFromWide.from_low_high.Goals as goal
 

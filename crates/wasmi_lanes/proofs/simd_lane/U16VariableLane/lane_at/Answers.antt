@@ -1,7 +1,5 @@
 use Rattle.std.proofs.Common.{ℕ, ◌≡◌, ◌+◌, ◌*◌, ◌<◌, ◌∙◌, ap, refl, arith, slice_index_or}
-use Rattle.wasmi_types.specs.Numbers.{w16}
-use Rattle.wasmi_lanes.specs.Vector.{lane}
-use Rattle.wasmi_lanes.specs.declared.simd_lane.TheConstants.{BYTES_OF_U16}
+use Rattle.wasmi_lanes.proofs.Common.{w16, lane, BYTES_OF_U16}
 use Rattle.wasmi_lanes.proofs.VariableLaneLemmas.{byte_picked, first_two_bytes, indices_inside, joined_halves}
 use Rattle.wasmi_lanes.proofs.simd_lane.U16VariableLane.lane_at.Goals as goal
 

@@ -1,7 +1,5 @@
 use Rattle.std.proofs.Common.{ℕ, ◌<◌, ◌^◌, List, [], refl, ap, ◌∙◌, arith, replicate, slice_index_or, rules}
-use Rattle.std.specs.Simd.Lanes.{number_l, digits_l}
-use Rattle.wasmi_types.specs.Numbers.{w16}
-use Rattle.wasmi_lanes.specs.declared.simd_lane.TheConstants.{IN_EACH_U16}
+use Rattle.wasmi_lanes.proofs.Common.{number_l, digits_l, w16, IN_EACH_U16}
 use Rattle.wasmi_lanes.proofs.VariableLaneLemmas.{computed, lane_written}
 use Rattle.wasmi_lanes.proofs.simd_lane.U16VariableLane.with_lane.Goals as goal
 

@@ -1,7 +1,5 @@
 use Rattle.std.proofs.Common.{ℕ, ◌≡◌, ◌+◌, ◌*◌, ◌<◌, ◌∙◌, ap, ap₂, refl, arith, slice_index_or}
-use Rattle.wasmi_types.specs.Numbers.{w32}
-use Rattle.wasmi_lanes.specs.Vector.{lane}
-use Rattle.wasmi_lanes.specs.declared.simd_lane.TheConstants.{BYTES_OF_U32}
+use Rattle.wasmi_lanes.proofs.Common.{w32, lane, BYTES_OF_U32}
 use Rattle.wasmi_lanes.proofs.VariableLaneLemmas.{byte_picked, first_four_bytes, indices_inside, joined_halves}
 use Rattle.wasmi_lanes.proofs.simd_lane.U32VariableLane.lane_at.Goals as goal
 

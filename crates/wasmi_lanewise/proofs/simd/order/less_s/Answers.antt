@@ -1,6 +1,5 @@
 use Rattle.std.proofs.Common.{◌-◌, ◌^◌, if◌then◌else◌, ltb}
-use Rattle.wasmi_types.specs.Numbers.{bits}
-use Rattle.wasmi_lanes.specs.Vector.{comparison_of_lanes}
+use Rattle.wasmi_lanewise.proofs.Common.{bits, comparison_of_lanes}
 use Rattle.wasmi_lanewise.proofs.OrderLemmas.{moved_make_vector, ones_where_less}
 use Rattle.wasmi_lanewise.proofs.simd.order.less_s.Goals as goal
 

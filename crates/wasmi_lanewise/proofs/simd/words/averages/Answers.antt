@@ -1,7 +1,5 @@
 use Rattle.std.proofs.Common.{◌+◌, ◌/◌, ◌∙◌}
-use Rattle.wasmi_lanes.specs.Words.{IsLane}
-use Rattle.wasmi_lanes.specs.Vector.{binary_of_lanes}
-use Rattle.wasmi_lanes.proofs.WordVectorLemmas.{u64x2_of, equal_lanes, binary_by_words}
+use Rattle.wasmi_lanewise.proofs.Common.{IsLane, binary_of_lanes, u64x2_of, equal_lanes, binary_by_words}
 use Rattle.wasmi_lanewise.proofs.simd.words.averages.Goals as goal
 
 pub returns : goal.returns

@@ -1,6 +1,5 @@
 use Rattle.std.proofs.Common.{◌+◌, ◌-◌, ◌%◌, ◌^◌, arith, ⊎_elim}
-use Rattle.wasmi_lanes.specs.Vector.{binary_of_lanes}
-use Rattle.wasmi_lanes.proofs.WordVectorLemmas.{u64x2_of, InnerLane, inner_lanes, binary_by_words}
+use Rattle.wasmi_lanewise.proofs.Common.{binary_of_lanes, u64x2_of, InnerLane, inner_lanes, binary_by_words}
 use Rattle.wasmi_lanewise.proofs.WordLemmas.{inverted_word_pair, inverted_words}
 use Rattle.wasmi_lanewise.proofs.simd.words.differences.Goals as goal
 

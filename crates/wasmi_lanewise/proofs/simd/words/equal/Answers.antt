@@ -1,7 +1,5 @@
 use Rattle.std.proofs.Common.{◌-◌, ◌^◌, ◌∙◌, nat_eq, if◌then◌else◌}
-use Rattle.wasmi_types.specs.Numbers.{bits}
-use Rattle.wasmi_lanes.specs.Vector.{comparison_of_lanes}
-use Rattle.wasmi_lanes.proofs.WordVectorLemmas.{u64x2_of, words_make_binary, equal_lanes}
+use Rattle.wasmi_lanewise.proofs.Common.{bits, comparison_of_lanes, u64x2_of, words_make_binary, equal_lanes}
 use Rattle.wasmi_lanewise.proofs.MarkLemmas.{equal_marks, equal_filled, differs_in_lanes}
 use Rattle.wasmi_lanewise.proofs.simd.words.equal.Goals as goal
 

@@ -1,6 +1,5 @@
 use Rattle.std.proofs.Common.{◌≡◌, ◌-◌, ◌∙◌, ap, refl}
-use Rattle.wasmi_types.specs.Numbers.{bits}
-use Rattle.wasmi_lanes.specs.Words.{lanes_in_word}
+use Rattle.wasmi_lanewise.proofs.Common.{bits, lanes_in_word}
 use Rattle.wasmi_lanewise.proofs.MarkLemmas.{filled, filled_below, marks_filled}
 use Rattle.wasmi_lanewise.proofs.simd.words.filled.Goals as goal
 

@@ -1,6 +1,5 @@
 use Rattle.std.proofs.Common.{◌-◌, ◌%◌, ◌^◌, arith, ⊎_elim}
-use Rattle.wasmi_lanes.specs.Vector.{unary_of_lanes}
-use Rattle.wasmi_lanes.proofs.WordVectorLemmas.{u64x2_of, InnerLane, inner_lanes, unary_by_words}
+use Rattle.wasmi_lanewise.proofs.Common.{unary_of_lanes, u64x2_of, InnerLane, inner_lanes, unary_by_words}
 use Rattle.wasmi_lanewise.proofs.WordLemmas.{negated_lane}
 use Rattle.wasmi_lanewise.proofs.simd.words.negations.Goals as goal
 

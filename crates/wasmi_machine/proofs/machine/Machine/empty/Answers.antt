@@ -1,6 +1,5 @@
 use Rattle.std.proofs.Common.{◌≡◌, ◌<◌, ◌∙◌, sym, arith, get_or, replicate}
-use Rattle.std.proofs.lemmas.List.{same_lists, get_or-replicate}
-use Rattle.std.specs.Option.{option_copied_mut}
+use Rattle.wasmi_machine.proofs.Common.{same_lists, get_or-replicate, option_copied_mut}
 use Rattle.wasmi_machine.proofs.machine.Machine.empty.Goals as goal
 use Rattle.wasmi_raw.specs.RawVal.{raw_of}
 

@@ -1,8 +1,5 @@
 use Rattle.std.proofs.Common.{Some, rules}
-use Rattle.wasmi_meter.specs.Limiter.{optional_rules, lent_limiter}
-use Rattle.wasmi_machine.specs.State.{world}
-use Rattle.wasmi_machine.specs.Effects.{reply_or_no_such}
-use Rattle.wasmi_machine.specs.declared.calls.Call.TheVariants.{GrowMemory}
+use Rattle.wasmi_machine.proofs.Common.{optional_rules, lent_limiter, world, reply_or_no_such, GrowMemory}
 use Rattle.wasmi_machine.proofs.StoreLemmas.{answers_by}
 use Rattle.wasmi_machine.proofs.ValidityLemmas.{answer_is_valid}
 use Rattle.wasmi_machine.proofs.machine.Machine.grow_memory_lending.Goals as goal

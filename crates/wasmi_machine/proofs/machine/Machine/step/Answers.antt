@@ -1,5 +1,4 @@
-use Rattle.wasmi_meter.specs.Limiter.{optional_rules, lent_limiter}
-use Rattle.wasmi_machine.specs.State.{world}
+use Rattle.wasmi_machine.proofs.Common.{optional_rules, lent_limiter, world}
 use Rattle.wasmi_machine.proofs.ValidityLemmas.{answer_is_valid}
 use Rattle.wasmi_machine.proofs.machine.Machine.step.Goals as goal
 

@@ -1,6 +1,5 @@
 use Rattle.std.proofs.Common.{◌≡◌, ◌≤◌, ◌*◌, ◌^◌, ◌-◌, ℕ, take}
-use Rattle.std.specs.Prelude.{sum_by}
-use Rattle.wasmi_machine.specs.State.{slot_count}
+use Rattle.wasmi_machine.proofs.Common.{sum_by, slot_count}
 use Rattle.wasmi_machine.proofs.slots.Slots.total.Given as goal
 
 -- the sum so far, and that it fits

@@ -1,11 +1,6 @@
-use Rattle.std.proofs.Common.{Some, refl, subst}
-use Rattle.wasmi_machine.specs.Effects.{reply_or_no_such}
+use Rattle.std.proofs.Common.{refl}
 use Rattle.wasmi_machine.proofs.StoreLemmas.{acts, acts_unasked, asks, alters, replies}
-use Rattle.wasmi_machine.specs.TableEffects.{WritesTableAt}
-use Rattle.wasmi_store.specs.Table.{initialization_of}
-use Rattle.wasmi_store.specs.Growth.{metered}
-use Rattle.wasmi_machine.specs.State.{live_at}
-use Rattle.wasmi_machine.specs.declared.calls.Reply.TheVariants.{Table}
+use Rattle.wasmi_machine.proofs.Common.{live_at, Table}
 use Rattle.wasmi_machine.proofs.RangeLemmas.{range_from}
 use Rattle.wasmi_machine.proofs.store.MachineStore.step_table.Goals as goal
 
@@ -53,14 +48,7 @@ returns-in_ok-segment-in-InitTable-clause-step g c =
       ← c.get-in-InitTable.ensures,
       c.in_ok-segment-in-InitTable.was,
       c.init.ensures.reserved,
-    ) (acts_unasked _ (
-      c.init.ensures.copied.0,
-      subst (λ segment. WritesTableAt c.in-InitTable.table
-          (initialization_of c.in-InitTable.dst c.in-InitTable.src c.in-InitTable.len segment)
-          (metered c.self.inside.tables.slots.items (Some c.self.inside.fuel)) (reply_or_no_such c.init.result)
-          c.init.ensures.copied.0 (metered c.init.new.self.slots.items (Some c.init.new.fuel))) c.from.ensures
-          c.init.ensures.copied.1,
-    ))
+    ) (acts_unasked _ (rw c.from.ensures at c.init.ensures.copied))
 
 pub returns-in-CopyTable-clause-step : goal.returns-in-CopyTable-clause-step
 returns-in-CopyTable-clause-step g c =

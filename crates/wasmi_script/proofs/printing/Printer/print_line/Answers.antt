@@ -1,6 +1,5 @@
 use Rattle.std.proofs.Common.{ap, refl}
-use Rattle.std.specs.Fmt.{with_newline}
-use Rattle.wasmi_script.specs.Printing.{line}
+use Rattle.wasmi_script.proofs.Common.{with_newline, line}
 use Rattle.wasmi_script.proofs.PrintingLemmas.{printed, no_room, no_text}
 use Rattle.wasmi_script.proofs.printing.Printer.print_line.Goals as goal
 

@@ -1,6 +1,5 @@
 use Rattle.std.proofs.Common.{refl}
-use Rattle.wasmi_types.specs.Numbers.{w16}
-use Rattle.wasmi_lanes.proofs.SimdLaneLemmas.{signed_read_at}
+use Rattle.wasmi_simd.proofs.Common.{w16, signed_read_at}
 use Rattle.wasmi_simd.proofs.simd.wide.i16x8_of.Goals as goal
 
 pub returns : goal.returns

@@ -1,8 +1,7 @@
 use Rattle.std.proofs.Common.{refl}
-use Rattle.std.proofs.lemmas.Result.{err_from_is_err_and}
-use Rattle.wasmi_meter.specs.Limiter.{optional_rules}
+use Rattle.wasmi_store.proofs.Common.{err_from_is_err_and, optional_rules, new_memory}
 use Rattle.wasmi_store.specs.Buffer.{Owned}
-use Rattle.wasmi_store.specs.Memory.{creation_of, new_memory}
+use Rattle.wasmi_store.specs.Memory.{creation_of}
 use Rattle.wasmi_store.proofs.GrowthLemmas.{makes_refused}
 use Rattle.wasmi_store.proofs.MemoryLemmas.{making_reaches, sized_zeros}
 use Rattle.wasmi_store.proofs.memory.LinearMemory+mut+slice+u8.new.Goals as goal

@@ -1,5 +1,4 @@
-use Rattle.std.proofs.lemmas.Result.{err_from_is_err_and}
-use Rattle.wasmi_meter.specs.Limiter.{optional_rules}
+use Rattle.wasmi_store.proofs.Common.{err_from_is_err_and, optional_rules}
 use Rattle.wasmi_store.specs.Buffer.{Lent}
 use Rattle.wasmi_store.proofs.MemoryLemmas.{makes_short, sized_zeros}
 use Rattle.wasmi_store.proofs.memory.LinearMemory+mut+slice+u8.new_static.Goals as goal

@@ -1,11 +1,8 @@
-use Rattle.wasmi_store.specs.Memory.{byte_copy_of}
 use Rattle.wasmi_store.specs.Write.{copied}
-use Rattle.wasmi_store.proofs.MemoryLemmas.{refilled_by}
-use Rattle.wasmi_store.proofs.WriteLemmas.{charging, writes_bytes}
+use Rattle.wasmi_store.proofs.WriteLemmas.{memory_writes}
 use Rattle.wasmi_store.proofs.memory.LinearMemory.copy_metered.Goals as goal
 
 pub returns : goal.returns
-returns g c = rw (refilled_by _ _ _ c.data_mut.ensures.value c.copy_items.ensures.len)
-    (charging (byte_copy_of c.args.dst c.args.src c.args.len c.args.src_memory.now.bytes)
-    (writes_bytes c.args.self.now (copied c.args.self.now.bytes c.args.dst c.args.src_memory.now.bytes c.args.src c.args.len) c.args.len _ _ _ _
-    (rw (c.data_mut.ensures.value, c.data-source.ensures) at c.copy_items.ensures.written)))
+returns g c = memory_writes c.args.self.now
+    (λ bytes. copied bytes c.args.dst c.args.src_memory.now.bytes c.args.src c.args.len) c.args.len _
+    c.data_mut.ensures.value c.copy_items.ensures.len (rw c.data-source.ensures at c.copy_items.ensures.written)

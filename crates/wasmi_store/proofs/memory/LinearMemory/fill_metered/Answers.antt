@@ -1,11 +1,7 @@
-use Rattle.wasmi_store.specs.Memory.{byte_filling_of}
 use Rattle.wasmi_store.specs.Write.{filled}
-use Rattle.wasmi_store.proofs.MemoryLemmas.{refilled_by}
-use Rattle.wasmi_store.proofs.WriteLemmas.{charging, writes_bytes}
+use Rattle.wasmi_store.proofs.WriteLemmas.{memory_writes}
 use Rattle.wasmi_store.proofs.memory.LinearMemory.fill_metered.Goals as goal
 
 pub returns : goal.returns
-returns g c = rw (refilled_by _ _ _ c.data_mut.ensures.value c.fill_items.ensures.len)
-    (charging (byte_filling_of c.args.dst c.args.value c.args.len)
-    (writes_bytes c.args.self.now (filled c.args.self.now.bytes c.args.dst c.args.value c.args.len) c.args.len _ _ _ _
-    (rw (c.data_mut.ensures.value) at c.fill_items.ensures.written)))
+returns g c = memory_writes c.args.self.now (λ bytes. filled bytes c.args.dst c.args.value c.args.len) c.args.len _
+    c.data_mut.ensures.value c.fill_items.ensures.len c.fill_items.ensures.written

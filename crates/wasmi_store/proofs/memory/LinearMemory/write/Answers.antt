@@ -1,8 +1,5 @@
-use Rattle.wasmi_store.proofs.MemoryLemmas.{refilled_by, sized_refilled, writes_memory}
+use Rattle.wasmi_store.proofs.MemoryLemmas.{refilled_by, writes_memory}
 use Rattle.wasmi_store.proofs.memory.LinearMemory.write.Goals as goal
-
-pub invariant_of-self : goal.invariant_of-self
-invariant_of-self g c = sized_refilled _ _ _ c.self.invariant
 
 pub returns : goal.returns
 returns g c = rw (← c.self.view_is, refilled_by _ _ _ c.data_mut.ensures.value c.write_bytes.ensures.len)

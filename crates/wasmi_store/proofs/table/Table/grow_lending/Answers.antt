@@ -1,6 +1,5 @@
 use Rattle.std.proofs.Common.{Some, rules}
-use Rattle.wasmi_meter.specs.Limiter.{optional_rules}
-use Rattle.wasmi_store.specs.Table.{GrowsTable}
+use Rattle.wasmi_store.proofs.Common.{optional_rules, GrowsTable}
 use Rattle.wasmi_store.proofs.GrowthLemmas.{of_loan}
 use Rattle.wasmi_store.proofs.table.Table.grow_lending.Goals as goal
 

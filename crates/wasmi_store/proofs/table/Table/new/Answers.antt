@@ -1,7 +1,6 @@
 use Rattle.std.proofs.Common.{◌∙◌, refl}
-use Rattle.std.proofs.lemmas.Result.{err_from_is_err_and}
-use Rattle.wasmi_meter.specs.Limiter.{optional_rules}
-use Rattle.wasmi_store.specs.Table.{creation_of, new_table}
+use Rattle.wasmi_store.proofs.Common.{err_from_is_err_and, optional_rules, new_table}
+use Rattle.wasmi_store.specs.Table.{creation_of}
 use Rattle.wasmi_store.proofs.GrowthLemmas.{permitted_by, makes_denied, makes_refused}
 use Rattle.wasmi_store.proofs.TableLemmas.{makes_mismatched, making_asked}
 use Rattle.wasmi_store.proofs.table.Table.new.Goals as goal

@@ -1,7 +1,6 @@
 use Rattle.std.proofs.Common.{◌≡◌, ℕ, ◌<◌, get_or}
-use Rattle.wasmi_c.specs.Instruction.{binary_outcome}
+use Rattle.wasmi_c.proofs.Common.{binary_outcome, RawVal}
 use Rattle.wasmi_c.specs.declared.instruction.result.InstructionResult.{InstructionResult}
-use Rattle.wasmi_raw.specs.declared.raw.RawVal.{RawVal}
 use Rattle.wasmi_c.proofs.instruction.binary.Binary.each.Given as goal
 
 abbrev pub invariant-loop-i : goal.invariant-loop-i

@@ -1,6 +1,5 @@
 use Rattle.std.proofs.Common.{◌∙◌}
-use Rattle.std.proofs.lemmas.List.{length-set}
-use Rattle.wasmi_c.specs.Machine.Calls.{RepliesToStruct}
+use Rattle.wasmi_c.proofs.Common.{length-set, RepliesToStruct}
 use Rattle.wasmi_c.proofs.MachineLemmas.{next_in_turn}
 use Rattle.wasmi_c.proofs.machine.limited_machine.LimitedMachine.run_into.Goals as goal
 

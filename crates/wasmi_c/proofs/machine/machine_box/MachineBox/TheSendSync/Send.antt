@@ -1,10 +1,6 @@
 -- A machine on the heap may go to another thread with all that it owns.
-use denote.Struct.Struct.{exits_of}
-use denote.Struct.Owning.{shape, fields, to}
-use denote.Param.Send.{IsSend, AllSend, owning_send, struct_send, sendable}
-use Rattle.std_alloc.proofs.SendSync.{quiet}
+use Rattle.wasmi_c.proofs.Common.{exits_of, shape, fields, to, IsSend, AllSend, owning_send, struct_send, sendable, quiet, machine_row}
 use Rattle.std_heap.proofs.Global.TheSendSync as handle
-use Rattle.wasmi_c.specs.HeldBox.{machine_row}
 use Rattle.wasmi_c.specs.contracts.machine.machine_box.MachineBox.{the_row, the_type}
 use Rattle.wasmi_c.proofs.HeldBoxLemmas.{owned_keyless}
 use Rattle.wasmi_c.proofs.machine.limited_machine.LimitedMachine.TheSendSync.{the_send as home}

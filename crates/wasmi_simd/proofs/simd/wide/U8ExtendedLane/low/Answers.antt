@@ -1,6 +1,5 @@
 use Rattle.std.proofs.Common.{◌∙◌, ap, arith, rules}
-use Rattle.wasmi_types.specs.Numbers.{w8}
-use Rattle.wasmi_lanes.specs.Vector.{lane}
+use Rattle.wasmi_simd.proofs.Common.{w8, lane}
 use Rattle.wasmi_simd.proofs.HalfLemmas.{extracted_lane}
 use Rattle.wasmi_simd.proofs.simd.wide.U8ExtendedLane.low.Goals as goal
 

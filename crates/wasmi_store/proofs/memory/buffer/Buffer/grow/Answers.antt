@@ -1,12 +1,8 @@
-use Rattle.std.proofs.lemmas.Grind.{common_steps}
-use Rattle.std.proofs.Common.{◌≡◌, ◌≤◌, ◌-◌, subst, sym, length, true, arith}
+use Rattle.std.proofs.Common.{◌≡◌, ◌≤◌, ◌-◌, subst, sym, length, true}
 use Rattle.wasmi_store.specs.Buffer.{view_of, EndsWithin, fits_room}
 use Rattle.wasmi_store.proofs.BufferLemmas.{owned_grows, lent_grows}
 use Rattle.wasmi_store.proofs.memory.buffer.Buffer.grow.Goals as goal
 use Rattle.wasmi_store.proofs.memory.buffer.Buffer.grow.Goals.{in-Owned+in-Ok, in-Lent}
-
-pub front_mut-requires : goal.front_mut-requires
-front_mut-requires g c = grind (arith, common_steps)
 
 pub returns-clause-ok : goal.returns-clause-ok
 returns-clause-ok g c =
@@ -32,9 +28,3 @@ returns-clause-ok g c =
           w.in-Lent.is room) w.fill_range.new.elements (rw (← w.front_mut.ensures.value) w.fill_range.ensures.filled)
           (g.met.R.Region.refills w.in-Lent.region n w.fill_range.new.elements))
     ]
-
-pub fill_range-requires-clause-end : goal.fill_range-requires-clause-end
-fill_range-requires-clause-end g c = grind (arith, common_steps)
-
-pub invariant_of-self-2 : goal.invariant_of-self-2
-invariant_of-self-2 g c = grind (arith, common_steps)

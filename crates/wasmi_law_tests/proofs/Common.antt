@@ -1,0 +1,22 @@
+-- Names that many proofs of this crate cite, passed on from one place.
+pub use Rattle.std.proofs.lemmas.List.{length-replicate, append_assoc, append-nil, get_or-set_other}
+pub use Rattle.std.proofs.lemmas.List.Elements.{All-head, All-tail, All-cons, All-nil}
+pub use Rattle.std.proofs.lemmas.Option.{same_Some, slice_get_read}
+pub use Rattle.std.specs.Prelude.{◌↔◌, FitsSigned, IsTrue, All, MatchOption, max, nat_eq, slice_set}
+pub use Rattle.wasmi_c.specs.Numbers.{KeepsQuota, Placed, limiter_of, quota_of}
+pub use Rattle.wasmi_c.specs.SharedQuota.{HoldsSums, OneQuotaHoldsEach, sizes_made, UnderQuota}
+pub use Rattle.wasmi_laws.specs.Places.{IsIndependent, LeavesAlone, MemoryAt, NumberStore, store_call, load_call, StaysAt, DropsNot, HasAt, IsLater, IsLive}
+pub use Rattle.wasmi_laws.specs.Reserved.{IsReservedFor, IsReservedTable, IsReservedToMaximum, ReservedRunsSucceed, FitsSlots}
+pub use Rattle.wasmi_laws.specs.Runs.{IsWithinCapsOf, RunsOfCallsAreCut, IsPlainRefusal, HasFuel, NamesNoFuel}
+pub use Rattle.wasmi_machine.specs.Determinism.{AcceptsNotices, IsDeterministic, IsNotOutOfMemory, permitting, TellsNoDenial}
+pub use Rattle.wasmi_machine.specs.Laws.{IsRefusal, LentGrowthsSucceed, RepliesAreOne, LentRunsAreOwned, LentCreationsAreOwned, HoldsTotalsAlways, QuotasStayWithin, RunsKeepValidity}
+pub use Rattle.wasmi_machine.specs.State.{live_at, with_memories, World, Turn, world, State, live_value, IsValid, IsValidCall, HoldsTotals, sizes, total}
+pub use Rattle.wasmi_machine.specs.Steps.{Run, Sequence, MemoryGrown, HasEffect, effect_of, Step, RepliesWith, IsRunOf}
+pub use Rattle.wasmi_machine.specs.declared.calls.Reply.{Reply}
+pub use Rattle.wasmi_machine.specs.declared.calls.Reply.TheVariants.{Number, Memory, Done, NoRoom, NoSuch}
+pub use Rattle.wasmi_meter.specs.Capped.{IsWithinCaps, holdings, cap_of, SameCaps, quota_rules}
+pub use Rattle.wasmi_meter.specs.Limiter.{Rules, optional_rules, Question, kind_of}
+pub use Rattle.wasmi_meter.specs.declared.quota.Quota.{Quota}
+pub use Rattle.wasmi_store.specs.Memory.{MemoryValue, GrowsMemoryCharging, pages_of, growth_of, page_bytes, MemoryTypeValue}
+pub use Rattle.wasmi_store.specs.Table.{TableValue}
+pub use Rattle.wasmi_law_tests.specs.Runs.{RelatesForward, CanGrowInRegion, IsGrownOrDenied, GrowsInRegion, RunsAlone, FitsAnyRegions, HasRegionFor, IsRunInParts, RunsBeside, KeepsCaps, KeepsTenant, RunsBoth, RunsList}

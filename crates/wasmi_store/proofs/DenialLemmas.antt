@@ -1,0 +1,94 @@
+-- Requests that nothing but a limiter refuses, and requests that more causes may refuse than others.
+use Rattle.std.proofs.Common.{◌≡◌, ◌∙◌, ◌⊎◌, ap, true, None, Ok, Option, Result, Some, inl, inr, refl, subst, sym, ℕ}
+use Rattle.std.specs.Prelude.{if◌then◌else◌, is_none, ◌&&◌}
+use Rattle.std.specs.Result.{result_map_both}
+use Rattle.wasmi_meter.specs.Attempt.{Attempt, AttemptOutcome, Denied, Failed, Follows, IsFirstCause, MayEnd, Met, MeteredValue, Request, Unasked, answer_of, covers, optional_due, outcome_charge, value_after, with_value}
+use Rattle.wasmi_meter.specs.Limiter.{Rules}
+use Rattle.wasmi_meter.specs.Meter.{Meter}
+use Rattle.wasmi_store.specs.Growth.{IsDenied}
+use Rattle.wasmi_store.proofs.GrowthLemmas.{on_test_too}
+
+-- nothing stands against a request but its limiter
+pub record IsUnrefused {V E : Type 0} (e : Request V E) (m : Option Meter) : Type 0 where
+  pub early : e.early ≡ None
+  pub late : e.late ≡ None
+  pub paid : covers m (optional_due m e.price) ≡ true
+  pub room : (cause : E) → e.refuses cause → ⊥
+
+module _ {V E S T : Type 0} (rules : Rules S) (e : Request V E) (m : Option Meter) (free : IsUnrefused e m) (value : T)
+    (l l' : S) where
+  -- no failure comes after the permission
+  no_failure : (late : Option E) (cause : E) → late ≡ None → IsFirstCause e m late cause → ⊥
+  no_failure None cause none first = free.room cause (rw free.paid at first)
+  no_failure (Some late) cause none first = cc
+
+  -- the limiter has denied it, or it is met
+  pub met_or_denied : (outcome : AttemptOutcome E) → MayEnd e m outcome → Follows e rules l outcome l'
+      → (result : Result T E) → result ≡ answer_of e value outcome
+      → (result ≡ Ok value) ⊎ IsDenied rules e.question l l'
+  met_or_denied (Unasked cause) may follows result answered = let none = free.early in absurd cc
+  met_or_denied (Denied answer) may follows result answered = inr (answer, may.1, follows)
+  met_or_denied Met may follows result answered = inl answered
+  met_or_denied (Failed cause notice_answer) may follows result answered =
+      absurd (no_failure e.late cause free.late may.1)
+
+-- An attempt of a request that more causes may refuse after the charge, and whose value is seen as another.
+module _ {V E : Type 0} (e : Request V E) (late : Option E) (refuses : E → Type 0)
+    (wider : (cause : E) → e.refuses cause → refuses cause) (seen : V → V) where
+  -- that request
+  abbrev pub widened : Request V E
+  widened = record e { late = late; refuses = refuses; grown = seen e.grown }
+
+  -- where no early cause stands, the late one is the same
+  abbrev pub HasLate : Type 0
+  HasLate = e.early ≡ None → e.late ≡ late
+
+  module _ (m : Option Meter) where
+    -- a first cause is one of the wider request
+    first_cause : (cause : E) (l : Option E) → IsFirstCause e m l cause → IsFirstCause widened m l cause
+    first_cause cause (Some last) first = first
+    first_cause cause None first =
+        on_test_too (covers m (optional_due m e.price)) _ _ _ _ (wider cause) (λ unpaid. unpaid) first
+
+    -- an end is one of the wider request
+    ends : HasLate → (outcome : AttemptOutcome E) → MayEnd e m outcome → MayEnd widened m outcome
+    ends has Met (early, none, paid) = (early, sym (has early) ∙ none, paid)
+    ends has (Failed cause notice_answer) (early, first) =
+        (early, first_cause cause late (subst (λ l. IsFirstCause e m l cause) (has early) first))
+    ends has outcome may = may
+
+    -- the charge is that of the wider request
+    charges : HasLate → (outcome : AttemptOutcome E) → MayEnd e m outcome
+        → outcome_charge e m outcome ≡ outcome_charge widened m outcome
+    charges has (Failed cause notice_answer) may =
+        ap (λ last. if is_none last && covers m (optional_due m e.price) then optional_due m e.price else 0) (has may.0)
+    charges has outcome may = refl
+
+  -- the limiter sees the same
+  follows : {S : Type 0} (rules : Rules S) (l l' : S) (outcome : AttemptOutcome E) → Follows e rules l outcome l'
+      → Follows widened rules l outcome l'
+  follows rules l l' Met h = h
+  follows rules l l' outcome h = h
+
+  -- what it leaves
+  values : (x : V) (outcome : AttemptOutcome E) → seen (value_after e x outcome) ≡ value_after widened (seen x) outcome
+  values x Met = refl
+  values x outcome = refl
+
+  -- what it answers
+  pub answers : {T U : Type 0} (f : T → U) (made : T) (outcome : AttemptOutcome E)
+      → result_map_both f (λ error. error) (answer_of e made outcome) ≡ answer_of widened (f made) outcome
+  answers f made Met = refl
+  answers f made outcome = refl
+
+  -- an attempt is one of the wider request
+  pub attempts : {S : Type 0} (rules : Rules S) (s s' : MeteredValue V S) (outcome : AttemptOutcome E) (charge : ℕ)
+      → HasLate → Attempt rules e s outcome charge s'
+      → Attempt rules widened (with_value s (seen s.value)) outcome charge (with_value s' (seen s'.value))
+  attempts rules s s' outcome charge has a = record {
+    may_end = ends s.meter has outcome a.may_end;
+    follows = follows rules s.limiter s'.limiter outcome a.follows;
+    charged = a.charged ∙ charges s.meter has outcome a.may_end;
+    meter = a.meter;
+    value = ap seen a.value ∙ values s.value outcome;
+  }
