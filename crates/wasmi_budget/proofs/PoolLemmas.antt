@@ -4,21 +4,20 @@ use Rattle.std.proofs.lemmas.Bool.{cases_lt}
 use Rattle.std.proofs.lemmas.List.{get_or_append_left, get_or_past, get_or-set_other, get_or-set_same, length-append, length-set}
 use Rattle.std.proofs.lemmas.Option.{same_Some, none-some}
 use Rattle.wasmi_meter.specs.declared.limiter.Kind.{Kind}
-use Rattle.wasmi_meter.specs.Capped.{amount_of, amounts_of, nothing, IsWithin, Asked, Noticed, held_together}
-use Rattle.wasmi_meter.specs.Attempt.{MeteredValue}
-use Rattle.wasmi_meter.specs.Limiter.{Question, Answer, Failure, NoticeAnswer, optional_rules}
-use Rattle.wasmi_meter.proofs.CappedLemmas.{KeepsCaps, caps_kept, others_kept, asked_is_within, noticed_is_within}
+use Rattle.wasmi_meter.specs.Capped.{amount_of, amounts_of, nothing, IsWithin, held_together}
+use Rattle.wasmi_meter.specs.Limiter.{optional_rules}
+use Rattle.wasmi_meter.proofs.CappedLemmas.{KeepsCaps}
 use Rattle.wasmi_machine.specs.MemoryEffects.{WritesMemoryAt}
 use Rattle.wasmi_machine.specs.State.{World, Turn, world, with_memories, State, total, sizes, HoldsTotals, IsRefusal, with_reserved}
 use Rattle.wasmi_machine.specs.Exchange.{Exchange, Permission, GrowsBy, RepliesTo, place_of}
-use Rattle.wasmi_machine.specs.Effects.{ActsMeteredUnasked, Changes}
 use Rattle.wasmi_machine.specs.Steps.{Run, IsRunOf, RepliesWith, SomeCopy}
 use Rattle.wasmi_machine.proofs.StepsLemmas.{write_replies}
+use Rattle.wasmi_machine.proofs.StoreLemmas.{changes_too, run_of_one, unasked_too}
 use Rattle.wasmi_machine.specs.Determinism.{IsDeterministic, AcceptsNotices}
 use Rattle.wasmi_machine.proofs.DeterminismLemmas.{capped_unique}
 use Rattle.wasmi_machine.proofs.EffectLemmas.{changes_kept}
 use Rattle.wasmi_machine.proofs.ExchangeLemmas.{growths_are_permitted}
-use Rattle.wasmi_machine.proofs.HoldingLemmas.{IsThere, run_stays, stays_there, totals_are_held}
+use Rattle.wasmi_machine.proofs.HoldingLemmas.{IsLater, run_is_later, totals_are_held}
 use Rattle.wasmi_machine.proofs.TotalLemmas.{slots_alike}
 use Rattle.wasmi_budget.specs.declared.tenant.Tenant.{Tenant}
 use Rattle.wasmi_budget.specs.Pool.{capped_tenant, tenant_rules, holdings, PoolValue, total_of, IsWithinCaps, IsKept, HasNothing, tenant_at, machine_of, total_at, AddsTenant, RemovesTenant, ReservesElements, ReservesElementsForTenant, ReservesForTenant, IsUnasked, RepliesUnasked, RunsTenant, RunsUnasked, tenant_of, held_before, IsPart, RunsAsPart}
@@ -36,50 +35,6 @@ use Rattle.wasmi_budget.specs.Laws.{PoolTurn, Added, Ran, Removed, Refused, Rese
 -- the caps, and what the others hold, are the same with other holdings
 tenant_keeps : KeepsCaps capped_tenant
 tenant_keeps = record { cap = λ tenant h kind. refl; others = λ tenant h kind. refl }
-
--- the caps and what the others hold are those of another tenant, and all together are within the caps
-pub record StaysWithin (tenant tenant' : Tenant) : Type 0 where
-  pub caps : (kind : Kind) → amount_of tenant'.caps kind ≡ amount_of tenant.caps kind
-  pub others : (kind : Kind) → amount_of tenant'.others kind ≡ amount_of tenant.others kind
-  pub within : IsWithin capped_tenant tenant'
-
--- a tenant that is within the caps and is another one but for its holdings stays within
-still_within : (first tenant tenant' : Tenant) → StaysWithin first tenant
-    → tenant' ≡ capped_tenant.with_holdings tenant tenant'.holdings → IsWithin capped_tenant tenant'
-    → StaysWithin first tenant'
-still_within first tenant tenant' stays rest within = record {
-  caps = λ kind. caps_kept capped_tenant tenant_keeps tenant tenant' rest kind ∙ stays.caps kind;
-  others = λ kind. others_kept capped_tenant tenant_keeps tenant tenant' rest kind ∙ stays.others kind;
-  within = within;
-}
-
--- a question keeps a tenant within the caps
-asks_within : (first tenant tenant' : Tenant) (q : Question) (answer : Answer) → StaysWithin first tenant
-    → Asked capped_tenant tenant q answer tenant' → StaysWithin first tenant'
-asks_within first tenant tenant' q answer stays (taken, answered, more) =
-    still_within first tenant tenant' stays more.rest
-    (asked_is_within capped_tenant tenant_keeps tenant tenant' stays.within q answer (taken, answered, more))
-
--- a notice keeps a tenant within the caps
-notices_within : (first tenant tenant' : Tenant) (failure : Failure) (notice_answer : NoticeAnswer)
-    → StaysWithin first tenant → Noticed capped_tenant tenant failure notice_answer tenant' → StaysWithin first tenant'
-notices_within first tenant tenant' failure notice_answer stays noticed =
-    still_within first tenant tenant' stays noticed.rest
-    (noticed_is_within capped_tenant tenant_keeps tenant tenant' stays.within failure notice_answer noticed)
-
--- a run keeps a tenant within the caps
-pub run_stays_within : (first : Tenant) → IsWithin capped_tenant first
-    → (w w' : World (Option Tenant)) (turns : List Turn) (tenant' : Tenant) → w.limiter ≡ Some first
-    → w'.limiter ≡ Some tenant' → Run (optional_rules tenant_rules) w turns w' → StaysWithin first tenant'
-run_stays_within first within w w' turns tenant' is is' ran =
-    let stays = stays_there tenant_rules (StaysWithin first) (record {
-      asked = λ l q answer l'. asks_within first l l' q answer;
-      noticed = λ l failure notice_answer l'. notices_within first l l' failure notice_answer;
-    }) in
-    subst (IsThere (StaysWithin first)) is'
-    (run_stays (optional_rules tenant_rules) (IsThere (StaysWithin first)) stays w turns w'
-    (subst (IsThere (StaysWithin first)) (sym is)
-    (record { caps = λ kind. refl; others = λ kind. refl; within = within })) ran)
 
 -- a tenant leaves no choice
 pub tenant_unique : IsDeterministic tenant_rules
@@ -180,14 +135,10 @@ module _ (pool : PoolValue) (all : Amounts) (kept : IsKept pool all) (index : �
 module _ (pool : PoolValue) (within : IsWithinCaps pool) (index : ℕ) (s : State)
     (found : machine_of pool index ≡ Some s) (s' : State) (tenant' : Tenant) where
   -- before its run the tenant is within the caps
-  first_stays : StaysWithin (tenant_at pool index s) (tenant_at pool index s)
-  first_stays = record {
-    caps = λ kind. refl;
-    others = λ kind. refl;
-    within = λ kind. rw (tenant_held_together pool index s found kind) (within kind);
-  }
+  first_within : IsWithin capped_tenant (tenant_at pool index s)
+  first_within kind = rw (tenant_held_together pool index s found kind) (within kind)
 
-  module _ (stays : StaysWithin (tenant_at pool index s) tenant') (held : HoldsTotals (holdings tenant') s') where
+  module _ (stays : IsLater capped_tenant (tenant_at pool index s) tenant') (held : HoldsTotals (holdings tenant') s') where
     -- with the other machine, all have what the tenant that holds what it has holds together with the others
     replaced_total : (kind : Kind)
         → held_together capped_tenant tenant' kind ≡ total_of (slice_set pool.machines index (Some s')) kind
@@ -208,10 +159,10 @@ module _ (pool : PoolValue) (within : IsWithinCaps pool) (index : ℕ) (s : Stat
   -- a run under its limiter keeps the tenant within the caps
   ran_within : (turns : List Turn)
       → Run (optional_rules tenant_rules) (record { state = s; limiter = Some (tenant_at pool index s) }) turns
-      (record { state = s'; limiter = Some tenant' }) → StaysWithin (tenant_at pool index s) tenant'
+      (record { state = s'; limiter = Some tenant' }) → IsLater capped_tenant (tenant_at pool index s) tenant'
   ran_within turns ran =
-      run_stays_within (tenant_at pool index s) first_stays.within _
-      (record { state = s'; limiter = Some tenant' }) turns tenant' refl refl ran
+      run_is_later capped_tenant tenant_keeps (tenant_at pool index s) first_within s turns
+      (record { state = s'; limiter = Some tenant' }) ran
 
 -- what the machine of an index has run under its own tenant, and what both have become
 module _ (pool : PoolValue) (all : Amounts) (kept : IsKept pool all) (index : ℕ) (s : State)
@@ -271,17 +222,6 @@ step_holds w w' call reply held (charge, written, step) =
     held (record { call = call; reply = reply; charge = charge; written = written } ∷ []) (lent w') (lent w', step, refl) in
     subst (λ tenant. HoldsTotals (holdings tenant) w'.state) (sym (same_Some w'.limiter after.0 after.1)) after.2
 
--- a reply to one call is that of a run of it alone
-pub run_of_one : (w w' : World Tenant) (call : Call) (reply : Reply)
-    → RepliesWith (optional_rules tenant_rules) call (lent w) reply (lent w')
-    → IsRunOf (optional_rules tenant_rules) (call ∷ []) (lent w) (reply ∷ []) (lent w')
-run_of_one w w' call reply (charge, written, step) = (
-  record { call = call; reply = reply; charge = charge; written = written } ∷ [],
-  refl,
-  refl,
-  (lent w', step, refl),
-)
-
 -- a machine has what it had where the reply is a refusal
 pub refused_total : (w w' : World Tenant) (call : Call) (reply : Reply) → IsRefusal reply
     → RepliesWith (optional_rules tenant_rules) call (lent w) reply (lent w')
@@ -334,8 +274,8 @@ module _ (caps all held : Amounts) (s now : State) (view : s ≡ now) (is : held
         (ran : IsRunOf (optional_rules tenant_rules) calls (world s (Some tenant)) replies (world s' (Some tenant')))
       where
         -- and stays there
-        part_stays : StaysWithin tenant tenant'
-        part_stays = run_stays_within tenant part_within _ (world s' (Some tenant')) ran.0 tenant' refl refl ran.3
+        part_stays : IsLater capped_tenant tenant tenant'
+        part_stays = run_is_later capped_tenant tenant_keeps tenant part_within s ran.0 (world s' (Some tenant')) ran.3
 
         -- what all hold then are numbers of 64 bits
         pub part_fits : (kind : Kind) → held_together capped_tenant tenant' kind < 2 ^ 64
@@ -409,48 +349,27 @@ write_unasked memory offset bytes short s reply s' writes rest =
     let written = write_replies (optional_rules tenant_rules) memory offset bytes short s reply s' writes rest in
     (written.0, written.1, λ tenant. (0, 0, written.2 (Some tenant)))
 
--- a change without the limiter is the same under each tenant
-changes_under_each : (s s' : State) (turn : Turn) (Effect : Reply → State → Type 0) (limiter limiter' : Option Tenant)
-    → Changes (world s limiter) turn (world s' limiter') Effect → (tenant : Tenant)
-    → Changes (world s (Some tenant)) turn (world s' (Some tenant)) Effect
-changes_under_each s s' turn Effect limiter limiter' changes tenant = record {
-  free = changes.free;
-  machine = changes.machine;
-  effect = changes.effect;
-  after = ap (λ (w : World (Option Tenant)). world w.state (Some tenant)) changes.after;
-}
-
--- a metered turn without the limiter is the same under each tenant
-acts_under_each : {A : Type 0} (s s' : State) (turn : Turn) (old : A) (with_part : A → State)
-    (Effect : MeteredValue A (Unit {0}) → Reply → ℕ → MeteredValue A (Unit {0}) → Type 0) (bytes : Reply → ℕ)
-    (limiter limiter' : Option Tenant)
-    → ActsMeteredUnasked (world s limiter) turn (world s' limiter') old with_part Effect bytes → (tenant : Tenant)
-    → ActsMeteredUnasked (world s (Some tenant)) turn (world s' (Some tenant)) old with_part Effect bytes
-acts_under_each s s' turn old with_part Effect bytes limiter limiter' acts tenant = record {
-  part = acts.part;
-  meter = acts.meter;
-  effect = acts.effect;
-  wrote = acts.wrote;
-  after = ap (λ (w : World (Option Tenant)). world w.state (Some tenant)) acts.after;
-}
+-- a world under this tenant
+abbrev under : Tenant → World (Option Tenant) → World (Option Tenant)
+under tenant w = world w.state (Some tenant)
 
 -- a call that asks no limiter is replied to in the same way under each tenant
 pub replies_unasked : (call : Call) → IsUnasked call → (s : State) (reply : Reply) (s' : State)
     (limiter limiter' : Option Tenant)
     → RepliesWith (optional_rules tenant_rules) call (world s limiter) reply (world s' limiter')
     → RepliesUnasked call s reply s'
-replies_unasked (Store op memory ptr offset value) unasked s reply s' limiter limiter' (charge, written, changes) tenant =
-    (charge, written, changes_under_each s s' _ _ limiter limiter' changes tenant)
-replies_unasked (Binary op dst a b) unasked s reply s' limiter limiter' (charge, written, changes) tenant =
-    (charge, written, changes_under_each s s' _ _ limiter limiter' changes tenant)
-replies_unasked (FillMemory memory dst value len) unasked s reply s' limiter limiter' (charge, written, acts) tenant =
-    (charge, written, acts_under_each s s' _ _ _ _ _ limiter limiter' acts tenant)
-replies_unasked (CopyMemory into dst from src len) unasked s reply s' limiter limiter' (charge, written, acts) tenant =
-    (charge, written, acts_under_each s s' _ _ _ _ _ limiter limiter' acts tenant)
-replies_unasked (InitMemory memory segment dst src len) unasked s reply s' limiter limiter' (charge, written, acts) tenant =
-    (charge, written, acts_under_each s s' _ _ _ _ _ limiter limiter' acts tenant)
-replies_unasked (SetFuel fuel) unasked s reply s' limiter limiter' (charge, written, changes) tenant =
-    (charge, written, changes_under_each s s' _ _ limiter limiter' changes tenant)
+replies_unasked (Store op memory ptr offset value) unasked s reply s' limiter limiter' (charge, written, step) tenant =
+    (charge, written, changes_too step step.machine step.effect (ap (under tenant) step.after))
+replies_unasked (Binary op dst a b) unasked s reply s' limiter limiter' (charge, written, step) tenant =
+    (charge, written, changes_too step step.machine step.effect (ap (under tenant) step.after))
+replies_unasked (FillMemory memory dst value len) unasked s reply s' limiter limiter' (charge, written, step) tenant =
+    (charge, written, unasked_too step step.part step.meter step.effect (ap (under tenant) step.after))
+replies_unasked (CopyMemory into dst from src len) unasked s reply s' limiter limiter' (charge, written, step) tenant =
+    (charge, written, unasked_too step step.part step.meter step.effect (ap (under tenant) step.after))
+replies_unasked (InitMemory memory segment dst src len) unasked s reply s' limiter limiter' (charge, written, step) tenant =
+    (charge, written, unasked_too step step.part step.meter step.effect (ap (under tenant) step.after))
+replies_unasked (SetFuel fuel) unasked s reply s' limiter limiter' (charge, written, step) tenant =
+    (charge, written, changes_too step step.machine step.effect (ap (under tenant) step.after))
 replies_unasked call unasked s reply s' limiter limiter' step tenant = absurd unasked
 
 -- what `Pool::step_unasked` has done with the machine of an index
@@ -463,8 +382,7 @@ module _ (pool : PoolValue) (all : Amounts) (kept : IsKept pool all) (index : �
   -- the machine has run under it
   own_ran : IsRunOf (optional_rules tenant_rules) (call ∷ []) (world ran.machine (Some own_tenant)) (reply ∷ [])
       (world ran.machine' (Some own_tenant))
-  own_ran = run_of_one (world ran.machine own_tenant) (world ran.machine' own_tenant) call reply
-      (ran.becomes own_tenant)
+  own_ran = run_of_one (optional_rules tenant_rules) call _ reply _ (ran.becomes own_tenant)
 
   -- it is an accepted run
   pub unasked_runs : RunsTenant pool index (call ∷ []) (reply ∷ []) (record pool { machines = machines' })

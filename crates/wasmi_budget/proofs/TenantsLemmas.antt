@@ -14,8 +14,12 @@ use Rattle.std.proofs.lemmas.List.Elements.{All-push}
 use Rattle.std.proofs.lemmas.List.{get_or_past, get_or-set_same, get_or-set_other, set-get_or, length-set, length-append}
 use Rattle.std.proofs.lemmas.List.FromFn.{fill_by_all, get_or-map-range_with_len, length-map-range_with_len, map-range_with_len_more}
 use Rattle.std.proofs.lemmas.List.Quantifiers.{all_pairs_push, all_pairs_remove}
+use Rattle.wasmi_meter.specs.declared.quota.Amounts.{Amounts}
 use Rattle.wasmi_machine.specs.State.{State}
-use Rattle.wasmi_budget.specs.Pool.{BecomesAt}
+use Rattle.wasmi_machine.specs.declared.calls.Call.{Call}
+use Rattle.wasmi_machine.specs.declared.calls.Reply.{Reply}
+use Rattle.wasmi_budget.proofs.PoolLemmas.{part_kept, part_runs}
+use Rattle.wasmi_budget.specs.Pool.{BecomesAt, IsKept, RunsAsPart, RunsTenant, pool_of}
 use Rattle.wasmi_budget.specs.Tenants.{HasAllUpTo, value_of, by_index, IsListed, IsPlace, Rises}
 
 -- an index among rising ones is at least its place
@@ -278,8 +282,8 @@ module _ {X : Type 0} where
             (λ k d inside. let less = listed.below k d inside in omega (arith, less)) (omega arith);
       }
 
-module _ {X : Type 0} (next : ℕ) (indices : List ℕ) (values : List X) (listed : IsListed next indices values)
-    (view : List (Option X)) (is : by_index next indices values ≡ view) where
+module _ {X : Type 0} {next : ℕ} {indices : List ℕ} {values : List X} (listed : IsListed next indices values)
+    {view : List (Option X)} (is : by_index next indices values ≡ view) where
   -- as many indices were given as there are places
   pub given : next ≡ length view
   given = sym (length-by_index next indices values) ∙ ap length is
@@ -299,8 +303,8 @@ module _ {X : Type 0} (next : ℕ) (indices : List ℕ) (values : List X) (liste
       ap (by_index next indices) (ap (set values p) (same ∙ at) ∙ set-get_or values p x) ∙ is
 
 -- what lies at its index, where the place of an index was looked for among what is there
-module _ {X : Type 0} (next : ℕ) (indices : List ℕ) (values : List X) (listed : IsListed next indices values)
-    (view : List (Option X)) (is : by_index next indices values ≡ view) (seen : List ℕ) (sees : seen ≡ indices)
+module _ {X : Type 0} {next : ℕ} {indices : List ℕ} {values : List X} (listed : IsListed next indices values)
+    {view : List (Option X)} (is : by_index next indices values ≡ view) {seen : List ℕ} (sees : seen ≡ indices)
     (j : ℕ) where
   -- without a place there is no value
   pub no_value : IsPlace seen j None → get_or view j None ≡ None
@@ -315,8 +319,8 @@ module _ {X : Type 0} (next : ℕ) (indices : List ℕ) (values : List X) (liste
     place_at = ap (λ xs. get_or xs p 0) (sym sees) ∙ place.1
 
     -- the value at the place is that of the index
-    pub its_value : (x : X) → x ≡ get_or values p x → get_or view j None ≡ Some x
-    its_value x at = ap (λ xs. get_or xs j None) (sym is)
+    pub its_value : {x : X} → x ≡ get_or values p x → get_or view j None ≡ Some x
+    its_value {x} at = ap (λ xs. get_or xs j None) (sym is)
         ∙ found_at next indices values listed p j x place_within place_at (sym at)
 
     -- with another value at the place the index has that
@@ -350,19 +354,31 @@ module _ {X : Type 0} (next : ℕ) (indices : List ℕ) (values : List X) (liste
           (omega (arith, past, ap length (sym is), length-by_index next indices values)) in
           let f : false ≡ true = ap is_some (sym none) ∙ has in absurd cc
 
--- where the machine at the place of an index has become another, that of the index has
-pub becomes_at : (next : ℕ) (indices : List ℕ) (machines : List State) (listed : IsListed next indices machines)
-    (view : List (Option State)) (is : by_index next indices machines ≡ view) (seen : List ℕ) (sees : seen ≡ indices)
-    (index place : ℕ) → IsPlace seen index (Some place) → (change : State → State → Type 0) (s s' : State)
-    → s ≡ get_or machines place s → change s s'
-    → BecomesAt view index change (by_index next indices (set machines place s'))
-becomes_at next indices machines listed view is seen sees index place found change s s' at how = record {
-  machine = s;
-  found = its_value next indices machines listed view is seen sees index place found s at;
-  machine' = s';
-  becomes = how;
-  after = set_value next indices machines listed view is seen sees index place found s';
-}
+module _ {next : ℕ} {indices : List ℕ} {machines : List State} (listed : IsListed next indices machines)
+    {view : List (Option State)} (is : by_index next indices machines ≡ view) {seen : List ℕ} (sees : seen ≡ indices)
+    (index place : ℕ) (found : IsPlace seen index (Some place)) {s : State} (at : s ≡ get_or machines place s) where
+  -- where the machine at the place of an index has become another, that of the index has
+  pub becomes_at : (change : State → State → Type 0) (s' : State) → change s s'
+      → BecomesAt view index change (by_index next indices (set machines place s'))
+  becomes_at change s' how = record {
+    machine = s;
+    found = its_value listed is sees index place found at;
+    machine' = s';
+    becomes = how;
+    after = set_value listed is sees index place found s';
+  }
+
+  -- where it has run as a part, that of the index has run, and the pool is kept
+  pub ran_at : {caps all all' : Amounts} {calls : List Call} {replies : List Reply} {s' : State}
+      → IsKept (pool_of caps view) all → RunsAsPart caps all s calls replies s' all'
+      → RunsTenant (pool_of caps view) index calls replies (pool_of caps (by_index next indices (set machines place s')))
+      × IsKept (pool_of caps (by_index next indices (set machines place s'))) all'
+  ran_at {caps} {all} {all'} {calls} {replies} {s'} kept part =
+      let there = its_value listed is sees index place found at in
+      let put = set_value listed is sees index place found s' in (
+        part_runs (pool_of caps view) all kept index s there calls replies s' all' part _ put,
+        part_kept (pool_of caps view) all kept index s there calls replies s' all' part _ put,
+      )
 
 -- a search among rising indices finds the place of an index, or says that it isn't among them
 pub searched_place : (indices : List ℕ) (j : ℕ) (r : Result ℕ ℕ) (place : Option ℕ) → Rises indices

@@ -1,6 +1,6 @@
 -- Arrays that a call of an instruction writes, refusals of such calls, and the lanes of a shuffle.
 use Rattle.std.proofs.Common.{◌≡◌, ℕ, ◌<◌, ◌&&◌, Bool, true, false, List, [], ◌∷◌, length, map, get_or, refl, arith, rules, tests, ◌≤◌, Some, None, take, sym, ap, ◌∙◌}
-use Rattle.wasmi_c.proofs.Common.{◌==◌, if◌then◌else◌, nat_lt, same_number_lists, get_or-map, length-map, same_lists, take_all, Leaves, each_of, each_of_two, each_of_three, zip3, lanes_of}
+use Rattle.wasmi_c.proofs.Common.{◌==◌, if◌then◌else◌, nat_lt, same_number_lists, get_or-map, get_or-set_at, get_or-set_other, get_or_default, gets, slice_get-map, length-map, same_lists, take_all, Leaves, each_of, each_of_two, each_of_three, zip3, lanes_of}
 use Rattle.std.specs.Prelude.{Ok, Err}
 use Rattle.std.specs.Simd.Lanes.{zip2}
 use Rattle.std.proofs.lemmas.List.Folds.{list_all_at}
@@ -69,8 +69,11 @@ each_three_written f a b c old new seconds thirds same kept each =
     let x = element a k first in let y = element b k second in
     each k x y z u first ∙ sym (ap (λ g. g (get_or c k z)) (get_or-zip2 f a b k x y g first second))))
 
--- what is left in an array of results that is written
-pub ruleset arrays = (each_written, each_two_written, each_three_written)
+-- what is left in an array of results that is written, and its elements after each write
+pub ruleset arrays = (each_written, each_two_written, each_three_written, get_or-set_at, get_or-set_other, get_or_default)
+
+-- what lies at a place of a list of names with their instructions
+pub ruleset places = (gets, slice_get-map)
 
 -- whether a lane has the index
 abbrev pub has_lane : ℕ → Bool

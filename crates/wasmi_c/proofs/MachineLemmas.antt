@@ -11,6 +11,7 @@ use Rattle.wasmi_meter.specs.declared.limiter.Kind.TheVariants.{Bytes, Elements}
 use Rattle.wasmi_machine.specs.Determinism.{RelatesByKind, RunsKeepKind}
 use Rattle.wasmi_machine.specs.Laws.{HoldsTotalsAlways, QuotasStayWithin}
 use Rattle.wasmi_machine.proofs.StepsLemmas.{write_replies}
+use Rattle.wasmi_machine.proofs.StoreLemmas.{run_of_one}
 use Rattle.wasmi_machine.specs.Steps.{IsRunOf, Run, RepliesWith, SomeCopy}
 use Rattle.wasmi_machine.specs.TableEffects.{ReservesElementsAt}
 use Rattle.wasmi_budget.proofs.PoolLemmas.{elements_alike}
@@ -23,7 +24,7 @@ use Rattle.wasmi_c.specs.Machine.Replies.{only}
 use Rattle.wasmi_c.specs.Machine.NewMachines.{IsAnswer, IsNewWithAnswers, MakesMachine, MakesWithAnswers, answer_of}
 use Rattle.wasmi_c.specs.declared.machine.call_struct.CallStruct.{CallStruct}
 use Rattle.wasmi_c.specs.declared.machine.limits.Limits.{Limits}
-use Rattle.wasmi_machine.proofs.MemoryEffectsLemmas.{vector_store_kept, written_kept}
+use Rattle.wasmi_machine.proofs.MemoryEffectsLemmas.{vector_store_facts, write_facts}
 use Rattle.wasmi_machine.specs.MemoryEffects.{StoresMemoryAt, WritesMemoryAt}
 use Rattle.wasmi_meter.specs.declared.any_limiter.AnyLimiter.TheVariants as limiter
 
@@ -101,12 +102,8 @@ machine_replies machine s l call reply s' l' seen replies =
 
 -- a call is a run of it alone
 pub calls_run : CallsAreRuns
-calls_run call machine reply machine' (charge, written, step) = (
-  record { call = call; reply = reply; charge = charge; written = written } ∷ [],
-  refl,
-  refl,
-  (world machine'.state (Some machine'.limiter), step, refl),
-)
+calls_run call machine reply machine' =
+    run_of_one (optional_rules any_limiter_rules) call (world_of machine) reply (world_of machine')
 
 -- a quota that holds what a machine has holds what another has that has as much of each kind
 kept_by_totals : (s : State) (l : AnyLimiter) (s' : State) → ((kind : Kind) → total s' kind ≡ total s kind) → Keeps s l
@@ -135,14 +132,14 @@ pub kept_by_store : (s : State) (l : AnyLimiter) (index a : ℕ) (stored : List 
     → StoresMemoryAt index a stored s.memories full s'.memories → s' ≡ with_memories s s'.memories → Keeps s l
     → Keeps s' l
 kept_by_store s l index a stored full s' stores rest kept =
-    kept_by_sizes s l s' (vector_store_kept index s.memories full s'.memories a (Some stored) stores) rest kept
+    kept_by_sizes s l s' ((vector_store_facts index a (Some stored) s.memories).keeps full s'.memories stores).0 rest kept
 
 -- a write keeps them
 pub kept_by_write : (s : State) (l : AnyLimiter) (index offset : ℕ) (bytes : List ℕ) (full : Reply) (s' : State)
     → WritesMemoryAt index offset bytes s.memories full s'.memories → s' ≡ with_memories s s'.memories → Keeps s l
     → Keeps s' l
 kept_by_write s l index offset bytes full s' writes rest kept =
-    kept_by_sizes s l s' (written_kept index s.memories full s'.memories offset bytes writes) rest kept
+    kept_by_sizes s l s' ((write_facts index offset bytes s.memories).keeps full s'.memories writes).0 rest kept
 
 -- a write of bytes is a step of a machine by the call `Write` with a copy of them
 pub machine_writes : (machine : MachineValue) (s : State) (l : AnyLimiter) → record { state = s; limiter = l } ≡ machine

@@ -167,10 +167,8 @@ made_by_quota e made q q' makes =
 -- what is made is what was to be made
 pub made_is : {T E : Type 0} (e : Request (Unit {0}) E) (made x : T) (outcome : AttemptOutcome E)
     → Ok x ≡ answer_of e made outcome → x ≡ made
-made_is e made x (Unasked cause) is = cc
-made_is e made x (Denied answer) is = cc
 made_is e made x Met is = cc
-made_is e made x (Failed cause answer) is = cc
+made_is e made x outcome is = cc
 
 -- what holds of two values holds of what equals them
 pub of_equals : {T : Type 0} (Holds : T → T → Type 0) {s s' t t' : T} → s ≡ t → s' ≡ t' → Holds t t' → Holds s s'

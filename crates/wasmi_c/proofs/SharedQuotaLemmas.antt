@@ -89,10 +89,8 @@ module _ {V E : Type 0} (e : Request V E) where
 
   -- by how much an attempt adds to what is held
   abbrev added : AttemptOutcome E → ℕ
-  added (Unasked cause) = 0
-  added (Denied answer) = 0
   added Met = asked_for
-  added (Failed cause notice_answer) = 0
+  added outcome = 0
 
   module _ (tells : TellsOfKind e) (quota quota' : Quota) where
     -- an answer to the question counts as what is held more after it
@@ -137,10 +135,8 @@ module _ {T E : Type 0} (e : Request (Unit {0}) E) (made : T) (size : Result T E
     (full : size (Ok made) ≡ asked_for e) (empty : (cause : E) → size (Err cause) ≡ 0) where
   -- an attempt adds the size of its answer to what is held
   size_made : (outcome : AttemptOutcome E) → added e outcome ≡ size (answer_of e made outcome)
-  size_made (Unasked cause) = sym (empty cause)
-  size_made (Denied answer) = sym (empty _)
   size_made Met = sym full
-  size_made (Failed cause notice_answer) = sym (empty _)
+  size_made outcome = sym (empty _)
 
   -- a creation counts as the size of what it answers
   pub creation_counts : TellsOfKind e → (quota quota' : Quota) (result : Result T E)
@@ -158,10 +154,8 @@ pub record IsCounted {V E : Type 0} (g : Growth V E) (size : V → ℕ) (x : V) 
 module _ {V E : Type 0} (g : Growth V E) (size : V → ℕ) (x : V) (counted : IsCounted g size x) where
   -- an attempt adds the same to the size as to what is held
   size_grown : (outcome : AttemptOutcome E) → size (value_after g.request x outcome) ≡ size x + added g.request outcome
-  size_grown (Unasked cause) = omega arith
-  size_grown (Denied answer) = omega arith
   size_grown Met = counted.full
-  size_grown (Failed cause notice_answer) = omega arith
+  size_grown outcome = omega arith
 
   -- a growth counts as the difference of the sizes, however it ends
   pub growth_counts : (m m' : Option Meter) (quota quota' : Quota) (x' : V) (result : Result ℕ E) (charge : ℕ)

@@ -3,6 +3,7 @@ use Rattle.std.proofs.Common.{◌≡◌, ◌≤◌, ◌<◌, ◌-◌, ◌∷◌,
 use Rattle.wasmi_c.proofs.Common.{set-get_or, same_Some, option_map, MatchOption, slice_set, State, World, world, SetFuel, Rules, optional_rules, Meter, meter_after, meter_set, PoolValue, RunsTenant, machine_of, tenant_at, tenant_rules, PaysFuelIn, word_after, with_machine_at, TenantPaysFuel, TenantReplies, TenantRepliesInStatus, TenantRepliesInWord, DONE, NO_TENANT, ReplyStruct}
 use Rattle.std.proofs.lemmas.Result.{IfOk-at_ok}
 use Rattle.std.specs.Prelude.{slice_get}
+use Rattle.wasmi_machine.proofs.StoreLemmas.{run_of_one}
 use Rattle.wasmi_machine.specs.Steps.{FuelSet, HasEffect, IsRunOf, RepliesWith, effect_of}
 use Rattle.wasmi_machine.specs.declared.calls.Call.{Call}
 use Rattle.wasmi_machine.specs.declared.calls.Reply.{Reply}
@@ -22,18 +23,12 @@ module _ (pool : PoolValue) (tenant : ℕ) (s : State) (found : machine_of pool 
   -- a call that changes nothing on a tenant's machine is a run that leaves the pool
   pub runs_in_place : RunsTenant pool tenant (call ∷ []) (full ∷ []) pool
   runs_in_place =
-      let own : Tenant = tenant_at pool tenant s in
-      let (charge, written, step) = replies own in record {
+      let own : Tenant = tenant_at pool tenant s in record {
         machine = s;
         found = found;
         machine' = s;
         tenant' = own;
-        ran = (
-          record { call = call; reply = full; charge = charge; written = written } ∷ [],
-          refl,
-          refl,
-          (world s (Some own), step, refl),
-        );
+        ran = run_of_one (optional_rules tenant_rules) call _ full _ (replies own);
         after = put_back;
       }
 

@@ -52,8 +52,6 @@ module _ (l l' : AtMost) where
   value_within : (x : MemoryValue) (pages : ℕ) (outcome : AttemptOutcome MemoryError)
       → Follows (growth_of x pages) (optional_rules at_most_rules) (Some l) outcome (Some l') → length x.bytes ≤ l.bytes
       → length (value_after (growth_of x pages) x outcome).bytes ≤ l.bytes
-  value_within x pages (Unasked cause) follows small = small
-  value_within x pages (Denied answer) follows small = small
   value_within x pages Met follows small =
       let permitted : nat_le (length x.bytes + pages * page_bytes x.ty.page) l.bytes
       ≡ true = let asked = follows.0 in cc in
@@ -63,7 +61,7 @@ module _ (l l' : AtMost) where
         length-append x.bytes (replicate (pages * page_bytes x.ty.page) 0),
         length-replicate {A = ℕ} (pages * page_bytes x.ty.page) 0,
       )
-  value_within x pages (Failed cause notice_answer) follows small = small
+  value_within x pages outcome follows small = small
 
   module _ (x x' : MemoryValue) (m m' : Option Meter) where
     abbrev Grown : ℕ → Result ℕ MemoryError → ℕ → Type 0

@@ -1,6 +1,6 @@
 -- The bits of a word that belong to one lane (`field`), as those of the operands give them.
-use Rattle.std.proofs.Common.{◌≡◌, ℕ, zero, suc, ◌+◌, ◌-◌, ◌*◌, ◌/◌, ◌%◌, ◌^◌, ◌<◌, ◌≤◌, sym, ap, ap₂, subst, ◌∙◌, arith, zero-mul, suc-mul, add-mul, mul-suc, mul-zero, mul_comm, le_refl, div-one, mod-lt, mod-eq_of_lt, replicate, bit_and, bit_or, bit_xor}
-use Rattle.wasmi_lanes.proofs.Common.{bit_at, number_l, zero-div, zero-mod, add-mod, add-mod_right, add-mul-mod_self_right, add-mul-mod_self_left, mod-add-mod, mod-mod, pow_pos, mul-le, shr-shr, and_mask, div-add-mod', div-mul-add, mod-mul-add, and_shr, and_mod, or_shr, or_mod, xor_shr, xor_mod, field_of, shr_below, field}
+use Rattle.std.proofs.Common.{◌≡◌, ℕ, zero, suc, ◌+◌, ◌-◌, ◌*◌, ◌/◌, ◌%◌, ◌^◌, ◌<◌, ◌≤◌, sym, ap, ap₂, subst, ◌∙◌, arith, zero-mul, suc-mul, add-mul, mul-suc, mul-zero, mul_comm, le_refl, div-one, mod-lt, bit_and, bit_or, bit_xor}
+use Rattle.wasmi_lanes.proofs.Common.{bit_at, zero-div, zero-mod, add-mod, add-mod_right, add-mul-mod_self_right, mod-add-mod, mod-mod, pow_pos, mul-le, shr-shr, and_mask, div-add-mod', div-mul-add, mod-mul-add, and_shr, and_mod, or_shr, or_mod, xor_shr, xor_mod, field_of, shr_below, field}
 use Rattle.std.proofs.Math.Pow.{ones_split, shr_mono, mod-mod-pow}
 
 -- a field of w bits is below 2 ^ w
@@ -157,18 +157,6 @@ unfolding field
 next_lane w i v =
     let next : w * suc i ≡ w + w * i = omega (arith, mul-suc w i) in
     ap (λ k. v / 2 ^ k % 2 ^ w) next ∙ ap (λ n. n % 2 ^ w) (sym (shr-shr v w (w * i)))
-
--- n lanes of x
-pub repeated_lane : (w n i x : ℕ) → x < 2 ^ w → i < n → field (w * i) w (number_l (2 ^ w) (replicate n x)) ≡ x
-repeated_lane w zero i x fits lt = absurd (omega arith)
-repeated_lane w (suc n) zero x fits lt =
-    first_lane w (x + 2 ^ w * number_l (2 ^ w) (replicate n x))
-    ∙ add-mul-mod_self_left x (2 ^ w) (number_l (2 ^ w) (replicate n x)) ∙ mod-eq_of_lt fits
-repeated_lane w (suc n) (suc i) x fits lt =
-    let rest : ℕ = number_l (2 ^ w) (replicate n x) in
-    let turned : x + 2 ^ w * rest ≡ rest * 2 ^ w + x = omega (arith, mul_comm (2 ^ w) rest) in
-    let high : (x + 2 ^ w * rest) / 2 ^ w ≡ rest = ap (λ v. v / 2 ^ w) turned ∙ div-mul-add rest (2 ^ w) x fits in
-    next_lane w i (x + 2 ^ w * rest) ∙ ap (field (w * i) w) high ∙ repeated_lane w n i x fits (omega arith)
 
 -- the highest bit of a lane of h + 1 bits
 pub top_of_lane : (k h v : ℕ) → bit_at (field k (suc h) v) h ≡ bit_at v (k + h)

@@ -1,40 +1,17 @@
--- Lanes as std::simd computes them: the digits of a number, lanes that a comparison chooses, and sums.
-use Rattle.std.proofs.Common.{ℕ, ◌+◌, ◌-◌, ◌%◌, ◌<◌, ◌≡◌, List, [], ◌∷◌, length, get_or, map, replicate, refl, sym, ap, ◌∙◌, arith, Bool, false, cond, ltb, nat_lt, if◌then◌else◌, zero, suc, pos, ◌*◌, ◌/◌, ◌^◌, ◌≤◌, subst, mul_comm, zero-mul, suc-mul}
-use Rattle.wasmi_lanes.proofs.Common.{zip2, sel_l, digits_l, number_l, Each1, length-zip2, get_or-zip2, get_or-sel_l, get_or-replicate, length-replicate, Each1-from_get_or, tops_compared, mod-one, mod-pow-add, div-mul-add, mod-mul-add, pow-add, mul-le, get_or-map, Width, w16, w32, bits, signed, lane, field}
-use lib.Lanes.{top}
-use mir.Val.{hbits}
+-- Lanes as std::simd computes them: the digits of a number, and sums.
+use Rattle.std.proofs.Common.{ℕ, ◌+◌, ◌%◌, ◌<◌, ◌≡◌, List, [], ◌∷◌, length, get_or, map, replicate, refl, sym, ap, ◌∙◌, arith, zero, suc, pos, ◌*◌, ◌/◌, ◌^◌, ◌≤◌, subst, mul_comm, zero-mul, suc-mul}
+use Rattle.wasmi_lanes.proofs.Common.{zip2, digits_l, number_l, Each1, Each1-from_get_or, mod-one, mod-pow-add, div-mul-add, mod-mul-add, pow-add, mul-le, get_or-map, Width, w16, w32, bits, signed, lane, field}
 use Rattle.std.proofs.Math.Nat.{mul-add, mul-one, mod-eq_of_lt}
 use Rattle.wasmi_types.specs.Numbers.{w8, w64}
+use Rattle.wasmi_raw.specs.RawVal.{vector_of}
 use Rattle.wasmi_lanes.proofs.FieldLemmas.{first_lane, next_lane}
-
-module _ (w : Width) (n : ℕ) (a b chosen other : List ℕ) (long_a : length a ≡ n) (long_b : length b ≡ n)
-    (long_chosen : length chosen ≡ n) (long_other : length other ≡ n) where
-  -- lane i of the chosen lanes is that of `chosen` where lane i of a is less than that of b, else that of `other`
-  pub chosen_where_less : (i : ℕ) → i < n
-      → get_or (sel_l (map (top (hbits w)) (zip2 (λ x y. cond (ltb x y) (2 ^ bits w - 1) 0) a b)) chosen other) i 0
-      ≡ (if nat_lt (get_or a i 0) (get_or b i 0) then get_or chosen i 0 else get_or other i 0)
-  chosen_where_less i inside =
-      let tests : List Bool = zip2 ltb a b in
-      let tested : length tests ≡ n = length-zip2 ltb a b (long_a ∙ sym long_b) ∙ long_a in
-      let within : (k : ℕ) → k ≡ n → i < k = λ k long. subst (λ m. i < m) (sym long) inside in
-      ap (λ ms. get_or (sel_l ms chosen other) i 0) (tops_compared w ltb a b)
-      ∙ get_or-sel_l tests chosen other i 0 (within (length tests) tested) (within (length chosen) long_chosen)
-      (within (length other) long_other)
-      ∙ ap (λ t. cond t (get_or chosen i 0) (get_or other i 0))
-      (get_or-zip2 ltb a b i 0 0 false (within (length a) long_a) (within (length b) long_b))
-
--- a lane of lanes to each of which x was added
-pub added_at : (w : Width) (n x : ℕ) (xs : List ℕ) (i : ℕ) → length xs ≡ n → i < n
-    → get_or (zip2 (λ a b. (a + b) % 2 ^ bits w) xs (replicate n x)) i 0 ≡ (get_or xs i 0 + x) % 2 ^ bits w
-added_at w n x xs i long inside =
-    get_or-zip2 (λ a b. (a + b) % 2 ^ bits w) xs (replicate n x) i 0 0 0 (subst (λ k. i < k) (sym long) inside)
-    (subst (λ k. i < k) (sym (length-replicate n x)) inside)
-    ∙ ap (λ b. (get_or xs i 0 + b) % 2 ^ bits w) (get_or-replicate n i x 0 inside)
+use Rattle.wasmi_lanes.proofs.ItemLemmas.{items, repeated, zipped}
+use Rattle.std.proofs.lemmas.Simd.{Each1-replicate}
 
 -- a lane of 8 bits moved by half of its range
 pub biased_8 : (xs : List ℕ) (i : ℕ) → length xs ≡ 16 → i < 16
     → get_or (zip2 (λ a b. (a + b) % 256) xs (replicate 16 128)) i 0 ≡ (get_or xs i 0 + 128) % 256
-biased_8 = added_at w8 16 128
+biased_8 xs i long inside = (zipped (λ a b. (a + b) % 256) (items 16 xs long) (repeated 16 128)).are i inside
 
 -- the list of digits has them in their places
 pub digit_at : (b n v i d : ℕ) → i < n → get_or (digits_l (2 ^ b) n v) i d ≡ v / 2 ^ (b * i) % 2 ^ b
@@ -42,6 +19,13 @@ unfolding field
 digit_at b zero v i d below = absurd (omega arith)
 digit_at b (suc n) v zero d below = sym (first_lane b v)
 digit_at b (suc n) v (suc i) d below = digit_at b n (v / 2 ^ b) i d (omega arith) ∙ sym (next_lane b i v)
+
+-- a byte of a vector, as it is read from the vector's words
+pub byte_of_words : (v low high : ℕ) → v ≡ vector_of low high → (i : ℕ) → i < 16
+    → get_or (digits_l 256 16 (low + 2 ^ 64 * (high + 0))) i 0 ≡ lane w8 v i
+byte_of_words v low high whole i inside =
+    let number : low + 2 ^ 64 * (high + 0) ≡ v = omega (arith, whole) in
+    digit_at 8 16 (low + 2 ^ 64 * (high + 0)) i 0 inside ∙ ap (λ k. lane w8 k i) number
 
 -- x + p * n, with its factors and its summands swapped
 turned : (p x n : ℕ) → x + p * n ≡ n * p + x
@@ -60,6 +44,14 @@ number_at b (x ∷ xs) (suc i) d fits below =
     next_lane b i (x + 2 ^ b * n)
     ∙ ap (field (b * i) b) (ap (λ k. k / 2 ^ b) (turned (2 ^ b) x n) ∙ div-mul-add n (2 ^ b) x fits.0)
     ∙ number_at b xs i d fits.1 (omega arith)
+
+-- n lanes of x
+pub repeated_lane : (w n i x : ℕ) → x < 2 ^ w → i < n → field (w * i) w (number_l (2 ^ w) (replicate n x)) ≡ x
+unfolding field
+repeated_lane w n i x fits inside =
+    let of_x = repeated n x in
+    number_at w (replicate n x) i 0 (Each1-replicate (λ y. y < 2 ^ w) n x fits) (omega (arith, of_x.long))
+    ∙ of_x.are i inside
 
 -- and is below the power that has one digit more
 pub number_below : (b : ℕ) (xs : List ℕ) → Each1 (λ x. x < 2 ^ b) xs → number_l (2 ^ b) xs < 2 ^ (length xs * b)

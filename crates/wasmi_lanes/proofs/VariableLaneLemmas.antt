@@ -1,57 +1,35 @@
 -- One lane of a vector: by its bytes, and among lanes that are chosen by their numbers.
-use Rattle.std.proofs.Common.{ℕ, ◌+◌, ◌-◌, ◌*◌, ◌/◌, ◌%◌, ◌^◌, ◌<◌, ◌≡◌, List, [], ◌∷◌, length, get_or, replicate, map, refl, sym, ap, ap₂, ◌∙◌, arith, if◌then◌else◌, Bool, true, false, cond, eqb, ltb, bit_and, zero-add, mul_comm, mul-add, mul-one, add-mul}
-use Rattle.wasmi_lanes.proofs.Common.{shr-shr, mod-pow-add, and_mask, zip2, sel_l, number_l, digits_l, ltb-true, swz_l, SwzOk, SwzOk-from_below, Each1-from_get_or, length-zip2, get_or-zip2, get_or-replicate, length-replicate, get_or-swz_l_below, get_or-sel_l, tops_compared, Width, bits, lane, with_lane}
+use Rattle.std.proofs.Common.{ℕ, ◌+◌, ◌-◌, ◌*◌, ◌/◌, ◌%◌, ◌^◌, ◌<◌, ◌≡◌, List, [], ◌∷◌, get_or, replicate, map, refl, sym, subst, ap, ◌∙◌, arith, true, false, cond, eqb, ltb, bit_and, zero-add, mul_comm, mul-add, mul-one, add-mul}
+use Rattle.wasmi_lanes.proofs.Common.{shr-shr, mod-pow-add, and_mask, zip2, sel_l, number_l, digits_l, ltb-true, swz_l, SwzOk, SwzOk-from_below, Each1-from_get_or, get_or-swz_l_below, Width, bits, lane, with_lane}
 use Rattle.std.proofs.lemmas.List.FromFn.{get_or-range_with_len, length-range_with_len, get_or-map-range_with_len}
 use Rattle.std.specs.List.{range_with_len}
 use Rattle.wasmi_types.specs.Numbers.{w8}
+use Rattle.wasmi_lanes.proofs.ItemLemmas.{AreItems, repeated, chosen_by}
 use Rattle.wasmi_lanes.proofs.SimdLaneLemmas.{digit_at}
 use Rattle.wasmi_lanes.proofs.VectorLemmas.{lanes_make_vector, lane_below}
 use mir.Val.{hbits}
 use lib.Lanes.{top}
 
--- of n lanes, an item where the number of the lane is k, else the lane as it was
-item_at : (w : Width) (n k item : ℕ) (numbers lanes : List ℕ) (i : ℕ) → numbers ≡ range_with_len 0 n → length lanes ≡ n
-    → i < n
-    → get_or (sel_l (map (top (hbits w)) (zip2 (λ a b. cond (eqb a b) (2 ^ bits w - 1) 0) numbers (replicate n k)))
-    (replicate n item) lanes) i 0
-    ≡ (if eqb i k then item else get_or lanes i 0)
-item_at w n k item numbers lanes i counted long inside =
-    let tests : List Bool = zip2 eqb numbers (replicate n k) in
-    let many : length numbers ≡ n = ap length counted ∙ length-range_with_len 0 n in
-    let tested : length tests ≡ n =
-    length-zip2 eqb numbers (replicate n k) (many ∙ sym (length-replicate n k)) ∙ many in
-    let number : get_or numbers i 0 ≡ i =
-    ap (λ xs. get_or xs i 0) counted ∙ get_or-range_with_len 0 n i 0 inside ∙ zero-add i in
-    let test : get_or tests i false ≡ eqb i k =
-    get_or-zip2 eqb numbers (replicate n k) i 0 0 false (omega arith) (omega (arith, length-replicate n k))
-    ∙ ap₂ eqb number (get_or-replicate n i k 0 inside) in
-    ap (λ ms. get_or (sel_l ms (replicate n item) lanes) i 0) (tops_compared w eqb numbers (replicate n k))
-    ∙ get_or-sel_l tests (replicate n item) lanes i 0 (omega arith) (omega (arith, length-replicate n item))
-    (omega arith)
-    ∙ ap₂ (λ t x. cond t x (get_or lanes i 0)) test (get_or-replicate n i item 0 inside)
-
--- xs is the n lanes of v of this width
-pub record AreLanes (w : Width) (n v : ℕ) (xs : List ℕ) : Type 0 where
-  pub long : length xs ≡ n
-  pub are : (i : ℕ) → i < n → get_or xs i 0 ≡ lane w v i
+-- the numbers below n, in order
+numbered : (n : ℕ) → AreItems n 0 (λ i. i) (range_with_len 0 n)
+numbered n = record {
+  long = length-range_with_len 0 n;
+  are = λ i inside. get_or-range_with_len 0 n i 0 inside ∙ zero-add i;
+}
 
 -- an item where the number of the lane is `at`, and the lanes of v elsewhere: v with the item in the lane at that place
 pub lane_written : (w : Width) (n v at item : ℕ) {r : ℕ} {numbers places : List ℕ} (lanes : List ℕ)
-    → n * bits w ≡ 128 → numbers ≡ range_with_len 0 n → places ≡ replicate n at → AreLanes w n v lanes
+    → n * bits w ≡ 128 → numbers ≡ range_with_len 0 n → places ≡ replicate n at → AreItems n 0 (lane w v) lanes
     → ((i : ℕ) → i < n → lane w r i
     ≡ get_or (sel_l (map (top (hbits w)) (zip2 (λ a b. cond (eqb a b) (2 ^ bits w - 1) 0) numbers places))
     (replicate n item) lanes) i 0)
     → r < 2 ^ 128 → r ≡ with_lane w v at item
 unfolding with_lane
-lane_written w n v at item {r} {numbers} {places} lanes filled counted placed of_v written below =
-    lanes_make_vector w n r _ filled below
-    (λ i inside.
-    written i inside
-    ∙ ap (λ ks. get_or
-    (sel_l (map (top (hbits w)) (zip2 (λ a b. cond (eqb a b) (2 ^ bits w - 1) 0) numbers ks))
-    (replicate n item) lanes) i 0) placed
-    ∙ item_at w n at item numbers lanes i counted of_v.long inside
-    ∙ ap (λ x. if eqb i at then item else x) (of_v.are i inside))
+lane_written w n v at item {r} lanes filled counted placed of_v written below =
+    let of_numbers = subst (AreItems n 0 (λ i. i)) (sym counted) (numbered n) in
+    let of_places = subst (AreItems n 0 (λ _. at)) (sym placed) (repeated n at) in
+    let chosen = chosen_by w eqb of_numbers of_places (repeated n item) of_v in
+    lanes_make_vector w n r _ filled below (λ i inside. written i inside ∙ chosen.are i inside)
 
 -- ---- a lane of 16 or 32 bits, by its bytes
 
@@ -136,25 +114,28 @@ indices_inside f n k i same below inside =
 abbrev indices_of : ℕ → List ℕ
 indices_of x = digits_l 256 16 (number_l (2 ^ 32) (x ∷ 0 ∷ 0 ∷ 0 ∷ []))
 
-module _ (x : ℕ) (below : (i : ℕ) → i < 16 → lane w8 x i < 16) where
-  index_at : (i : ℕ) → i < 16 → get_or (indices_of x) i 0 ≡ lane w8 x i
-  index_at i inside =
-      let whole : number_l (2 ^ 32) (x ∷ 0 ∷ 0 ∷ 0 ∷ []) ≡ x = omega arith in
-      digit_at 8 16 (number_l (2 ^ 32) (x ∷ 0 ∷ 0 ∷ 0 ∷ [])) i 0 inside ∙ ap (λ n. lane w8 n i) whole
+-- they are the lanes of the word
+pub indices_are : (x : ℕ) → AreItems 16 0 (lane w8 x) (indices_of x)
+indices_are x =
+    let word : ℕ = number_l (2 ^ 32) (x ∷ 0 ∷ 0 ∷ 0 ∷ []) in
+    let whole : word ≡ x = omega arith in
+    record { long = refl; are = λ i inside. digit_at 8 16 word i 0 inside ∙ ap (λ n. lane w8 n i) whole }
 
-  index_below : (i : ℕ) → i < 16 → get_or (indices_of x) i 0 < 16
-  index_below i inside = omega (arith, index_at i inside, below i inside)
+module _ {f : ℕ → ℕ} {js : List ℕ} (of_j : AreItems 16 0 f js) (below : (i : ℕ) → i < 16 → f i < 16) where
+  -- an index is below 16
+  index_below : (i : ℕ) → i < 16 → get_or js i 0 < 16
+  index_below i inside = omega (arith, of_j.are i inside, below i inside)
 
   -- a choice of std::simd among 16 bytes may be by indices below 16
-  pub indices_may_index : SwzOk w8 16 16 0 (indices_of x)
+  pub indices_may_index : SwzOk w8 16 16 0 js
   indices_may_index =
-      SwzOk-from_below w8 16 1 16 0 (indices_of x) refl (omega arith)
-      (Each1-from_get_or (λ j. j < 16) (indices_of x) 0 (λ i inside. index_below i (omega arith)))
+      SwzOk-from_below w8 16 1 16 0 js refl (omega (arith, of_j.long))
+      (Each1-from_get_or (λ j. j < 16) js 0 (λ i inside. index_below i (omega (arith, of_j.long))))
 
   -- by indices below 16, the byte of a table at the index is chosen
   pub picked_inside_at : (table : List ℕ) (i : ℕ) → i < 16
-      → get_or (swz_l w8 16 table 0 (indices_of x)) i 0 ≡ get_or table (lane w8 x i) 0
+      → get_or (swz_l w8 16 table 0 js) i 0 ≡ get_or table (f i) 0
   picked_inside_at table i inside =
-      let place : 16 * ((0 + i) / 16) + get_or (indices_of x) i 0 ≡ lane w8 x i = omega (arith, index_at i inside) in
-      get_or-swz_l_below w8 16 table 0 (indices_of x) i (omega arith) (index_below i inside)
+      let place : 16 * ((0 + i) / 16) + get_or js i 0 ≡ f i = omega (arith, of_j.are i inside) in
+      get_or-swz_l_below w8 16 table 0 js i (omega (arith, of_j.long)) (index_below i inside)
       ∙ ap (λ j. get_or table j 0) place

@@ -5,7 +5,8 @@ use Rattle.std.proofs.Math.Pow.{mod-mod-pow}
 use Rattle.std.proofs.lemmas.Nat.Bits.{bit_at-pow_same}
 use Rattle.wasmi_raw.specs.RawVal.{vector_of}
 use Rattle.wasmi_types.specs.Numbers.{w8, w64}
-use Rattle.wasmi_lanes.proofs.FieldLemmas.{field_mod, lane_ends, top_of_lane, repeated_lane}
+use Rattle.wasmi_lanes.proofs.FieldLemmas.{field_mod, lane_ends, top_of_lane}
+use Rattle.wasmi_lanes.proofs.SimdLaneLemmas.{repeated_lane}
 use Rattle.wasmi_lanes.proofs.VectorLemmas.{lanes_make_vector}
 use mir.Syntax.{w128}
 
@@ -79,18 +80,7 @@ module _ (w : Width) (whole : lanes_in_word w * bits w ≡ 64) where
             ∙ high_is (i - n) (omega arith) ∙ ap f (sym at)
       ])
 
-  -- words whose lanes are a row of an operand's make the vector whose lanes are that row of the operand's
-  pub words_make_unary : {low_a high_a low high : ℕ} (row : ℕ → ℕ) (a r : ℕ) → AreWords a low_a high_a
-      → MakeVector low high r
-      → EachLane w (λ k. field k (bits w) low ≡ row (field k (bits w) low_a))
-      → EachLane w (λ k. field k (bits w) high ≡ row (field k (bits w) high_a))
-      → r ≡ from_lanes w (λ i. row (lane w a i))
-  words_make_unary {low_a} {high_a} {low} {high} row a r of_a of_r low_is high_is =
-      words_make_vector low high r (λ i. row (lane w a i)) of_r
-      (λ i inside. low_is i inside ∙ ap row (ap (field (bits w * i) (bits w)) of_a.low_is ∙ sym (low_lane a i inside)))
-      (λ i inside. high_is i inside ∙ ap row (ap (field (bits w * i) (bits w)) of_a.high_is ∙ sym (high_lane a i)))
-
-  -- and of two operands
+  -- words whose lanes are a row of two operands' make the vector whose lanes are that row of the operands'
   pub words_make_binary : {low_a high_a low_b high_b low high : ℕ} (row : ℕ → ℕ → ℕ) (a b r : ℕ)
       → AreWords a low_a high_a → AreWords b low_b high_b → MakeVector low high r
       → EachLane w (λ k. field k (bits w) low ≡ row (field k (bits w) low_a) (field k (bits w) low_b))
@@ -104,6 +94,14 @@ module _ (w : Width) (whole : lanes_in_word w * bits w ≡ 64) where
       words_make_vector low high r (λ i. row (lane w a i) (lane w b i)) of_r
       (λ i inside. low_is i inside ∙ ap₂ row (lower a low_a i of_a.low_is inside) (lower b low_b i of_b.low_is inside))
       (λ i inside. high_is i inside ∙ ap₂ row (upper a high_a i of_a.high_is) (upper b high_b i of_b.high_is))
+
+  -- and of one operand
+  pub words_make_unary : {low_a high_a low high : ℕ} (row : ℕ → ℕ) (a r : ℕ) → AreWords a low_a high_a
+      → MakeVector low high r
+      → EachLane w (λ k. field k (bits w) low ≡ row (field k (bits w) low_a))
+      → EachLane w (λ k. field k (bits w) high ≡ row (field k (bits w) high_a))
+      → r ≡ from_lanes w (λ i. row (lane w a i))
+  words_make_unary row a r of_a of_r = words_make_binary (λ x _. row x) a a r of_a of_a of_r
 
 -- ---- the highest bits of lanes of one width
 
@@ -214,28 +212,14 @@ inner_lanes w inner whole is i inside =
 
 -- ---- words whose lanes are a row of the operands' lanes make the vector of that row, which may name the width
 
--- in each lane r is the row of a, or of a and b
-abbrev pub UnaryInLanes : (ℕ → ℕ → Type 0) → (ℕ → ℕ → ℕ) → ℕ → ℕ → Type 0
-UnaryInLanes Lane row r a = (start width : ℕ) → Lane start width → field start width r ≡ row width (field start width a)
-
+-- in each lane r is the row of a and b
 abbrev pub BinaryInLanes : (ℕ → ℕ → Type 0) → (ℕ → ℕ → ℕ → ℕ) → ℕ → ℕ → ℕ → Type 0
 BinaryInLanes Lane row r a b =
     (start width : ℕ) → Lane start width → field start width r ≡ row width (field start width a) (field start width b)
 
 module _ (w : Width) (Lane : ℕ → ℕ → Type 0) (whole : lanes_in_word w * bits w ≡ 64)
     (lanes : EachLane w (λ k. Lane k (bits w))) where
-  -- words whose lanes are a row of an operand's make the vector whose lanes are that row of the operand's
-  pub unary_by_words : {a low_a high_a low high r : ℕ} (row : ℕ → ℕ → ℕ) → AreWords a low_a high_a → low < 2 ^ 64
-      → high < 2 ^ 64
-      → UnaryInLanes Lane row low low_a → UnaryInLanes Lane row high high_a → r ≡ vector_of low high
-      → r ≡ from_lanes w (λ i. row (bits w) (lane w a i))
-  unary_by_words {a} {low_a} {high_a} {low} {high} {r} row of_a fits_low fits_high low_is high_is is_r =
-      words_make_unary w whole (row (bits w)) a r of_a
-      (record { low_fits = fits_low; high_fits = fits_high; is = is_r })
-      (λ i inside. low_is (bits w * i) (bits w) (lanes i inside))
-      (λ i inside. high_is (bits w * i) (bits w) (lanes i inside))
-
-  -- and of two operands
+  -- words whose lanes are a row of two operands' make the vector whose lanes are that row of the operands'
   pub binary_by_words : {a low_a high_a b low_b high_b low high r : ℕ} (row : ℕ → ℕ → ℕ → ℕ) → AreWords a low_a high_a
       → AreWords b low_b high_b → low < 2 ^ 64 → high < 2 ^ 64
       → BinaryInLanes Lane row low low_a low_b → BinaryInLanes Lane row high high_a high_b → r ≡ vector_of low high

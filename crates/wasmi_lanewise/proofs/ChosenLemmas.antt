@@ -1,8 +1,9 @@
 -- Bytes chosen by indices, as std::simd chooses them.
-use Rattle.std.proofs.Common.{ℕ, ◌%◌, ◌<◌, ◌≤◌, ◌≡◌, List, length, get_or, replicate, map, ◌+◌, ◌*◌, ◌/◌, ◌⊎◌, refl, sym, subst, ap, ap₂, ◌∙◌, arith, inl, inr, nat_lt, if◌then◌else◌, Bool, true, false, not, ◌||◌, cond, ltb, leb, bit_and, w8, Fits}
-use Rattle.wasmi_lanewise.proofs.Common.{zip2, sel_l, Each1, cases_lt, lt-ltb, le-ltb, and_mask, swz_l, SwzOk, SwzOk-from_below, SwzOk-from_Each1, Each1-from_get_or, Each1-get_or, below_from_Fits, length-zip2, get_or-zip2, get_or-replicate, get_or-swz_l, get_or-swz_l_below, get_or-sel_l, length-sel_l, tops_compared, lane, lane_below}
+use Rattle.std.proofs.Common.{ℕ, ◌%◌, ◌<◌, ◌≤◌, ◌≡◌, List, length, get_or, replicate, map, ◌+◌, ◌*◌, ◌/◌, ◌⊎◌, refl, sym, subst, ap, ap₂, ◌∙◌, arith, inl, inr, nat_lt, if◌then◌else◌, true, false, not, ◌||◌, cond, ltb, leb, bit_and, w8, Fits}
+use Rattle.wasmi_lanewise.proofs.Common.{zip2, sel_l, Each1, cases_lt, lt-ltb, le-ltb, and_mask, swz_l, SwzOk, SwzOk-from_Each1, Each1-from_get_or, Each1-get_or, below_from_Fits, get_or-swz_l, lane, lane_below}
 use Rattle.std.proofs.Math.Nat.{mod-eq_of_lt}
-use Rattle.wasmi_lanes.proofs.VariableLaneLemmas.{computed}
+use Rattle.wasmi_lanes.proofs.ItemLemmas.{AreItems, items, repeated, zipped, chosen_by}
+use Rattle.wasmi_lanes.proofs.VariableLaneLemmas.{computed, indices_may_index, picked_inside_at}
 use lib.Dec.{T}
 use lib.Lanes.{top}
 
@@ -11,48 +12,33 @@ abbrev nibbles : List ℕ → List ℕ
 nibbles js = zip2 bit_and js (replicate 16 15)
 
 module _ (js : List ℕ) (long : length js ≡ 16) where
-  -- there are 16 nibbles
-  length_nibbles : length (nibbles js) ≡ 16
-  length_nibbles = length-zip2 bit_and js (replicate 16 15) long ∙ long
+  -- there are 16 nibbles, each the index in its place, modulo 16
+  nibbles_are : AreItems 16 0 (λ i. get_or js i 0 % 16) (nibbles js)
+  nibbles_are =
+      let masked = zipped bit_and (items 16 js long) (repeated 16 15) in
+      record { long = masked.long; are = λ i inside. masked.are i inside ∙ and_mask (get_or js i 0) 4 }
 
-  -- each nibble is the index in its place, modulo 16
-  nibble_at : (i : ℕ) → i < 16 → get_or (nibbles js) i 0 ≡ get_or js i 0 % 16
-  nibble_at i inside =
-      get_or-zip2 bit_and js (replicate 16 15) i 0 0 0 (omega arith) inside
-      ∙ ap (bit_and (get_or js i 0)) (get_or-replicate 16 i 15 0 inside) ∙ and_mask (get_or js i 0) 4
-
-  -- each nibble is below 16
-  nibble_below : (i : ℕ) → i < 16 → get_or (nibbles js) i 0 < 16
-  nibble_below i inside = let is = nibble_at i inside in omega arith
+  -- each is below 16
+  nibble_below : (i : ℕ) → i < 16 → get_or js i 0 % 16 < 16
+  nibble_below i inside = omega arith
 
   -- a choice of std::simd among 16 bytes may be by the nibbles
   pub nibbles_may_index : SwzOk w8 16 16 0 (nibbles js)
-  nibbles_may_index =
-      let whole = length_nibbles in
-      SwzOk-from_below w8 16 1 16 0 (nibbles js) refl (omega arith)
-      (Each1-from_get_or (λ j. j < 16) (nibbles js) 0 (λ i inside. nibble_below i (omega arith)))
+  nibbles_may_index = indices_may_index nibbles_are nibble_below
 
   -- the byte that a nibble chooses of a table is the one at the index modulo 16
   pub picked_at : (table : List ℕ) (i : ℕ) → i < 16
       → get_or (swz_l w8 16 table 0 (nibbles js)) i 0 ≡ get_or table (get_or js i 0 % 16) 0
-  picked_at table i inside =
-      let whole = length_nibbles in
-      get_or-swz_l_below w8 16 table 0 (nibbles js) i (omega arith) (nibble_below i inside)
-      ∙ ap (λ j. get_or table j 0) (let is = nibble_at i inside in omega arith)
+  picked_at = picked_inside_at nibbles_are nibble_below
 
   -- of two lists, an item of the first where the index in its place is below 16, else one of the second
   pub chosen_at : (low high : List ℕ) (i : ℕ) → length low ≡ 16 → length high ≡ 16 → i < 16
       → get_or (sel_l (map (top 7) (zip2 (λ a b. cond (ltb a b) 255 0) js (replicate 16 16))) low high) i 0
       ≡ (if nat_lt (get_or js i 0) 16 then get_or low i 0 else get_or high i 0)
   chosen_at low high i long_low long_high inside =
-      let tests : List Bool = zip2 ltb js (replicate 16 16) in
-      let whole : length tests ≡ 16 = length-zip2 ltb js (replicate 16 16) long ∙ long in
-      let test : get_or tests i false ≡ ltb (get_or js i 0) 16 =
-      get_or-zip2 ltb js (replicate 16 16) i 0 0 false (omega arith) inside
-      ∙ ap (ltb (get_or js i 0)) (get_or-replicate 16 i 16 0 inside) in
-      ap (λ ms. get_or (sel_l ms low high) i 0) (tops_compared w8 ltb js (replicate 16 16))
-      ∙ get_or-sel_l tests low high i 0 (omega arith) (omega arith) (omega arith)
-      ∙ ap (λ t. cond t (get_or low i 0) (get_or high i 0)) test
+      let chosen =
+      chosen_by w8 ltb (items 16 js long) (repeated 16 16) (items 16 low long_low) (items 16 high long_high) in
+      chosen.are i inside
 
 -- a choice among 16 bytes by the nibbles: that it may be made, and what it gives
 pub ruleset choice_by_nibbles = (nibbles_may_index, picked_at)
@@ -82,59 +68,15 @@ positions js =
     zip2 bit_and (zip2 (λ a b. (a + b) % 256) least (replicate 16 112)) (replicate 16 143)
 
 module _ (js : List ℕ) (long : length js ≡ 16) (fits : Each1 (Fits w8) js) where
-  abbrev tests : List Bool
-  tests = map (top 7) (zip2 (λ a b. cond (ltb a b) 255 0) js (replicate 16 16))
-
-  abbrev least : List ℕ
-  least = sel_l tests js (replicate 16 16)
-
-  -- the highest bits of the masks choose as the comparisons do
-  is_least : least ≡ sel_l (zip2 ltb js (replicate 16 16)) js (replicate 16 16)
-  is_least = ap (λ ms. sel_l ms js (replicate 16 16)) (tops_compared w8 ltb js (replicate 16 16))
-
-  -- there are 16 comparisons
-  many_tests : length (zip2 ltb js (replicate 16 16)) ≡ 16
-  many_tests = length-zip2 ltb js (replicate 16 16) long ∙ long
-
-  -- `least` has 16 items
-  many_least : length least ≡ 16
-  many_least =
-      let many = many_tests in
-      ap length is_least ∙ length-sel_l (zip2 ltb js (replicate 16 16)) js (replicate 16 16) (omega arith) many ∙ many
-
-  -- an item of `least` is the index in its place where that is below 16, else 16
-  least_at : (i : ℕ) → i < 16 → get_or least i 0 ≡ cond (ltb (get_or js i 0) 16) (get_or js i 0) 16
-  least_at i inside =
-      let many = many_tests in
-      let limit : List ℕ = replicate 16 16 in
-      let sixteen : get_or limit i 0 ≡ 16 = get_or-replicate 16 i 16 0 inside in
-      ap (λ l. get_or l i 0) is_least
-      ∙ get_or-sel_l (zip2 ltb js (replicate 16 16)) js (replicate 16 16) i 0 (omega arith) (omega arith) inside
-      ∙ ap₂ (λ t x. cond t (get_or js i 0) x)
-      (get_or-zip2 ltb js (replicate 16 16) i 0 0 false (omega arith) inside ∙ ap (ltb (get_or js i 0)) sixteen)
-      sixteen
-
-  abbrev sums : List ℕ
-  sums = zip2 (λ a b. (a + b) % 256) least (replicate 16 112)
-
-  -- `sums` has 16 items
-  many_sums : length sums ≡ 16
-  many_sums = length-zip2 (λ a b. (a + b) % 256) least (replicate 16 112) many_least ∙ many_least
-
-  -- there are 16 positions
-  length_positions : length (positions js) ≡ 16
-  length_positions = length-zip2 bit_and sums (replicate 16 143) many_sums ∙ many_sums
-
-  -- each is the position of the index in its place
-  position_at : (i : ℕ) → i < 16 → get_or (positions js) i 0 ≡ position (get_or js i 0)
-  position_at i inside =
-      let at_least : i < length least = omega (arith, many_least) in
-      let at_sums : i < length sums = omega (arith, many_sums) in
-      get_or-zip2 bit_and sums (replicate 16 143) i 0 0 0 at_sums inside
-      ∙ ap₂ bit_and
-      (get_or-zip2 (λ a b. (a + b) % 256) least (replicate 16 112) i 0 0 0 at_least inside
-      ∙ ap₂ (λ a b. (a + b) % 256) (least_at i inside) (get_or-replicate 16 i 112 0 inside))
-      (get_or-replicate 16 i 143 0 inside)
+  -- there are 16 positions, each that of the index in its place
+  positions_are : AreItems 16 0 (λ i. position (get_or js i 0)) (positions js)
+  positions_are =
+      let of_js = items 16 js long in
+      let limits = repeated 16 16 in
+      let least = chosen_by w8 ltb of_js limits of_js limits in
+      let sums = zipped (λ a b. (a + b) % 256) least (repeated 16 112) in
+      let masked = zipped bit_and sums (repeated 16 143) in
+      record { long = masked.long; are = masked.are }
 
   -- an index is below 256
   index_below : (i : ℕ) → i < 16 → get_or js i 0 < 256
@@ -143,12 +85,12 @@ module _ (js : List ℕ) (long : length js ≡ 16) (fits : Each1 (Fits w8) js) w
   -- a choice of std::simd among 16 bytes may be by the positions
   pub positions_may_index : SwzOk w8 16 16 0 (positions js)
   positions_may_index =
-      let whole = length_positions in
+      let whole = positions_are.long in
       SwzOk-from_Each1 w8 16 1 16 0 (positions js) refl (omega arith)
       (Each1-from_get_or (λ j. T (leb 128 j || ltb j 16)) (positions js) 0
       (λ i inside.
       let within : i < 16 = omega arith in
-      subst T (sym (ap (λ p. leb 128 p || ltb p 16) (position_at i within)
+      subst T (sym (ap (λ p. leb 128 p || ltb p 16) (positions_are.are i within)
       ∙ position_fits (get_or js i 0) (index_below i within))) tt))
 
   -- by the positions, the byte of a table at the index is chosen where the index is below 16, else 0
@@ -156,11 +98,12 @@ module _ (js : List ℕ) (long : length js ≡ 16) (fits : Each1 (Fits w8) js) w
       → get_or (swz_l w8 16 table 0 (positions js)) i 0
       ≡ (if nat_lt (get_or js i 0) 16 then get_or table (get_or js i 0) 0 else 0)
   picked_or_zero_at table i inside =
-      let whole = length_positions in
+      let whole = positions_are.long in
       let j : ℕ = get_or js i 0 in
-      let place : 16 * ((0 + i) / 16) + get_or (positions js) i 0 ≡ position j = omega (arith, position_at i inside) in
+      let is = positions_are.are i inside in
+      let place : 16 * ((0 + i) / 16) + get_or (positions js) i 0 ≡ position j = omega (arith, is) in
       get_or-swz_l w8 16 table 0 (positions js) i (omega arith)
-      ∙ ap₂ (λ p q. cond (leb 128 p) 0 (get_or table q 0)) (position_at i inside) place
+      ∙ ap₂ (λ p q. cond (leb 128 p) 0 (get_or table q 0)) is place
       ∙ ap (λ t. cond t 0 (get_or table (position j) 0)) (zero_from_16 j (index_below i inside))
       ∙ either (cases_lt j 16)
     where

@@ -1,6 +1,6 @@
 -- Words whose lanes are 0 or their top bit alone, and their lanes filled with ones.
 use Rattle.std.proofs.Common.{◌≡◌, ℕ, zero, suc, ◌+◌, ◌-◌, ◌*◌, ◌/◌, ◌%◌, ◌^◌, ◌<◌, ◌≤◌, ◌⊎◌, inl, inr, cond, eqb, Bool, true, false, not, refl, sym, ap, ap₂, subst, ◌∙◌, arith, mod-eq_of_lt, mod-lt, lit<, bit_and, bit_or, bit_xor, pow-suc, mul_comm, one-mul, mul-add, mul-one}
-use Rattle.wasmi_lanewise.proofs.Common.{zero-mod, mod_self, div-eq_of_lt, add-mod_right, mod-add-mod, pow_pos, shr-shr, mod-pow-add, field_of, shr_le, and_le_l, and_mask, or_lt, or_shifted, bit_at-zero, bit_at-pow_same, ne_eqb, cases_lt, mod-mod-pow, bit_at, field, IsLane, AreMarks, Width, bits, field_and, field_or, field_sub, field_xor, field_of_zero, same_words, top_of_lane, EachLane}
+use Rattle.wasmi_lanewise.proofs.Common.{zero-mod, mod_self, div-eq_of_lt, add-mod_right, mod-add-mod, pow_pos, shr-shr, mod-pow-add, field_of, shr_le, and_le_l, and_mask, or_lt, or_shifted, bit_at-zero, bit_at-pow_same, ne_eqb, cases_lt, mod-mod-pow, bit_at, field, IsLane, AreMarks, AreFilled, Width, bits, field_and, field_or, field_sub, field_xor, field_of_zero, same_words, top_of_lane, EachLane}
 use Rattle.std.specs.Int.Bits.{and_zero_r, or_add_and, xor_self, xor_zero_l}
 
 -- the h bits of v from k are clear
@@ -174,83 +174,64 @@ marks_filled (suc h) n v top is fits whole marks i lt =
     (λ j below. subst (λ m. (field (suc h * j) (suc h) v ≡ 0) ⊎ (field (suc h * j) (suc h) v ≡ 2 ^ m)) back
     (marks j below)) i lt
 
--- ---- the lanes that differ, and those that are equal
+-- ---- the lanes of which a test holds
 
--- in lanes of w bits, r has the highest bits of those in which a and b differ
-abbrev pub Differs : Width → ℕ → ℕ → ℕ → Type 0
-Differs w a b r =
-    EachLane w (λ k. field k (bits w) r ≡ cond (eqb (field k (bits w) a) (field k (bits w) b)) 0 (2 ^ (bits w - 1)))
+-- in lanes of w bits, r has the highest bits of those of which t holds, by where they begin
+pub record Marks (w : Width) (t : ℕ → Bool) (r : ℕ) : Type 0 where
+  pub marked : EachLane w (λ k. field k (bits w) r ≡ cond (t k) (2 ^ (bits w - 1)) 0)
 
--- what marks each lane of `tops` in which a and b differ marks those of w bits, where they are lanes of `tops`
-pub differs_in_lanes : (w : Width) (tops a b r : ℕ) → EachLane w (λ k. IsLane tops k (bits w))
-    → ((start width : ℕ) → IsLane tops start width
-    → field start width r ≡ cond (eqb (field start width a) (field start width b)) 0 (2 ^ (width - 1)))
-    → Differs w a b r
-differs_in_lanes w tops a b r lanes differs i inside = differs (bits w * i) (bits w) (lanes i inside)
-
--- what has the highest bits of the lanes that differ is a word of marks
-pub differ_marks : (w : Width) (a b r : ℕ) → Differs w a b r → AreMarks w r
-differ_marks w a b r differs i inside =
-    let k : ℕ = bits w * i in
-    subst (λ n. (n ≡ 0) ⊎ (n ≡ 2 ^ (bits w - 1))) (sym (differs i inside))
-    (either_mark (eqb (field k (bits w) a) (field k (bits w) b)) (2 ^ (bits w - 1)))
-  where
-    either_mark : (t : Bool) (p : ℕ) → (cond t 0 p ≡ 0) ⊎ (cond t 0 p ≡ p)
-    either_mark true p = inl refl
-    either_mark false p = inr refl
-
--- with all highest bits flipped, it has those of the lanes that are equal
-equal_lane : (w : Width) (tops a b r : ℕ) → EachLane w (λ k. IsLane tops k (bits w)) → Differs w a b r
-    → EachLane w (λ k. field k (bits w) (bit_xor r tops)
-    ≡ cond (eqb (field k (bits w) a) (field k (bits w) b)) (2 ^ (bits w - 1)) 0)
-equal_lane w tops a b r lanes differs i inside =
-    let k : ℕ = bits w * i in
-    field_xor k (bits w) r tops ∙ ap₂ bit_xor (differs i inside) ((lanes i inside).top)
-    ∙ other_mark (eqb (field k (bits w) a) (field k (bits w) b)) (2 ^ (bits w - 1))
-  where
-    other_mark : (t : Bool) (p : ℕ) → bit_xor (cond t 0 p) p ≡ cond t p 0
-    other_mark true p = xor_zero_l p
-    other_mark false p = xor_self p
-
--- with all highest bits flipped, it is a word of marks as well
-pub equal_marks : (w : Width) (tops a b r : ℕ) → EachLane w (λ k. IsLane tops k (bits w)) → Differs w a b r
-    → AreMarks w (bit_xor r tops)
-equal_marks w tops a b r lanes differs i inside =
-    let k : ℕ = bits w * i in
-    subst (λ n. (n ≡ 0) ⊎ (n ≡ 2 ^ (bits w - 1))) (sym (equal_lane w tops a b r lanes differs i inside))
-    (either_mark (eqb (field k (bits w) a) (field k (bits w) b)) (2 ^ (bits w - 1)))
+-- what marks lanes is a word of marks
+pub marks_are : {w : Width} {t : ℕ → Bool} {r : ℕ} → Marks w t r → AreMarks w r
+marks_are {w} {t} marks i inside =
+    subst (λ n. (n ≡ 0) ⊎ (n ≡ 2 ^ (bits w - 1))) (sym (marks.marked i inside))
+    (either_mark (t (bits w * i)) (2 ^ (bits w - 1)))
   where
     either_mark : (t : Bool) (p : ℕ) → (cond t p 0 ≡ 0) ⊎ (cond t p 0 ≡ p)
     either_mark true p = inr refl
     either_mark false p = inl refl
 
--- the marked lanes of m are full of ones in f
-abbrev pub Fills : Width → ℕ → ℕ → Type 0
-Fills w m f = EachLane w (λ k. field k (bits w) f ≡ cond (eqb (field k (bits w) m) 0) 0 (2 ^ bits w - 1))
-
--- where those marks are filled, the lanes that differ are all ones, the others all zeros
-pub different_filled : (w : Width) (a b r f : ℕ) → Differs w a b r → Fills w r f
-    → EachLane w (λ k. field k (bits w) f
-    ≡ cond (not (eqb (field k (bits w) a) (field k (bits w) b))) (2 ^ bits w - 1) 0)
-different_filled w a b r f differs fills i inside =
-    let k : ℕ = bits w * i in
-    fills i inside ∙ ap (λ n. cond (eqb n 0) 0 (2 ^ bits w - 1)) (differs i inside)
-    ∙ full (eqb (field k (bits w) a) (field k (bits w) b)) (2 ^ (bits w - 1)) (2 ^ bits w - 1)
-    (pow_pos (bits w - 1))
-  where
-    full : (t : Bool) (p q : ℕ) → 0 < p → cond (eqb (cond t 0 p) 0) 0 q ≡ cond (not t) q 0
-    full true p q pos = refl
-    full false p q pos = ap (λ b. cond b 0 q) (ne_eqb p 0 (λ z. absurd (omega arith)))
-
--- where the flipped marks are filled, the lanes that are equal are all ones, the others all zeros
-pub equal_filled : (w : Width) (tops a b r f : ℕ) → EachLane w (λ k. IsLane tops k (bits w)) → Differs w a b r
-    → Fills w (bit_xor r tops) f
-    → EachLane w (λ k. field k (bits w) f ≡ cond (eqb (field k (bits w) a) (field k (bits w) b)) (2 ^ bits w - 1) 0)
-equal_filled w tops a b r f lanes differs fills i inside =
-    let k : ℕ = bits w * i in
-    fills i inside ∙ ap (λ n. cond (eqb n 0) 0 (2 ^ bits w - 1)) (equal_lane w tops a b r lanes differs i inside)
-    ∙ full (eqb (field k (bits w) a) (field k (bits w) b)) (2 ^ (bits w - 1)) (2 ^ bits w - 1) (pow_pos (bits w - 1))
+-- where the marks are filled, the marked lanes are all ones, the others all zeros
+pub marked_filled : {w : Width} (t : ℕ → Bool) {r : ℕ} (f : ℕ) → Marks w t r → AreFilled w r f
+    → EachLane w (λ k. field k (bits w) f ≡ cond (t k) (2 ^ bits w - 1) 0)
+marked_filled {w} t f marks fills i inside =
+    fills i inside ∙ ap (λ n. cond (eqb n 0) 0 (2 ^ bits w - 1)) (marks.marked i inside)
+    ∙ full (t (bits w * i)) (2 ^ (bits w - 1)) (2 ^ bits w - 1) (pow_pos (bits w - 1))
   where
     full : (t : Bool) (p q : ℕ) → 0 < p → cond (eqb (cond t p 0) 0) 0 q ≡ cond t q 0
     full true p q pos = ap (λ b. cond b 0 q) (ne_eqb p 0 (λ z. absurd (omega arith)))
     full false p q pos = refl
+
+-- whether the lanes of a and b that begin at k are equal
+abbrev pub are_equal : Width → ℕ → ℕ → ℕ → Bool
+are_equal w a b k = eqb (field k (bits w) a) (field k (bits w) b)
+
+-- whether they differ
+abbrev pub are_different : Width → ℕ → ℕ → ℕ → Bool
+are_different w a b k = not (are_equal w a b k)
+
+module _ (w : Width) (tops a b r : ℕ) (lanes : EachLane w (λ k. IsLane tops k (bits w)))
+    (differs : (start width : ℕ) → IsLane tops start width
+    → field start width r ≡ cond (eqb (field start width a) (field start width b)) 0 (2 ^ (width - 1))) where
+  -- what marks each lane of `tops` in which a and b differ marks those of w bits, where they are lanes of `tops`
+  pub different_marked : Marks w (are_different w a b) r
+  different_marked = record {
+    marked = λ i inside.
+        differs (bits w * i) (bits w) (lanes i inside) ∙ other_way (are_equal w a b (bits w * i)) (2 ^ (bits w - 1));
+  }
+    where
+      other_way : (t : Bool) (p : ℕ) → cond t 0 p ≡ cond (not t) p 0
+      other_way true p = refl
+      other_way false p = refl
+
+  -- with all highest bits flipped, it marks the lanes that are equal
+  pub equal_marked : Marks w (are_equal w a b) (bit_xor r tops)
+  equal_marked = record {
+    marked = λ i inside.
+        field_xor (bits w * i) (bits w) r tops
+        ∙ ap₂ bit_xor (differs (bits w * i) (bits w) (lanes i inside)) ((lanes i inside).top)
+        ∙ other_mark (are_equal w a b (bits w * i)) (2 ^ (bits w - 1));
+  }
+    where
+      other_mark : (t : Bool) (p : ℕ) → bit_xor (cond t 0 p) p ≡ cond t p 0
+      other_mark true p = xor_zero_l p
+      other_mark false p = xor_self p

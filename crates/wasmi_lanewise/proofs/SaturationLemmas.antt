@@ -1,9 +1,8 @@
 -- Clamped sums and differences, and rounded products of q15 numbers, as std::simd computes them.
-use Rattle.std.proofs.Common.{ℕ, ◌+◌, ◌-◌, ◌%◌, ◌^◌, ◌<◌, ◌≡◌, List, length, get_or, map, min, refl, sym, ap, subst, ◌∙◌, arith, Bool, true, false, cond, ltb, Fits, pos, ◌+ℤ◌, ◌-ℤ◌, ℤ, negsuc, suc, ◌*◌, ◌/◌, ◌≤◌, ◌⊎◌, inl, inr, ◌*ℤ◌, nat_lt, if◌then◌else◌, ap₂, FitsSigned, unsigned_abs, replicate, bit_xor, mod-lt}
-use Rattle.wasmi_lanewise.proofs.Common.{zip2, sel_l, Each1, add-mod_right, mul-le-mul, mod-add-mod, ltb-true, ltb-false, cases_lt, lt-ltb, le-ltb, ints, fits_signed_from_abs, unsigned_abs-mul, of_z-to_z, wrapping_mul_is, int_wrap_fits, length-zip2, get_or-zip2, length-sel_l, Each1-get_or, Each1-from_get_or, below_from_Fits, get_or-replicate, Width, bits, clamp_unsigned, w16, w32, signed, wrap, clamp_signed, lane, lane_count, signed_fits, binary_of_lanes, chosen_where_less, lane_below, add_sat_u, sub_sat_u, q15mulr, cast_unsigned, int_shr, pow_pos, mul-mod, mod-mod-pow}
+use Rattle.std.proofs.Common.{ℕ, ◌+◌, ◌-◌, ◌%◌, ◌^◌, ◌<◌, ◌≡◌, List, length, get_or, map, refl, sym, ap, subst, ◌∙◌, arith, Bool, true, false, cond, ltb, Fits, pos, ◌+ℤ◌, ◌-ℤ◌, ℤ, negsuc, suc, ◌*◌, ◌/◌, ◌≤◌, ◌⊎◌, inl, inr, ◌*ℤ◌, nat_lt, if◌then◌else◌, ap₂, FitsSigned, unsigned_abs, replicate, bit_xor, mod-lt}
+use Rattle.wasmi_lanewise.proofs.Common.{zip2, sel_l, Each1, add-mod_right, mul-le-mul, mod-add-mod, ltb-true, ltb-false, cases_lt, lt-ltb, le-ltb, ints, fits_signed_from_abs, unsigned_abs-mul, of_z-to_z, wrapping_mul_is, int_wrap_fits, Each1-get_or, Each1-from_get_or, below_from_Fits, get_or-replicate, Width, bits, clamp_unsigned, w16, w32, signed, wrap, clamp_signed, lane, lane_count, signed_fits, binary_of_lanes, lane_below, lanes_make_vector, lane_count_fills, add_sat_u, sub_sat_u, q15mulr, cast_unsigned, int_shr, pow_pos, mul-mod, mod-mod-pow}
 use Rattle.std.proofs.Math.Nat.{mod-eq_of_lt}
-use Rattle.std.proofs.lemmas.List.{length-map, get_or-map}
-use Rattle.wasmi_lanewise.proofs.OrderLemmas.{rows_make_vector}
+use Rattle.wasmi_lanes.proofs.ItemLemmas.{AreItems, items, repeated, mapped, zipped, chosen_by}
 use lib.Lanes.{top}
 use mir.Val.{hbits, sel}
 use Rattle.std.specs.Int.Signed.{shr_z}
@@ -19,9 +18,11 @@ inverted w = map (λ x. 2 ^ bits w - 1 - x)
 
 module _ (w : Width) (x y : ℕ) (fits_x : x < 2 ^ bits w) where
   -- the difference of the greater one is none where y is greater
-  difference_is : y < 2 ^ bits w → (t : Bool) → ltb x y ≡ t → (cond t y x + (2 ^ bits w - y)) % 2 ^ bits w ≡ x - y
+  difference_is : y < 2 ^ bits w → (t : Bool) → ltb x y ≡ t
+      → (cond t y x + (2 ^ bits w - y)) % 2 ^ bits w ≡ clamp_unsigned w (pos x -ℤ pos y)
   difference_is fits_y t is =
       ap (λ n. n % 2 ^ bits w) (moved t is) ∙ add-mod_right (x - y) (2 ^ bits w) ∙ mod-eq_of_lt (omega arith)
+      ∙ omega (arith, ints)
     where
       moved : (t : Bool) → ltb x y ≡ t → cond t y x + (2 ^ bits w - y) ≡ (x - y) + 2 ^ bits w
       moved true is = omega (arith, ltb-true x y is)
@@ -29,7 +30,7 @@ module _ (w : Width) (x y : ℕ) (fits_x : x < 2 ^ bits w) where
 
   -- the sum with the lesser one is the greatest number where y is greater than what is left
   sum_is : (t : Bool) → ltb y (2 ^ bits w - 1 - x) ≡ t
-      → (x + cond t y (2 ^ bits w - 1 - x)) % 2 ^ bits w ≡ min (x + y) (2 ^ bits w - 1)
+      → (x + cond t y (2 ^ bits w - 1 - x)) % 2 ^ bits w ≡ clamp_unsigned w (pos x +ℤ pos y)
   sum_is true is =
       let less = ltb-true y (2 ^ bits w - 1 - x) is in
       mod-eq_of_lt (omega (arith, less)) ∙ omega (arith, less)
@@ -37,53 +38,16 @@ module _ (w : Width) (x y : ℕ) (fits_x : x < 2 ^ bits w) where
       let more = ltb-false y (2 ^ bits w - 1 - x) is in
       mod-eq_of_lt (omega (arith, more)) ∙ omega (arith, more)
 
--- lanes that are chosen of two vectors by two others are as many as theirs
-length_chosen : (w : Width) (n : ℕ) (ps qs chosen other : List ℕ) → length ps ≡ n → length qs ≡ n → length chosen ≡ n
-    → length other ≡ n → length (sel_l (tests w ps qs) chosen other) ≡ n
-length_chosen w n ps qs chosen other long_p long_q long_chosen long_other =
-    let long : length (tests w ps qs) ≡ n =
-    length-map _ _ ∙ length-zip2 _ ps qs (long_p ∙ sym long_q) ∙ long_p in
-    length-sel_l (tests w ps qs) chosen other (long ∙ sym long_chosen) (long ∙ sym long_other) ∙ long
-
-module _ (w : Width) (n : ℕ) (xs ys : List ℕ) (long_x : length xs ≡ n) (long_y : length ys ≡ n) (i : ℕ) (inside : i < n)
-    (fits_x : get_or xs i 0 < 2 ^ bits w) where
-  -- a list of as many lanes has one at i
-  within : (zs : List ℕ) → length zs ≡ n → i < length zs
-  within zs long = subst (λ m. i < m) (sym long) inside
-
-  -- lane i of the differences
-  difference_at : get_or ys i 0 < 2 ^ bits w
-      → get_or (zip2 (λ x y. (x + (2 ^ bits w - y)) % 2 ^ bits w) (sel_l (tests w xs ys) ys xs) ys) i 0
-      ≡ get_or xs i 0 - get_or ys i 0
-  difference_at fits_y =
-      let greater = sel_l (tests w xs ys) ys xs in
-      get_or-zip2 _ greater ys i 0 0 0 (within greater (length_chosen w n xs ys ys xs long_x long_y long_y long_x))
-      (within ys long_y)
-      ∙ ap (λ k. (k + (2 ^ bits w - get_or ys i 0)) % 2 ^ bits w)
-      (chosen_where_less w n xs ys ys xs long_x long_y long_y long_x i inside)
-      ∙ difference_is w (get_or xs i 0) (get_or ys i 0) fits_x fits_y _ refl
-
-  -- lane i of the sums
-  sum_at :
-      get_or (zip2 (λ x y. (x + y) % 2 ^ bits w) xs (sel_l (tests w ys (inverted w xs)) ys (inverted w xs))) i 0
-      ≡ min (get_or xs i 0 + get_or ys i 0) (2 ^ bits w - 1)
-  sum_at =
-      let left = inverted w xs in
-      let long : length left ≡ n = length-map _ _ ∙ long_x in
-      let lesser = sel_l (tests w ys left) ys left in
-      get_or-zip2 _ xs lesser i 0 0 0 (within xs long_x)
-      (within lesser (length_chosen w n ys left ys left long_y long long_y long))
-      ∙ ap (λ k. (get_or xs i 0 + k) % 2 ^ bits w)
-      (chosen_where_less w n ys left ys left long_y long long_y long i inside
-      ∙ ap (λ k. cond (ltb (get_or ys i 0) k) (get_or ys i 0) k) (get_or-map _ xs i 0 0 (within xs long_x)))
-      ∙ sum_is w (get_or xs i 0) (get_or ys i 0) fits_x _ refl
-
 module _ (w : Width) (xs ys : List ℕ) (long_x : length xs ≡ lane_count w) (long_y : length ys ≡ lane_count w) (a b : ℕ)
     {r : ℕ} (below : r < 2 ^ 128) (is_x : (i : ℕ) → i < lane_count w → get_or xs i 0 ≡ lane w a i)
     (is_y : (i : ℕ) → i < lane_count w → get_or ys i 0 ≡ lane w b i) where
-  -- a number that is a lane fits
-  fits_at : (v i : ℕ) {x : ℕ} → x ≡ lane w v i → x < 2 ^ bits w
-  fits_at v i is = subst (λ k. k < 2 ^ bits w) (sym is) (lane_below w v i)
+  -- the first list is the lanes of a
+  of_x : AreItems (lane_count w) 0 (lane w a) xs
+  of_x = record { long = long_x; are = is_x }
+
+  -- the second list is those of b
+  of_y : AreItems (lane_count w) 0 (lane w b) ys
+  of_y = record { long = long_y; are = is_y }
 
   -- the vector of the sums
   pub sums_u_make_vector : ((i : ℕ) → i < lane_count w → lane w r i
@@ -91,9 +55,10 @@ module _ (w : Width) (xs ys : List ℕ) (long_x : length xs ≡ lane_count w) (l
       → r ≡ add_sat_u w a b
   unfolding binary_of_lanes
   sums_u_make_vector is =
-      rows_make_vector w a b below is_x is_y (λ p q. min (p + q) (2 ^ bits w - 1))
-      (λ p q. clamp_unsigned w (pos p +ℤ pos q))
-      (λ i inside. is i inside ∙ sum_at w (lane_count w) xs ys long_x long_y i inside (fits_at a i (is_x i inside))) (λ p q _ _. omega arith)
+      let left = mapped of_x (λ x. 2 ^ bits w - 1 - x) in
+      let sums = zipped (λ x y. (x + y) % 2 ^ bits w) of_x (chosen_by w ltb of_y left of_y left) in
+      lanes_make_vector w (lane_count w) r _ (lane_count_fills w) below
+      (λ i inside. is i inside ∙ sums.are i inside ∙ sum_is w (lane w a i) (lane w b i) (lane_below w a i) _ refl)
 
   -- the vector of the differences
   pub differences_u_make_vector : ((i : ℕ) → i < lane_count w → lane w r i
@@ -101,11 +66,12 @@ module _ (w : Width) (xs ys : List ℕ) (long_x : length xs ≡ lane_count w) (l
       → r ≡ sub_sat_u w a b
   unfolding binary_of_lanes
   differences_u_make_vector is =
-      rows_make_vector w a b below is_x is_y (λ p q. p - q) (λ p q. clamp_unsigned w (pos p -ℤ pos q))
+      let greater = chosen_by w ltb of_x of_y of_y of_x in
+      let differences = zipped (λ x y. (x + (2 ^ bits w - y)) % 2 ^ bits w) greater of_y in
+      lanes_make_vector w (lane_count w) r _ (lane_count_fills w) below
       (λ i inside.
-      is i inside ∙ difference_at w (lane_count w) xs ys long_x long_y i inside (fits_at a i (is_x i inside))
-      (fits_at b i (is_y i inside)))
-      (λ p q fits _. omega (arith, ints))
+      is i inside ∙ differences.are i inside
+      ∙ difference_is w (lane w a i) (lane w b i) (lane_below w a i) (lane_below w b i) _ refl)
 
 -- ---- a product of two lanes, at 32 bits
 
@@ -268,15 +234,10 @@ pub extended_at : (xs : List ℕ) (i : ℕ) → length xs ≡ 8 → Each1 (Fits 
     → get_or (zip2 (λ a b. (a + (2 ^ 32 - b)) % 2 ^ 32) (zip2 bit_xor (map (λ x. x) xs) (replicate 8 32768))
     (replicate 8 32768)) i 0 ≡ extended (get_or xs i 0)
 extended_at xs i long fits inside =
-    let wide : List ℕ = map (λ x. x) xs in
-    let many : length wide ≡ 8 = length-map xs (λ x. x) ∙ long in
-    let flips : List ℕ = zip2 bit_xor wide (replicate 8 32768) in
-    let flipped : length flips ≡ 8 = length-zip2 bit_xor wide (replicate 8 32768) many ∙ many in
-    get_or-zip2 (λ a b. (a + (2 ^ 32 - b)) % 2 ^ 32) flips (replicate 8 32768) i 0 0 0 (omega arith) inside
-    ∙ ap₂ (λ a b. (a + (2 ^ 32 - b)) % 2 ^ 32)
-    (get_or-zip2 bit_xor wide (replicate 8 32768) i 0 0 0 (omega arith) inside
-    ∙ ap₂ bit_xor (get_or-map (λ x. x) xs i 0 0 (omega arith)) (get_or-replicate 8 i 32768 0 inside))
-    (get_or-replicate 8 i 32768 0 inside)
+    let tops = repeated 8 32768 in
+    let flips = zipped bit_xor (mapped (items 8 xs long) (λ x. x)) tops in
+    let wide = zipped (λ a b. (a + (2 ^ 32 - b)) % 2 ^ 32) flips tops in
+    wide.are i inside
     ∙ flipped_is (get_or xs i 0) (Each1-get_or (λ x. x < 65536) xs i 0 (omega arith) (below_from_Fits w16 xs fits))
 
 -- the upper halves of the products of xs and ys
@@ -284,39 +245,27 @@ abbrev uppers : List ℕ → List ℕ → List ℕ
 uppers xs ys = zip2 (λ a b. a / 2 ^ b) (zip2 (λ a b. a * b % 2 ^ 32) xs ys) (replicate 8 16)
 
 module _ (xs ys : List ℕ) (long_x : length xs ≡ 8) (long_y : length ys ≡ 8) where
-  -- there are 8 products
-  many_products : length (zip2 (λ a b. a * b % 2 ^ 32) xs ys) ≡ 8
-  many_products = length-zip2 (λ a b. a * b % 2 ^ 32) xs ys (long_x ∙ sym long_y) ∙ long_x
-
-  -- there are 8 upper halves
-  many_uppers : length (uppers xs ys) ≡ 8
-  many_uppers =
-      length-zip2 (λ a b. a / 2 ^ b) (zip2 (λ a b. a * b % 2 ^ 32) xs ys) (replicate 8 16) many_products ∙ many_products
-
-  -- each is the upper half of the product in its place
-  upper_at : (i : ℕ) → i < 8 → get_or (uppers xs ys) i 0 ≡ get_or xs i 0 * get_or ys i 0 % 2 ^ 32 / 65536
-  upper_at i inside =
-      let many = many_products in
-      get_or-zip2 (λ a b. a / 2 ^ b) (zip2 (λ a b. a * b % 2 ^ 32) xs ys) (replicate 8 16) i 0 0 0 (omega arith) inside
-      ∙ ap₂ (λ a b. a / 2 ^ b) (get_or-zip2 (λ a b. a * b % 2 ^ 32) xs ys i 0 0 0 (omega arith) (omega arith))
-      (get_or-replicate 8 i 16 0 inside)
+  -- there are 8 upper halves, each that of the product in its place
+  uppers_are : AreItems 8 0 (λ i. get_or xs i 0 * get_or ys i 0 % 2 ^ 32 / 65536) (uppers xs ys)
+  uppers_are =
+      let products = zipped (λ a b. a * b % 2 ^ 32) (items 8 xs long_x) (items 8 ys long_y) in
+      let halves = zipped (λ a b. a / 2 ^ b) products (repeated 8 16) in
+      record { long = halves.long; are = halves.are }
 
   -- the upper halves fit into 16 bits
   pub uppers_fit : Each1 (Fits w16) (uppers xs ys)
   uppers_fit =
-      let many = many_uppers in
+      let many = uppers_are.long in
       Each1-from_get_or (Fits w16) (uppers xs ys) 0
       (λ i inside.
       let within : i < 8 = omega arith in
-      let is = upper_at i within in
+      let is = uppers_are.are i within in
       record { fits = omega (arith, is, mod-lt (get_or xs i 0 * get_or ys i 0) (pow_pos 32)) })
 
   -- so after they were cast to 16 bits
   pub upper_halves_at : (i : ℕ) → i < 8
       → get_or (map (λ x. x) (uppers xs ys)) i 0 ≡ get_or xs i 0 * get_or ys i 0 % 2 ^ 32 / 65536
-  upper_halves_at i inside =
-      let many = many_uppers in
-      get_or-map (λ x. x) (uppers xs ys) i 0 0 (omega arith) ∙ upper_at i inside
+  upper_halves_at = let cast = mapped uppers_are (λ x. x) in cast.are
 
 -- halved, 2 ^ 13 added and divided by 2 ^ 14
 abbrev pub quotients : List ℕ → List ℕ
@@ -325,37 +274,10 @@ quotients xs =
     (zip2 (λ a b. (a + b) % 65536) (zip2 (λ a b. a / 2 ^ b) xs (replicate 8 1)) (replicate 8 8192))
     (replicate 8 14)
 
-module _ (xs : List ℕ) (long : length xs ≡ 8) where
-  -- there are 8 halves
-  many_halved : length (zip2 (λ a b. a / 2 ^ b) xs (replicate 8 1)) ≡ 8
-  many_halved = length-zip2 (λ a b. a / 2 ^ b) xs (replicate 8 1) long ∙ long
-
-  -- there are 8 sums
-  many_biased : length (zip2 (λ a b. (a + b) % 65536) (zip2 (λ a b. a / 2 ^ b) xs (replicate 8 1)) (replicate 8 8192)) ≡ 8
-  many_biased =
-      length-zip2 (λ a b. (a + b) % 65536) (zip2 (λ a b. a / 2 ^ b) xs (replicate 8 1)) (replicate 8 8192) many_halved
-      ∙ many_halved
-
-  -- there are 8 quotients
-  pub many_quotients : length (quotients xs) ≡ 8
-  many_quotients =
-      length-zip2 (λ a b. a / 2 ^ b)
-      (zip2 (λ a b. (a + b) % 65536) (zip2 (λ a b. a / 2 ^ b) xs (replicate 8 1)) (replicate 8 8192)) (replicate 8 14)
-      many_biased
-      ∙ many_biased
-
-  -- each lower half is rounded
-  pub quotients_at : (i : ℕ) → i < 8 → get_or (quotients xs) i 0 ≡ rounded (get_or xs i 0)
-  quotients_at i inside =
-      let halved : List ℕ = zip2 (λ a b. a / 2 ^ b) xs (replicate 8 1) in
-      let many : length halved ≡ 8 = many_halved in
-      let biased : List ℕ = zip2 (λ a b. (a + b) % 65536) halved (replicate 8 8192) in
-      let more : length biased ≡ 8 = many_biased in
-      get_or-zip2 (λ a b. a / 2 ^ b) biased (replicate 8 14) i 0 0 0 (omega arith) inside
-      ∙ ap₂ (λ a b. a / 2 ^ b)
-      (get_or-zip2 (λ a b. (a + b) % 65536) halved (replicate 8 8192) i 0 0 0 (omega arith) inside
-      ∙ ap₂ (λ a b. (a + b) % 65536)
-      (get_or-zip2 (λ a b. a / 2 ^ b) xs (replicate 8 1) i 0 0 0 (omega arith) inside
-      ∙ ap (λ b. get_or xs i 0 / 2 ^ b) (get_or-replicate 8 i 1 0 inside))
-      (get_or-replicate 8 i 8192 0 inside))
-      (get_or-replicate 8 i 14 0 inside)
+-- the quotients of 8 lower halves are the lower halves, rounded
+pub quotients_are : {f : ℕ → ℕ} {xs : List ℕ} → AreItems 8 0 f xs → AreItems 8 0 (λ i. rounded (f i)) (quotients xs)
+quotients_are of_x =
+    let halved = zipped (λ a b. a / 2 ^ b) of_x (repeated 8 1) in
+    let biased = zipped (λ a b. (a + b) % 65536) halved (repeated 8 8192) in
+    let divided = zipped (λ a b. a / 2 ^ b) biased (repeated 8 14) in
+    record { long = divided.long; are = divided.are }

@@ -3,7 +3,7 @@ use Rattle.std.proofs.Common.{◌≡◌, ◌∙◌, ℕ, ◌+◌, ◌*◌, ◌�
 use Rattle.wasmi_law_tests.proofs.Common.{length-replicate, append_assoc, Rules, optional_rules, Question, kind_of, IsWithinCaps, MemoryValue, GrowsMemoryCharging, pages_of, growth_of, page_bytes, Reply, Number, Memory, IsRefusal, LentGrowthsSucceed, Run, Sequence, MemoryGrown, HasEffect, effect_of, Step, live_at, with_memories, World, Turn, world, CanGrowInRegion, IsGrownOrDenied, GrowsInRegion, same_Some, KeepsQuota, Placed, limiter_of, quota_of, HoldsSums, OneQuotaHoldsEach, sizes_made}
 use Rattle.wasmi_meter.specs.declared.error.MemoryError.{MemoryError}
 use Rattle.wasmi_meter.specs.declared.limiter.Kind.{Kind}
-use Rattle.wasmi_meter.specs.Attempt.{MeteredValue, AttemptOutcome, Unasked, Denied, Met, Failed, answer_of, value_after}
+use Rattle.wasmi_meter.specs.Attempt.{MeteredValue, AttemptOutcome, Met, Failed, answer_of, value_after}
 use Rattle.wasmi_meter.specs.Meter.{Meter}
 use Rattle.wasmi_store.specs.Growth.{IsDenied, metered_value}
 use Rattle.wasmi_law_tests.specs.Limiters.{event_of, recorder_rules, OneGrows, LeavesTrace}
@@ -30,14 +30,12 @@ module _ {S : Type 0} (pages : ℕ) (s s' : MeteredValue MemoryValue S) (result 
   attempt_sized : (outcome : AttemptOutcome MemoryError)
       → s'.value ≡ value_after (memory.growth_of s.value pages) s.value outcome
       → result ≡ answer_of (memory.growth_of s.value pages) (pages_of s.value) outcome → HasMore
-  attempt_sized (Unasked cause) value answered = rw answered tt
-  attempt_sized (Denied answer) value answered = rw answered tt
   attempt_sized Met value answered =
       let more = pages * page_bytes s.value.ty.page in
       rw answered (
       ap (λ (x : MemoryValue). length x.bytes) value ∙ length-append s.value.bytes (replicate more 0)
       ∙ ap (λ n. length s.value.bytes + n) (length-replicate {A = ℕ} more 0))
-  attempt_sized (Failed cause notice_answer) value answered = rw answered tt
+  attempt_sized outcome value answered = rw answered tt
 
   -- so it has where it grows
   pub grown_sized : (rules : Rules S) (charge : ℕ) → GrowsMemoryCharging rules pages s result charge s' → HasMore
@@ -50,10 +48,8 @@ module _ {S : Type 0} (rules : Rules S) (pages : ℕ) (s s' : MeteredValue Memor
   -- a number that is answered is the size that there was
   answered_size : (outcome : AttemptOutcome MemoryError) (n : ℕ)
       → Ok n ≡ answer_of (growth_of s.value pages) (pages_of s.value) outcome → n ≡ pages_of s.value
-  answered_size (Unasked cause) n is = cc
-  answered_size (Denied answer) n is = cc
   answered_size Met n is = cc
-  answered_size (Failed cause notice_answer) n is = cc
+  answered_size outcome n is = cc
 
   -- so it is where a memory grows
   grown_size : (n : ℕ) → GrowsMemoryCharging rules pages s (Ok n) charge s' → n ≡ pages_of s.value

@@ -6,9 +6,10 @@ pub use Rattle.std.proofs.lemmas.Option.{none-some, same_Some}
 pub use Rattle.std.specs.Option.{option_and_then, option_map, option_map_or, unwrap_or}
 pub use Rattle.std.specs.Prelude.{All, slice_get, slice_set, MatchBool, is_none, nat_le, ◌&&◌, if◌then◌else◌, MatchOption, count_by, is_some, max, nat_eq, get_or, ◌≢◌}
 pub use Rattle.wasmi_machine.proofs.EffectLemmas.{both_live, on_live, on_live_too, Creation}
+pub use Rattle.wasmi_machine.proofs.MemoryEffectsLemmas.{lacks_owned, stored_count}
 pub use Rattle.wasmi_machine.proofs.RangeLemmas.{value_kept, source_writes, IsRange, KeepsMemory, KeepsTable, byte_range, source_range, range_unasked, WritesBytes}
 pub use Rattle.wasmi_machine.proofs.SlotsLemmas.{set_other, live_slot, set_same}
-pub use Rattle.wasmi_machine.proofs.StoreLemmas.{acts_too, asks_too, changes_too, acts, alters, replies, Run-push}
+pub use Rattle.wasmi_machine.proofs.StoreLemmas.{acts_too, asks_too, changes_too, unasked_too, acts, alters, replies, runs_joined}
 pub use Rattle.wasmi_machine.specs.Determinism.{AcceptsNotices, IsOtherFailure, IsNotOutOfMemory}
 pub use Rattle.wasmi_machine.specs.Effects.{ChangesFound, ChangesPart, DropsAt, OnLive, reply_of, ActsAt, AddsEntry, ChangesAt, ChangesItem, Creates, MeteredSlots, WritesRangeAt, AddsItem, IfNoRoom}
 pub use Rattle.wasmi_machine.specs.MemoryEffects.{ReadsBytes, StoresMemory, WritesMemoryAt, load_reply, ByteSource, CreatesLent, byte_write_of, spare_after}

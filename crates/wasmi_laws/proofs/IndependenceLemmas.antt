@@ -1,6 +1,6 @@
 -- Turns whose calls are local and independent may be exchanged.
 use Rattle.std.proofs.Common.{Err, List, None, Ok, Option, Result, Some, [], ap, ap₂, refl, set, subst, sym, ℕ, ◌+◌, ◌∙◌, ◌∷◌, ◌≡◌}
-use Rattle.wasmi_laws.proofs.Common.{All-head, All-tail, set_comm, option_and_then, option_map, All, slice_get, slice_set, ChangesFound, ChangesPart, DropsAt, OnLive, reply_of, ReadsBytes, StoresMemory, WritesMemoryAt, load_reply, StoresVectorAt, SetsAt, SetsRegister, given_vector, lane_loaded, of_one, of_three, of_two, raw_reply, vector_at, vector_loaded, Run, BytesRead, BytesStored, BytesWritten, Change, Changed, DataDropped, DataMade, Effect, ElementSet, GlobalMade, GlobalSet, ItemsDropped, MemoryDropped, RegisterSet, SegmentMade, Step, TableDropped, HasChange, HasEffect, Told, effect_of, State, live_at, live_value, with_data_segments, with_globals, with_memories, with_registers, with_segments, with_tables, byte_count, Turn, World, SetsElementAt, element_reply, DropsDataAt, DropsItemsAt, SetsGlobalAt, global_reply, Call, Reply, Done, NoSuch, Trap, Slot, Gone, Live, set_other, Content, DataAt, GlobalAt, IndependentTurnsSwap, IsIndependent, IsLocal, Location, MemoryAt, RegisterAt, SegmentAt, TableAt, changed_location, content_at, read_locations, Rules, RawVal, MemoryValue, size_of, at, TrapCode}
+use Rattle.wasmi_laws.proofs.Common.{changes_too, All-head, All-tail, set_comm, option_and_then, option_map, All, slice_get, slice_set, ChangesFound, ChangesPart, DropsAt, OnLive, reply_of, ReadsBytes, StoresMemory, WritesMemoryAt, load_reply, StoresVectorAt, SetsAt, SetsRegister, given_vector, lane_loaded, of_one, of_three, of_two, raw_reply, vector_at, vector_loaded, Run, BytesRead, BytesStored, BytesWritten, Change, Changed, DataDropped, DataMade, Effect, ElementSet, GlobalMade, GlobalSet, ItemsDropped, MemoryDropped, RegisterSet, SegmentMade, Step, TableDropped, HasChange, HasEffect, Told, effect_of, State, live_at, live_value, with_data_segments, with_globals, with_memories, with_registers, with_segments, with_tables, byte_count, Turn, World, SetsElementAt, element_reply, DropsDataAt, DropsItemsAt, SetsGlobalAt, global_reply, Call, Reply, Done, NoSuch, Trap, Slot, Gone, Live, set_other, Content, DataAt, GlobalAt, IndependentTurnsSwap, IsIndependent, IsLocal, Location, MemoryAt, RegisterAt, SegmentAt, TableAt, changed_location, content_at, read_locations, Rules, RawVal, MemoryValue, size_of, at, TrapCode}
 use Rattle.wasmi_machine.specs.declared.calls.Call.TheVariants as call
 use Rattle.wasmi_laws.proofs.LocationLemmas.{changed_by, changed_in, changed_is}
 use Rattle.wasmi_lanewise.specs.VectorTable.{shuffle}
@@ -347,12 +347,7 @@ module _ {S : Type 0} (rules : Rules S) (w : World S) (turn : Turn) (w' : World 
         edit = moves.edit;
         here = moves.here;
         after = step.after ∙ ap (λ (s : State). let v : World S = record w { state = s } in v) moves.after;
-        too = λ u same reads. record {
-          free = step.free;
-          machine = edited moves.edit u.state;
-          effect = moves.too u.state same;
-          after = refl;
-        };
+        too = λ u same reads. changes_too step (edited moves.edit u.state) (moves.too u.state same) refl;
       }
   effect_moves effect local step = absurd local
 

@@ -1,6 +1,6 @@
 -- A run that never ran short of fuel, with more of it.
 use Rattle.std.proofs.Common.{◌≡◌, ◌∙◌, ◌≤◌, ℕ, Bool, true, false, Option, Some, None, Result, Ok, Err, List, [], ◌∷◌, map, inl, inr, refl, sym, ap, subst, arith}
-use Rattle.wasmi_laws.proofs.Common.{nat_tests, All-head, All-tail, same_Some, option_map, All, MatchBool, is_none, nat_le, ◌&&◌, if◌then◌else◌, acts_too, asks_too, changes_too, TypedRawRef, TableError, AttemptOutcome, Met, Failed, Follows, IsFirstCause, MayEnd, MeteredValue, Request, answer_of, covers, error_of_failure, optional_due, outcome_charge, with_value, Rules, optional_rules, Meter, amount_left, meter_after, Grows, Growth, metered, metered_value, GrowsMemoryCharging, GrowsTableCharging, TableValue, same_type, EndsBy, MeteredWrite, WritesCharging, write_charge, Call, SetFuel, GetFuel, Reply, Slot, AcceptsNotices, ActsAt, OnLive, WritesRangeAt, reply_of, Run, BytesRead, BytesWritten, Change, Changed, Effect, FuelSet, MemoryGrown, RangeWritten, Step, TableGrown, MemoryWritten, TableWritten, HasChange, HasEffect, Told, effect_of, State, live_at, Turn, World, byte_write_of, write_of, both_live, on_live_too, on_test_too, IsRange, KeepsMemory, KeepsTable, byte_range, source_range, HasFuel, MoreFuelChangesNothing, NamesNoFuel, meter_with_more, world_with_more, memory_growth, table_growth}
+use Rattle.wasmi_laws.proofs.Common.{nat_tests, All-head, All-tail, same_Some, option_map, All, MatchBool, is_none, nat_le, ◌&&◌, if◌then◌else◌, acts_too, asks_too, changes_too, unasked_too, TypedRawRef, TableError, AttemptOutcome, Met, Failed, Follows, IsFirstCause, MayEnd, MeteredValue, Request, answer_of, covers, error_of_failure, optional_due, outcome_charge, with_value, Rules, optional_rules, Meter, amount_left, meter_after, Grows, Growth, metered, metered_value, GrowsMemoryCharging, GrowsTableCharging, TableValue, same_type, EndsBy, MeteredWrite, WritesCharging, write_charge, Call, SetFuel, GetFuel, Reply, Slot, AcceptsNotices, ActsAt, OnLive, WritesRangeAt, reply_of, Run, BytesRead, BytesWritten, Change, Changed, Effect, FuelSet, MemoryGrown, RangeWritten, Step, TableGrown, MemoryWritten, TableWritten, HasChange, HasEffect, Told, effect_of, State, live_at, Turn, World, byte_write_of, write_of, both_live, on_live_too, on_test_too, IsRange, KeepsMemory, KeepsTable, byte_range, source_range, HasFuel, MoreFuelChangesNothing, NamesNoFuel, meter_with_more, world_with_more, memory_growth, table_growth}
 use Rattle.wasmi_meter.specs.declared.error.TableError.TheVariants as table_error
 use Rattle.wasmi_meter.specs.declared.error.MemoryError.TheVariants as memory_error
 use Rattle.wasmi_meter.specs.declared.fuel.CustomFuelCosts.{CustomFuelCosts}
@@ -303,37 +303,30 @@ module _ (more : ℕ) {S : Type 0} (rules : Rules S) (accepts : AcceptsNotices r
     effect_richer (FuelSet fuel) keeps step = absurd keeps
     effect_richer (Changed change) keeps step = changes_too step (richer_state more step.machine)
         (change_richer more change w.state turn.reply step.machine step.effect) (ap richer_world step.after)
-    effect_richer (MemoryGrown k pages) keeps step = acts_too step step.part (richer more step.meter)
+    effect_richer (MemoryGrown k pages) keeps step = acts_too step step.part (richer more step.meter) step.limiter
         (acts_richer more k (reply_of replied.Number replied.Memory) (GrowsMemoryCharging rules pages)
         (metered_value w.state.memories (Some w.state.meter) w.limiter)
         (metered_value step.part (Some step.meter) step.limiter) turn.reply turn.charge has
         (λ x x' result. grows_richer more rules accepts replied.Memory (memory_growth pages x) (λ n none. none)
         (growing w x turn.charge x' step.meter step.limiter) result) step.effect) refl (ap richer_world step.after)
-    effect_richer (TableGrown k n init) keeps step = acts_too step step.part (richer more step.meter)
+    effect_richer (TableGrown k n init) keeps step = acts_too step step.part (richer more step.meter) step.limiter
         (acts_richer more k (reply_of replied.Number replied.Table) (GrowsTableCharging rules n init)
         (metered_value w.state.tables (Some w.state.meter) w.limiter)
         (metered_value step.part (Some step.meter) step.limiter) turn.reply turn.charge has
         (λ x x' result. table_grows_richer more rules accepts n init
         (growing w x turn.charge x' step.meter step.limiter) result) step.effect) refl (ap richer_world step.after)
-    effect_richer (RangeWritten (TableWritten k source dst len)) keeps step = record {
-      part = step.part;
-      meter = richer more step.meter;
-      effect = range_richer more replied.Table KeepsTable _ table_error.OutOfFuel (λ n none. none) k
-          (write_of source dst len) (source_range source dst len) w.state.tables w.state.meter turn.reply turn.charge
-          step.part step.meter has step.effect;
-      wrote = step.wrote;
-      after = ap richer_world step.after;
-    }
-    effect_richer (RangeWritten (MemoryWritten k source dst len)) keeps step = record {
-      part = step.part;
-      meter = richer more step.meter;
-      effect = range_richer more replied.Memory KeepsMemory _ memory_error.OutOfFuel (λ n none. none) k
-          (byte_write_of source dst len) (byte_range source dst len) w.state.memories w.state.meter turn.reply
-          turn.charge step.part step.meter has step.effect;
-      wrote = step.wrote;
-      after = ap richer_world step.after;
-    }
-    effect_richer effect keeps step = asks_too step step.part step.effect step.room (ap richer_world step.after)
+    effect_richer (RangeWritten (TableWritten k source dst len)) keeps step =
+        unasked_too step step.part (richer more step.meter)
+        (range_richer more replied.Table KeepsTable _ table_error.OutOfFuel (λ n none. none) k
+        (write_of source dst len) (source_range source dst len) w.state.tables w.state.meter turn.reply turn.charge
+        step.part step.meter has step.effect) (ap richer_world step.after)
+    effect_richer (RangeWritten (MemoryWritten k source dst len)) keeps step =
+        unasked_too step step.part (richer more step.meter)
+        (range_richer more replied.Memory KeepsMemory _ memory_error.OutOfFuel (λ n none. none) k
+        (byte_write_of source dst len) (byte_range source dst len) w.state.memories w.state.meter turn.reply
+        turn.charge step.part step.meter has step.effect) (ap richer_world step.after)
+    effect_richer effect keeps step =
+        asks_too step step.part step.limiter step.effect step.room (ap richer_world step.after)
 
     -- so each step
     step_richer : NamesNoFuel turn.call → Step rules w turn w' → Step rules (richer_world w) turn (richer_world w')

@@ -1,11 +1,10 @@
 -- What was stored is read back, and memories and tables by themselves, as those at an index of a machine.
 use Rattle.std.proofs.Common.{Err, List, Ok, Result, Some, ap, length, mod-eq_of_lt, pos, pow_pos, refl, subst, sym, ℕ, ◌%◌, ◌*◌, ◌+◌, ◌^◌, ◌∙◌, ◌≡◌, Option, None, inr}
 use Rattle.std.proofs.lemmas.Nat.{mod_below}
-use Rattle.wasmi_laws.proofs.Common.{same_Some, option_and_then, slice_get, MatchOption, slice_set, acts, alters, replies, on_live, reply_of, StoresMemory, load_reply, State, live_at, live_value, World, RepliesWith, Read, Done, NoSuch, Trap, Value, Memory, Live, live_slot, set_same, MemoryAt, NumberStore, StoresAreReadBack, StoresKeepOtherBytes, load_of, store_call, stored_part, stored_size, MemoriesGrowAlike, TablesGrowAlike, MemoriesReadAlike, MemoriesWriteAlike, Rules, RawVal, MemoryValue, TrapCode, at}
+use Rattle.wasmi_laws.proofs.Common.{stored_count, same_Some, option_and_then, slice_get, MatchOption, slice_set, acts, alters, replies, on_live, reply_of, StoresMemory, load_reply, State, live_at, live_value, World, RepliesWith, Read, Done, NoSuch, Trap, Value, Memory, Live, live_slot, set_same, MemoryAt, NumberStore, StoresAreReadBack, StoresKeepOtherBytes, load_of, store_call, stored_part, stored_size, MemoriesGrowAlike, TablesGrowAlike, MemoriesReadAlike, MemoriesWriteAlike, Rules, RawVal, MemoryValue, TrapCode, at}
 use Rattle.std.specs.Int.{Width, w32, w64}
 use Rattle.wasmi_access.proofs.AccessLemmas.{loaded-stored, outside-stored}
 use Rattle.wasmi_access.specs.LoadStore.{IsSameOutside, IsStore, loaded}
-use Rattle.wasmi_machine.proofs.MemoryEffectsLemmas.{stored_count}
 use Rattle.wasmi_machine.specs.declared.calls.Reply.TheVariants.{Bytes}
 use Rattle.wasmi_laws.proofs.LocationLemmas.{others_stay_in_runs}
 use Rattle.wasmi_ops.specs.LoadStoreOps.{as_raw, signed_raw, loaded_raw, stored_bytes}

@@ -1,6 +1,6 @@
 -- Refusals that leave the whole world.
 use Rattle.std.proofs.Common.{◌≡◌, ◌∙◌, ℕ, Bool, Option, Some, None, Result, Ok, Err, List, [], ◌∷◌, length, map, inl, inr, refl, sym, ap, subst}
-use Rattle.wasmi_laws.proofs.Common.{All-head, All-tail, none-some, if◌then◌else◌, RefType, TypedRawRef, MemoryError, TableError, Attempt, AttemptOutcome, Unasked, Denied, Met, Failed, IsFirstCause, MeteredValue, Request, alone, answer_of, covers, optional_due, with_value, Failure, MemoryFailure, TableFailure, NoticeAnswer, Rules, Meter, LacksMemory, Lent, Owned, Room, Grows, Growth, Makes, metered_value, GrowsMemoryCharging, MakesMemory, MemoryValue, new_memory, MemoryTypeValue, GrowsTableCharging, TableValue, new_table, TableTypeValue, same_type, on_test, Call, NewMemory, NewLentMemory, GrowMemory, NewTable, GrowTable, Reply, Slot, Live, IsOtherFailure, ActsAt, AddsEntry, Creates, reply_of, CreatesLent, spare_after, MemoryPart, State, live_at, memory_part, IsRefusal, Turn, World, Effect, LentMemoryMade, MemoryGrown, MemoryMade, RangeWritten, Step, TableGrown, TableMade, HasEffect, effect_of, Creation, on_live, range_unasked, IsPlainRefusal, OtherRefusalsChangeNothing, PlainRefusalsChangeNothing, PlainlyRefusedRunsChangeNothing, memory_growth, table_growth}
+use Rattle.wasmi_laws.proofs.Common.{lacks_owned, All-head, All-tail, none-some, if◌then◌else◌, RefType, TypedRawRef, MemoryError, TableError, Attempt, AttemptOutcome, Unasked, Denied, Met, Failed, IsFirstCause, MeteredValue, Request, alone, answer_of, covers, optional_due, with_value, Failure, MemoryFailure, TableFailure, NoticeAnswer, Rules, Meter, LacksMemory, Lent, Owned, Room, Grows, Growth, Makes, metered_value, GrowsMemoryCharging, MakesMemory, MemoryValue, new_memory, MemoryTypeValue, GrowsTableCharging, TableValue, new_table, TableTypeValue, same_type, on_test, Call, NewMemory, NewLentMemory, GrowMemory, NewTable, GrowTable, Reply, Slot, Live, IsOtherFailure, ActsAt, AddsEntry, Creates, reply_of, CreatesLent, spare_after, MemoryPart, State, live_at, memory_part, IsRefusal, Turn, World, Effect, LentMemoryMade, MemoryGrown, MemoryMade, RangeWritten, Step, TableGrown, TableMade, HasEffect, effect_of, Creation, on_live, range_unasked, IsPlainRefusal, OtherRefusalsChangeNothing, PlainRefusalsChangeNothing, PlainlyRefusedRunsChangeNothing, memory_growth, table_growth}
 use Rattle.wasmi_meter.specs.declared.error.MemoryError.TheVariants as memory_error
 use Rattle.wasmi_meter.specs.declared.error.TableError.TheVariants as table_error
 use Rattle.wasmi_store.specs.Memory as memory
@@ -123,8 +123,7 @@ module _ {S : Type 0} (rules : Rules S) where
 
 -- memory is refused
 lacks_loud : (room : Room) (c : MemoryError) → LacksMemory room c → IsLoud (replied.Memory c)
-lacks_loud Owned c lacks plain = subst (λ x. IsPlainRefusal (replied.Memory x)) lacks plain
-lacks_loud (Lent rest) c lacks plain = lacks
+lacks_loud room c lacks plain = subst (λ x. IsPlainRefusal (replied.Memory x)) (lacks_owned room c lacks) plain
 
 -- so for tables
 table_lacks_loud : (c : TableError) → c ≡ table_error.OutOfSystemMemory → IsLoud (replied.Table c)

@@ -1,6 +1,6 @@
 -- Runs that are cut, and what runs keep: sizes, caps and the meter.
 use Rattle.std.proofs.Common.{◌≡◌, ◌∙◌, ◌≤◌, ◌++◌, ℕ, suc, Some, List, [], ◌∷◌, length, map, take, drop, sum, refl, sym, ap, subst, arith, ◌-◌, Option, None, ⊎_elim}
-use Rattle.wasmi_laws.proofs.Common.{none-some, same_Some, take-map, drop-map, take_at, drop_at, take-append-drop, ◌≢◌, slice_get, is_some, Question, Rules, optional_rules, State, World, Turn, world, sizes, HoldsTotals, Step, Sequence, Run, Run-push, CapsHoldInRuns, IsWithinCapsOf, RunsOfCallsAreCut, SizesNeverShrink, TotalsNeverShrink, CostsAreKept, FuelNeverRises, SwitchIsKept, All-head, All-tail, option_map, unwrap_or, Meter, amount_left, Call, SetFuel}
+use Rattle.wasmi_laws.proofs.Common.{none-some, same_Some, take-map, drop-map, take_at, drop_at, take-append-drop, ◌≢◌, slice_get, is_some, Question, Rules, optional_rules, State, World, Turn, world, sizes, HoldsTotals, Step, Sequence, Run, runs_joined, CapsHoldInRuns, IsWithinCapsOf, RunsOfCallsAreCut, SizesNeverShrink, TotalsNeverShrink, CostsAreKept, FuelNeverRises, SwitchIsKept, All-head, All-tail, option_map, unwrap_or, Meter, amount_left, Call, SetFuel}
 use Rattle.std.proofs.lemmas.List.Sums.{sum_by-cons}
 use Rattle.wasmi_meter.specs.declared.limiter.Kind.{Kind}
 use Rattle.wasmi_meter.specs.declared.limiter.Kind.TheVariants.{Bytes, Elements}
@@ -11,7 +11,7 @@ use Rattle.wasmi_machine.specs.Exchange.{Exchange, Permission, Place, Nowhere, N
 use Rattle.wasmi_machine.proofs.ExchangeLemmas.{growths_are_permitted}
 use Rattle.wasmi_laws.proofs.ListLemmas.{EachAfter, appended, put, unchanged}
 use Rattle.wasmi_machine.specs.Account.{ChangesMeter, SetsNoFuel}
-use Rattle.wasmi_machine.proofs.AccountLemmas.{step_meter}
+use Rattle.wasmi_machine.proofs.AccountLemmas.{costs_kept, step_meter}
 
 -- where two lists are made of one, the first is made of as many as it has
 made_first : {X Y : Type 0} (f : X → Y) (xs : List X) (ys zs : List Y) → map f xs ≡ ys ++ zs
@@ -136,7 +136,7 @@ module _ {S : Type 0} (rules : Rules S) (u : World S) (Holds : World S → Type 
       → Run rules v turns w → Sequence (λ v turn v'. Step rules v turn v' × Holds v') v turns w
   holds_on before v ran [] w rest = rest
   holds_on before v ran (turn ∷ turns) w (v', step, rest) =
-      let so_far = Run-push rules u before v ran turn v' step in
+      let so_far = runs_joined rules u before v (turn ∷ []) v' ran (v', step, refl) in
       (v', (step, ends (before ++ turn ∷ []) v' so_far), holds_on (before ++ turn ∷ []) v' so_far turns w rest)
 
   -- so of a whole run
@@ -169,11 +169,6 @@ same_switch change (Some n) = refl
 left_falls : (amount : ℕ) (left : Option ℕ) → unwrap_or (option_map (λ n. n - amount) left) 0 ≤ unwrap_or left 0
 left_falls amount None = omega arith
 left_falls amount (Some n) = omega arith
-
--- a call keeps the costs
-costs_kept : (call : Call) (m : Meter) (charge : ℕ) (m' : Meter) → ChangesMeter call m charge m' → m'.costs ≡ m.costs
-costs_kept (SetFuel fuel) m charge m' changes = ap (λ (x : Meter). x.costs) changes
-costs_kept call m charge m' changes = ap (λ (x : Meter). x.costs) changes.1
 
 -- a call keeps the switch
 switch_kept : (call : Call) (m : Meter) (charge : ℕ) (m' : Meter) → ChangesMeter call m charge m'

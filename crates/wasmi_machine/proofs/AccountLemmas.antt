@@ -1,6 +1,6 @@
 -- What each turn takes of the meter.
 use Rattle.std.proofs.Common.{Bool, List, Option, Result, Some, [], ap, arith, false, inl, inr, refl, subst, sym, true, ℕ, ◌+◌, ◌-◌, ◌∙◌, ◌∷◌, ◌≡◌, ◌≤◌}
-use Rattle.wasmi_machine.proofs.Common.{and_parts, nat_tests, same_Some, option_map, unwrap_or, if◌then◌else◌, is_none, nat_le, ◌&&◌, Account, Balances, ChangesMeter, account_after, charged_by, opened, ActsAt, reply_of, Run, Changed, Effect, FuelSet, MemoryGrown, HasRangeWrite, RangeWrite, RangeWritten, Step, TableGrown, HasEffect, effect_of, State, live_at, Turn, World, Grows, Growth, metered_value, Call, SetFuel, Reply, Slot, Attempt, Denied, Request, Failed, AttemptOutcome, Met, MeteredValue, Unasked, optional_due, covers, with_value, Rules, Meter, amount_left, due, meter_after, meter_set, PaysCharge, TableError, on_test, GrowsMemoryCharging, MemoryValue, GrowsTableCharging, TableValue, same_type, TypedRawRef, memory_growth, table_growth}
+use Rattle.wasmi_machine.proofs.Common.{and_parts, nat_tests, same_Some, option_map, unwrap_or, if◌then◌else◌, is_none, nat_le, ◌&&◌, Account, Balances, ChangesMeter, account_after, charged_by, opened, ActsAt, reply_of, Run, Changed, Effect, FuelSet, MemoryGrown, HasRangeWrite, RangeWrite, RangeWritten, Step, TableGrown, HasEffect, effect_of, State, live_at, Turn, World, Grows, Growth, metered_value, Call, SetFuel, Reply, Slot, Attempt, Request, Failed, AttemptOutcome, Met, MeteredValue, optional_due, covers, with_value, Rules, Meter, amount_left, due, meter_after, meter_set, PaysCharge, TableError, on_test, GrowsMemoryCharging, MemoryValue, GrowsTableCharging, TableValue, same_type, TypedRawRef, memory_growth, table_growth}
 use Rattle.wasmi_machine.proofs.EffectLemmas.{on_live}
 use Rattle.wasmi_machine.proofs.RangeLemmas.{range_facts}
 use Rattle.wasmi_machine.proofs.StepsLemmas.{change_facts}
@@ -33,6 +33,11 @@ rest_left m m' charge takes left on =
       omega (arith, within),
     )
 
+-- a call keeps the costs
+pub costs_kept : (call : Call) (m : Meter) (charge : ℕ) (m' : Meter) → ChangesMeter call m charge m' → m'.costs ≡ m.costs
+costs_kept (SetFuel fuel) m charge m' changes = ap (λ (x : Meter). x.costs) changes
+costs_kept call m charge m' changes = ap (λ (x : Meter). x.costs) changes.1
+
 -- what is due can be paid where a test says so
 paid_due : (m : Meter) (due charge : ℕ) → covers (Some m) due ≡ true → charge ≡ due → charge ≤ amount_left m
 paid_due m due charge enough same =
@@ -49,12 +54,11 @@ module _ {V E S : Type 0} (rules : Rules S) (e : Request V E) (x : V) (m : Meter
   -- an attempt is charged no more than is left
   attempt_paid : (outcome : AttemptOutcome E) → Attempt rules e (metered_value x (Some m) l) outcome charge
       (metered_value x' (Some m') l') → charge ≤ amount_left m
-  attempt_paid (Unasked cause) attempt = paid_free m charge attempt.charged
-  attempt_paid (Denied answer) attempt = paid_free m charge attempt.charged
   attempt_paid Met attempt = paid_due m _ charge attempt.may_end.2 attempt.charged
   attempt_paid (Failed cause notice_answer) attempt = paid_if m (optional_due (Some m) e.price) charge
       (is_none e.late && covers (Some m) (optional_due (Some m) e.price)) (λ both. (and_parts _ _ both).1)
       attempt.charged
+  attempt_paid outcome attempt = paid_free m charge attempt.charged
 
 -- a growth
 pub grows_takes : {V E S : Type 0} (rules : Rules S) (g : Growth V E) (x : V) (m : Meter) (l : S)

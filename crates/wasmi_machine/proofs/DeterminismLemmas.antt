@@ -1,7 +1,7 @@
 -- Where the limiter leaves no choice and memory isn't wanting, a turn is decided by its call.
 use Rattle.std.proofs.Common.{Bool, List, None, Ok, Option, Result, Some, [], ap, arith, false, inl, inr, map, refl, subst, sym, true, ℕ, ◌∙◌, ◌∷◌, ◌≡◌}
 use Rattle.wasmi_machine.proofs.Common.{none-some, same_Some, option_map, MatchBool, memory_growth, table_growth, IsNotOutOfMemory, AreNotOutOfMemory, IsDeterministic, IsOtherFailure, never_out_of_memory, CreatesLent, spare_after, byte_write_of, ActsMetered, ActsMeteredUnasked, Asks, Changes, Creates, OnlyReplies, reply_of, Run, BytesRead, Changed, Effect, FuelSet, LentMemoryMade, MemoryGrown, MemoryMade, RangeWritten, TableGrown, TableMade, MemoryWritten, TableWritten, HasEffect, Told, effect_of, MemoryPart, State, memory_part, Turn, World, write_of, Call, Reply, Slot, Attempt, Denied, Request, Failed, AttemptOutcome, Follows, IsFirstCause, MayEnd, Met, MeteredValue, Unasked, alone, optional_due, answer_of, covers, outcome_charge, value_after, Capped, capped_rules, capped_quota, quota_rules, Answer, AskedIf, NoticedIf, IsDenial, MemoryFailure, Rules, TableFailure, optional_rules, unlimited_rules, Meter, meter_after, MemoryError, TableError, LacksMemory, Lent, Owned, Room, Grows, Growth, Makes, metered_value, metered, GrowsMemoryCharging, MakesMemory, MemoryValue, new_memory, MemoryTypeValue, GrowsTableCharging, MakesTable, TableValue, new_table, same_type, TypedRawRef}
-use Rattle.wasmi_machine.proofs.MemoryEffectsLemmas.{reads_same}
+use Rattle.wasmi_machine.proofs.MemoryEffectsLemmas.{lacks_owned, reads_same}
 use Rattle.wasmi_machine.proofs.EffectLemmas.{Acted, HasOneEnding, HasOneOutcome, acts_same, creates_same, on_both}
 use Rattle.wasmi_machine.proofs.StepsLemmas.{change_facts}
 use Rattle.wasmi_machine.proofs.RangeLemmas.{range_once}
@@ -114,8 +114,7 @@ module _ {S : Type 0} {rules : Rules S} (once : IsDeterministic rules) where
 
 -- what memory refuses, a limiter is told as want of memory
 memory_wants : (room : Room) (cause : MemoryError) → LacksMemory room cause → IsOtherFailure (MemoryFailure cause) → ⊥
-memory_wants Owned cause lacks other = rw lacks at other
-memory_wants (Lent rest) cause lacks other = lacks
+memory_wants room cause lacks other = rw (lacks_owned room cause lacks) at other
 
 -- what memory refuses a table, a limiter is told as want of memory
 table_wants : (cause : TableError) → cause ≡ TableError.OutOfSystemMemory → IsOtherFailure (TableFailure cause) → ⊥

@@ -1,6 +1,6 @@
 -- What holds of each effect, and of each kind of effect.
-use Rattle.std.proofs.Common.{Err, List, None, Ok, Option, Result, Some, ap, inl, inr, length, map, refl, set, subst, sym, ℕ, ◌∙◌, ◌≡◌}
-use Rattle.wasmi_machine.proofs.Common.{All-get_or, All-push, All-set, get_or_from_slice_get, slice_get_within, All, slice_get, slice_set, IsNotOutOfMemory, ActsAt, AddsEntry, AddsItem, ChangesAt, ChangesFound, ChangesItem, Creates, DropsAt, DropsContents, IfNoRoom, OnLive, reply_of, live_at, slot_count, IsValidSlot, Change, Reply, Slot, Gone, Live, Denied, Failed, AttemptOutcome, Met, MeteredValue, Unasked, answer_of, value_after, with_value, Rules, Grows, Growth, Makes}
+use Rattle.std.proofs.Common.{Err, List, None, Ok, Option, Result, Some, ap, inl, inr, length, map, refl, set, subst, sym, ℕ, ◌∙◌, ◌≡◌, ◌⊎◌}
+use Rattle.wasmi_machine.proofs.Common.{All-get_or, All-push, All-set, get_or_from_slice_get, slice_get_within, All, slice_get, slice_set, IsNotOutOfMemory, ActsAt, AddsEntry, ChangesAt, ChangesFound, Creates, DropsAt, IfNoRoom, OnLive, reply_of, live_at, slot_count, IsValidSlot, Change, Reply, Slot, Gone, Live, Denied, Failed, AttemptOutcome, Met, MeteredValue, Unasked, answer_of, value_after, with_value, Rules, Grows, Growth, Makes}
 use Rattle.wasmi_machine.proofs.SlotsLemmas.{live_slot, set_read}
 use Rattle.wasmi_machine.proofs.TotalLemmas.{counts_kept}
 use Rattle.wasmi_machine.specs.Laws.{IsRefusal}
@@ -17,60 +17,17 @@ pub on_live : {X C : Type 0} (o : Option X) (Missing : Type 0) (Fact : X → Typ
     → (Missing → C) → ((x : X) → o ≡ Some x → Fact x → C) → C
 on_live o Missing Fact h missing live = on_found o Missing Fact h (λ none. missing) live
 
--- a refusal leaves what a relation changes
-abbrev pub LeavesRefused : {A : Type 0} → (A → Reply → A → Type 0) → Type 0
-LeavesRefused {A} Becomes =
-    (part : A) (reply : Reply) (part' : A) → IsRefusal reply → Becomes part reply part' → part' ≡ part
-
 -- two facts of one live value, or of none
 pub both_live : {X : Type 0} (o : Option X) (Missing Missing' : Type 0) (Fact Fact' : X → Type 0)
     → OnLive o Missing Fact → OnLive o Missing' Fact' → OnLive o (Missing × Missing') (λ x. Fact x × Fact' x)
 both_live None Missing Missing' Fact Fact' h h' = (h, h')
 both_live (Some x) Missing Missing' Fact Fact' h h' = (h, h')
 
--- a live value is put back into its slot
-module _ {X : Type 0} where
-  -- the same value is put back
-  pub put_back : (slots : List (Slot X)) (k : ℕ) (x x' : X) → live_at slots k ≡ Some x → x' ≡ x
-      → slice_set slots k (Live x') ≡ slots
-  put_back slots k x x' found same =
-      ap (λ z. set slots k (Live z)) same ∙ set_read slots k (Live x) (live_slot (slice_get slots k) x found)
-
-  -- a change that changes nothing
-  found_back : {A : Type 0} (found : Option X) (put : X → A) (part : A) (reply : Reply) (part' : A)
-      (Change : X → X → Type 0) → ((x : X) → found ≡ Some x → put x ≡ part) → ((x x' : X) → Change x x' → x' ≡ x)
-      → ChangesFound found put part reply part' Change → part' ≡ part
-  found_back found put part reply part' Change read same changes =
-      on_live found _ _ changes (λ missing. missing.1) (λ x is h. h.2 ∙ ap put (same x h.0 h.1) ∙ read x is)
-
-  -- a change of a slot that changes nothing leaves the slots
-  pub changes_back : (k : ℕ) (slots : List (Slot X)) (reply : Reply) (slots' : List (Slot X))
-      (Change : X → X → Type 0) → ((x x' : X) → Change x x' → x' ≡ x) → ChangesAt k slots reply slots' Change
-      → slots' ≡ slots
-  changes_back k slots reply slots' Change same changes =
-      found_back (live_at slots k) (λ x. slice_set slots k (Live x)) slots reply slots' Change
-      (λ x found. put_back slots k x x found refl) same changes
-
-  -- a change of an item that changes nothing leaves the list
-  pub item_back : (k : ℕ) (items : List X) (reply : Reply) (items' : List X) (Change : X → X → Type 0)
-      → ((x x' : X) → Change x x' → x' ≡ x) → ChangesItem k items reply items' Change → items' ≡ items
-  item_back k items reply items' Change same changes =
-      found_back (slice_get items k) (slice_set items k) items reply items' Change (set_read items k) same changes
-
-  -- a refused addition of an item leaves the list
-  pub adds_back : (Lacks : Type 0) (x : X) → LeavesRefused (AddsItem Lacks x)
-  adds_back Lacks x items reply items' refused (inl none) = none.1
-  adds_back Lacks x items reply items' refused (inr made) = absurd (rw made.0 at refused)
-
-  -- a refused drop of what an item has leaves the list
-  pub contents_back : (without : X → X) (k : ℕ) → LeavesRefused (DropsContents without k)
-  contents_back without k items reply items' refused drops =
-      item_back k items reply items' _ (λ x x' c. absurd (rw c.0 at refused)) drops
-
-  -- a refused drop leaves the slots
-  pub drops_back : (count : X → ℕ) (k : ℕ) → LeavesRefused (DropsAt count k)
-  drops_back count k slots reply slots' refused drops =
-      on_live (live_at slots k) _ _ drops (λ missing. missing.1) (λ x found h. absurd (rw h.0 at refused))
+-- the same value is put back into its slot
+pub put_back : {X : Type 0} (slots : List (Slot X)) (k : ℕ) (x x' : X) → live_at slots k ≡ Some x → x' ≡ x
+    → slice_set slots k (Live x') ≡ slots
+put_back slots k x x' found same =
+    ap (λ z. set slots k (Live z)) same ∙ set_read slots k (Live x) (live_slot (slice_get slots k) x found)
 
 -- each work, refused
 module _ {E : Type 0} (refusal : E → Reply) where
@@ -158,49 +115,64 @@ pub no_room_too : (reply : Reply) (Lacks Lacks' : Type 0) → (Lacks → Lacks')
 no_room_too replied.NoRoom Lacks Lacks' too lacks = too lacks
 no_room_too reply Lacks Lacks' too lacks = tt
 
--- two additions of an item, where memory isn't wanting
-pub adds_same : {X : Type 0} (Lacks : Type 0) (x : X) (items : List X) (reply reply' : Reply) (items' items'' : List X)
-    → IsNotOutOfMemory reply → IsNotOutOfMemory reply' → AddsItem Lacks x items reply items'
-    → AddsItem Lacks x items reply' items'' → (reply ≡ reply') × (items' ≡ items'')
-adds_same Lacks x items reply reply' items' items'' room room' (inl none) b = absurd (rw none.0 at room)
-adds_same Lacks x items reply reply' items' items'' room room' (inr a) (inl none) = absurd (rw none.0 at room')
-adds_same Lacks x items reply reply' items' items'' room room' (inr a) (inr b) = (a.0 ∙ sym b.0, a.1 ∙ sym b.1)
+-- what holds of an effect on a part: a refusal leaves it, it is decided where memory isn't wanting, and it keeps a fact
+pub record EffectFacts {A : Type 0} (Effect : Reply → A → Type 0) (old : A) (Keeps : A → Type 0) : Type 0 where
+  pub back : (reply : Reply) (part : A) → IsRefusal reply → Effect reply part → part ≡ old
+  pub same : (reply reply' : Reply) (part part' : A) → IsNotOutOfMemory reply → IsNotOutOfMemory reply'
+      → Effect reply part → Effect reply' part' → (reply ≡ reply') × (part ≡ part')
+  pub keeps : (reply : Reply) (part : A) → Effect reply part → Keeps part
 
--- an effect on a part is decided: two of it are one
-abbrev pub IsDecided : {A : Type 0} → (Reply → A → Type 0) → Type 0
-IsDecided {A} Relation = (reply reply' : Reply) (part part' : A) → Relation reply part → Relation reply' part'
-    → (reply ≡ reply') × (part ≡ part')
+-- so of one that has this reply and makes the part this one
+pub settled_facts : {A : Type 0} {told : Reply} {new old : A} {Keeps : A → Type 0} → (IsRefusal told → new ≡ old)
+    → Keeps new → EffectFacts (λ reply part. (reply ≡ told) × (part ≡ new)) old Keeps
+settled_facts {Keeps = Keeps} back keeps = record {
+  back = λ reply part refused effect. effect.1 ∙ back (subst IsRefusal effect.0 refused);
+  same = λ reply reply' part part' has has' effect effect'. (effect.0 ∙ sym effect'.0, effect.1 ∙ sym effect'.1);
+  keeps = λ reply part effect. subst Keeps (sym effect.1) keeps;
+}
 
--- a change is decided, where the change of what was found is
+-- so of one that leaves the part where there is no room
+pub room_facts : {A Lacks : Type 0} {Effect : Reply → A → Type 0} {old : A} {Keeps : A → Type 0} → Keeps old
+    → EffectFacts Effect old Keeps
+    → EffectFacts (λ reply part. ((reply ≡ replied.NoRoom) × (part ≡ old) × Lacks) ⊎ Effect reply part) old Keeps
+room_facts {Keeps = Keeps} keeps facts = record {
+  back = λ reply part refused effect. elim effect [
+    | inl none ↦ none.1
+    | inr made ↦ facts.back reply part refused made
+  ];
+  same = λ reply reply' part part' has has' effect effect'. elim effect [
+    | inl none ↦ absurd (rw none.0 at has)
+    | inr made ↦ elim effect' [
+      | inl none ↦ absurd (rw none.0 at has')
+      | inr made' ↦ facts.same reply reply' part part' has has' made made'
+    ]
+  ];
+  keeps = λ reply part effect. elim effect [
+    | inl none ↦ subst Keeps (sym none.1) keeps
+    | inr made ↦ facts.keeps reply part made
+  ];
+}
+
+-- a change of a value is decided
 abbrev pub ChangesOnce : {X : Type 0} → (Reply → X → X → Type 0) → Type 0
-ChangesOnce {X} Change = (x : X) → IsDecided (λ reply. Change reply x)
+ChangesOnce {X} Change = (x : X) (reply reply' : Reply) (x' x'' : X) → Change reply x x' → Change reply' x x''
+    → (reply ≡ reply') × (x' ≡ x'')
 
--- two changes
-changes_same : {X A : Type 0} (found : Option X) (put : X → A) (part : A) (Change : Reply → X → X → Type 0)
-    → ChangesOnce Change → IsDecided (λ reply part'. ChangesFound found put part reply part' (Change reply))
-changes_same found put part Change once reply reply' part' part'' a b =
-    on_both found _ _ _ _ a b (λ h h'. (h.0 ∙ sym h'.0, h.1 ∙ sym h'.1))
-    (λ x h h'. let both = once x reply reply' h.0 h'.0 h.1 h'.1 in (both.0, h.2 ∙ ap put both.1 ∙ sym h'.2))
-
--- two changes of one slot are one
-pub slot_same : {X : Type 0} (k : ℕ) (slots : List (Slot X)) (Change : Reply → X → X → Type 0) → ChangesOnce Change
-    → IsDecided (λ reply slots'. ChangesAt k slots reply slots' (Change reply))
-slot_same k slots Change = changes_same (live_at slots k) (λ x. slice_set slots k (Live x)) slots Change
-
--- two changes of one item are one
-pub item_same : {X : Type 0} (k : ℕ) (items : List X) (Change : Reply → X → X → Type 0) → ChangesOnce Change
-    → IsDecided (λ reply items'. ChangesItem k items reply items' (Change reply))
-item_same k items Change = changes_same (slice_get items k) (slice_set items k) items Change
-
--- two drops of what an item has
-pub contents_same : {X : Type 0} (without : X → X) (k : ℕ) (items : List X) → IsDecided (DropsContents without k items)
-contents_same without k items = item_same k items _ (λ x reply reply' x' x'' h h'. (h.0 ∙ sym h'.0, h.1 ∙ sym h'.1))
-
--- two drops
-pub drops_same : {X : Type 0} (count : X → ℕ) (k : ℕ) (slots : List (Slot X)) → IsDecided (DropsAt count k slots)
-drops_same count k slots reply reply' slots' slots'' a b =
-    on_both (live_at slots k) _ _ _ _ a b (λ h h'. (h.0 ∙ sym h'.0, h.1 ∙ sym h'.1))
-    (λ x h h'. (h.0 ∙ sym h'.0, h.1 ∙ sym h'.1))
+-- so of one that changes what was found, and puts it back
+pub found_facts : {X A : Type 0} {found : Option X} {put : X → A} {old : A} {Change : Reply → X → X → Type 0}
+    {Keeps : A → Type 0} → ((x : X) → found ≡ Some x → put x ≡ old)
+    → ((reply : Reply) → IsRefusal reply → (x x' : X) → Change reply x x' → x' ≡ x) → ChangesOnce Change → Keeps old
+    → ((x : X) → found ≡ Some x → (reply : Reply) (x' : X) → Change reply x x' → Keeps (put x'))
+    → EffectFacts (λ reply part. ChangesFound found put old reply part (Change reply)) old Keeps
+found_facts {found = found} {put = put} {Keeps = Keeps} read back once keeps kept = record {
+  back = λ reply part refused changes. on_live found _ _ changes (λ missing. missing.1)
+      (λ x is h. h.2 ∙ ap put (back reply refused x h.0 h.1) ∙ read x is);
+  same = λ reply reply' part part' has has' changes changes'. on_both found _ _ _ _ changes changes'
+      (λ h h'. (h.0 ∙ sym h'.0, h.1 ∙ sym h'.1))
+      (λ x h h'. let both = once x reply reply' h.0 h'.0 h.1 h'.1 in (both.0, h.2 ∙ ap put both.1 ∙ sym h'.2));
+  keeps = λ reply part changes. on_live found _ _ changes (λ missing. subst Keeps (sym missing.1) keeps)
+      (λ x is h. subst Keeps (sym h.2) (kept x is reply h.0 h.1));
+}
 
 -- what a call on what an index names ends in
 pub record Acted (A S : Type 0) : Type 0 where
@@ -233,32 +205,19 @@ acts_same {X = X} {S = S} Acts same k reply_to s o o' a b =
       λ i. record { value = value i; meter = meter i; limiter = limiter i },
     ))
 
-module _ {X : Type 0} (count : X → ℕ) (k : ℕ) (slots : List (Slot X)) (reply : Reply) (slots' : List (Slot X)) where
-  -- a change that keeps the count keeps the sizes
-  pub changes_kept : (Change : X → X → Type 0) → ((x x' : X) → Change x x' → count x' ≡ count x)
-      → ChangesAt k slots reply slots' Change → map (slot_count count) slots' ≡ map (slot_count count) slots
-  changes_kept Change same changes = on_live (live_at slots k) _ _ changes
-      (λ missing. ap (map (slot_count count)) missing.1)
-      (λ x found h. ap (map (slot_count count)) h.2 ∙ counts_kept count slots k x (Live h.0) found (same x h.0 h.1))
-
-  -- a drop keeps the sizes
-  pub drops_kept : DropsAt count k slots reply slots' → map (slot_count count) slots' ≡ map (slot_count count) slots
-  drops_kept drops = on_live (live_at slots k) _ _ drops (λ missing. ap (map (slot_count count)) missing.1)
-      (λ x found h. ap (map (slot_count count)) h.1 ∙ counts_kept count slots k x (Gone (count x)) found refl)
+-- a change that keeps the count keeps the sizes
+pub changes_kept : {X : Type 0} (count : X → ℕ) (k : ℕ) (slots : List (Slot X)) (reply : Reply) (slots' : List (Slot X))
+    (Change : X → X → Type 0) → ((x x' : X) → Change x x' → count x' ≡ count x) → ChangesAt k slots reply slots' Change
+    → map (slot_count count) slots' ≡ map (slot_count count) slots
+changes_kept count k slots reply slots' Change same changes = on_live (live_at slots k) _ _ changes
+    (λ missing. ap (map (slot_count count)) missing.1)
+    (λ x found h. ap (map (slot_count count)) h.2 ∙ counts_kept count slots k x (Live h.0) found (same x h.0 h.1))
 
 module _ {X : Type 0} (Valid : X → Type 0) where
   -- an item that is read of a list of valid ones
   read_valid : (items : List X) (k : ℕ) (x : X) → slice_get items k ≡ Some x → All Valid items → Valid x
   read_valid items k x found valid = subst Valid (get_or_from_slice_get items k x x found)
       (All-get_or Valid items k x (slice_get_within items k x found) valid)
-
-  -- a change of one item
-  pub item_valid : (k : ℕ) (items : List X) (reply : Reply) (items' : List X) (Change : X → X → Type 0)
-      → ((x x' : X) → Valid x → Change x x' → Valid x') → ChangesItem k items reply items' Change → All Valid items
-      → All Valid items'
-  item_valid k items reply items' Change keeps changes valid = on_live (slice_get items k) _ _ changes
-      (λ missing. subst (All Valid) (sym missing.1) valid) (λ x found h. subst (All Valid) (sym h.2)
-      (All-set Valid items k h.0 (keeps x h.0 (read_valid items k x found valid) h.1) valid))
 
   -- a new entry at the end
   pub appended_valid : {E : Type 0} (refusal : E → Reply) (result : Result X E) (list : List X) (reply : Reply)
@@ -303,13 +262,6 @@ module _ {X : Type 0} (Valid : X → Type 0) where
       (λ x found h. put_valid s.value s'.value k (Live h.1) h.4
       (keeps _ _ h.0 charge (live_valid s.value k x found valid) h.2) valid)
 
-  -- a drop
-  pub drops_valid : (count : X → ℕ) (k : ℕ) (slots : List (Slot X)) (reply : Reply) (slots' : List (Slot X))
-      → DropsAt count k slots reply slots' → AllValid slots → AllValid slots'
-  drops_valid count k slots reply slots' drops valid = on_live (live_at slots k) _ _ drops
-      (λ missing. subst AllValid (sym missing.1) valid)
-      (λ x found h. put_valid slots slots' k (Gone (count x)) h.1 tt valid)
-
   -- a creation
   pub creates_valid : {E S : Type 0} (refusal : E → Reply) (Makes : S → Result X E → S → Type 0)
       → ((l l' : S) (x : X) → Makes l (Ok x) l' → Valid x)
@@ -327,17 +279,41 @@ pub on_live_too : {X : Type 0} (o : Option X) (Missing Missing' : Type 0) (Fact 
 on_live_too None Missing Missing' Fact Fact' missing live h = missing h
 on_live_too (Some x) Missing Missing' Fact Fact' missing live h = live x h
 
--- ---- a value is put, or it is refused
+-- what slots keep that become others: the sizes and validity
+abbrev pub KeepsSlots : {X : Type 0} → (X → ℕ) → (X → Type 0) → List (Slot X) → List (Slot X) → Type 0
+KeepsSlots count Valid slots slots' =
+    (map (slot_count count) slots' ≡ map (slot_count count) slots) × (AllValid Valid slots → AllValid Valid slots')
 
--- what holds of a change of slots: a refused one leaves them, it is decided, and it keeps the sizes and validity
-pub record SlotFacts {X : Type 0} (count : X → ℕ) (Valid : X → Type 0)
-    (Becomes : List (Slot X) → Reply → List (Slot X) → Type 0) : Type 0 where
-  pub back : LeavesRefused Becomes
-  pub same : (slots : List (Slot X)) → IsDecided (Becomes slots)
-  pub kept : (slots : List (Slot X)) (reply : Reply) (slots' : List (Slot X)) → Becomes slots reply slots'
-      → map (slot_count count) slots' ≡ map (slot_count count) slots
-  pub valid : (slots : List (Slot X)) (reply : Reply) (slots' : List (Slot X)) → Becomes slots reply slots'
-      → AllValid Valid slots → AllValid Valid slots'
+-- so where one value becomes another of its count that is as valid
+pub slot_kept : {X : Type 0} (count : X → ℕ) (Valid : X → Type 0) (slots : List (Slot X)) (k : ℕ) (x x' : X)
+    → live_at slots k ≡ Some x → count x' ≡ count x → (Valid x → Valid x')
+    → KeepsSlots count Valid slots (slice_set slots k (Live x'))
+slot_kept count Valid slots k x x' found same valid = (
+  counts_kept count slots k x (Live x') found same,
+  λ all. put_valid Valid slots _ k (Live x') refl (valid (live_valid Valid slots k x found all)) all,
+)
+
+-- what holds of a change of slots
+abbrev pub SlotFacts : {X : Type 0} → (X → ℕ) → (X → Type 0) → (List (Slot X) → Reply → List (Slot X) → Type 0) → Type 0
+SlotFacts {X} count Valid Becomes =
+    (slots : List (Slot X)) → EffectFacts (Becomes slots) slots (KeepsSlots count Valid slots)
+
+-- a drop
+pub drop_facts : {X : Type 0} (count : X → ℕ) (Valid : X → Type 0) (k : ℕ) → SlotFacts count Valid (DropsAt count k)
+drop_facts count Valid k slots = record {
+  back = λ reply slots' refused drops.
+      on_live (live_at slots k) _ _ drops (λ missing. missing.1) (λ x found h. absurd (rw h.0 at refused));
+  same = λ reply reply' slots' slots'' has has' drops drops'. on_both (live_at slots k) _ _ _ _ drops drops'
+      (λ h h'. (h.0 ∙ sym h'.0, h.1 ∙ sym h'.1)) (λ x h h'. (h.0 ∙ sym h'.0, h.1 ∙ sym h'.1));
+  keeps = λ reply slots' drops. on_live (live_at slots k) _ _ drops
+      (λ missing. (ap (map (slot_count count)) missing.1, λ valid. subst (AllValid Valid) (sym missing.1) valid))
+      (λ x found h. (
+        ap (map (slot_count count)) h.1 ∙ counts_kept count slots k x (Gone (count x)) found refl,
+        λ valid. put_valid Valid slots slots' k (Gone (count x)) h.1 tt valid,
+      ));
+}
+
+-- ---- a value is put, or it is refused
 
 -- items are put into a value, or they are refused with this error, and the value is the same
 abbrev pub PutsOr : {X E : Type 0} → Option (List ℕ) → (List ℕ → X) → E → X → Result (Unit {0}) E → X → Type 0
@@ -378,11 +354,6 @@ module _ {X E : Type 0} (count : X → ℕ) (Valid : X → Type 0) (refusal : E 
   -- so a change of a slot by it
   pub setting_facts : (k : ℕ)
       → SlotFacts count Valid (λ slots reply slots'. ChangesAt k slots reply slots' (Setting reply))
-  setting_facts k = record {
-    back = λ slots reply slots' refused. changes_back k slots reply slots' (Setting reply) (setting_back reply refused);
-    same = λ slots. slot_same k slots Setting setting_once;
-    kept = λ slots reply slots'. changes_kept count k slots reply slots' (Setting reply)
-        (λ x x' c. (setting_kept reply x x' c).0);
-    valid = λ slots reply slots'. changes_valid Valid k slots reply slots' (Setting reply)
-        (λ x x' valid c. (setting_kept reply x x' c).1 valid);
-  }
+  setting_facts k slots = found_facts (λ x found. put_back slots k x x found refl) setting_back setting_once
+      (refl, λ valid. valid) (λ x found reply x' c.
+      let kept = setting_kept reply x x' c in slot_kept count Valid slots k x x' found kept.0 kept.1)

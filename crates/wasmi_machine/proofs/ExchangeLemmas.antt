@@ -1,7 +1,8 @@
 -- What passes between a machine and its limiter in each turn, what has grown by it, and what was charged for it.
 use Rattle.std.proofs.Common.{Bool, Err, List, None, Ok, Option, Result, Some, [], ap, arith, false, inl, inr, length, map, refl, replicate, subst, sym, true, ℕ, ◌*◌, ◌++◌, ◌+◌, ◌-◌, ◌<◌, ◌∙◌, ◌∷◌, ◌≡◌, ◌≢◌, ◌≤◌, ◌⊎◌}
-use Rattle.wasmi_machine.proofs.Common.{nat_tests, length-append, length-replicate, map-set, map_push, none-some, same_Some, option_and_then, MatchBool, if◌then◌else◌, is_none, nat_eq, slice_get, slice_set, ◌&&◌, CustomFuelCosts, IsOtherFailure, AsksFor, At, Denial, Exchange, Exchanges, GrowsAsAsked, GrowsBy, New, Nothing, NothingGrows, Notice, Nowhere, Passes, Permission, Place, RepliesTo, charge_at, writing_price, failed_charge, failed_reply, growth_charge, growth_due, growth_question, place_of, question_in, question_of, table_growth_question, writing_charge, RunsGrowAsPermitted, CreatesLent, ActsAt, AddsEntry, Creates, reply_of, MemoryPart, live_at, memory_part, byte_count, sizes, slot_count, Turn, World, Changed, Effect, FuelSet, LentMemoryMade, MemoryGrown, MemoryMade, RangeWritten, Step, TableGrown, TableMade, HasEffect, effect_of, Grows, Growth, Makes, metered_value, Call, GrowMemory, GrowTable, NewLentMemory, NewMemory, NewTable, Reply, Slot, Live, AttemptOutcome, Denied, Failed, Follows, IsFirstCause, MayEnd, Met, MeteredValue, Request, Unasked, answer_of, covers, error_of_answer, error_of_failure, optional_due, outcome_charge, value_after, copy_cost, Meter, due, Failure, MemoryFailure, NoticeAnswer, Question, Rules, TableFailure, kind_of, MemoryError, TableError, Kind, Bytes, Elements, LacksMemory, Lent, Owned, Room, fits_room, GrowsMemoryCharging, MakesMemory, MemoryValue, new_memory, MemoryTypeValue, minimum_bytes, page_bytes, GrowsTableCharging, MakesTable, TableValue, new_table, size_of, TableTypeValue, is_within_maximum, same_type, TypedRawRef, memory_growth, table_growth}
+use Rattle.wasmi_machine.proofs.Common.{nat_tests, length-append, length-replicate, map-set, map_push, none-some, same_Some, option_and_then, MatchBool, if◌then◌else◌, is_none, nat_eq, slice_get, slice_set, ◌&&◌, CustomFuelCosts, IsOtherFailure, AsksFor, At, Denial, Exchange, Exchanges, GrowsAsAsked, GrowsBy, New, Nothing, NothingGrows, Notice, Nowhere, Passes, Permission, Place, RepliesTo, charge_at, writing_price, failed_charge, failed_reply, growth_charge, growth_due, growth_question, place_of, question_in, question_of, table_growth_question, writing_charge, RunsGrowAsPermitted, CreatesLent, ActsAt, AddsEntry, Creates, reply_of, MemoryPart, live_at, memory_part, byte_count, sizes, slot_count, Turn, World, Changed, Effect, FuelSet, LentMemoryMade, MemoryGrown, MemoryMade, RangeWritten, Step, TableGrown, TableMade, HasEffect, effect_of, Grows, Growth, Makes, metered_value, Call, GrowMemory, GrowTable, NewLentMemory, NewMemory, NewTable, Reply, Slot, Live, AttemptOutcome, Denied, Failed, Follows, IsFirstCause, MayEnd, Met, MeteredValue, Request, Unasked, answer_of, covers, error_of_answer, error_of_failure, optional_due, outcome_charge, value_after, copy_cost, Meter, due, Failure, MemoryFailure, NoticeAnswer, Question, Rules, TableFailure, kind_of, MemoryError, TableError, Kind, Bytes, Elements, Lent, Owned, Room, fits_room, GrowsMemoryCharging, MakesMemory, MemoryValue, new_memory, MemoryTypeValue, minimum_bytes, page_bytes, GrowsTableCharging, MakesTable, TableValue, new_table, size_of, TableTypeValue, is_within_maximum, same_type, TypedRawRef, memory_growth, table_growth}
 use Rattle.wasmi_machine.proofs.EffectLemmas.{on_found}
+use Rattle.wasmi_machine.proofs.MemoryEffectsLemmas.{lacks_owned}
 use Rattle.wasmi_machine.proofs.AccountLemmas.{step_meter}
 use Rattle.wasmi_machine.proofs.RangeLemmas.{range_charge, range_price, range_still, range_unasked}
 use Rattle.wasmi_machine.proofs.StepsLemmas.{change_facts}
@@ -383,12 +384,6 @@ pub late_is : {E : Type 0} (fits : Bool) (late cause : E) → (if fits then None
 late_is true late cause is = absurd (none-some cause is)
 late_is false late cause is = same_Some late cause is
 
--- what memory refuses is want of it
-memory_wanted : (room : Room) (cause : MemoryError) → LacksMemory room cause → (price : ℕ)
-    → failed_charge (MemoryFailure cause) price ≡ price
-memory_wanted Owned cause wants price = subst (λ c. failed_charge (MemoryFailure c) price ≡ price) (sym wants) refl
-memory_wanted (Lent rest) cause wants price = absurd wants
-
 -- the price of a growth of a memory
 memory_priced : (pages : ℕ) (x : MemoryValue) (m : Meter) → IsPriced (memory.growth_of x pages) m
 memory_priced pages x m = record {
@@ -396,7 +391,8 @@ memory_priced pages x m = record {
   late = λ cause is price. subst (λ c. failed_charge (MemoryFailure c) price ≡ 0)
       (late_is (fits_room x.room (pages * page_bytes x.ty.page)) memory_error.InvalidStaticBufferSize cause is) refl;
   unpaid = λ due price. refl;
-  refuses = memory_wanted x.room;
+  refuses = λ cause wants price.
+      subst (λ c. failed_charge (MemoryFailure c) price ≡ price) (sym (lacks_owned x.room cause wants)) refl;
 }
 
 -- the growth of a memory is one of its bytes

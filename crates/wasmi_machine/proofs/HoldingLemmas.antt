@@ -1,11 +1,12 @@
 -- What a limiter keeps in a run: the caps of a quota, and the totals that it holds.
 use Rattle.std.proofs.Common.{◌≡◌, ◌≢◌, ℕ, ◌+◌, ◌-◌, Option, Some, None, Result, Ok, Err, true, List, [], ◌∷◌, sum, refl, sym, ap, ◌∙◌, arith, subst, IfOk, OnErr}
-use Rattle.wasmi_machine.proofs.Common.{same_Some, Kind, Bytes, Elements, HoldsTheSame, Reserves, GivesBack, with_more, Asked, Noticed, SameCaps, IsWithinCaps, capped_quota, quota_rules, Question, Answer, IsDenial, Failure, kind_of, NoticeAnswer, Rules, AskedIf, NoticedIf, optional_rules, Call, Reply, State, World, Turn, world, sizes, HoldsTotals, Run, IsRunOf, Step, Exchange, Nothing, Denial, Permission, Notice, Place, Nowhere, New, At, place_of, Passes, NothingGrows, GrowsAsAsked, GrowsBy}
+use Rattle.wasmi_machine.proofs.Common.{same_Some, Kind, Bytes, Elements, HoldsTheSame, Reserves, GivesBack, with_more, SameCaps, IsWithinCaps, Capped, capped_rules, capped_quota, quota_rules, Question, Answer, IsDenial, Failure, kind_of, NoticeAnswer, Rules, AskedIf, NoticedIf, optional_rules, Call, Reply, State, World, Turn, world, sizes, HoldsTotals, Run, IsRunOf, Step, Exchange, Nothing, Denial, Permission, Notice, Place, Nowhere, New, At, place_of, Passes, NothingGrows, GrowsAsAsked, GrowsBy}
 use Rattle.wasmi_meter.specs.declared.quota.Holdings.{Holdings}
 use Rattle.wasmi_machine.proofs.TotalLemmas.{sum_set, sum_push}
 use Rattle.wasmi_machine.proofs.ExchangeLemmas.{growths_are_permitted}
 use Rattle.wasmi_meter.specs.declared.quota.Quota.{Quota}
-use Rattle.wasmi_meter.proofs.CappedLemmas.{caps_kept, asked_is_within, noticed_is_within, quota_keeps}
+use Rattle.wasmi_meter.specs.Capped.{IsWithin}
+use Rattle.wasmi_meter.proofs.CappedLemmas.{KeepsCaps, caps_kept, others_kept, asked_is_within, noticed_is_within, quota_keeps}
 
 -- a denial keeps the holdings
 pub denial_keeps : (q : Question) (answer : Answer) (h h' : Holdings) → IsDenial answer → Reserves q answer h h'
@@ -177,37 +178,41 @@ stays_there rules Kept stays = record {
       (λ accepts none. none) (λ l. (λ h. h, λ h. h)) l l' notices kept;
 }
 
--- a quota that became of another one: within its caps, which are the other's
-pub record IsLater (first later : Quota) : Type 0 where
-  pub within : IsWithinCaps later
-  pub caps : SameCaps first later
+-- a limiter with caps that became of another one: within its caps, which are the other's, beside as much of others
+pub record IsLater {L : Type 0} (c : Capped L) (first later : L) : Type 0 where
+  pub within : IsWithin c later
+  pub caps : (kind : Kind) → c.cap later kind ≡ c.cap first kind
+  pub others : (kind : Kind) → c.others later kind ≡ c.others first kind
 
--- the caps stay
-same_caps : (a b c : Quota) → SameCaps a b → SameCaps b c → SameCaps a c
-same_caps a b c first second kind = second kind ∙ first kind
+module _ {L : Type 0} (c : Capped L) (keeps : KeepsCaps c) (first : L) where
+  -- one that is within its caps and is another one but for its holdings
+  still_later : (l l' : L) → IsLater c first l → l' ≡ c.with_holdings l (c.holdings l') → IsWithin c l'
+      → IsLater c first l'
+  still_later l l' later rest within = record {
+    within = within;
+    caps = λ kind. caps_kept c keeps l l' rest kind ∙ later.caps kind;
+    others = λ kind. others_kept c keeps l l' rest kind ∙ later.others kind;
+  }
 
--- a question keeps them
-asked_later : (first l : Quota) (q : Question) (answer : Answer) (l' : Quota) → IsLater first l
-    → Asked capped_quota l q answer l' → IsLater first l'
-asked_later first l q answer l' later (taken, answered, more) = record {
-  within = asked_is_within capped_quota quota_keeps l l' later.within q answer (taken, answered, more);
-  caps = same_caps first l l' later.caps (caps_kept capped_quota quota_keeps l l' more.rest);
-}
-
--- a notice keeps the caps, and the quota within them
-noticed_later : (first l : Quota) (failure : Failure) (notice_answer : NoticeAnswer) (l' : Quota) → IsLater first l
-    → Noticed capped_quota l failure notice_answer l' → IsLater first l'
-noticed_later first l failure notice_answer l' later noticed = record {
-  within = noticed_is_within capped_quota quota_keeps l l' later.within failure notice_answer noticed;
-  caps = same_caps first l l' later.caps (caps_kept capped_quota quota_keeps l l' noticed.rest);
-}
+  -- a run keeps a limiter within its caps
+  pub run_is_later : IsWithin c first → (s : State) (turns : List Turn) (w' : World (Option L))
+      → Run (optional_rules (capped_rules c)) (world s (Some first)) turns w' → IsThere (IsLater c first) w'.limiter
+  run_is_later within s turns w' ran =
+      let stays : StaysIn (capped_rules c) (IsLater c first) = record {
+        asked = λ l question answer l' later (taken, answered, more). still_later l l' later more.rest
+            (asked_is_within c keeps l l' later.within question answer (taken, answered, more));
+        noticed = λ l failure answer l' later noticed. still_later l l' later noticed.rest
+            (noticed_is_within c keeps l l' later.within failure answer noticed);
+      } in
+      run_stays (optional_rules (capped_rules c)) (IsThere (IsLater c first))
+      (stays_there (capped_rules c) (IsLater c first) stays) (world s (Some first)) turns w'
+      (record { within = within; caps = λ kind. refl; others = λ kind. refl }) ran
 
 -- a run keeps a quota within its caps
 pub quota_stays_within : (s : State) (l : Quota) → IsWithinCaps l → (turns : List Turn) (w' : World _)
     → Run (optional_rules quota_rules) (world s (Some l)) turns w'
     → (l' : Quota) × (w'.limiter ≡ Some l') × IsWithinCaps l' × SameCaps l l'
 quota_stays_within s l within turns w' ran =
-    let stays = stays_there quota_rules (IsLater l) (record { asked = asked_later l; noticed = noticed_later l }) in
-    let kept = there (IsLater l) w'.limiter (run_stays (optional_rules quota_rules) (IsThere (IsLater l)) stays
-    (world s (Some l)) turns w' (record { within = within; caps = λ kind. refl }) ran) in
+    let kept = there (IsLater capped_quota l) w'.limiter
+    (run_is_later capped_quota quota_keeps l within s turns w' ran) in
     (kept.0, kept.1, kept.2.within, kept.2.caps)

@@ -3,18 +3,14 @@ use Rattle.std.proofs.Common.{Err, List, None, Ok, Option, Result, Some, [], ap,
 use Rattle.wasmi_machine.proofs.Common.{cond-false, cond-true, nat_tests, length-map, map-set, map_push, none-some, same_Some, slice_get-map, option_and_then, option_map, MatchOption, slice_get, slice_set, ByteSource, OfBytes, StoresMemoryAt, WritesMemoryAt, byte_write_of, bytes_appended, bytes_in, load_reply, StoresVectorAt, lane_loaded, vector_at, vector_loaded, ActsAt, AddsEntry, ChangesAt, Creates, DropsAt, IfNoRoom, IsNoSuch, MeteredSlots, OnLive, WritesAt, WritesRangeAt, reply_of, Run, BytesRead, BytesStored, BytesWritten, Change, Changed, Effect, FuelSet, LacksSlot, LentMemoryMade, MemoryDropped, MemoryGrown, MemoryMade, RangeWritten, RegisterSet, Step, TableGrown, MemoryWritten, TableWritten, TableMade, HasChange, HasEffect, Told, effect_of, State, live_at, live_value, byte_count, Turn, World, Call, CopyMemory, Load, LoadLane, NewLentMemory, NewMemory, VectorLoad, Reply, Slot, Gone, Live, AttemptOutcome, Met, MeteredValue, optional_due, answer_of, covers, with_value, Rules, Meter, meter_after, MemoryError, on_test_too, IsDenied, metered, metered_value, LacksMemory, Lent, Owned, Room, fits_room, GrowsMemory, GrowsMemoryCharging, MakesMemory, MemoryValue, MemoryWrite, WritesMemory, bytes_write, new_memory, pages_of, MemoryTypeValue, in_bounds, minimum_bytes, page_bytes}
 use Rattle.std.specs.Result.{result_map_both}
 use Rattle.wasmi_machine.proofs.EffectLemmas.{both_live, no_room_too, on_live_too}
+use Rattle.wasmi_machine.proofs.MemoryEffectsLemmas.{lacks_owned}
 use Rattle.wasmi_machine.proofs.RangeLemmas.{WritesBytes, source_writes}
-use Rattle.wasmi_machine.proofs.StoreLemmas.{acts_too, asks_too, changes_too}
+use Rattle.wasmi_machine.proofs.StoreLemmas.{acts_too, asks_too, changes_too, unasked_too}
 use Rattle.wasmi_machine.specs.LentMemory.{FitsRegions, FitsRoom, RunInRegions, owned, owned_memory, owned_slot, owned_world, unlent_world}
 use Rattle.wasmi_store.proofs.DenialLemmas.{answers, attempts, met_or_denied}
 use Rattle.wasmi_store.specs.Write.{Writes, item_price, write_charge}
 use Rattle.wasmi_store.specs.Memory as memory
 use Rattle.wasmi_machine.specs.declared.calls.Reply.TheVariants as replied
-
--- what a room of one's own may refuse after the charge
-lacks_owned : (room : Room) (cause : MemoryError) → LacksMemory room cause → LacksMemory Owned cause
-lacks_owned Owned cause lacks = lacks
-lacks_owned (Lent rest) cause lacks = absurd lacks
 
 -- a memory is made where its room has place for it
 makes_owned : {S : Type 0} (rules : Rules S) (room : Room) (ty : MemoryTypeValue) (l : S)
@@ -322,34 +318,25 @@ module _ {S : Type 0} (rules : Rules S) (w : World S) (turn : Turn) (w' : World 
   effect_owned (Changed change) fits step =
       changes_too step (owned step.machine) (change_owned w.state turn.reply step.machine change step.effect)
       (ap owned_world step.after)
-  effect_owned (MemoryMade ty) fits step = asks_too step (map owned_slot step.part)
+  effect_owned (MemoryMade ty) fits step = asks_too step (map owned_slot step.part) step.limiter
       (creates_owned rules Owned ty w.state.memories w.limiter turn.reply step.part step.limiter refl step.effect)
       (slots_used w.state turn.reply step.room) (ap owned_world step.after)
   effect_owned (LentMemoryMade ty) fits step = absurd fits
-  effect_owned (MemoryGrown k pages) fits step = acts_too step (map owned_slot step.part) step.meter
+  effect_owned (MemoryGrown k pages) fits step = acts_too step (map owned_slot step.part) step.meter step.limiter
       (growth_owned rules k pages (metered_value w.state.memories (Some w.state.meter) w.limiter)
       (metered_value step.part (Some step.meter) step.limiter) turn.reply turn.charge fits
       step.effect) (made_owned w.state.memories k (λ o. bytes_appended o pages turn.reply) (λ x. refl))
       (ap owned_world step.after)
   effect_owned (TableMade ty init) fits step =
-      asks_too step step.part step.effect step.room (ap owned_world step.after)
+      asks_too step step.part step.limiter step.effect step.room (ap owned_world step.after)
   effect_owned (TableGrown k n init) fits step =
-      acts_too step step.part step.meter step.effect refl (ap owned_world step.after)
-  effect_owned (RangeWritten (TableWritten k source dst len)) fits step = record {
-    part = step.part;
-    meter = step.meter;
-    effect = step.effect;
-    wrote = step.wrote;
-    after = ap owned_world step.after;
-  }
-  effect_owned (RangeWritten (MemoryWritten k source dst len)) fits step = record {
-    part = map owned_slot step.part;
-    meter = step.meter;
-    effect = memory_write_owned source k dst len (metered w.state.memories (Some w.state.meter))
-        (metered step.part (Some step.meter)) turn.reply turn.charge step.effect;
-    wrote = step.wrote;
-    after = ap owned_world step.after;
-  }
+      acts_too step step.part step.meter step.limiter step.effect refl (ap owned_world step.after)
+  effect_owned (RangeWritten (TableWritten k source dst len)) fits step =
+      unasked_too step step.part step.meter step.effect (ap owned_world step.after)
+  effect_owned (RangeWritten (MemoryWritten k source dst len)) fits step =
+      unasked_too step (map owned_slot step.part) step.meter
+      (memory_write_owned source k dst len (metered w.state.memories (Some w.state.meter))
+      (metered step.part (Some step.meter)) turn.reply turn.charge step.effect) (ap owned_world step.after)
 
 -- a run
 pub run_is_owned : {S : Type 0} (rules : Rules S) (w : World S) (turns : List Turn) (w' : World S)
@@ -384,11 +371,6 @@ creation_is_owned rules w turn w' ty region called spare fits step =
       after = ap unlent_world lent.after;
     }
 
--- what memory refuses of a lent region
-none_lacks : (room : Room) (rest : List ℕ) (cause : MemoryError) → room ≡ Lent rest → LacksMemory room cause → ⊥
-none_lacks Owned rest cause is lacks = cc
-none_lacks (Lent other) rest cause is lacks = lacks
-
 -- a growth has succeeded or was denied, by what it needs
 pub lent_growth_succeeds : {S : Type 0} (rules : Rules S) (pages : ℕ) (s : MeteredValue MemoryValue S) (rest : List ℕ)
     → s.value.room ≡ Lent rest → in_bounds s.value.ty (pages_of s.value + pages) ≡ true
@@ -403,6 +385,6 @@ lent_growth_succeeds rules pages s rest lent inside fits payable result s' (char
       early = cond-true _ _ _ inside;
       late = cond-true _ _ _ fits;
       paid = payable;
-      room = λ cause. none_lacks s.value.room rest cause lent;
+      room = λ cause lacks. subst (λ room. LacksMemory room cause) lent lacks;
     }) (pages_of s.value) s.limiter s'.limiter some.outcome some.attempt.may_end some.attempt.follows result
     some.answered

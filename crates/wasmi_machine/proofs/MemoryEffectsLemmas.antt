@@ -1,7 +1,7 @@
 -- What holds of each effect on memories.
-use Rattle.std.proofs.Common.{Bool, Err, List, None, Ok, Option, Result, Some, ap, arith, drop, false, inl, inr, length, map, refl, subst, sym, take, true, ℕ, ◌++◌, ◌+◌, ◌-◌, ◌∙◌, ◌≡◌, ◌≤◌}
-use Rattle.wasmi_machine.proofs.Common.{leb-true, common_steps, cond_some, none-some, if◌then◌else◌, nat_le, IsNotOutOfMemory, CreatesLent, ReadsBytes, ReadsMemoryAt, StoresMemory, WritesMemoryAt, spare_after, StoresVectorAt, MemoryPart, live_at, byte_count, slot_count, Reply, Slot, Rules, MemoryError, Lent, IsValidMemory, MakesMemory, MemoryValue, WritesMemory, MemoryTypeValue, at, overwrite}
-use Rattle.wasmi_machine.proofs.EffectLemmas.{AllValid, IsDecided, LeavesRefused, PutsOr, SlotFacts, creates_back, on_both, on_found, on_live, setting_facts}
+use Rattle.std.proofs.Common.{Bool, Err, List, None, Ok, Option, Result, Some, ap, arith, drop, false, inl, inr, length, refl, subst, sym, take, true, ℕ, ◌++◌, ◌+◌, ◌-◌, ◌∙◌, ◌≡◌, ◌≤◌}
+use Rattle.wasmi_machine.proofs.Common.{leb-true, common_steps, cond_some, none-some, if◌then◌else◌, nat_le, IsNotOutOfMemory, CreatesLent, ReadsBytes, ReadsMemoryAt, StoresMemory, WritesMemoryAt, spare_after, StoresVectorAt, MemoryPart, live_at, byte_count, Reply, Slot, Rules, MemoryError, LacksMemory, Lent, Owned, Room, IsValidMemory, MakesMemory, MemoryValue, WritesMemory, MemoryTypeValue, at, overwrite}
+use Rattle.wasmi_machine.proofs.EffectLemmas.{PutsOr, SlotFacts, creates_back, on_both, on_found, on_live, setting_facts, settled_facts}
 use Rattle.wasmi_machine.specs.Laws.{IsRefusal}
 use Rattle.wasmi_meter.specs.declared.error.MemoryError.TheVariants.{OutOfBoundsAccess}
 use Rattle.wasmi_access.specs.LoadStore.{accessed}
@@ -26,6 +26,11 @@ pub lent_spare : {S : Type 0} (rules : Rules S) (ty : MemoryTypeValue) (part : M
 lent_spare rules ty part l reply part' l' creates = on_found part.spare _ _ creates
     (λ missing none. ap (λ (p : MemoryPart). p.spare) none.1 ∙ missing
     ∙ sym (ap (spare_after reply) missing ∙ ap (λ r. spare_after r None) none.0)) (λ region found made. made.1)
+
+-- what memory refuses a room is what it refuses one's own
+pub lacks_owned : (room : Room) (cause : MemoryError) → LacksMemory room cause → LacksMemory Owned cause
+lacks_owned Owned cause lacks = lacks
+lacks_owned (Lent rest) cause lacks = absurd lacks
 
 -- memories
 read_same : (found : Option (List ℕ)) (reply reply' : Reply) → IsNotOutOfMemory reply → IsNotOutOfMemory reply'
@@ -107,55 +112,8 @@ stored_count x x' a stored (Err trap) stores = ap length stores.0.2
 -- a store of bytes that may be missing to the memory of an index
 pub vector_store_facts : (k a : ℕ) (stored : Option (List ℕ))
     → SlotFacts byte_count IsValidMemory (StoresVectorAt k a stored)
-vector_store_facts k a None = record {
-  back = λ slots reply slots' refused stores. stores.1;
-  same = λ slots reply reply' slots' slots'' h h'. (h.0 ∙ sym h'.0, h.1 ∙ sym h'.1);
-  kept = λ slots reply slots' stores. ap (map (slot_count byte_count)) stores.1;
-  valid = λ slots reply slots' stores valid. subst (AllValid IsValidMemory) (sym stores.1) valid;
-}
-vector_store_facts k a (Some stored) = setting_facts byte_count IsValidMemory replied.Trap
+vector_store_facts k a None slots = settled_facts (λ refused. refl) (refl, λ valid. valid)
+vector_store_facts k a (Some stored) slots = setting_facts byte_count IsValidMemory replied.Trap
     (λ x result x'. StoresMemory x a stored result x') (λ x. accessed a (overwrite x.bytes a stored)) with_bytes
     (λ x. MemoryOutOfBounds) (store_puts a stored)
-    (λ x bytes. accessed_length x.bytes stored bytes a _) bytes_keep k
-
--- a refused write leaves the slots
-pub write_refused : (k offset : ℕ) (source : List ℕ) → LeavesRefused (WritesMemoryAt k offset source)
-write_refused k offset source = (write_facts k offset source).back
-
--- two writes to the memory of an index
-pub writes_same : (k offset : ℕ) (source : List ℕ) (slots : List (Slot MemoryValue))
-    → IsDecided (WritesMemoryAt k offset source slots)
-writes_same k offset source = (write_facts k offset source).same
-
--- a write to the memory of an index keeps the validity of all
-pub writes_valid : (k offset : ℕ) (source : List ℕ) (slots : List (Slot MemoryValue)) (reply : Reply)
-    (slots' : List (Slot MemoryValue)) → WritesMemoryAt k offset source slots reply slots' → AllValid IsValidMemory slots
-    → AllValid IsValidMemory slots'
-writes_valid k offset source = (write_facts k offset source).valid
-
--- two stores of what may be missing
-pub vector_stores_same : (k a : ℕ) (stored : Option (List ℕ)) (slots : List (Slot MemoryValue))
-    → IsDecided (StoresVectorAt k a stored slots)
-vector_stores_same k a stored = (vector_store_facts k a stored).same
-
--- a store of what may be missing keeps the validity of all
-pub vector_store_valid : (k a : ℕ) (stored : Option (List ℕ)) (slots : List (Slot MemoryValue)) (reply : Reply)
-    (slots' : List (Slot MemoryValue)) → StoresVectorAt k a stored slots reply slots' → AllValid IsValidMemory slots
-    → AllValid IsValidMemory slots'
-vector_store_valid k a stored = (vector_store_facts k a stored).valid
-
-module _ (k : ℕ) (slots : List (Slot MemoryValue)) (reply : Reply) (slots' : List (Slot MemoryValue)) (a : ℕ) where
-  -- a write keeps the sizes
-  pub written_kept : (source : List ℕ) → WritesMemoryAt k a source slots reply slots'
-      → map (slot_count byte_count) slots' ≡ map (slot_count byte_count) slots
-  written_kept source = (write_facts k a source).kept slots reply slots'
-
-  -- a refused store of what may be missing leaves the slots
-  pub vector_store_back : IsRefusal reply → (stored : Option (List ℕ)) → StoresVectorAt k a stored slots reply slots'
-      → slots' ≡ slots
-  vector_store_back refused stored = (vector_store_facts k a stored).back slots reply slots' refused
-
-  -- one that is made keeps the sizes
-  pub vector_store_kept : (stored : Option (List ℕ)) → StoresVectorAt k a stored slots reply slots'
-      → map (slot_count byte_count) slots' ≡ map (slot_count byte_count) slots
-  vector_store_kept stored = (vector_store_facts k a stored).kept slots reply slots'
+    (λ x bytes. accessed_length x.bytes stored bytes a _) bytes_keep k slots

@@ -6,12 +6,12 @@ use Rattle.wasmi_meter.specs.declared.error.TableError.TheVariants.{OutOfFuel}
 use Rattle.wasmi_store.specs.Write.{MeteredWrite, WritesCharging, copied, filled, item_price}
 use Rattle.wasmi_store.proofs.WriteLemmas.{PaidWrite, RefusedWrite, write_ends, writes_once}
 use Rattle.wasmi_machine.specs.State.{IsRefusal}
-use Rattle.wasmi_machine.proofs.EffectLemmas.{HasOneEnding, acts_same, live_valid, on_both, on_live, on_live_too, put_back, put_valid}
+use Rattle.wasmi_machine.proofs.EffectLemmas.{HasOneEnding, acts_same, on_both, on_live, on_live_too, put_back, slot_kept}
 use Rattle.wasmi_machine.proofs.MemoryEffectsLemmas.{memory_as_long, overwrite_length, with_bytes}
 use Rattle.wasmi_machine.proofs.SlotsLemmas.{set_other}
 use Rattle.wasmi_machine.proofs.StepsLemmas.{KeepsMemories, KeepsTables, PartOf, the_memories, the_tables}
 use Rattle.wasmi_machine.proofs.TableEffectsLemmas.{table_as_long}
-use Rattle.wasmi_machine.proofs.TotalLemmas.{counts_kept, each_kind}
+use Rattle.wasmi_machine.proofs.TotalLemmas.{each_kind}
 use Rattle.wasmi_machine.specs.declared.calls.Reply.TheVariants as replied
 
 -- ---- a write in a slot
@@ -298,11 +298,8 @@ table_range s = record {
   KeepsPart = KeepsTables s;
   part = the_tables s;
   KeepsValue = KeepsTable;
-  kept = λ k x x' found keeps. (
-    counts_kept size_of s.tables k x (Live x') found keeps.1,
-    λ valid. put_valid IsValidTable s.tables _ k (Live x') refl
-        (table_as_long x x' keeps.0 keeps.1 (live_valid IsValidTable s.tables k x found valid)) valid,
-  );
+  kept = λ k x x' found keeps.
+      slot_kept size_of IsValidTable s.tables k x x' found keeps.1 (table_as_long x x' keeps.0 keeps.1);
 }
 
 -- how many elements each source pays for
@@ -375,11 +372,8 @@ memory_range s = record {
   KeepsPart = KeepsMemories s;
   part = the_memories s;
   KeepsValue = KeepsMemory;
-  kept = λ k x x' found keeps. (
-    counts_kept byte_count s.memories k x (Live x') found keeps.1,
-    λ valid. put_valid IsValidMemory s.memories _ k (Live x') refl
-        (memory_as_long x x' keeps.0 keeps.1 (live_valid IsValidMemory s.memories k x found valid)) valid,
-  );
+  kept = λ k x x' found keeps.
+      slot_kept byte_count IsValidMemory s.memories k x x' found keeps.1 (memory_as_long x x' keeps.0 keeps.1);
 }
 
 -- A write over so many bytes: what stands before it depends on the type of the memory, and isn't want of memory; what

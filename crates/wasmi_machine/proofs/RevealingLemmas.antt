@@ -1,9 +1,10 @@
 -- What the replies of a run reveal of its limiter: a run is one under another limiter too, where its replies show it and
 -- the limiter is in states of which this holds.
 use Rattle.std.proofs.Common.{Err, List, Result, Some, [], ap, inl, inr, map, refl, subst, sym, true, ℕ, ◌∙◌, ◌∷◌, ◌≡◌, Ok}
-use Rattle.wasmi_machine.proofs.Common.{All-head, All-tail, All, on_test_too, ActsAt, ActsMetered, AddsEntry, Asks, Creates, reply_of, Run, BytesRead, Effect, LentMemoryMade, MemoryGrown, MemoryMade, MemoryWritten, RangeWritten, TableGrown, TableMade, TableWritten, HasEffect, Told, effect_of, Step, State, live_at, Turn, World, Reply, Slot, Live, Attempt, Denied, Request, Failed, AttemptOutcome, Follows, Met, MeteredValue, Unasked, alone, answer_of, error_of_answer, error_of_failure, with_value, Answer, Failure, NoticeAnswer, Question, Rules, TableError, Lent, Owned, Room, Grows, Growth, Makes, metered_value, GrowsMemoryCharging, MemoryValue, new_memory, MemoryTypeValue, GrowsTableCharging, TableValue, new_table, TableTypeValue, same_type, TypedRawRef, RefType, permitting, TellsNoDenial, memory_growth, table_growth}
+use Rattle.wasmi_machine.proofs.Common.{All-head, All-tail, All, on_test_too, ActsAt, AddsEntry, Creates, reply_of, Run, BytesRead, Effect, LentMemoryMade, MemoryGrown, MemoryMade, MemoryWritten, RangeWritten, TableGrown, TableMade, TableWritten, HasEffect, Told, effect_of, Step, live_at, Turn, World, Reply, Slot, Live, Attempt, Denied, Request, Failed, AttemptOutcome, Follows, Met, MeteredValue, Unasked, alone, answer_of, error_of_answer, error_of_failure, with_value, Answer, Failure, NoticeAnswer, Question, Rules, TableError, Lent, Owned, Room, Grows, Growth, Makes, metered_value, GrowsMemoryCharging, MemoryValue, new_memory, MemoryTypeValue, GrowsTableCharging, TableValue, new_table, TableTypeValue, same_type, TypedRawRef, RefType, permitting, TellsNoDenial, memory_growth, table_growth}
 use Rattle.wasmi_machine.proofs.EffectLemmas.{Creation, on_live_too}
 use Rattle.wasmi_machine.proofs.HoldingLemmas.{StaysIn, step_stays, run_stays}
+use Rattle.wasmi_machine.proofs.StoreLemmas.{acts_too, asks_too, changes_too, unasked_too}
 use Rattle.wasmi_store.specs.Memory as memory
 use Rattle.wasmi_machine.specs.declared.calls.Reply.TheVariants as replied
 use Rattle.wasmi_store.specs.Table as table
@@ -135,92 +136,49 @@ module _ {S T : Type 0} (n : Narrowing S T) where
 
     -- an effect of any call
     module _ (w : World S) (turn : Turn) (w' : World S) (within : n.within w.limiter) (shows : n.shown turn.reply) where
-      -- a turn that makes something under the limiter
-      asks_revealed : {Lacks A : Type 0} {with_part : A → State} {Relation : S → Reply → A → S → Type 0}
-          {Relation' : T → Reply → A → T → Type 0} (step : Asks w turn w' Lacks with_part Relation)
-          → Relation' (n.image w.limiter) turn.reply step.part (n.image step.limiter)
-          → Asks (carried w) turn (carried w') Lacks with_part Relation'
-      asks_revealed step effect = record {
-        free = step.free;
-        part = step.part;
-        limiter = n.image step.limiter;
-        effect = effect;
-        room = step.room;
-        after = ap carried step.after;
-      }
-
-      -- a turn with a charge
-      pays_revealed : {A : Type 0} {old : A} {with_part : A → State}
-          {Relation : MeteredValue A S → Reply → ℕ → MeteredValue A S → Type 0}
-          {Relation' : MeteredValue A T → Reply → ℕ → MeteredValue A T → Type 0} {bytes : Reply → ℕ}
-          (step : ActsMetered w turn w' old with_part Relation bytes)
-          → Relation' (metered_value old (Some w.state.meter) (n.image w.limiter)) turn.reply turn.charge
-          (metered_value step.part (Some step.meter) (n.image step.limiter))
-          → ActsMetered (carried w) turn (carried w') old with_part Relation' bytes
-      pays_revealed step effect = record {
-        part = step.part;
-        meter = step.meter;
-        limiter = n.image step.limiter;
-        effect = effect;
-        wrote = step.wrote;
-        after = ap carried step.after;
-      }
-
       -- where its reply shows it, an effect under the one rules is one under the others
       effect_revealed : (effect : Effect) → HasEffect n.rules effect w turn w'
           → HasEffect n.narrower effect (carried w) turn (carried w')
-      effect_revealed (MemoryMade ty) step =
-          asks_revealed step (creates_revealed replied.Memory (memory.creation_of Owned ty) (each.memory_made Owned ty)
+      effect_revealed (MemoryMade ty) step = asks_too step step.part (n.image step.limiter)
+          (creates_revealed replied.Memory (memory.creation_of Owned ty) (each.memory_made Owned ty)
           (new_memory Owned ty) w.state.memories w.limiter
-          (record { reply = turn.reply; part = step.part; limiter = step.limiter }) within shows step.effect)
-      effect_revealed (LentMemoryMade ty) step = asks_revealed step (on_live_too w.state.spare _ _ _ _
+          (record { reply = turn.reply; part = step.part; limiter = step.limiter }) within shows step.effect) step.room
+          (ap carried step.after)
+      effect_revealed (LentMemoryMade ty) step = asks_too step step.part (n.image step.limiter)
+          (on_live_too w.state.spare _ _ _ _
           (λ none. (none.0, none.1, ap n.image none.2)) (λ region h. (
             creates_revealed replied.Memory (memory.creation_of (Lent region) ty)
                 (each.memory_made (Lent region) ty) (new_memory (Lent region) ty) w.state.memories w.limiter
                 (record { reply = turn.reply; part = step.part.slots; limiter = step.limiter }) within shows h.0,
             h.1,
-          )) step.effect)
-      effect_revealed (MemoryGrown k pages) step = pays_revealed step
+          )) step.effect) step.room (ap carried step.after)
+      effect_revealed (MemoryGrown k pages) step = acts_too step step.part step.meter (n.image step.limiter)
           (acts_revealed k (reply_of replied.Number replied.Memory) (GrowsMemoryCharging n.rules pages)
           (GrowsMemoryCharging n.narrower pages) _ _ turn.reply turn.charge (λ x x' result is. grows_revealed
           (memory_growth pages x) replied.Memory
           (each.memory_grown x pages) (metered_value x (Some w.state.meter) w.limiter)
           (metered_value x' (Some step.meter) step.limiter) result turn.charge within
-          (subst n.shown is shows)) step.effect)
-      effect_revealed (TableMade ty init) step =
-          asks_revealed step (creates_revealed replied.Table (table.creation_of ty init.ty) (each.table_made ty init.ty)
+          (subst n.shown is shows)) step.effect) refl (ap carried step.after)
+      effect_revealed (TableMade ty init) step = asks_too step step.part (n.image step.limiter)
+          (creates_revealed replied.Table (table.creation_of ty init.ty) (each.table_made ty init.ty)
           (new_table ty init.raw) w.state.tables w.limiter
-          (record { reply = turn.reply; part = step.part; limiter = step.limiter }) within shows step.effect)
-      effect_revealed (TableGrown k delta init) step = pays_revealed step
+          (record { reply = turn.reply; part = step.part; limiter = step.limiter }) within shows step.effect) step.room
+          (ap carried step.after)
+      effect_revealed (TableGrown k delta init) step = acts_too step step.part step.meter (n.image step.limiter)
           (acts_revealed k (reply_of replied.Number replied.Table) (GrowsTableCharging n.rules delta init)
           (GrowsTableCharging n.narrower delta init) _ _ turn.reply turn.charge
           (λ x x' result is. table_growth_revealed delta init (metered_value x (Some w.state.meter) w.limiter)
           (metered_value x' (Some step.meter) step.limiter) result turn.charge within
-          (subst n.shown is shows)) step.effect)
-      effect_revealed (RangeWritten (TableWritten k source dst len)) step = record {
-        part = step.part;
-        meter = step.meter;
-        effect = step.effect;
-        wrote = step.wrote;
-        after = ap carried step.after;
-      }
-      effect_revealed (RangeWritten (MemoryWritten k source dst len)) step = record {
-        part = step.part;
-        meter = step.meter;
-        effect = step.effect;
-        wrote = step.wrote;
-        after = ap carried step.after;
-      }
+          (subst n.shown is shows)) step.effect) refl (ap carried step.after)
+      effect_revealed (RangeWritten (TableWritten k source dst len)) step =
+          unasked_too step step.part step.meter step.effect (ap carried step.after)
+      effect_revealed (RangeWritten (MemoryWritten k source dst len)) step =
+          unasked_too step step.part step.meter step.effect (ap carried step.after)
       effect_revealed (Told told) step =
           record { free = step.free; effect = step.effect; after = ap carried step.after }
       effect_revealed (BytesRead k offset len) step =
           record { free = step.free; effect = step.effect; after = ap carried step.after }
-      effect_revealed effect step = record {
-        free = step.free;
-        machine = step.machine;
-        effect = step.effect;
-        after = ap carried step.after;
-      }
+      effect_revealed effect step = changes_too step step.machine step.effect (ap carried step.after)
 
     -- a run whose turns keep the limiter in such states
     pub run_revealed : ((w : World S) (turn : Turn) (w' : World S) → n.within w.limiter → Step n.rules w turn w'

@@ -1,9 +1,9 @@
 -- What calls that don't set the fuel were charged.
-use Rattle.std.proofs.Common.{◌≡◌, ◌∙◌, ℕ, ◌+◌, ◌-◌, ◌*◌, ◌≤◌, Bool, true, false, Some, List, [], ◌∷◌, map, refl, ap, arith}
+use Rattle.std.proofs.Common.{◌≡◌, ◌∙◌, ℕ, ◌+◌, ◌-◌, ◌*◌, ◌≤◌, Some, List, [], ◌∷◌, map, refl, ap, arith}
 use Rattle.std.proofs.Math.Nat.{mul-le-mul_left}
 use Rattle.wasmi_machine.proofs.Common.{All-head, All-tail, sum_by-cons, All, if◌then◌else◌, Rules, Call, SetFuel, World, Turn, Run, Account, opened, charged_by, account_after, SetsNoFuel, charges, has_written, charges_for_writing, IsSpent}
 use Rattle.wasmi_machine.proofs.AccountLemmas.{fuel_balances}
-use Rattle.wasmi_machine.proofs.WritingLemmas.{writing_is_bounded}
+use Rattle.wasmi_machine.proofs.WritingLemmas.{part_of, writing_is_bounded}
 
 -- a call that doesn't set the fuel goes on with the account
 goes_on : (account : Account) (call : Call) (charge : ℕ) → SetsNoFuel call
@@ -25,11 +25,6 @@ charges_added account (turn ∷ turns) none =
       rest.1
           ∙ ap (λ (a : Account). a.granted) next,
     )
-
--- a part of a number
-part_of : (counts : Bool) (n : ℕ) → (if counts then n else 0) ≤ n
-part_of true n = omega arith
-part_of false n = omega arith
 
 -- the charges for writing are charges
 writing_within : (turns : List Turn) → charges_for_writing turns ≤ charges turns

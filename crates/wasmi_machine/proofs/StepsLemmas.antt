@@ -1,12 +1,13 @@
 -- What holds of each change of one part of the state.
 use Rattle.std.proofs.Common.{List, [], ap, arith, length, map, refl, subst, sym, ℕ, ◌<◌, ◌^◌, ◌∙◌, ◌≡◌}
 use Rattle.std.specs.Global.{Global}
-use Rattle.wasmi_machine.proofs.Common.{All, Vec, slice_get, IsNotOutOfMemory, NothingGrows, AddsItem, ChangesPart, DropsAt, DropsContents, WritesMemoryAt, Rules, State, with_data_segments, with_globals, with_memories, with_registers, with_segments, with_tables, byte_count, sizes, slot_count, IsValid, IsValidSegment, BytesStored, BytesWritten, Change, DataDropped, DataMade, ElementSet, GlobalMade, GlobalSet, ItemsDropped, MemoryDropped, RegisterSet, SegmentMade, TableDropped, HasChange, RepliesWithoutLimiter, SomeCopy, Write, Reply, Slot, IsValidMemory, MemoryValue, SegmentValue, dropped, IsValidTable, TableValue, size_of}
+use Rattle.wasmi_machine.proofs.Common.{All, All-set, Vec, slice_get, slice_set, IsNotOutOfMemory, NothingGrows, AddsItem, ChangesPart, DropsContents, WritesMemoryAt, Rules, State, with_data_segments, with_globals, with_memories, with_registers, with_segments, with_tables, byte_count, sizes, slot_count, IsValid, IsValidSegment, BytesStored, BytesWritten, Change, DataDropped, DataMade, ElementSet, GlobalMade, GlobalSet, ItemsDropped, MemoryDropped, RegisterSet, SegmentMade, TableDropped, HasChange, RepliesWithoutLimiter, SomeCopy, Write, Reply, Slot, IsValidMemory, MemoryValue, SegmentValue, dropped, IsValidTable, TableValue, size_of}
 use denote.RawPtr.{null_ptr}
-use Rattle.wasmi_machine.proofs.MemoryEffectsLemmas.{vector_store_back, vector_store_kept, vector_store_valid, vector_stores_same, write_refused, writes_same, writes_valid, written_kept}
-use Rattle.wasmi_machine.proofs.ValueEffectsLemmas.{takes_back, takes_count, takes_same, creates_segment_valid, global_refused, global_sets_same, segment_back, segments_same}
-use Rattle.wasmi_machine.proofs.EffectLemmas.{AllValid, adds_back, adds_same, contents_back, contents_same, drops_back, drops_kept, drops_same, drops_valid, item_valid}
-use Rattle.wasmi_machine.proofs.TableEffectsLemmas.{set_kept, set_refused, set_valid, sets_same}
+use Rattle.wasmi_machine.proofs.MemoryEffectsLemmas.{vector_store_facts, write_facts}
+use Rattle.wasmi_machine.proofs.ValueEffectsLemmas.{global_facts, segment_facts, takes_facts}
+use Rattle.wasmi_machine.proofs.EffectLemmas.{AllValid, EffectFacts, KeepsSlots, drop_facts, found_facts, room_facts, settled_facts}
+use Rattle.wasmi_machine.proofs.SlotsLemmas.{set_read}
+use Rattle.wasmi_machine.proofs.TableEffectsLemmas.{set_facts}
 use Rattle.wasmi_machine.proofs.TotalLemmas.{each_kind}
 use Rattle.wasmi_machine.specs.Laws.{IsRefusal}
 use Rattle.wasmi_raw.specs.declared.raw.RawVal.{RawVal}
@@ -38,13 +39,6 @@ write_replies rules memory offset bytes short s reply s' writes rest = (
     after = refl;
   },
 )
-
--- what holds of an effect on a part: a refusal leaves it, it is decided where memory isn't wanting, and it keeps a fact
-pub record EffectFacts {A : Type 0} (Effect : Reply → A → Type 0) (old : A) (Keeps : A → Type 0) : Type 0 where
-  pub back : (reply : Reply) (part : A) → IsRefusal reply → Effect reply part → part ≡ old
-  pub same : (reply reply' : Reply) (part part' : A) → IsNotOutOfMemory reply → IsNotOutOfMemory reply'
-      → Effect reply part → Effect reply' part' → (reply ≡ reply') × (part ≡ part')
-  pub keeps : (reply : Reply) (part : A) → Effect reply part → Keeps part
 
 -- what holds of a change of one part: so for the state, whose meter, sizes and validity stay
 pub record ChangeFacts (s : State) (Becomes : Reply → State → Type 0) : Type 0 where
@@ -79,15 +73,11 @@ module _ {s : State} {A : Type 0} {with_part : A → State} {old : A} {Keeps : A
 
 -- what a change of memories, tables, element segments or registers has to keep
 abbrev pub KeepsMemories : State → List (Slot MemoryValue) → Type 0
-KeepsMemories s slots =
-    (map (slot_count byte_count) slots ≡ map (slot_count byte_count) s.memories) × (AllValid IsValidMemory s.memories
-    → AllValid IsValidMemory slots)
+KeepsMemories s slots = KeepsSlots byte_count IsValidMemory s.memories slots
 
 -- tables
 abbrev pub KeepsTables : State → List (Slot TableValue) → Type 0
-KeepsTables s slots =
-    (map (slot_count size_of) slots ≡ map (slot_count size_of) s.tables) × (AllValid IsValidTable s.tables
-    → AllValid IsValidTable slots)
+KeepsTables s slots = KeepsSlots size_of IsValidTable s.tables slots
 
 -- element segments
 abbrev KeepsSegments : State → List SegmentValue → Type 0
@@ -163,89 +153,33 @@ module _ (s : State) where
   the_registers = unsized (with_registers s) s.registers (KeepsRegisters s) refl (λ part. (refl, refl, refl))
       (λ part keeps. valid_by s (with_registers s part) (λ v. v) (λ v. v) (λ v. v) (λ v. keeps ∙ v))
 
--- a drop of the live value of a slot
-drop_facts : {X : Type 0} (count : X → ℕ) (Valid : X → Type 0) (k : ℕ) (slots : List (Slot X))
-    → EffectFacts (DropsAt count k slots) slots (λ after. (map (slot_count count) after ≡ map (slot_count count) slots)
-    × (AllValid Valid slots → AllValid Valid after))
-drop_facts count Valid k slots = record {
-  back = drops_back count k slots;
-  same = λ reply reply' part part' has has'. drops_same count k slots reply reply' part part';
-  keeps = λ reply part drops. (
-    drops_kept count k slots reply part drops,
-    drops_valid Valid count k slots reply part drops,
-  );
-}
-
 -- an addition of an item that is valid whatever it is
 addition_facts : {X : Type 0} (Lacks : Type 0) (x : X) (items : List X)
     → EffectFacts (AddsItem Lacks x items) items (λ after. Unit {0})
-addition_facts Lacks x items = record {
-  back = adds_back Lacks x items;
-  same = adds_same Lacks x items;
-  keeps = λ reply part adds. tt;
-}
+addition_facts Lacks x items = room_facts tt (settled_facts (λ refused. absurd refused) tt)
 
 -- a drop of what an item has
-contents_facts : {X : Type 0} (without : X → X) (k : ℕ) (items : List X) (Keeps : List X → Type 0)
-    → ((reply : Reply) (part : List X) → DropsContents without k items reply part → Keeps part)
-    → EffectFacts (DropsContents without k items) items Keeps
-contents_facts without k items Keeps keeps = record {
-  back = contents_back without k items;
-  same = λ reply reply' part part' has has'. contents_same without k items reply reply' part part';
-  keeps = keeps;
-}
+contents_facts : {X : Type 0} (without : X → X) (k : ℕ) (items : List X) (Keeps : List X → Type 0) → Keeps items
+    → ((x : X) → Keeps (slice_set items k (without x))) → EffectFacts (DropsContents without k items) items Keeps
+contents_facts without k items Keeps keeps kept = found_facts (set_read items k)
+    (λ reply refused x x' c. absurd (rw c.0 at refused))
+    (λ x reply reply' x' x'' c c'. (c.0 ∙ sym c'.0, c.1 ∙ sym c'.1)) keeps
+    (λ x found reply x' c. subst (λ y. Keeps (slice_set items k y)) (sym c.1) (kept x))
 
 -- each change of one part
 pub change_facts : (s : State) (change : Change) → ChangeFacts s (HasChange change s)
-change_facts s (BytesWritten k offset bytes) = change_of (the_memories s) (record {
-  back = write_refused k offset bytes s.memories;
-  same = λ reply reply' part part' has has'. writes_same k offset bytes s.memories reply reply' part part';
-  keeps = λ reply part effect. (
-    written_kept k s.memories reply part offset bytes effect,
-    writes_valid k offset bytes s.memories reply part effect,
-  );
-})
-change_facts s (BytesStored k a stored) = change_of (the_memories s) (record {
-  back = λ reply part refused effect. vector_store_back k s.memories reply part a refused stored effect;
-  same = λ reply reply' part part' has has' effect effect'.
-      vector_stores_same k a stored s.memories reply reply' part part' effect effect';
-  keeps = λ reply part effect. (
-    vector_store_kept k s.memories reply part a stored effect,
-    vector_store_valid k a stored s.memories reply part effect,
-  );
-})
-change_facts s (RegisterSet dst given) = change_of (the_registers s) (record {
-  back = λ reply part refused effect.
-      takes_back given (slice_get s.registers dst) dst s.registers reply part refused effect;
-  same = λ reply reply' part part' has has'.
-      takes_same given (slice_get s.registers dst) dst s.registers reply reply' part part';
-  keeps = takes_count given (slice_get s.registers dst) dst s.registers;
-})
+change_facts s (BytesWritten k offset bytes) = change_of (the_memories s) (write_facts k offset bytes s.memories)
+change_facts s (BytesStored k a stored) = change_of (the_memories s) (vector_store_facts k a stored s.memories)
+change_facts s (RegisterSet dst given) =
+    change_of (the_registers s) (takes_facts given (slice_get s.registers dst) dst s.registers)
 change_facts s (MemoryDropped k) = change_of (the_memories s) (drop_facts byte_count IsValidMemory k s.memories)
 change_facts s (TableDropped k) = change_of (the_tables s) (drop_facts size_of IsValidTable k s.tables)
-change_facts s (ElementSet k index value) = change_of (the_tables s) (record {
-  back = set_refused k index value s.tables;
-  same = λ reply reply' part part' has has' effect effect'.
-      sets_same k index value s.tables reply reply' part part' effect effect';
-  keeps = λ reply part effect. (
-    set_kept k s.tables reply part index value effect,
-    set_valid k index value s.tables reply part effect,
-  );
-})
-change_facts s (SegmentMade ty items) = change_of (the_segments s) (record {
-  back = segment_back _ ty items s.segments;
-  same = segments_same _ ty items s.segments;
-  keeps = creates_segment_valid _ ty items s.segments;
-})
+change_facts s (ElementSet k index value) = change_of (the_tables s) (set_facts k index value s.tables)
+change_facts s (SegmentMade ty items) = change_of (the_segments s) (segment_facts _ ty items s.segments)
 change_facts s (ItemsDropped k) = change_of (the_segments s) (contents_facts dropped k s.segments (KeepsSegments s)
-    (λ reply part effect. item_valid IsValidSegment k s.segments reply part
-    _ (λ x x' valid change. subst IsValidSegment (sym change.1) (omega arith)) effect))
+    (λ valid. valid) (λ x. All-set IsValidSegment s.segments k (dropped x) (omega arith)))
 change_facts s (DataMade bytes) = change_of (the_data_segments s) (addition_facts _ bytes s.data_segments)
 change_facts s (DataDropped k) = change_of (the_data_segments s)
-    (contents_facts (λ bytes. []) k s.data_segments (λ segments. Unit {0}) (λ reply part drops. tt))
+    (contents_facts (λ bytes. []) k s.data_segments (λ segments. Unit {0}) tt (λ bytes. tt))
 change_facts s (GlobalMade global) = change_of (the_globals s) (addition_facts _ global s.globals)
-change_facts s (GlobalSet k value) = change_of (the_globals s) (record {
-  back = global_refused k value s.globals;
-  same = λ reply reply' part part' has has'. global_sets_same k value s.globals reply reply' part part';
-  keeps = λ reply part effect. tt;
-})
+change_facts s (GlobalSet k value) = change_of (the_globals s) (global_facts k value s.globals)

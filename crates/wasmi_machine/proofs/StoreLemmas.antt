@@ -1,6 +1,6 @@
 -- A turn by what its call leaves, and turns one after another.
 use Rattle.std.proofs.Common.{Some, refl, ℕ, ◌∙◌, ◌≡◌, ◌+◌, ◌<◌, List, [], ◌∷◌, ◌++◌, length, take, get_or, map, sym, ap, subst}
-use Rattle.wasmi_machine.proofs.Common.{ActsMetered, ActsMeteredUnasked, Asks, Changes, ChangesPart, IfNoRoom, OnlyReplies, State, Turn, World, world, metered, metered_value, WithCharge, Call, Reply, MeteredValue, Meter, take_more, map_push, map-append, Rules, Step, RepliesWith, Sequence, Run, IsRunOf}
+use Rattle.wasmi_machine.proofs.Common.{ActsMetered, ActsMeteredUnasked, Asks, Changes, ChangesPart, IfNoRoom, OnlyReplies, State, Turn, World, world, metered, metered_value, WithCharge, Call, Reply, MeteredValue, Meter, take_more, map-append, Rules, Step, RepliesWith, Sequence, Run, IsRunOf}
 
 -- a free turn by this call with this reply
 abbrev pub free_turn : Call → Reply → Turn
@@ -70,8 +70,8 @@ module _ {S : Type 0} {w : World S} {call : Call} {reply : Reply} where
     acts_unasked (charge, effect) =
         (charge, bytes reply, record { part = part; meter = meter; effect = effect; wrote = refl; after = refl })
 
--- a turn is one from another world too, by what it does to that world
-module _ {S : Type 0} {v v' w w' : World S} {turn : Turn} where
+-- a turn is one from another world too, also with another limiter, by what it does to that world
+module _ {S T : Type 0} {v v' : World S} {w w' : World T} {turn : Turn} where
   -- a turn that changes the state
   pub changes_too : {Relation Relation' : Reply → State → Type 0} (step : Changes v turn v' Relation) (machine : State)
       → Relation' turn.reply machine → w' ≡ record w { state = machine } → Changes w turn w' Relation'
@@ -79,54 +79,56 @@ module _ {S : Type 0} {v v' w w' : World S} {turn : Turn} where
 
   module _ {A : Type 0} {with_part with_part' : A → State} where
     -- a turn that makes something under the limiter
-    pub asks_too : {Lacks Lacks' : Type 0} {Relation Relation' : S → Reply → A → S → Type 0}
-        (step : Asks v turn v' Lacks with_part Relation) (part : A) → Relation' w.limiter turn.reply part step.limiter
-        → IfNoRoom turn.reply Lacks' → w' ≡ world (with_part' part) step.limiter
-        → Asks w turn w' Lacks' with_part' Relation'
-    asks_too step part effect room after = record {
+    pub asks_too : {Lacks Lacks' : Type 0} {Relation : S → Reply → A → S → Type 0}
+        {Relation' : T → Reply → A → T → Type 0} (step : Asks v turn v' Lacks with_part Relation) (part : A) (limiter : T)
+        → Relation' w.limiter turn.reply part limiter → IfNoRoom turn.reply Lacks'
+        → w' ≡ world (with_part' part) limiter → Asks w turn w' Lacks' with_part' Relation'
+    asks_too step part limiter effect room after = record {
       free = step.free;
       part = part;
-      limiter = step.limiter;
+      limiter = limiter;
       effect = effect;
       room = room;
       after = after;
     }
 
     -- a turn that acts on one part of the state, with a charge
-    pub acts_too : {old old' : A} {Relation Relation' : MeteredValue A S → Reply → ℕ → MeteredValue A S → Type 0}
-        {bytes bytes' : Reply → ℕ} (step : ActsMetered v turn v' old with_part Relation bytes) (part : A)
-        (meter : Meter) → Relation' (metered_value old' (Some w.state.meter) w.limiter) turn.reply turn.charge
-        (metered_value part (Some meter) step.limiter) → bytes turn.reply ≡ bytes' turn.reply
-        → w' ≡ world (record (with_part' part) { meter = meter }) step.limiter
+    pub acts_too : {old old' : A} {Relation : MeteredValue A S → Reply → ℕ → MeteredValue A S → Type 0}
+        {Relation' : MeteredValue A T → Reply → ℕ → MeteredValue A T → Type 0} {bytes bytes' : Reply → ℕ}
+        (step : ActsMetered v turn v' old with_part Relation bytes) (part : A) (meter : Meter) (limiter : T)
+        → Relation' (metered_value old' (Some w.state.meter) w.limiter) turn.reply turn.charge
+        (metered_value part (Some meter) limiter) → bytes turn.reply ≡ bytes' turn.reply
+        → w' ≡ world (record (with_part' part) { meter = meter }) limiter
         → ActsMetered w turn w' old' with_part' Relation' bytes'
-    acts_too step part meter effect same after = record {
+    acts_too step part meter limiter effect same after = record {
       part = part;
       meter = meter;
-      limiter = step.limiter;
+      limiter = limiter;
       effect = effect;
       wrote = step.wrote ∙ same;
       after = after;
     }
 
-module _ {S : Type 0} (rules : Rules S) where
-  -- a run and one more turn
-  pub Run-push : (u : World S) (turns : List Turn) (v : World S) → Run rules u turns v → (turn : Turn) (w : World S)
-      → Step rules v turn w → Run rules u (turns ++ turn ∷ []) w
-  Run-push u [] v ran turn w step = (w, rw (← ran) step, refl)
-  Run-push u (t ∷ turns) v ran turn w step = (ran.0, ran.1, Run-push ran.0 turns v ran.2 turn w step)
+    -- a turn that acts on one part of the state, with a charge and without the limiter
+    pub unasked_too : {old old' : A}
+        {Relation Relation' : MeteredValue A (Unit {0}) → Reply → ℕ → MeteredValue A (Unit {0}) → Type 0}
+        {bytes : Reply → ℕ} (step : ActsMeteredUnasked v turn v' old with_part Relation bytes) (part : A) (meter : Meter)
+        → Relation' (metered old' (Some w.state.meter)) turn.reply turn.charge (metered part (Some meter))
+        → w' ≡ record w { state = record (with_part' part) { meter = meter } }
+        → ActsMeteredUnasked w turn w' old' with_part' Relation' bytes
+    unasked_too step part meter effect after =
+        record { part = part; meter = meter; effect = effect; wrote = step.wrote; after = after }
 
-  -- a run of the calls up to a place, and an answer to the call there, are a run of one call more
-  pub run_more : (calls : List Call) (i : ℕ) (call : Call) (u v w : World S) (replies : List Reply) (reply : Reply)
-      → i < length calls → call ≡ get_or calls i call → IsRunOf rules (take i calls) u replies v
-      → RepliesWith rules call v reply w → IsRunOf rules (take (i + 1) calls) u (replies ++ reply ∷ []) w
-  run_more calls i call u v w replies reply within here (turns, made, told, ran) (charge, written, step) =
-      let turn : Turn = record { call = call; reply = reply; charge = charge; written = written } in (
-        turns ++ turn ∷ [],
-        map_push Turn.call turns turn ∙ ap (λ cs. cs ++ call ∷ []) made
-            ∙ ap (λ c. take i calls ++ c ∷ []) here ∙ sym (take_more calls i call within),
-        map_push Turn.reply turns turn ∙ ap (λ rs. rs ++ reply ∷ []) told,
-        Run-push u turns v ran turn w step,
-      )
+module _ {S : Type 0} (rules : Rules S) where
+  -- an answer to a call is that of a run of it alone
+  pub run_of_one : (call : Call) (u : World S) (reply : Reply) (v : World S) → RepliesWith rules call u reply v
+      → IsRunOf rules (call ∷ []) u (reply ∷ []) v
+  run_of_one call u reply v (charge, written, step) = (
+    record { call = call; reply = reply; charge = charge; written = written } ∷ [],
+    refl,
+    refl,
+    (v, step, refl),
+  )
 
   -- two runs in a row are one
   pub runs_joined : (u : World S) (turns : List Turn) (v : World S) (turns' : List Turn) (w : World S)
@@ -144,6 +146,15 @@ module _ {S : Type 0} (rules : Rules S) where
     map-append Turn.reply turns turns' ∙ ap (λ rs. rs ++ map Turn.reply turns') told ∙ ap (λ rs. replies ++ rs) told',
     runs_joined u turns v turns' w ran ran',
   )
+
+  -- a run of the calls up to a place, and an answer to the call there, are a run of one call more
+  pub run_more : (calls : List Call) (i : ℕ) (call : Call) (u v w : World S) (replies : List Reply) (reply : Reply)
+      → i < length calls → call ≡ get_or calls i call → IsRunOf rules (take i calls) u replies v
+      → RepliesWith rules call v reply w → IsRunOf rules (take (i + 1) calls) u (replies ++ reply ∷ []) w
+  run_more calls i call u v w replies reply within here ran answers =
+      subst (λ cs. IsRunOf rules cs u (replies ++ reply ∷ []) w)
+      (ap (λ c. take i calls ++ c ∷ []) here ∙ sym (take_more calls i call within))
+      (runs_of_calls_joined (take i calls) (call ∷ []) u v w replies (reply ∷ []) ran (run_of_one call v reply w answers))
 
   -- what holds of each step holds of each turn of a run
   pub each_turn : (Holds : World S → Turn → World S → Type 0)

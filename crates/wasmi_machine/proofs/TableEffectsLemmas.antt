@@ -1,8 +1,8 @@
 -- What holds of each effect on tables.
-use Rattle.std.proofs.Common.{Bool, List, None, Option, Result, [], ap, false, map, refl, subst, sym, true, ℕ, ◌∷◌, ◌≡◌, ⊎_elim}
-use Rattle.wasmi_machine.proofs.EffectLemmas.{AllValid, IsDecided, LeavesRefused, PutsOr, SlotFacts, changes_valid, setting_facts}
+use Rattle.std.proofs.Common.{Bool, List, None, Option, Result, [], ap, false, refl, subst, sym, true, ℕ, ◌∷◌, ◌≡◌, ⊎_elim}
+use Rattle.wasmi_machine.proofs.EffectLemmas.{AllValid, PutsOr, SlotFacts, changes_valid, setting_facts}
 use Rattle.wasmi_machine.proofs.MemoryEffectsLemmas.{accessed_length}
-use Rattle.wasmi_machine.proofs.Common.{slot_count, ReservesElementsAt, SetsElementAt, Reply, Slot, MatchBool, if◌then◌else◌, TableError, IsValidTable, SetsTable, SetsTableRaw, TableValue, size_of, same_type, with_elements, TypedRawRef, overwrite}
+use Rattle.wasmi_machine.proofs.Common.{ReservesElementsAt, SetsElementAt, Reply, Slot, MatchBool, if◌then◌else◌, TableError, IsValidTable, SetsTable, SetsTableRaw, TableValue, size_of, same_type, with_elements, TypedRawRef, overwrite}
 use Rattle.std.specs.Prelude.{Err}
 use Rattle.wasmi_meter.specs.declared.error.TableError.TheVariants.{ElementTypeMismatch, SetOutOfBounds}
 use Rattle.wasmi_machine.specs.declared.calls.Reply.TheVariants as replied
@@ -41,27 +41,6 @@ set_facts k index value = setting_facts size_of IsValidTable replied.Table
     (λ x result x'. set_puts index value x result x' (same_type x.ty.element value.ty))
     (λ x elements. accessed_length x.elements (value.raw ∷ []) elements index _)
     (λ x elements long. (long, table_as_long x (with_elements x elements) refl long)) k
-
--- an element that is not set leaves the slots
-pub set_refused : (k index : ℕ) (value : TypedRawRef) → LeavesRefused (SetsElementAt k index value)
-set_refused k index value = (set_facts k index value).back
-
--- two calls that set an element of the table of an index are one
-pub sets_same : (k index : ℕ) (value : TypedRawRef) (slots : List (Slot TableValue))
-    → IsDecided (SetsElementAt k index value slots)
-sets_same k index value = (set_facts k index value).same
-
--- an element that is set keeps the sizes
-pub set_kept : (k : ℕ) (slots : List (Slot TableValue)) (reply : Reply) (slots' : List (Slot TableValue)) (index : ℕ)
-    (value : TypedRawRef) → SetsElementAt k index value slots reply slots'
-    → map (slot_count size_of) slots' ≡ map (slot_count size_of) slots
-set_kept k slots reply slots' index value = (set_facts k index value).kept slots reply slots'
-
--- an element that is set
-pub set_valid : (k index : ℕ) (value : TypedRawRef) (slots : List (Slot TableValue)) (reply : Reply)
-    (slots' : List (Slot TableValue))
-    → SetsElementAt k index value slots reply slots' → AllValid IsValidTable slots → AllValid IsValidTable slots'
-set_valid k index value = (set_facts k index value).valid
 
 -- memory that is reserved for elements
 pub reserves_valid : (k n : ℕ) (slots : List (Slot TableValue)) (reply : Reply) (slots' : List (Slot TableValue))

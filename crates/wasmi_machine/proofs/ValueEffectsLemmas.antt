@@ -1,8 +1,9 @@
 -- What holds of each effect on element segments, globals and registers; the segment that is read of an iterator over a
 -- list.
-use Rattle.std.proofs.Common.{Err, List, Ok, Result, ap, arith, inl, inr, length, refl, subst, sym, ℕ, ◌∙◌, ◌≡◌, ◌≤◌, [], ◌∷◌, ◌++◌, Option, Some, None, Iter, length-set}
+use Rattle.std.proofs.Common.{Err, List, Ok, Result, ap, arith, length, refl, subst, sym, ℕ, ◌∙◌, ◌≡◌, ◌≤◌, [], ◌∷◌, ◌++◌, Option, Some, None, Iter, length-set}
 use Rattle.wasmi_machine.proofs.Common.{All, IsNotOutOfMemory, AddsEntry, reply_of, IsValidSegment, Reply, SegmentValue, most_items, IsReading, RefType, unwrap_or, append-nil, length-append, nil_from_length, SetsAt}
-use Rattle.wasmi_machine.proofs.EffectLemmas.{IsDecided, LeavesRefused, appended_valid, appends_back, appends_same, item_back, item_same}
+use Rattle.wasmi_machine.proofs.EffectLemmas.{EffectFacts, appended_valid, appends_back, appends_same, found_facts, room_facts, settled_facts}
+use Rattle.wasmi_machine.proofs.SlotsLemmas.{set_read}
 use Rattle.wasmi_machine.specs.Laws.{IsRefusal}
 use Rattle.wasmi_machine.specs.ValueEffects.{CreatesSegment, IsSegmentOf, SetsGlobalAt}
 use Rattle.wasmi_store.specs.declared.table.element.SegmentError.{SegmentError}
@@ -27,17 +28,6 @@ global_back : (x x' : GlobalInstance) (value : TypedRawVal) (result : Result (Un
 global_back x x' value (Ok _) refused sets = absurd refused
 global_back x x' value (Err ImmutableWrite) refused sets = sets.1
 global_back x x' value (Err TypeMismatch) refused sets = sets.2
-
--- a refused creation of an element segment leaves the list
-pub segment_back : (Lacks : Type 0) (ty : RefType) (items : List ℕ) → LeavesRefused (CreatesSegment Lacks ty items)
-segment_back Lacks ty items segments reply segments' refused (inl none) = none.1
-segment_back Lacks ty items segments reply segments' refused (inr (result, is, appends)) =
-    appends_back replied.Segment (λ x. x) result segments reply segments' refused appends
-
--- a global that is not set leaves the list
-pub global_refused : (k : ℕ) (value : TypedRawVal) → LeavesRefused (SetsGlobalAt k value)
-global_refused k value globals reply globals' refused sets =
-    item_back k globals reply globals' _ (λ x x' c. global_back x x' value c.0 (rw c.2 at refused) c.1) sets
 
 -- element segments, globals and registers
 -- memory wasn't refused
@@ -64,22 +54,6 @@ segment_made ty items (Err TooManyItems) (Err TooManyItems) h h' is is' = refl
 segment_made ty items (Err TooManyItems) (Err OutOfSystemMemory) h h' is is' = absurd h'
 segment_made ty items (Err OutOfSystemMemory) result' h h' is is' = absurd h
 
--- two creations of an element segment
-pub segments_same : (Lacks : Type 0) (ty : RefType) (items : List ℕ) (segments : List SegmentValue) (reply reply' : Reply)
-    (segments' segments'' : List SegmentValue) → IsNotOutOfMemory reply → IsNotOutOfMemory reply'
-    → CreatesSegment Lacks ty items segments reply segments' → CreatesSegment Lacks ty items segments reply' segments''
-    → (reply ≡ reply') × (segments' ≡ segments'')
-segments_same Lacks ty items segments reply reply' segments' segments'' room room' (inl none) b = absurd (rw none.0 at room)
-segments_same Lacks ty items segments reply reply' segments' segments'' room room' (inr a) (inl none) =
-    absurd (rw none.0 at room')
-segments_same Lacks ty items segments reply reply' segments' segments'' room room' (inr (result, is, appends))
-    (inr (result', is', appends')) =
-    let h = had result segments reply segments' room appends in
-    let h' = had result' segments reply' segments'' room' appends' in
-    let made = segment_made ty items result result' h h' is is' in
-    appends_same (λ x. x) replied.Segment result segments reply reply' segments' segments'' appends
-    (subst (λ r. AddsEntry (λ x. x) replied.Segment r segments reply' segments'') (sym made) appends')
-
 -- no global is variable and constant
 pub var_const : (m : Mutability) → m ≡ Var → m ≡ Const → ⊥
 var_const m var const = let clash : Var ≡ Const = sym var ∙ const in absurd cc
@@ -97,12 +71,13 @@ global_same x x' x'' value (Err ImmutableWrite) (Err TypeMismatch) a b = absurd 
 global_same x x' x'' value (Err TypeMismatch) (Err ImmutableWrite) a b = absurd (var_const x.ty.mutability a.0 b.0)
 global_same x x' x'' value (Err TypeMismatch) (Err TypeMismatch) a b = (refl, a.2 ∙ sym b.2)
 
--- two calls that set a global of a list are one
-pub global_sets_same : (k : ℕ) (value : TypedRawVal) (globals : List GlobalInstance)
-    → IsDecided (SetsGlobalAt k value globals)
-global_sets_same k value globals = item_same k globals _ (λ x reply reply' x' x'' h h'.
-    let both = global_same x x' x'' value h.0 h'.0 h.1 h'.1 in
-    (h.2 ∙ ap (reply_of (λ _. replied.Done) replied.Global) both.0 ∙ sym h'.2, both.1))
+-- what holds of a call that sets a global
+pub global_facts : (k : ℕ) (value : TypedRawVal) (globals : List GlobalInstance)
+    → EffectFacts (SetsGlobalAt k value globals) globals (λ globals'. Unit {0})
+global_facts k value globals = found_facts (set_read globals k)
+    (λ reply refused x x' c. global_back x x' value c.0 (rw c.2 at refused) c.1) (λ x reply reply' x' x'' c c'.
+    let both = global_same x x' x'' value c.0 c'.0 c.1 c'.1 in
+    (c.2 ∙ ap (reply_of (λ _. replied.Done) replied.Global) both.0 ∙ sym c'.2, both.1)) tt (λ x found reply x' c. tt)
 
 -- a segment that is made
 segment_valid : (ty : _) (items : List ℕ) (result : Result SegmentValue _) (segment : SegmentValue)
@@ -113,14 +88,21 @@ segment_valid ty items (Ok made) segment is fits =
     subst (λ (xs : List ℕ). length xs ≤ most_items) (sym held) fits.0
 segment_valid ty items (Err error) segment is fits = cc
 
--- a list with a segment that is made is valid
-pub creates_segment_valid : (Lacks : Type 0) (ty : _) (items : List ℕ) (segments : List SegmentValue) (reply : Reply)
-    (segments' : List SegmentValue) → CreatesSegment Lacks ty items segments reply segments' → All IsValidSegment segments
-    → All IsValidSegment segments'
-creates_segment_valid Lacks ty items segments reply segments' (inl none) valid = subst (All IsValidSegment) (sym none.1) valid
-creates_segment_valid Lacks ty items segments reply segments' (inr (result, fits, appends)) valid =
-    appended_valid IsValidSegment replied.Segment result segments reply segments'
-    (λ segment is. segment_valid ty items result segment is fits) appends valid
+-- what holds of a creation of an element segment
+pub segment_facts : (Lacks : Type 0) (ty : RefType) (items : List ℕ) (segments : List SegmentValue)
+    → EffectFacts (CreatesSegment Lacks ty items segments) segments
+    (λ segments'. All IsValidSegment segments → All IsValidSegment segments')
+segment_facts Lacks ty items segments = room_facts (λ valid. valid) (record {
+  back = λ reply segments' refused made.
+      appends_back replied.Segment (λ x. x) made.0 segments reply segments' refused made.2;
+  same = λ reply reply' segments' segments'' room room' (result, is, appends) (result', is', appends').
+      let made = segment_made ty items result result' (had result segments reply segments' room appends)
+      (had result' segments reply' segments'' room' appends') is is' in
+      appends_same (λ x. x) replied.Segment result segments reply reply' segments' segments'' appends
+      (subst (λ r. AddsEntry (λ x. x) replied.Segment r segments reply' segments'') (sym made) appends');
+  keeps = λ reply segments' made. appended_valid IsValidSegment replied.Segment made.0 segments reply segments'
+      (λ segment is. segment_valid ty items made.0 segment is made.1) made.2;
+})
 
 module _ {A : Type 0} where
   -- an iterator of copies gives the first of what is left, or ends where nothing is
@@ -159,29 +141,10 @@ module _ {I : Type 0} (steps : I → Option ℕ → I → Type 0) (rest : I → 
       let counted = ap length (rest_so_far out.items s t out.run) ∙ length-append out.items (rest t) in
       omega (arith, counted, out.some)
 
--- a refused call leaves the registers
-pub takes_back : (given : Option (Result RawVal TrapCode)) (old : Option RawVal) (dst : ℕ) (registers : List RawVal)
-    (reply : Reply) (registers' : List RawVal) → IsRefusal reply → SetsAt given old dst registers reply registers'
-    → registers' ≡ registers
-takes_back (Some (Ok value)) (Some old) dst registers reply registers' refused takes = absurd (rw takes.0 at refused)
-takes_back (Some (Err trap)) (Some old) dst registers reply registers' refused takes = takes.1
-takes_back given old dst registers reply registers' refused takes = takes.1
-
--- two calls that set a register
-pub takes_same : (given : Option (Result RawVal TrapCode)) (old : Option RawVal) (dst : ℕ) (registers : List RawVal)
-    (reply reply' : Reply) (registers' registers'' : List RawVal) → SetsAt given old dst registers reply registers'
-    → SetsAt given old dst registers reply' registers'' → (reply ≡ reply') × (registers' ≡ registers'')
-takes_same (Some (Ok value)) (Some old) dst registers reply reply' registers' registers'' a b =
-    (a.0 ∙ sym b.0, a.1 ∙ sym b.1)
-takes_same (Some (Err trap)) (Some old) dst registers reply reply' registers' registers'' a b =
-    (a.0 ∙ sym b.0, a.1 ∙ sym b.1)
-takes_same given old dst registers reply reply' registers' registers'' a b = (a.0 ∙ sym b.0, a.1 ∙ sym b.1)
-
--- a register keeps the number of registers
-pub takes_count : (given : Option (Result RawVal TrapCode)) (old : Option RawVal) (dst : ℕ) (registers : List RawVal)
-    (reply : Reply) (registers' : List RawVal) → SetsAt given old dst registers reply registers'
-    → length registers' ≡ length registers
-takes_count (Some (Ok value)) (Some old) dst registers reply registers' takes =
-    ap length takes.1 ∙ length-set registers dst value
-takes_count (Some (Err trap)) (Some old) dst registers reply registers' takes = ap length takes.1
-takes_count given old dst registers reply registers' takes = ap length takes.1
+-- what holds of a register that takes what it is given
+pub takes_facts : (given : Option (Result RawVal TrapCode)) (old : Option RawVal) (dst : ℕ) (registers : List RawVal)
+    → EffectFacts (SetsAt given old dst registers) registers (λ registers'. length registers' ≡ length registers)
+takes_facts (Some (Ok value)) (Some old) dst registers =
+    settled_facts (λ refused. absurd refused) (length-set registers dst value)
+takes_facts (Some (Err trap)) (Some old) dst registers = settled_facts (λ refused. refl) refl
+takes_facts given old dst registers = settled_facts (λ refused. refl) refl

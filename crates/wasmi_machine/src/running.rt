@@ -70,6 +70,7 @@ impl<'r> Machine<'r> {
 ///
 /// `AllocError` if memory for the replies, which is allocated first, is refused; then nothing has
 /// happened.
+#[tactic(auto, using(std::proofs::lemmas::Grind::common_steps))]
 pub fn run<L: ResourceLimiter>(
     machine: &mut Machine,
     calls: &[Call],

@@ -109,6 +109,7 @@ impl<T> Slots<T> {
     }
 
     /// The live value of an index, if there is one.
+    #[tactic(auto, using(std::proofs::lemmas::Grind::elements))]
     pub(crate) fn live(&self, index: usize) -> Option<&T>
         ensures { option_copied result ≡ live_at self.now.slots.items index }
     {
@@ -131,6 +132,7 @@ impl<T> Slots<T> {
         }
     }
 
+    #[tactic(auto, using(std::proofs::lemmas::Grind::elements))]
     fn value_mut(&mut self, index: usize) -> &mut T
         requires live { IsSome (live_at self.old.slots.items index) }
         ensures* writes_back { sem 𝓛
@@ -186,6 +188,7 @@ impl<T: Counted> Slots<T> {
     }
 
     /// How many bytes or elements all of them have; dropped ones count with their last size.
+    #[tactic(auto, using(std::proofs::lemmas::Grind::common_steps))]
     pub(crate) fn total(&self) -> u128
         ensures { result ≡ sum (map (slot_count T.Counted.count) self.now.slots.items) }
     {

@@ -35,6 +35,7 @@ pub(crate) fn create_segment(
 }
 
 /// Drops the items of an element segment.
+#[tactic(auto, using(std::proofs::lemmas::Grind::elements))]
 pub(crate) fn drop_items(segments: &mut ReservedList<ElementSegment>, index: usize) -> Reply
     ensures dropped { DropsItemsAt index segments.old.items result segments.new.items }
     ensures reserved { segments.new.reserved ≡ segments.old.reserved }
@@ -101,6 +102,7 @@ fn add_item<T: Drop>(items: &mut ReservedList<T>, item: T) -> Reply
 }
 
 /// Sets a global.
+#[tactic(auto, using(std::proofs::lemmas::Grind::elements))]
 pub(crate) fn set_global(
     globals: &mut ReservedList<Global>,
     index: usize,

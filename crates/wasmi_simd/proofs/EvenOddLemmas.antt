@@ -1,24 +1,12 @@
 -- The even and the odd lanes of a vector, as std::simd takes each out of a lane of twice the width, and their sums.
-use Rattle.std.proofs.Common.{ℕ, ℤ, pos, negsuc, suc, ◌+◌, ◌-◌, ◌*◌, ◌/◌, ◌%◌, ◌^◌, ◌<◌, ◌≤◌, ◌≡◌, List, length, get_or, map, replicate, sym, subst, ◌∙◌, ap, ap₂, arith, suc-mul, add-mul, mul_assoc, le_refl, inl, inr, Bool, true, false, ltb, bit_and, ◌+ℤ◌, ◌*ℤ◌}
-use Rattle.wasmi_simd.proofs.Common.{cases_lt, length-map, pow_pos, and_mask, mod-pow-add, shr-shr, div-mul-add, mod-mul-add, pow-add, mul-le, shr_below, shl_below, get_or-zip2, get_or-replicate, length-replicate, length-zip2, cast_unsigned, cast_signed, digits_l, number_l, zip2, Width, bits, signed, wrap, lane, unsigned, lane_below, lanes_make_vector, IsWidening, hbits, sel, pairwise_unary, pairwise_binary}
+use Rattle.std.proofs.Common.{ℕ, ℤ, pos, negsuc, suc, ◌+◌, ◌-◌, ◌*◌, ◌/◌, ◌%◌, ◌^◌, ◌<◌, ◌≤◌, ◌≡◌, List, length, get_or, map, replicate, subst, ◌∙◌, ap, ap₂, arith, suc-mul, add-mul, mul_assoc, le_refl, inl, inr, Bool, true, false, ltb, bit_and, ◌+ℤ◌, ◌*ℤ◌}
+use Rattle.wasmi_simd.proofs.Common.{cases_lt, pow_pos, and_mask, mod-pow-add, shr-shr, div-mul-add, mod-mul-add, pow-add, mul-le, shr_below, shl_below, cast_unsigned, cast_signed, digits_l, number_l, zip2, Width, bits, signed, wrap, lane, unsigned, lane_below, lanes_make_vector, IsWidening, hbits, sel, pairwise_unary, pairwise_binary}
 use Rattle.std.specs.Int.Signed.{shr_z}
 use Rattle.wasmi_lanewise.proofs.OrderLemmas.{same_less}
-use Rattle.wasmi_simd.proofs.HalfLemmas.{AreSignedLanes, bits_at, reread}
+use Rattle.wasmi_lanes.proofs.ItemLemmas.{AreItems, repeated, zipped}
+use Rattle.wasmi_simd.proofs.HalfLemmas.{lane_bits_are, reread}
 use Rattle.wasmi_simd.proofs.WideningLemmas.{extended_fits, product_fits, sum_below, sum_of_bits, dot_of_bits}
 use Rattle.std.proofs.Math.Nat.{mod-eq_of_lt}
-
--- ---- lanes and one number
-
--- an operation on each lane and one number
-number_at : (op : ℕ → ℕ → ℕ) (n k i : ℕ) (xs : List ℕ) → length xs ≡ n → i < n
-    → get_or (zip2 op xs (replicate n k)) i 0 ≡ op (get_or xs i 0) k
-number_at op n k i xs long inside =
-    get_or-zip2 op xs (replicate n k) i 0 0 0 (omega arith) (omega (arith, length-replicate n k))
-    ∙ ap (op (get_or xs i 0)) (get_or-replicate n i k 0 inside)
-
--- an operation on each of n lanes and one number gives n lanes
-number_long : (op : ℕ → ℕ → ℕ) (n k : ℕ) (xs : List ℕ) → length xs ≡ n → length (zip2 op xs (replicate n k)) ≡ n
-number_long op n k xs long = length-zip2 op xs (replicate n k) (long ∙ sym (length-replicate n k)) ∙ long
 
 -- ---- a width that is twice another
 
@@ -96,22 +84,25 @@ module _ {narrow wide : Width} {n : ℕ} (widens : IsWidening narrow wide n) (v 
       ∙ ap (λ m. m % 2 ^ b * 2 ^ b + even i) (shr-shr v (b * (2 * i)) b ∙ ap (λ k. v / 2 ^ k) next)
 
   module _ (xs : List ℕ) (long : length xs ≡ n) (is : (i : ℕ) → i < n → get_or xs i 0 ≡ lane wide v i) where
+    -- xs is the wide lanes
+    of_v : AreItems n 0 (lane wide v) xs
+    of_v = record { long = long; are = is }
+
     -- lane i of the wide lanes, masked to the narrow width, is the even narrow lane
     pub even_at : (i : ℕ) → i < n → get_or (zip2 bit_and xs (replicate n (2 ^ bits narrow - 1))) i 0 ≡ even i
     even_at i inside =
-        number_at bit_and n (2 ^ bits narrow - 1) i xs long inside
-        ∙ and_mask (get_or xs i 0) (bits narrow)
-        ∙ ap (λ m. m % 2 ^ bits narrow) (is i inside ∙ pair_is i)
+        let masked = zipped bit_and of_v (repeated n (2 ^ bits narrow - 1)) in
+        masked.are i inside ∙ and_mask (lane wide v i) (bits narrow) ∙ ap (λ m. m % 2 ^ bits narrow) (pair_is i)
         ∙ mod-mul-add (odd i) (2 ^ bits narrow) (even i) (lane_below narrow v (2 * i))
 
     -- lane i of the wide lanes, shifted to the right by the narrow width, is the odd narrow lane
     pub odd_at : (i : ℕ) → i < n → get_or (zip2 (λ a b. a / 2 ^ b) xs (replicate n (bits narrow))) i 0 ≡ odd i
     odd_at i inside =
-        number_at (λ a b. a / 2 ^ b) n (bits narrow) i xs long inside
-        ∙ ap (λ m. m / 2 ^ bits narrow) (is i inside ∙ pair_is i)
+        let shifted = zipped (λ a b. a / 2 ^ b) of_v (repeated n (bits narrow)) in
+        shifted.are i inside ∙ ap (λ m. m / 2 ^ bits narrow) (pair_is i)
         ∙ div-mul-add (odd i) (2 ^ bits narrow) (even i) (lane_below narrow v (2 * i))
 
-  module _ (xs : List ℤ) (of_v : AreSignedLanes wide n v xs) where
+  module _ (xs : List ℤ) (of_v : AreItems n (pos 0) (λ i. cast_signed wide (lane wide v i)) xs) where
     abbrev words : List ℕ
     words = map (cast_unsigned wide) xs
 
@@ -121,14 +112,11 @@ module _ {narrow wide : Width} {n : ℕ} (widens : IsWidening narrow wide n) (v 
     abbrev shifted_left : ℕ → ℕ → ℕ
     shifted_left a b = a * 2 ^ b % 2 ^ bits wide
 
-    -- there are n wide lanes as bits
-    words_long : length words ≡ n
-    words_long = length-map xs (cast_unsigned wide) ∙ of_v.long
-
-    -- the bits of a wide lane are those of its two narrow lanes, the odd one the upper
-    word_is : (i : ℕ) → i < n → get_or words i 0 ≡ odd i * 2 ^ bits narrow + even i
-    word_is i inside =
-        bits_at wide n i (lane wide v i) xs of_v.long inside (of_v.lanes i inside) (lane_below wide v i) ∙ pair_is i
+    -- the bits of the wide lanes are those of their two narrow lanes, the odd one the upper
+    words_are : AreItems n 0 (λ i. odd i * 2 ^ bits narrow + even i) words
+    words_are =
+        let of_lanes = lane_bits_are wide n v xs of_v in
+        record { long = of_lanes.long; are = λ i inside. of_lanes.are i inside ∙ pair_is i }
 
     -- lane i, shifted to the right by the narrow width, is the odd narrow lane, extended with its sign
     pub odd_signed_at : (i : ℕ) → i < n
@@ -137,14 +125,15 @@ module _ {narrow wide : Width} {n : ℕ} (widens : IsWidening narrow wide n) (v 
         (digits_l 256 16 (number_l (2 ^ bits wide) (zip2 shifted_right words (replicate n (bits narrow))))))) i 0
         ≡ cast_unsigned wide (cast_signed narrow (odd i))
     odd_signed_at i inside =
+        let rights = zipped shifted_right words_are (repeated n (bits narrow)) in
         reread wide n (zip2 shifted_right words (replicate n (bits narrow)))
         (λ k. cast_signed narrow (odd k)) i widens.filled
-        (number_long shifted_right n (bits narrow) words words_long)
-        (λ k below.
-        number_at shifted_right n (bits narrow) k words words_long below
-        ∙ ap (λ m. shifted_right m (bits narrow)) (word_is k below)
-        ∙ ap (cast_unsigned wide)
-        (upper_signed widens (odd k) (even k) (lane_below narrow v (2 * k + 1)) (lane_below narrow v (2 * k))))
+        (record {
+          long = rights.long;
+          are = λ k below.
+              rights.are k below ∙ ap (cast_unsigned wide)
+              (upper_signed widens (odd k) (even k) (lane_below narrow v (2 * k + 1)) (lane_below narrow v (2 * k)));
+        })
         (λ k. extended_fits narrow wide v (2 * k + 1) widens.wider) inside
 
     -- lane i, shifted to the left before, is the even narrow lane, extended with its sign
@@ -157,19 +146,20 @@ module _ {narrow wide : Width} {n : ℕ} (widens : IsWidening narrow wide n) (v 
         0
         ≡ cast_unsigned wide (cast_signed narrow (even i))
     even_signed_at i inside =
-        let lefts = zip2 shifted_left words (replicate n (bits narrow)) in
-        let lefts_long = number_long shifted_left n (bits narrow) words words_long in
-        reread wide n (zip2 shifted_right lefts (replicate n (bits narrow)))
+        let lefts = zipped shifted_left words_are (repeated n (bits narrow)) in
+        let rights = zipped shifted_right lefts (repeated n (bits narrow)) in
+        reread wide n
+        (zip2 shifted_right (zip2 shifted_left words (replicate n (bits narrow))) (replicate n (bits narrow)))
         (λ k. cast_signed narrow (even k)) i widens.filled
-        (number_long shifted_right n (bits narrow) lefts lefts_long)
-        (λ k below.
-        number_at shifted_right n (bits narrow) k lefts lefts_long below
-        ∙ ap (λ m. shifted_right m (bits narrow))
-        (number_at shifted_left n (bits narrow) k words words_long below
-        ∙ ap (λ m. shifted_left m (bits narrow)) (word_is k below)
-        ∙ lower_shifted widens (odd k) (even k) (lane_below narrow v (2 * k + 1)) (lane_below narrow v (2 * k)))
-        ∙ ap (cast_unsigned wide)
-        (upper_signed widens (even k) 0 (lane_below narrow v (2 * k)) (pow_pos (bits narrow))))
+        (record {
+          long = rights.long;
+          are = λ k below.
+              rights.are k below
+              ∙ ap (λ m. shifted_right m (bits narrow))
+              (lower_shifted widens (odd k) (even k) (lane_below narrow v (2 * k + 1)) (lane_below narrow v (2 * k)))
+              ∙ ap (cast_unsigned wide)
+              (upper_signed widens (even k) 0 (lane_below narrow v (2 * k)) (pow_pos (bits narrow)));
+        })
         (λ k. extended_fits narrow wide v (2 * k) widens.wider) inside
 
 -- the bits of the narrow lanes at these places of v, read signed

@@ -1,10 +1,11 @@
 -- The lanes of half a vector, as std::simd takes, extends and multiplies them.
 use Rattle.std.proofs.Common.{ℕ, suc, ℤ, pos, negsuc, ◌*ℤ◌, Bool, true, false, ltb, bit_xor, replicate, ◌+◌, ◌-◌, ◌*◌, ◌%◌, ◌^◌, ◌<◌, ◌≤◌, ◌≡◌, ◌⊎◌, inl, inr, List, ◌++◌, length, get_or, map, refl, sym, subst, ◌∙◌, ap, ap₂, arith, FitsSigned}
-use Rattle.wasmi_simd.proofs.Common.{pick_l_left, pick_l-range_with_len, get_or-chunk, length-zip2, get_or-zip2, get_or-replicate, cases_lt, ltb-true, ltb-false, get_or-map, get_or_past, length-map, pow_pos, cast_unsigned, cast_signed, digits_l, number_l, zip2, Width, w8, w16, bits, signed, wrap, lane, unsigned, digit_at, written_at, lane_below, lanes_make_vector, IsWidening, half_unary, half_binary, sel}
+use Rattle.wasmi_simd.proofs.Common.{pick_l_left, pick_l-range_with_len, get_or-chunk, cases_lt, ltb-true, ltb-false, get_or_past, length-map, pow_pos, cast_unsigned, cast_signed, digits_l, number_l, zip2, Width, w8, w16, bits, signed, wrap, lane, unsigned, digit_at, written_at, lane_below, lanes_make_vector, IsWidening, half_unary, half_binary, sel}
 use Rattle.std.proofs.Math.Nat.{mod-eq_of_lt}
 use Rattle.std.specs.List.{range_with_len}
 use Rattle.std.proofs.lemmas.Int.{of_z-to_z}
 use Rattle.std.proofs.lemmas.List.FromFn.{length-range_with_len}
+use Rattle.wasmi_lanes.proofs.ItemLemmas.{AreItems, items, repeated, mapped, zipped}
 use Rattle.wasmi_lanes.proofs.TopLemmas.{xor_top}
 use Rattle.wasmi_types.proofs.NumbersLemmas.{wrap_signed}
 use Rattle.wasmi_simd.proofs.WideningLemmas.{extended_fits, product_of_bits, product_below}
@@ -13,49 +14,52 @@ use lib.Lanes.{pick_l, all_below}
 use mir.ValLaws.{of_z_fits}
 
 -- neighbouring items, picked from a list and a copy of it
-pub extracted_at : (xs : List ℕ) (n first count i : ℕ) → length xs ≡ n → T (all_below n (range_with_len first count))
-    → first + count ≤ n → i < count
-    → get_or (pick_l 0 (xs ++ xs) (range_with_len first count)) i 0 ≡ get_or xs (first + i) 0
-extracted_at xs n first count i long inside room below =
-    ap (λ l. get_or l i 0)
-    (pick_l_left 0 xs xs n (range_with_len first count) long inside
-    ∙ pick_l-range_with_len 0 xs first count (omega arith))
-    ∙ get_or-chunk first count xs i 0 below
+extracted : {n : ℕ} {f : ℕ → ℕ} {xs : List ℕ} (first count : ℕ) → AreItems n 0 f xs
+    → T (all_below n (range_with_len first count)) → first + count ≤ n
+    → AreItems count 0 (λ i. f (first + i)) (pick_l 0 (xs ++ xs) (range_with_len first count))
+extracted {n} {xs} first count of_x inside room = record {
+  long = length-map (range_with_len first count) (λ k. get_or (xs ++ xs) k 0) ∙ length-range_with_len first count;
+  are = λ i below.
+      ap (λ l. get_or l i 0)
+      (pick_l_left 0 xs xs n (range_with_len first count) of_x.long inside
+      ∙ pick_l-range_with_len 0 xs first count (omega (arith, of_x.long)))
+      ∙ get_or-chunk first count xs i 0 below ∙ of_x.are (first + i) (omega arith);
+}
 
 -- neighbouring lanes, picked from the list of all lanes
 pub extracted_lane : (w : Width) (v : ℕ) (xs : List ℕ) (n first count : ℕ) → length xs ≡ n
     → T (all_below n (range_with_len first count)) → first + count ≤ n
     → ((k : ℕ) → k < n → get_or xs k 0 ≡ lane w v k)
     → (i : ℕ) → i < count → get_or (pick_l 0 (xs ++ xs) (range_with_len first count)) i 0 ≡ lane w v (first + i)
-extracted_lane w v xs n first count long inside room are i below =
-    extracted_at xs n first count i long inside room below ∙ are (first + i) (omega arith)
+extracted_lane w v xs n first count long inside room are =
+    let of_v : AreItems n 0 (lane w v) xs = record { long = long; are = are } in
+    let lanes = extracted first count of_v inside room in
+    lanes.are
 
--- the bits of a lane that was read signed
-pub bits_at : (w : Width) (n i word : ℕ) (xs : List ℤ) → length xs ≡ n → i < n
-    → get_or xs i (pos 0) ≡ cast_signed w word → word < 2 ^ bits w → get_or (map (cast_unsigned w) xs) i 0 ≡ word
-bits_at w n i word xs long inside is fits =
-    get_or-map (cast_unsigned w) xs i (pos 0) 0 (omega arith) ∙ ap (cast_unsigned w) is ∙ of_z-to_z w word fits
+-- the bits of lanes that were read signed
+pub lane_bits_are : (w : Width) (n v : ℕ) (xs : List ℤ) → AreItems n (pos 0) (λ i. cast_signed w (lane w v i)) xs
+    → AreItems n 0 (lane w v) (map (cast_unsigned w) xs)
+lane_bits_are w n v xs of_v =
+    let words = mapped of_v (cast_unsigned w) in
+    record { long = words.long; are = λ i inside. words.are i inside ∙ of_z-to_z w (lane w v i) (lane_below w v i) }
 
 -- lanes that are the bits of signed numbers, read from the bytes to which they were written
-pub reread : (w : Width) (n : ℕ) (xs : List ℕ) (f : ℕ → ℤ) (i : ℕ) → n * bits w ≡ 128 → length xs ≡ n
-    → ((k : ℕ) → k < n → get_or xs k 0 ≡ cast_unsigned w (f k))
+pub reread : (w : Width) (n : ℕ) (xs : List ℕ) (f : ℕ → ℤ) (i : ℕ) → n * bits w ≡ 128
+    → AreItems n 0 (λ k. cast_unsigned w (f k)) xs
     → ((k : ℕ) → FitsSigned w (f k))
     → i < n
     → get_or (digits_l (2 ^ bits w) n (number_l 256 (digits_l 256 16 (number_l (2 ^ bits w) xs)))) i 0
     ≡ cast_unsigned w (f i)
-reread w n xs f i filled long is fits below =
+reread w n xs f i filled of_f fits below =
     let r = number_l 256 (digits_l 256 16 (number_l (2 ^ bits w) xs)) in
-    digit_at (bits w) n r i 0 below ∙ sym (written_at w n xs r i filled long (λ k. small k (cases_lt k n)) below refl)
-    ∙ is i below
+    digit_at (bits w) n r i 0 below
+    ∙ sym (written_at w n xs r i filled of_f.long (λ k. small k (cases_lt k n)) below refl)
+    ∙ of_f.are i below
   where
     small : (k : ℕ) → (k < n) ⊎ (n ≤ k) → get_or xs k 0 < 2 ^ bits w
-    small k (inl inside) = subst (λ m. m < 2 ^ bits w) (sym (is k inside)) (of_z_fits w (f k) (fits k)).fits
-    small k (inr past) = subst (λ m. m < 2 ^ bits w) (sym (get_or_past xs k 0 (omega arith))) (pow_pos (bits w))
-
--- xs is the n lanes of v of this width, read signed
-pub record AreSignedLanes (w : Width) (n v : ℕ) (xs : List ℤ) : Type 0 where
-  pub long : length xs ≡ n
-  pub lanes : (i : ℕ) → i < n → get_or xs i (pos 0) ≡ cast_signed w (lane w v i)
+    small k (inl inside) = subst (λ m. m < 2 ^ bits w) (sym (of_f.are k inside)) (of_z_fits w (f k) (fits k)).fits
+    small k (inr past) =
+        subst (λ m. m < 2 ^ bits w) (sym (get_or_past xs k 0 (omega (arith, of_f.long)))) (pow_pos (bits w))
 
 -- lane i of the half that begins with lane `first` is lane `at i`
 pub record IsHalf (first : ℕ) (at : ℕ → ℕ) : Type 0 where
@@ -73,7 +77,7 @@ module _ {narrow wide : Width} {n first : ℕ} {at : ℕ → ℕ} (widens : IsWi
     (half : IsHalf first at) where
   -- the lanes of half a vector of `all` narrow lanes, read signed and extended
   pub extended_at : (all : ℕ) → T (all_below all (range_with_len first n)) → first + n ≤ all
-      → (v : ℕ) (xs : List ℤ) → AreSignedLanes narrow all v xs
+      → (v : ℕ) (xs : List ℤ) → AreItems all (pos 0) (λ i. cast_signed narrow (lane narrow v i)) xs
       → (i : ℕ) → i < n
       → get_or (digits_l (2 ^ bits wide) n
       (number_l 256
@@ -86,19 +90,11 @@ module _ {narrow wide : Width} {n first : ℕ} {at : ℕ → ℕ} (widens : IsWi
   extended_at all inside room v xs of_v i below =
       let extend = λ (m : ℕ). cast_unsigned wide (cast_signed narrow m) in
       let words = map (cast_unsigned narrow) xs in
-      let words_long : length words ≡ all = length-map xs (cast_unsigned narrow) ∙ of_v.long in
-      let picked = pick_l 0 (words ++ words) (range_with_len first n) in
-      let picked_long : length picked ≡ n =
-      length-map (range_with_len first n) (λ k. get_or (words ++ words) k 0)
-      ∙ length-range_with_len first n in
-      reread wide n (map extend picked) (λ k. cast_signed narrow (lane narrow v (first + k))) i widens.filled
-      (length-map picked extend ∙ picked_long)
-      (λ k fits.
-      get_or-map extend picked k 0 0 (omega arith)
-      ∙ ap extend (extracted_at words all first n k words_long inside room fits
-      ∙ bits_at narrow all (first + k) (lane narrow v (first + k)) xs of_v.long (omega arith)
-      (of_v.lanes (first + k) (omega arith))
-      (lane_below narrow v (first + k))))
+      let picked = extracted first n (lane_bits_are narrow all v xs of_v) inside room in
+      let extends = mapped picked extend in
+      reread wide n (map extend (pick_l 0 (words ++ words) (range_with_len first n)))
+      (λ k. cast_signed narrow (lane narrow v (first + k))) i widens.filled
+      (record { long = extends.long; are = extends.are })
       (λ k. extended_fits narrow wide v (first + k) widens.wider) below
       ∙ ap (λ k. extend (lane narrow v k)) (sym (half.place i))
 
@@ -164,11 +160,7 @@ pub sign_copied_at : (xs : List ℕ) (i x : ℕ) → length xs ≡ 8 → i < 8 �
     → get_or (zip2 (λ a b. (a + (65536 - b)) % 65536) (zip2 bit_xor xs (replicate 8 128)) (replicate 8 128)) i 0
     ≡ cast_unsigned w16 (signed w8 x)
 sign_copied_at xs i x long inside is fits =
-    let flips : List ℕ = zip2 bit_xor xs (replicate 8 128) in
-    let many : length flips ≡ 8 = length-zip2 bit_xor xs (replicate 8 128) long ∙ long in
-    get_or-zip2 (λ a b. (a + (65536 - b)) % 65536) flips (replicate 8 128) i 0 0 0 (omega arith) inside
-    ∙ ap₂ (λ a b. (a + (65536 - b)) % 65536)
-    (get_or-zip2 bit_xor xs (replicate 8 128) i 0 0 0 (omega arith) inside
-    ∙ ap₂ bit_xor is (get_or-replicate 8 i 128 0 inside))
-    (get_or-replicate 8 i 128 0 inside)
-    ∙ flipped_is x fits
+    let tops = repeated 8 128 in
+    let flips = zipped bit_xor (items 8 xs long) tops in
+    let wide = zipped (λ a b. (a + (65536 - b)) % 65536) flips tops in
+    wide.are i inside ∙ ap (λ k. (bit_xor k 128 + (65536 - 128)) % 65536) is ∙ flipped_is x fits

@@ -10,7 +10,7 @@ pub fn numbered<Op: Copy>(list: &[Op], number: u16) -> Option<Op>
 }
 
 /// The instruction at a place of a list of names with their instructions, if it isn't past its end.
-#[tactic(auto, unfolding(crate::specs::Instruction::op_numbered))]
+#[tactic(auto, using(crate::proofs::InstructionLemmas::places), unfolding(crate::specs::Instruction::op_numbered))]
 pub fn op_numbered<Op: Copy>(list: &[(&str, Op)], number: u16) -> Option<Op>
     ensures { result ≡ op_numbered list.now number }
 {

@@ -1,4 +1,4 @@
-use Rattle.std.proofs.Common.{refl}
+use Rattle.wasmi_machine.proofs.StoreLemmas.{changes}
 use Rattle.wasmi_budget.proofs.PoolLemmas.{replies_unasked}
 use Rattle.wasmi_budget.proofs.tenant.step_without_tenant.Goals as goal
 
@@ -6,20 +6,11 @@ pub returns-in-Store : goal.returns-in-Store
 returns-in-Store c = record {
   replied =
       let stored = c.store_item.new.self in
-      rw c.in-Store.is (λ tenant. (
-        0,
-        0,
-        record {
-          free = (refl, refl);
-          machine = stored;
-          effect = record {
-            part = stored.memories;
-            effect = c.store_item.ensures.memories;
-            after = c.store_item.ensures.rest;
-          };
-          after = refl;
-        },
-      ));
+      rw c.in-Store.is (λ tenant. changes (record {
+        part = stored.memories;
+        effect = c.store_item.ensures.memories;
+        after = c.store_item.ensures.rest;
+      }));
 }
 
 pub returns-in_default : goal.returns-in_default

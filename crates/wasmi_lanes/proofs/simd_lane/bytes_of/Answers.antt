@@ -1,11 +1,5 @@
-use Rattle.std.proofs.Common.{◌≡◌, ◌+◌, ◌*◌, ◌^◌, ap, arith, ◌∙◌}
-use Rattle.wasmi_types.specs.Numbers.{w8}
-use Rattle.wasmi_lanes.specs.Vector.{lane}
-use Rattle.wasmi_lanes.proofs.SimdLaneLemmas.{digit_at}
+use Rattle.wasmi_lanes.proofs.SimdLaneLemmas.{byte_of_words}
 use Rattle.wasmi_lanes.proofs.simd_lane.bytes_of.Goals as goal
 
 pub returns-clause-lanes : goal.returns-clause-lanes
-returns-clause-lanes c =
-    let number = c.words-low.result.0 + 2 ^ 64 * (c.words-low.result.1 + 0) in
-    let is : number ≡ c.args.vector = omega (arith, c.words-low.ensures.whole) in
-    λ i below. digit_at 8 16 number i 0 below ∙ ap (λ k. lane w8 k i) is
+returns-clause-lanes c = byte_of_words c.args.vector c.words-low.result.0 c.words-low.result.1 c.words-low.ensures.whole

@@ -1,4 +1,4 @@
-use Rattle.wasmi_machine.proofs.Common.{common_steps, optional_rules, loan_kept}
+use Rattle.wasmi_machine.proofs.Common.{optional_rules, loan_kept}
 use Rattle.std.proofs.Common.{◌+◌, ◌∙◌, ap, arith}
 use Rattle.wasmi_machine.proofs.StoreLemmas.{run_more}
 use Rattle.wasmi_machine.proofs.running.run.Goals as goal
@@ -16,6 +16,3 @@ loop-call-preserved g c =
       count = c.push_reserved.ensures.len ∙ ap (λ n. n + 1) c.loop-call.invariant.count;
       room = omega (arith, c.push_reserved.ensures.capacity);
     }
-
-pub returns-clause-run : goal.returns-clause-run
-returns-clause-run g c = grind (arith, common_steps)

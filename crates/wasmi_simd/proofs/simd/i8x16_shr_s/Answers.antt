@@ -1,5 +1,6 @@
-use Rattle.std.proofs.Common.{ℕ, ◌+◌, ◌-◌, ◌%◌, ◌/◌, ◌^◌, ◌∙◌, ◌≡◌, ap, ap₂, refl, arith, rules, length}
-use Rattle.wasmi_simd.proofs.Common.{get_or-zip2, w8, lane, unary_of_lanes, lane_below, lanes_make_vector, lane_of_lanes}
+use Rattle.std.proofs.Common.{ℕ, ◌+◌, ◌-◌, ◌%◌, ◌/◌, ◌^◌, ◌∙◌, ap, ap₂, refl, arith, rules}
+use Rattle.wasmi_simd.proofs.Common.{w8, lane, unary_of_lanes, lane_below, lanes_make_vector, lane_of_lanes}
+use Rattle.wasmi_lanes.proofs.ItemLemmas.{items, zipped}
 use Rattle.wasmi_simd.proofs.ShiftLemmas.{moved_and_back, half_at}
 use Rattle.wasmi_simd.proofs.simd.i8x16_shr_s.Goals as goal
 
@@ -7,13 +8,12 @@ pub returns : goal.returns
 unfolding unary_of_lanes
 returns c =
     let s : ℕ = c.args.amount % 8 in
-    let long_x : length c.bytes_of.result ≡ 16 = search rules in
-    let long_y : length c.bytes_of-2.result ≡ 16 = search rules in
+    let differences =
+    zipped (λ x y. (x + (2 ^ 8 - y)) % 2 ^ 8) (items 16 c.bytes_of.result (search rules))
+    (items 16 c.bytes_of-2.result (search rules)) in
     lanes_make_vector w8 16 c.from_bytes.result _ refl c.from_bytes.ensures.in_range
     (λ i inside.
-    c.from_bytes.ensures.lanes i inside
-    ∙ get_or-zip2 (λ x y. (x + (2 ^ 8 - y)) % 2 ^ 8) c.bytes_of.result c.bytes_of-2.result i 0 0 0 (omega arith)
-    (omega arith)
+    c.from_bytes.ensures.lanes i inside ∙ differences.are i inside
     ∙ ap₂ (λ x y. (x + (2 ^ 8 - y)) % 2 ^ 8)
     (c.bytes_of.ensures.lanes i inside ∙ ap (λ n. lane w8 n i) c.i8x16_shr_u-shifted.ensures
     ∙ lane_of_lanes w8 (λ k. lane w8 c.vector_of-biased.result k / 2 ^ s) 16 i refl inside

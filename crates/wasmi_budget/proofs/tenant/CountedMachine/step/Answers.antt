@@ -1,72 +1,67 @@
-use Rattle.std.proofs.Common.{◌∙◌}
+use Rattle.std.proofs.Common.{◌≡◌, ◌∙◌}
+use Rattle.wasmi_meter.specs.Limiter.{optional_rules}
+use Rattle.wasmi_meter.specs.declared.limiter.Kind.{Kind}
 use Rattle.wasmi_meter.specs.declared.limiter.Kind.TheVariants.{Bytes, Elements}
-use Rattle.wasmi_machine.specs.State.{world}
-use Rattle.wasmi_budget.proofs.PoolLemmas.{all_before, all_same, held_same, held_total, part_fits, part_held, part_holds, refused_total, run_of_one, runs_as_part, step_holds}
+use Rattle.wasmi_machine.proofs.StoreLemmas.{run_of_one}
+use Rattle.wasmi_machine.specs.State.{HoldsTotals, IsRefusal, total, world}
+use Rattle.wasmi_budget.proofs.PoolLemmas.{all_before, all_same, held_same, held_total, part_fits, part_held, part_holds, refused_total, runs_as_part, step_holds}
+use Rattle.wasmi_budget.specs.Pool.{holdings, tenant_rules}
 use Rattle.wasmi_budget.proofs.tenant.CountedMachine.step.Goals as goal
+use Rattle.wasmi_budget.proofs.tenant.CountedMachine.step.Goals.{After-step_lending-reply}
 
-pub new-tenant-requires-clause-bytes : goal.new-tenant-requires-clause-bytes
-new-tenant-requires-clause-bytes c =
-    part_held c.args.caps c.args.all.now _ _ _ c.self.view_is c.self.invariant c.requires.part Bytes
+pub new-tenant-requires : goal.new-tenant-requires
+new-tenant-requires c =
+    let less = part_held c.args.caps c.args.all.now _ _ _ c.self.view_is c.self.invariant c.requires.part in
+    record { bytes = less Bytes; elements = less Elements }
 
-pub new-tenant-requires-clause-elements : goal.new-tenant-requires-clause-elements
-new-tenant-requires-clause-elements c =
-    part_held c.args.caps c.args.all.now _ _ _ c.self.view_is c.self.invariant c.requires.part Elements
+pub leave-requires : goal.leave-requires
+leave-requires c =
+    let ran = run_of_one (optional_rules tenant_rules) _ _ _ _ c.step_lending-reply.ensures in
+    record {
+      fits = part_fits _ _ _ _ _ c.self.view_is c.self.invariant c.requires.part _ c.new-tenant.ensures.value _ _ _ _ ran;
+      before = all_before _ _ _ _ _ c.self.view_is c.self.invariant c.requires.part _ c.new-tenant.ensures.value _ _ _ _
+          ran;
+    }
 
-pub leave-requires-clause-fits : goal.leave-requires-clause-fits
-leave-requires-clause-fits c =
-    part_fits _ _ _ _ _ c.self.view_is c.self.invariant c.requires.part _ c.new-tenant.ensures.value _ _ _ _
-    (run_of_one (world c.self.inside.machine c.new-tenant.result)
-    (world c.step_lending-reply.new.machine c.step_lending-reply.new.tenant) _ _ c.step_lending-reply.ensures)
-
-pub leave-requires-clause-before : goal.leave-requires-clause-before
-leave-requires-clause-before c =
-    all_before _ _ _ _ _ c.self.view_is c.self.invariant c.requires.part _ c.new-tenant.ensures.value _ _ _ _
-    (run_of_one (world c.self.inside.machine c.new-tenant.result)
-    (world c.step_lending-reply.new.machine c.step_lending-reply.new.tenant) _ _ c.step_lending-reply.ensures)
+-- the tenant holds what the machine has then; that is what it had, if the reply is a refusal
+stepped : (c : goal.After-step_lending-reply)
+    → HoldsTotals (holdings c.step_lending-reply.new.tenant) c.step_lending-reply.new.machine
+    × (IsRefusal c.step_lending-reply.result → (kind : Kind)
+    → total c.step_lending-reply.new.machine kind ≡ total c.self.inside.machine kind)
+stepped c =
+    let first = world c.self.inside.machine c.new-tenant.result in
+    let last = world c.step_lending-reply.new.machine c.step_lending-reply.new.tenant in (
+      step_holds first last _ _ (part_holds c.args.caps c.args.all.now _ _ _ c.self.view_is c.self.invariant
+          c.requires.part _ c.new-tenant.ensures.value) c.step_lending-reply.ensures,
+      λ refusal. refused_total first last _ _ refusal c.step_lending-reply.ensures,
+    )
 
 pub invariant_of-self : goal.invariant_of-self
-invariant_of-self c =
-    let first = world c.self.inside.machine c.new-tenant.result in
-    let last = world c.step_lending-reply.new.machine c.step_lending-reply.new.tenant in
-    let holds = part_holds c.args.caps c.args.all.now _ _ _ c.self.view_is c.self.invariant c.requires.part _
-    c.new-tenant.ensures.value in
-    c.leave.ensures.held ∙ held_total last.limiter last.state (step_holds first last _ _ holds c.step_lending-reply.ensures)
+invariant_of-self c = c.leave.ensures.held
+    ∙ held_total c.step_lending-reply.new.tenant c.step_lending-reply.new.machine
+    (stepped (goal.at.invariant_of-self c).After-step_lending-reply).0
 
 pub invariant_of-self-else-not-is_refused_growth :
     goal.invariant_of-self-else-not-is_refused_growth
 invariant_of-self-else-not-is_refused_growth c =
-    let first = world c.self.inside.machine c.new-tenant.result in
-    let last = world c.step_lending-reply.new.machine c.step_lending-reply.new.tenant in
-    let step = c.step_lending-reply.ensures in
-    let holds = part_holds c.args.caps c.args.all.now _ _ _ c.self.view_is c.self.invariant c.requires.part _
-    c.new-tenant.ensures.value in
+    let after = stepped (goal.at.invariant_of-self-else-not-is_refused_growth c).After-step_lending-reply in
     held_same _ _ _ _ _ c.self.view_is c.self.invariant c.requires.part _ c.new-tenant.ensures.value _ _ _ _
-    (run_of_one first last _ _ step) (step_holds first last _ _ holds step)
-    (refused_total first last _ _ (c.is_refused_growth.ensures c.if-not-is_refused_growth.false) step)
+    (run_of_one (optional_rules tenant_rules) _ _ _ _ c.step_lending-reply.ensures) after.0
+    (after.1 (c.is_refused_growth.ensures c.if-not-is_refused_growth.false))
 
 pub returns-then-not-is_refused_growth : goal.returns-then-not-is_refused_growth
-returns-then-not-is_refused_growth c =
-    let first = world c.self.inside.machine c.new-tenant.result in
-    let last = world c.step_lending-reply.new.machine c.step_lending-reply.new.tenant in
-    let step = c.step_lending-reply.ensures in
-    let holds = part_holds c.args.caps c.args.all.now _ _ _ c.self.view_is c.self.invariant c.requires.part _
-    c.new-tenant.ensures.value in
-    record {
-      run = runs_as_part _ _ _ _ _ c.self.view_is c.self.invariant c.requires.part _ c.new-tenant.ensures.value _ _ _ _
-          (run_of_one first last _ _ step) (step_holds first last _ _ holds step) _ c.leave.ensures.all;
-    }
+returns-then-not-is_refused_growth c = record {
+  run = runs_as_part _ _ _ _ _ c.self.view_is c.self.invariant c.requires.part _ c.new-tenant.ensures.value _ _ _ _
+      (run_of_one (optional_rules tenant_rules) _ _ _ _ c.step_lending-reply.ensures)
+      (stepped (goal.at.returns-then-not-is_refused_growth c).After-step_lending-reply).0 _ c.leave.ensures.all;
+}
 
 pub returns-else-not-is_refused_growth : goal.returns-else-not-is_refused_growth
 returns-else-not-is_refused_growth c =
-    let first = world c.self.inside.machine c.new-tenant.result in
-    let last = world c.step_lending-reply.new.machine c.step_lending-reply.new.tenant in
-    let step = c.step_lending-reply.ensures in
-    let holds = part_holds c.args.caps c.args.all.now _ _ _ c.self.view_is c.self.invariant c.requires.part _
-    c.new-tenant.ensures.value in
-    let ran = run_of_one first last _ _ step in
-    let held = step_holds first last _ _ holds step in
+    let after = stepped (goal.at.returns-else-not-is_refused_growth c).After-step_lending-reply in
+    let ran = run_of_one (optional_rules tenant_rules) _ _ _ _ c.step_lending-reply.ensures in
     record {
       run = runs_as_part _ _ _ _ _ c.self.view_is c.self.invariant c.requires.part _ c.new-tenant.ensures.value _ _ _ _ ran
-          held _ (all_same _ _ _ _ _ c.self.view_is c.self.invariant c.requires.part _ c.new-tenant.ensures.value _ _ _ _ ran
-          held (refused_total first last _ _ (c.is_refused_growth.ensures c.if-not-is_refused_growth.false) step));
+          after.0 _ (all_same _ _ _ _ _ c.self.view_is c.self.invariant c.requires.part _ c.new-tenant.ensures.value _ _ _ _
+          ran after.0 (after.1 (c.is_refused_growth.ensures c.if-not-is_refused_growth.false)));
     }

@@ -3,9 +3,9 @@ use Rattle.wasmi_budget.proofs.TenantsLemmas.{its_value, no_value}
 use Rattle.wasmi_budget.proofs.tenants.Tenants.get.Goals as goal
 
 pub returns-in_err-place : goal.returns-in_err-place
-returns-in_err-place c = rw c.from_residual.ensures (sym (no_value _ _ _ c.self.invariant _ c.self.view_is _
+returns-in_err-place c = rw c.from_residual.ensures (sym (no_value c.self.invariant c.self.view_is
     c.deref.ensures.value _ c.in_err-place.ensures.found))
 
 pub returns : goal.returns
-returns c = sym (its_value _ _ _ c.self.invariant _ c.self.view_is _ c.deref.ensures.value _ _ c.in_ok-place.ensures.found _
+returns c = sym (its_value c.self.invariant c.self.view_is c.deref.ensures.value _ _ c.in_ok-place.ensures.found
     c.index.ensures)

@@ -2,4 +2,4 @@ use Rattle.wasmi_budget.proofs.TenantsLemmas.{given}
 use Rattle.wasmi_budget.proofs.tenants.Tenants.len.Goals as goal
 
 pub returns : goal.returns
-returns c = given _ _ _ c.self.invariant _ c.self.view_is
+returns c = given c.self.invariant c.self.view_is

@@ -16,7 +16,7 @@ invariant_of-self-2 c =
 
 pub returns-clause-added : goal.returns-clause-added
 returns-clause-added c =
-    pushed_value _ _ _ c.self.invariant _ c.self.view_is _ _ _ c.args.machine (search rules)
+    pushed_value c.self.invariant c.self.view_is _ _ _ c.args.machine (search rules)
     (c.push_reserved.ensures.items ∙ ap (λ (xs : List ℕ). xs ++ c.self.inside.next ∷ []) c.try_reserve.ensures.items)
     (c.push_reserved-2.ensures.items
     ∙ ap (λ (xs : List State). xs ++ c.args.machine ∷ []) c.try_reserve-else-is_err.ensures.items)

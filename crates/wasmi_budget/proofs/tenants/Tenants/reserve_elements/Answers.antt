@@ -5,13 +5,13 @@ use Rattle.wasmi_budget.proofs.tenants.Tenants.reserve_elements.Goals as goal
 pub returns-in_err-place : goal.returns-in_err-place
 returns-in_err-place c = record {
   reserved = rw c.from_residual.ensures (
-    no_value _ _ _ c.self.invariant _ c.self.view_is _ c.deref.ensures.value _ c.in_err-place.ensures.found,
+    no_value c.self.invariant c.self.view_is c.deref.ensures.value _ c.in_err-place.ensures.found,
     refl,
   );
 }
 
 pub returns : goal.returns
 returns c = record {
-  reserved = becomes_at _ _ _ c.self.invariant _ c.self.view_is _ c.deref.ensures.value _ _ c.in_ok-place.ensures.found _ _ _
-      c.index_mut.ensures.value c.reserve_elements.ensures.reserved;
+  reserved = becomes_at c.self.invariant c.self.view_is c.deref.ensures.value _ _ c.in_ok-place.ensures.found
+      c.index_mut.ensures.value _ _ c.reserve_elements.ensures.reserved;
 }

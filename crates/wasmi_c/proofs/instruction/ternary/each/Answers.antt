@@ -1,10 +1,7 @@
 use Rattle.std.proofs.Common.{arith}
-use Rattle.wasmi_c.proofs.Common.{get_or-set_at, get_or-set_other, get_or_default, ternary_value}
+use Rattle.wasmi_c.proofs.Common.{ternary_value}
 use Rattle.wasmi_c.proofs.InstructionLemmas.{each_three_written}
 use Rattle.wasmi_c.proofs.instruction.ternary.each.Goals as goal
-
-pub loop-i-preserved : goal.loop-i-preserved
-loop-i-preserved c k x y z u below = grind (arith, get_or-set_at, get_or-set_other, get_or_default)
 
 pub returns : goal.returns
 returns c =

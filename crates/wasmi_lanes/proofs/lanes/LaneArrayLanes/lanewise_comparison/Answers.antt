@@ -1,10 +1,7 @@
 use Rattle.std.proofs.Common.{Bool, ◌≡◌, if◌then◌else◌, get_or, arith, rules}
-use Rattle.wasmi_lanes.proofs.Common.{common_steps, get_or_default}
+use Rattle.wasmi_lanes.proofs.Common.{get_or_default}
 use Rattle.wasmi_lanes.proofs.LanesLemmas.{set_more}
 use Rattle.wasmi_lanes.proofs.lanes.LaneArrayLanes.lanewise_comparison.Goals as goal
-
-pub offset_bounds-items-i : goal.offset_bounds-items-i
-offset_bounds-items-i g c = grind (arith, common_steps)
 
 pub loop-i-preserved : goal.loop-i-preserved
 loop-i-preserved g c =

@@ -1,6 +1,7 @@
-use Rattle.wasmi_types.specs.Numbers.{w16}
-use Rattle.wasmi_lanes.proofs.SimdLaneLemmas.{added_at}
+use Rattle.std.proofs.Common.{◌+◌, ◌%◌, ◌^◌}
+use Rattle.wasmi_lanes.proofs.ItemLemmas.{items, repeated, zipped}
 use Rattle.wasmi_lanes.proofs.simd_lane.U16SimdLane.biased.Goals as goal
 
 pub returns : goal.returns
-returns c = record { lanes = λ i inside. added_at w16 8 32768 c.args.items i c.fits-items.0 inside }
+returns c = record
+    { lanes = (zipped (λ x y. (x + y) % 2 ^ 16) (items 8 c.args.items c.fits-items.0) (repeated 8 32768)).are }

@@ -1,6 +1,6 @@
 use Rattle.std.proofs.Common.{◌-◌, ◌^◌, ◌∙◌, nat_eq, not, if◌then◌else◌}
 use Rattle.wasmi_lanewise.proofs.Common.{bits, comparison_of_lanes, u64x2_of, words_make_binary, equal_lanes}
-use Rattle.wasmi_lanewise.proofs.MarkLemmas.{differ_marks, different_filled, differs_in_lanes}
+use Rattle.wasmi_lanewise.proofs.MarkLemmas.{marks_are, marked_filled, are_different, different_marked}
 use Rattle.wasmi_lanewise.proofs.simd.words.different.Goals as goal
 
 pub filled-requires : goal.filled-requires
@@ -8,8 +8,8 @@ filled-requires g c =
     let law = g.met.T.WordLane.laws in
     let lanes = equal_lanes _ _ law.whole (c.TOPS-tops.ensures ∙ law.highest) in
     record {
-      low = differ_marks _ _ _ _ (differs_in_lanes _ _ _ _ _ lanes c.word_differ.ensures.lanes);
-      high = differ_marks _ _ _ _ (differs_in_lanes _ _ _ _ _ lanes c.word_differ-2.ensures.lanes);
+      low = marks_are (different_marked _ _ _ _ _ lanes c.word_differ.ensures.lanes);
+      high = marks_are (different_marked _ _ _ _ _ lanes c.word_differ-2.ensures.lanes);
     }
 
 pub returns : goal.returns
@@ -23,5 +23,5 @@ returns g c =
     (u64x2_of c.words-a_low.ensures.low c.words-a_low.ensures.high)
     (u64x2_of c.words-b_low.ensures.low c.words-b_low.ensures.high)
     (record { low_fits = f.3; high_fits = f.4; is = f.2 })
-    (different_filled _ _ _ _ _ (differs_in_lanes _ _ _ _ _ lanes c.word_differ.ensures.lanes) f.5)
-    (different_filled _ _ _ _ _ (differs_in_lanes _ _ _ _ _ lanes c.word_differ-2.ensures.lanes) f.6)
+    (marked_filled (are_different _ _ _) _ (different_marked _ _ _ _ _ lanes c.word_differ.ensures.lanes) f.5)
+    (marked_filled (are_different _ _ _) _ (different_marked _ _ _ _ _ lanes c.word_differ-2.ensures.lanes) f.6)

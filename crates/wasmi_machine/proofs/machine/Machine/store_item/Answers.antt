@@ -1,5 +1,5 @@
 use Rattle.std.proofs.Common.{◌+◌, Some}
-use Rattle.wasmi_machine.proofs.MemoryEffectsLemmas.{vector_store_valid}
+use Rattle.wasmi_machine.proofs.MemoryEffectsLemmas.{vector_store_facts}
 use Rattle.wasmi_ops.specs.LoadStoreOps.{stored_bytes}
 use Rattle.wasmi_machine.proofs.machine.Machine.store_item.Goals as goal
 
@@ -8,8 +8,8 @@ invariant_of-self c =
     let valid = rw (← c.self-inside.view_is) at c.self.invariant in
     let bytes = stored_bytes c.args.op c.args.value in
     record {
-      memories = vector_store_valid c.args.memory (c.args.ptr + c.args.offset) (Some bytes) _ _ _ c.store-reply.ensures.stored
-          valid.memories;
+      memories = ((vector_store_facts c.args.memory (c.args.ptr + c.args.offset) (Some bytes) _).keeps _ _
+          c.store-reply.ensures.stored).1 valid.memories;
       tables = valid.tables;
       segments = valid.segments;
       registers = valid.registers;

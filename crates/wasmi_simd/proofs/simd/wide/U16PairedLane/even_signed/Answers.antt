@@ -6,5 +6,5 @@ use Rattle.wasmi_simd.proofs.simd.wide.U16PairedLane.even_signed.Goals as goal
 pub returns : goal.returns
 returns c = record {
   lanes = even_signed_at u16x8_widened c.args.v c.i32x4_of.result
-      (record { long = search rules; lanes = c.i32x4_of.ensures.lanes });
+      (record { long = search rules; are = c.i32x4_of.ensures.lanes });
 }

@@ -6,5 +6,5 @@ use Rattle.wasmi_simd.proofs.simd.wide.U32ExtendedLane.low_signed.Goals as goal
 pub returns : goal.returns
 returns c = record {
   lanes = extended_at u32x4_widened lower 4 tt (omega arith) c.args.v c.i32x4_of.result
-      (record { long = search rules; lanes = c.i32x4_of.ensures.lanes });
+      (record { long = search rules; are = c.i32x4_of.ensures.lanes });
 }

@@ -6,5 +6,5 @@ use Rattle.wasmi_simd.proofs.simd.wide.U8PairedLane.odd_signed.Goals as goal
 pub returns : goal.returns
 returns c = record {
   lanes = odd_signed_at bytes_widened c.args.v c.i16x8_of.result
-      (record { long = search rules; lanes = c.i16x8_of.ensures.lanes });
+      (record { long = search rules; are = c.i16x8_of.ensures.lanes });
 }
