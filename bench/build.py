@@ -292,7 +292,7 @@ def main(crate, folder, form=None, links=LINKS):
         copy_with_arrays(here)
     write_program(crate, f"{folder}/program", here)
     if form:
-        flags = ["-Ctarget-cpu=x86-64-v2", "-Cllvm-args=-align-loops=64"]
+        flags = ["-Ctarget-cpu=x86-64-v2", "-Cllvm-args=-align-loops=64", "-Cllvm-args=-x86-branches-within-32B-boundaries"]
         build_program(f"{folder}/program", flags, ["--features", "rust"], int(links))
     else:
         build_libraries(f"{folder}/repository")

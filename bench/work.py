@@ -19,8 +19,8 @@ import sys
 import tempfile
 
 sys.dont_write_bytecode = True
-from replay import LIMIT, other_text_of
-from libraries import TOP
+from replay import LIMIT
+from libraries import TOP, other_text_of
 from scaling import SCALING, turns
 
 # A script of the least size is its head, with no long line.

@@ -1,13 +1,12 @@
 """The functions of C for scalar instructions, loads and stores by name, which tools/header writes: in crates/wasmi_c_lib/src those of
 C, each with the equation of the function of its name in the library, and in include/wasmi_instructions.h their prototypes and short names."""
-import pathlib
 import re
 import sys
 import textwrap
 
+from libraries import TOP
 from numbering import names_of
 
-TOP = pathlib.Path(__file__).resolve().parent.parent
 CRATES = TOP / "crates"
 SOURCES = CRATES / "wasmi_c_lib" / "src"
 HEADER = TOP / "include" / "wasmi_instructions.h"

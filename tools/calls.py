@@ -90,7 +90,7 @@ class Call:
         }[type]()
 
     def instruction(self, field, type, at):
-        kind = re.sub(r"(?<=.)([A-Z])", r"_\1", type.removesuffix("Op")).lower()
+        kind = capitals(type.removesuffix("Op")).lower()
         if self.lane is None:
             return Part("op", at, field, [f"IsName {kind}_name (word {at}) {field}"], type, kind)
         return Part("lane_op", at, field, [f"NamesLane {kind}_name {kind}_op (word {at}) (word {self.lane}) {field}"], type, kind)
@@ -186,14 +186,14 @@ def places(its):
 
 def prices(its):
     """What is paid for a write over a range, by how many elements or bytes it writes, the last of what the effect is given."""
-    elements, bytes = [], []
+    of_tables, of_memories = [], []
     for call in its:
         if written := re.match(r"RangeWritten \((\w+)Written .* (\w+)\)$", call.effect):
             paid = f"Some {written[2]}" if "OfSegment" not in call.effect else f"if nat_eq {written[2]} 0 then None else Some {written[2]}"
-            (elements if written[1] == "Table" else bytes).append((call, paid if written[1] == "Table" else f"Some (item_price 1 {written[2]})"))
+            (of_tables if written[1] == "Table" else of_memories).append((call, paid if written[1] == "Table" else f"Some (item_price 1 {written[2]})"))
     comment = "how many elements a call pays for that writes over a range of a table: an initialization by no item pays for none"
-    first = definition(comment, "elements_paid", "Call → Option ℕ", clauses("elements_paid", elements, "None"))
-    lines = clauses("writing_price", bytes, "option_map table.element_price (elements_paid call)")
+    first = definition(comment, "elements_paid", "Call → Option ℕ", clauses("elements_paid", of_tables, "None"))
+    lines = clauses("writing_price", of_memories, "option_map table.element_price (elements_paid call)")
     return first + "\n" + definition("the price of what a call writes over a range, if it has one", "writing_price", "Call → Option (CustomFuelCosts → ℕ)", lines)
 
 
@@ -234,7 +234,7 @@ def operands(its):
     def line(call):
         least = f"({call.count} ≤ count)" if call.list else f"(count ≡ {call.count})"
         return " × ".join([least, *call.conditions()]) if call.parts else "Unit {0}" if call.list else f"count ≡ {call.count}"
-    comment = "so many operands, the k-th of which is the text `word k`, write what the call is given, but for a list at their end"
+    comment = "as many operands, the k-th of which is the text `word k`, write what the call is given, but for a list at their end"
     return definition(comment, "OperandsWrite", "ℕ → (ℕ → List ℕ) → Call → Type 0", clauses("OperandsWrite count word", [(it, line(it)) for it in its]))
 
 
@@ -338,7 +338,7 @@ def listed(entries, indent):
 
 def forms(its):
     entries = [(f'codes "{it.row["word"]}"', form_entry(it)) for it in its if it.has_form()]
-    return definition("the forms of commands whose operands are read at once", "forms", "List (List ℕ × Form)", ["forms ", listed(entries, 4)])
+    return definition("the forms of commands whose operands are read at once", "forms", "List (List ℕ × Form)", ["forms ", listed(entries, 4)], "abbrev ")
 
 
 def form_lemma(its):
@@ -393,15 +393,11 @@ def searched_in(call):
     return [part for part in call.parts if part.kind not in ("number", "low", "text")]
 
 
-def nested(call, said, lookups):
-    """What is said, under what is looked up, the last of which is the innermost."""
-    searched = searched_in(call)
-    if not searched:
-        return f"Some ({said})"
-    for part, lookup in zip(reversed(searched), reversed(lookups)):
-        map = "option_map" if part is searched[-1] else "option_and_then"
-        said = f"{map} (λ {bound(part)}. {said}) ({lookup})"
-    return said
+def nested(said, lookups):
+    """What is said of names, under the look-up of each, the last of which is the innermost."""
+    for k, (name, lookup) in enumerate(reversed(lookups)):
+        said = f"{'option_and_then' if k else 'option_map'} (λ {name}. {said}) ({lookup})"
+    return said if lookups else f"Some ({said})"
 
 
 def named_value(call):
@@ -414,7 +410,7 @@ def named_value(call):
         return "beside drops_named (word 0)"
     words = f"(drop {call.count} words)" if call.count else "words"
     said = meaning(call, value, f"(numbers_in {words})")
-    return nested(call, said, [named_lookup(call, part) for part in searched_in(call)])
+    return nested(said, [(bound(part), named_lookup(call, part)) for part in searched_in(call)])
 
 
 def proofs(call):
@@ -443,10 +439,10 @@ def equal_value(call):
         listed = f"(numbers_is 5 {words} {field} {it}.written i)" if type.startswith("[") else \
             f"(numbers_is {8 if type == 'Vec<u8>' else 32} {words} {field}.items {it} i)"
     said = meaning(call, value, listed)
-    lookups = [equal_lookup(call, part, f"{root}.{at}") for part, (root, at) in zip(call.parts, places) if part.kind not in ("number", "low", "text")]
+    lookups = [(bound(part), equal_lookup(call, part, f"{root}.{at}")) for part, (root, at) in zip(call.parts, places) if part in searched_in(call)]
     if any(part.kind == "text" for part in call.parts):
         return f"ap (beside drops_named) w.1 ∙ (λ i. Some ({said}))"
-    return f"λ i. {nested(call, said, lookups)}" if call.fields else "refl"
+    return f"λ i. {nested(said, lookups)}" if call.fields else "refl"
 
 
 def meanings(its):
@@ -482,8 +478,8 @@ TAKEN = {
 # The functions of call_struct.rt that pass a kind on, from the last: of each the kinds, those first that stand for several calls, by the function of each.
 DECODED = [
     ("value_call", range(18, 29), {23: "unary_call"}, "the call on a global or registers, if the kind is of one and the operands are ones that there are"),
-    ("table_call", range(9, 18), {}, "so one on a table or an element segment"),
-    ("range_call", range(29, 65536), {}, "so one that writes over a range of a memory or drops a data segment"),
+    ("table_call", range(9, 18), {}, "the call on a table or an element segment, else on a global or registers"),
+    ("range_call", range(29, 65536), {}, "the call that writes over a range of a memory or drops a data segment, else one of those above"),
     ("call_of", range(9), {5: "load_call", 6: "store_call", 24: "binary_call"}, "the call that numbers stand for, if there is one"),
 ]
 
@@ -500,12 +496,7 @@ def decoded(call):
     """The call of a struct's members in the specification."""
     its = [(field, *taken(member)[1:]) for (field, _), member in zip(call.fields, call.row["members"].split(), strict=True)]
     said = " ".join([f"call.{call.name}", *(value or field for field, _, value in its)])
-    searched = [(field, lookup) for field, lookup, _ in its if lookup]
-    if not searched:
-        return f"Some ({said})" if its else f"Some {said}"
-    for k, (field, lookup) in enumerate(reversed(searched)):
-        said = f"{'option_and_then' if k else 'option_map'} (λ {field}. {said}) ({lookup})"
-    return said
+    return nested(said, [(field, lookup) for field, lookup, _ in its if lookup]) if its else f"Some {said}"
 
 
 def kinds_of(its, kinds):

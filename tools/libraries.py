@@ -1,4 +1,4 @@
-"""The crates of crates.txt, and the words by which the kit's rattle takes the libraries that `rt ci` or `rt all check` built of them."""
+"""The crates of crates.txt, the words by which the kit's rattle takes the libraries that `rt ci` or `rt all check` built of them, and the documents."""
 import hashlib
 import pathlib
 import shutil
@@ -8,6 +8,8 @@ import time
 TOP = pathlib.Path(__file__).resolve().parent.parent
 KIT = pathlib.Path(shutil.which("rt") or "").resolve().parent.parent
 RATTLE = f"{KIT}/bin/rattle"
+# The documents of the repository, as patterns from its top.
+DOCUMENTS = ("*.md", "docs/*.md", "bench/*.md", "conformance/*.md", "crates/*/*.md", "engine/*.md", "examples/*/*.md", "rust/*.md", "rust/*/*.md")
 
 
 def crates(top=TOP):

@@ -3,12 +3,13 @@ to crates/wasmi_c/src/instruction/numbers.rt; in a shape of one list the number 
 and the statuses in crates/wasmi_c/specs/ReleasedNumbers.antt."""
 import functools
 import itertools
-import pathlib
 import re
 import sys
 import textwrap
 
-CRATES = pathlib.Path(__file__).resolve().parent.parent / "crates"
+from libraries import TOP
+
+CRATES = TOP / "crates"
 CRATES_OF_LISTS = ("wasmi_ops", "wasmi_scalar_ops")
 SOURCE = CRATES / "wasmi_c/src/instruction/numbers.rt"
 SPECIFICATION = CRATES / "wasmi_c/specs/ReleasedNumbers.antt"
@@ -142,4 +143,4 @@ def specification(named, statuses):
         names = antt_list(f'"{name}"' for name in named[shape])
         text += f"\n-- {what}\nabbrev pub {shape}_names : List (List ℕ)\n{shape}_names = map codes (\n{names})\n"
     rows = antt_list(f"({term}, {number})" for term, number in statuses)
-    return f"{text}\n-- each status as the code has it, and its number\nabbrev pub statuses : List (ℕ × ℕ)\nstatuses =\n{rows}\n"
+    return f"{text}\n-- every status as the code has it, and its number\nabbrev pub statuses : List (ℕ × ℕ)\nstatuses =\n{rows}\n"

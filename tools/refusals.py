@@ -1,9 +1,9 @@
 """What docs/MEMORY.md has to name: the calls of a machine that may take memory, by the law on reserved room; the public functions that take an allocator or whose
 result could say that memory was refused; and the functions of the headers of include/ whose comments say so."""
-import pathlib
 import re
 
-TOP = pathlib.Path(__file__).resolve().parent.parent
+from libraries import TOP
+
 DOCUMENT = "docs/MEMORY.md"
 LAW = "crates/wasmi_laws/specs/Reserved.antt"
 # The crates for C, which the headers stand for, and programs, tests and examples.

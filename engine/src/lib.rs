@@ -135,8 +135,8 @@ pub use store::{Caps, Store};
 pub use trace::TraceFrame;
 pub use values::{HostResults, Val, WasmTy, WasmValues};
 
-// The library's types that signatures have, so that they have pages here.
-#[doc(inline)]
+// The library's types that signatures have. Their pages are the library's, where the links of contracts lead somewhere.
+#[doc(no_inline)]
 pub use library::{
     F32, F64, FuncType, FuncTypeError, GlobalType, HostError, IndexType, MemoryError, MemoryType, MemoryTypeBuilder,
     Mutability, RawRef, RawVal, RefType, TableType, Trap, TrapCode, TypedRawVal, V128, ValType,

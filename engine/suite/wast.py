@@ -5,7 +5,6 @@ import struct
 TOKEN = re.compile(
     r"(?P<space>\s+)|(?P<line>;;[^\n]*)|(?P<block>\(;)|(?P<open>\()|(?P<close>\))"
     r'|(?P<text>"(?:[^"\\]|\\.)*")|(?P<atom>[^\s()";]+)', re.S)
-INTEGERS = {"i8": 8, "i16": 16, "i32": 32, "i64": 64}
 SHAPES = {"i8x16": (8, 16), "i16x8": (16, 8), "i32x4": (32, 4), "i64x2": (64, 2)}
 ESCAPES = {"n": 10, "t": 9, "r": 13, '"': 34, "'": 39, "\\": 92}
 

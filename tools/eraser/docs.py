@@ -23,7 +23,6 @@ EXPORTED = re.compile(r"^instructions!\((\w+) (\w+)\);", re.M)
 INSTRUCTION = re.compile(r"^    #\[(?:must_use|inline.*)\]\n(?:    #\[.*\]\n)*    pub fn (\w+)\(([^)]*)\) -> (.*) \{$", re.M)
 
 
-
 class Links:
     """The links of a file: what its imports bring in leads to a place on a page."""
 

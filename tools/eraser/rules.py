@@ -67,7 +67,8 @@ class File(Source):
         super().__init__(text)
         self.crate, self.known, self.models = crate, known, {}
         self.is_program, self.is_test = crate in known.examples, crate in known.tests + known.examples
-        self.links = known.specs.links(self.all_of("u")) if not self.is_test else None
+        # The package for C has no pages of definitions, to which a link could lead.
+        self.links = known.specs.links([] if crate in known.of_c else self.all_of("u")) if not self.is_test else None
         of_proofs = [it.split("{", 1)[1] for it in self.all_of("u") if re.search(r"[pP]roofs.*\{", it, re.S)]
         self.proofs = set(re.findall(r"[\w']+", " ".join(of_proofs)))
 

@@ -1,10 +1,5 @@
 -- Reading what was written.
-use Rattle.std.proofs.Common.{◌≡◌, ℕ, zero, suc, ◌+◌, ◌*◌, ◌%◌, ◌^◌, ◌≤◌, Bool, true, false, List, length, take, drop, ◌++◌, Some, None, refl, ap, sym, ◌∙◌, arith, append_assoc, div-one, length-append}
-use Rattle.std.proofs.Math.Nat.{pow-suc}
-use Rattle.std.specs.Prelude.{nat_le, nat_lt, if◌then◌else◌, Option, Ok}
-use Rattle.std.proofs.lemmas.List.{length-take-le}
-use Rattle.std.proofs.lemmas.Nat.{pow-add}
-use Rattle.std.proofs.lemmas.Bool.{leb-true}
+use Rattle.std.proofs.Common.{◌≡◌, ℕ, zero, suc, ◌+◌, ◌*◌, ◌%◌, ◌^◌, ◌≤◌, Bool, true, false, List, length, take, drop, ◌++◌, Some, None, refl, ap, sym, ◌∙◌, arith, append_assoc, div-one, length-append, pow-suc, nat_le, nat_lt, if◌then◌else◌, Option, Ok, length-take-le, pow-add, leb-true}
 use Rattle.std.proofs.lemmas.Grind.{common_steps}
 use Rattle.std.proofs.lemmas.Option.{cond_some}
 use Rattle.std.proofs.Math.Seq.{drop-append_seam, take-append_seam}

@@ -1,6 +1,5 @@
 -- The low bits of a signed number, and the number of a list of bytes.
-use Rattle.std.proofs.Common.{◌≡◌, ℕ, ◌+◌, ◌-◌, ◌*◌, ◌/◌, ◌%◌, ◌^◌, ◌<◌, ◌≤◌, ◌∙◌, suc, sym, refl, ap, arith, add-mul, mod-eq_of_lt, zero, List, [], ◌∷◌, ◌++◌, length, take, get_or, subst, div-one, lit<, mul_comm, mul_assoc}
-use Rattle.std.specs.Prelude.{ℤ, pos, negsuc}
+use Rattle.std.proofs.Common.{◌≡◌, ℕ, ◌+◌, ◌-◌, ◌*◌, ◌/◌, ◌%◌, ◌^◌, ◌<◌, ◌≤◌, ◌∙◌, suc, sym, refl, ap, arith, add-mul, mod-eq_of_lt, zero, List, [], ◌∷◌, ◌++◌, length, take, get_or, subst, div-one, lit<, mul_comm, mul_assoc, ℤ, pos, negsuc, length-take-le, take_all, take-suc}
 use Rattle.std.specs.Int.{Width, w8, w16, w32, w64, w128, cast_signed, cast_unsigned, int_wrap, bytes_low_first, byte_at, byte_worth, sum_through, from_le_bytes, to_le_bytes, byte_len}
 use Rattle.wasmi_types.specs.Numbers.{wrap, number_of, le_bytes}
 use Rattle.wasmi_types.proofs.NumbersLemmas.{half_below, wrap_below, wrap_unsigned, wrap_signed, wrap_of_bits}
@@ -9,8 +8,6 @@ use Rattle.std.proofs.lemmas.Nat.{mod_below, div-add-mod', div_below, mod-mul-ad
 use mir.Val.{SFits, bits, Fits}
 use Rattle.std.proofs.Math.Nat.{div-div-eq-div-mul, pow-suc, mod-one}
 use Rattle.std.proofs.Math.Facts.{sfits_to_z}
-use Rattle.std.proofs.lemmas.List.{length-take-le, take_all}
-use Rattle.std.proofs.Math.Seq.{take-suc}
 use lib.Arith.{mod-mul}
 
 -- -(n + 1) modulo m, read off the complement of n in a multiple of m

@@ -15,13 +15,13 @@ use Rattle.wasmi_meter.specs.Limiter.{Question, Answer, AskedIf, NoticedIf, opti
 use Rattle.wasmi_machine.specs.declared.calls.Call.{Call}
 use Rattle.wasmi_machine.specs.declared.calls.Reply.{Reply}
 use Rattle.wasmi_machine.specs.State.{State}
-use Rattle.wasmi_machine.proofs.HoldingLemmas.{if_there}
+use Rattle.wasmi_machine.proofs.HoldingLemmas.{Carries, if_there}
 use Rattle.wasmi_budget.specs.declared.tenant.Tenant.{Tenant}
 use Rattle.wasmi_budget.specs.Pool.{capped_tenant, tenant_rules, without_others, PoolValue, machine_of, tenant_at, RunsTenantBy, RunsTenant}
 use Rattle.wasmi_budget.proofs.PoolLemmas.{BecomesAlike, elements_reserved, slots_reserved, tenant_inside}
 use Rattle.wasmi_budget.specs.Laws.{PoolTurn, Added, Ran, Removed, Refused, Reserved, ReservedElements, PoolRun, PoolStep, PermittingRun, own_turns, OthersDontShow, RunsAsAlone, RepliesPermit}
 use Rattle.wasmi_machine.specs.Determinism.{permitting, TellsNoDenial}
-use Rattle.wasmi_machine.proofs.RevealingLemmas.{Carries, permitted_run, run_carried}
+use Rattle.wasmi_machine.proofs.RevealingLemmas.{permitted_run, run_carried}
 
 -- an answer isn't both yes and no
 no_permission : {answer : Answer} {taken : Bool} → answer ≡ Ok true → answer ≡ Ok taken → taken ≡ false → ⊥
@@ -78,8 +78,7 @@ alone_carries = record {
 -- a run in which each question is permitted is one where the others hold nothing
 pub others_do_not_show : OthersDontShow
 others_do_not_show s s' tenant tenant' turns ran =
-    (run_carried (λ l. Unit {0}) (option_map without_others) (permitting (optional_rules tenant_rules))
-    (optional_rules tenant_rules) alone_carries _ turns _ tt ran).1
+    (run_carried alone_carries _ turns _ tt ran).1
 
 -- a machine is at its index after another one was added
 pub kept_added : (machines : List (Option State)) (index : ℕ) (s : State) (added : Option State)

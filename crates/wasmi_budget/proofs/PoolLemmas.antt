@@ -89,7 +89,7 @@ amount_held_total : (tenant : Tenant) (s : State) → HoldsTotals (holdings tena
 amount_held_total tenant s held Bytes = held.bytes
 amount_held_total tenant s held Elements = held.elements
 
--- so its amounts are those
+-- the amounts of a tenant that holds what a machine has are that machine's totals
 pub held_total : (tenant : Tenant) (s : State) → HoldsTotals (holdings tenant) s
     → (holdings tenant).held ≡ amounts_of (total s)
 held_total tenant s held = amounts_are tenant.holdings.held (total s) (amount_held_total tenant s held)
@@ -169,7 +169,7 @@ module _ (pool : PoolValue) (all : Amounts) (kept : IsKept pool all) (index : �
     (found : machine_of pool index ≡ Some s) (calls : List Call) (replies : List Reply) (s' : State) (tenant' : Tenant)
     (ran : IsRunOf (optional_rules tenant_rules) calls (world s (Some (tenant_at pool index s))) replies
     (world s' (Some tenant'))) where
-  -- it is an accepted run
+  -- the run is an accepted one
   own_runs : RunsTenant pool index calls replies (record pool { machines = slice_set pool.machines index (Some s') })
   own_runs = record { machine = s; found = found; machine' = s'; tenant' = tenant'; ran = ran; after = refl }
 
@@ -191,7 +191,7 @@ module _ (pool : PoolValue) (all : Amounts) (kept : IsKept pool all) (index : �
     (found : machine_of pool index ≡ Some s) (calls : List Call) (replies : List Reply) (s' : State) (all' : Amounts)
     (part : RunsAsPart pool.caps all s calls replies s' all') (machines' : List (Option State))
     (after : machines' ≡ slice_set pool.machines index (Some s')) where
-  -- it has run under its own tenant
+  -- the machine has run under its own tenant
   part_ran : IsRunOf (optional_rules tenant_rules) calls (world s (Some (tenant_at pool index s))) replies
       (world s' (Some part.tenant'))
   part_ran = subst
@@ -199,7 +199,7 @@ module _ (pool : PoolValue) (all : Amounts) (kept : IsKept pool all) (index : �
       (world s' (Some part.tenant')))
       (tenant_is_own pool all kept index s found) part.ran
 
-  -- it is an accepted run
+  -- the run is an accepted one
   pub part_runs : RunsTenant pool index calls replies (record pool { machines = machines' })
   part_runs = subst (λ machines. RunsTenant pool index calls replies (record pool { machines = machines })) (sym after)
       (own_runs pool all kept index s found calls replies s' part.tenant' part_ran)
@@ -262,7 +262,7 @@ module _ (caps all held : Amounts) (s now : State) (view : s ≡ now) (is : held
     part_together Bytes = let less = part_held Bytes in rw tenant_is (omega (arith, less))
     part_together Elements = let less = part_held Elements in rw tenant_is (omega (arith, less))
 
-    -- so the tenant is within the caps
+    -- the tenant is within the caps
     part_within : IsWithin capped_tenant tenant
     part_within kind =
         let together = part_together kind in
@@ -273,7 +273,7 @@ module _ (caps all held : Amounts) (s now : State) (view : s ≡ now) (is : held
     module _ (calls : List Call) (replies : List Reply) (s' : State) (tenant' : Tenant)
         (ran : IsRunOf (optional_rules tenant_rules) calls (world s (Some tenant)) replies (world s' (Some tenant')))
       where
-        -- and stays there
+        -- the tenant stays within the caps
         part_stays : IsLater capped_tenant tenant tenant'
         part_stays = run_is_later capped_tenant tenant_keeps tenant part_within s ran.0 (world s' (Some tenant')) ran.3
 
@@ -299,7 +299,7 @@ module _ (caps all held : Amounts) (s now : State) (view : s ≡ now) (is : held
         all_before = amounts_are all (held_before tenant' held) part_before
 
         module _ (holds : HoldsTotals (holdings tenant') s') where
-          -- it has run as a part, where all hold then what the tenant and the others do
+          -- the machine has run as a part, where all hold then what the tenant and the others do
           pub runs_as_part : (all' : Amounts) → all' ≡ amounts_of (held_together capped_tenant tenant')
               → RunsAsPart caps all now calls replies s' all'
           runs_as_part all' together =
@@ -335,7 +335,7 @@ total_unasked s s' call reply unasked kind =
     (unasked tenant) in
     sym (amount_held_total tenant s' held kind) ∙ amount_of-amounts_of (total s) kind
 
--- so amounts that were those of the machine are so then
+-- amounts that were those of the machine are so after a reply without its tenant
 pub counted_unasked : (s s' : State) (call : Call) (reply : Reply) (held : Amounts) → RepliesUnasked call s reply s'
     → held ≡ amounts_of (total s) → held ≡ amounts_of (total s')
 counted_unasked s s' call reply held unasked is =
@@ -384,7 +384,7 @@ module _ (pool : PoolValue) (all : Amounts) (kept : IsKept pool all) (index : �
       (world ran.machine' (Some own_tenant))
   own_ran = run_of_one (optional_rules tenant_rules) call _ reply _ (ran.becomes own_tenant)
 
-  -- it is an accepted run
+  -- the run is an accepted one
   pub unasked_runs : RunsTenant pool index (call ∷ []) (reply ∷ []) (record pool { machines = machines' })
   unasked_runs =
       subst (λ machines. RunsTenant pool index (call ∷ []) (reply ∷ []) (record pool { machines = machines }))
@@ -424,7 +424,7 @@ pushed_total machines s empty Bytes =
 pushed_total machines s empty Elements =
     omega (arith, empty.elements, sum_by_push (λ t. total_at t Elements) machines (Some s))
 
--- so a new tenant keeps it there too
+-- a new tenant keeps the pool within its caps
 pub adds_within : (pool : PoolValue) (s : State) (pool' : PoolValue) → IsWithinCaps pool → AddsTenant pool s pool'
     → IsWithinCaps pool'
 adds_within pool s pool' within adds kind = rw adds.added
@@ -523,13 +523,13 @@ elements_alike s table elements reply s' (tables, rest) Elements =
     ap sum (changes_kept _ table s.tables reply s'.tables _
     (λ x x' changed. ⊎_elim (λ done. rw done.1 refl) (λ refused. rw refused.2 refl) changed) tables)
 
--- so amounts that were those of the machine are so then
+-- amounts that were those of the machine are so where elements of a table are reserved
 pub counted_reserved : (s : State) (table elements : ℕ) (reply : Reply) (s' : State) (held : Amounts)
     → ReservesElements s table elements reply s' → held ≡ amounts_of (total s) → held ≡ amounts_of (total s')
 counted_reserved s table elements reply s' held reserves is =
     is ∙ amounts_same (total s) (total s') (λ kind. sym (elements_alike s table elements reply s' reserves kind))
 
--- so the machine of the index has become such a one
+-- a machine with elements of a table reserved has what it had: the machine of the index has become such a one
 abbrev pub elements_reserved : (pool : PoolValue) (index table elements : ℕ) (reply : Reply) (pool' : PoolValue)
     → ReservesElementsForTenant pool index table elements reply pool' → BecomesAlike pool index pool'
 elements_reserved pool index table elements reply pool' reserves = record {
@@ -550,7 +550,7 @@ module _ (pool : PoolValue) (index : ℕ) (pool' : PoolValue) (becomes : Becomes
       let all = ap (λ (p : PoolValue). total_of p.machines kind) becomes.after in
       omega (arith, set, split, own, all)
 
-  -- so the pool is within its caps
+  -- the pool is within its caps
   alike_within : IsWithinCaps pool → IsWithinCaps pool'
   alike_within within kind =
       let all = total_alike kind in
@@ -605,7 +605,7 @@ pub record IsVacant (pool : PoolValue) (index : ℕ) : Type 0 where
   pub vacant : machine_of pool index ≡ None
 
 module _ (pool : PoolValue) (index : ℕ) (vacant : IsVacant pool index) where
-  -- it stays so where other machines lie behind those that are there
+  -- a vacant index stays so where other machines lie behind those that are there
   vacant_added : (t : Option State) (pool' : PoolValue) → pool' ≡ record pool { machines = pool.machines ++ t ∷ [] }
       → IsVacant pool' index
   vacant_added t pool' is = rw is (record {
@@ -627,7 +627,7 @@ module _ (pool : PoolValue) (index : ℕ) (vacant : IsVacant pool index) where
   vacant_alike i pool' becomes =
       vacant_set i becomes.machine (Some becomes.machine') pool' becomes.found becomes.after
 
-  -- so after one call
+  -- a vacant index stays so after one call
   pub vacant_stays : (turn : PoolTurn) (pool' : PoolValue) → PoolStep pool turn pool' → IsVacant pool' index
   vacant_stays (Added s) pool' adds = vacant_added (Some s) pool' adds.added
   vacant_stays (Ran i calls replies) pool' runs =
@@ -657,7 +657,7 @@ removal_vacates pool index s pool' removes = rw removes.removed (record {
     inside : index < length pool.machines
     inside = tenant_inside pool.machines index s removes.found
 
--- so no tenant has it
+-- no tenant has the index of a removed one later
 pub removed_stay_removed : RemovedStayRemoved
 removed_stay_removed pool index s pool' removes turns later ran =
     (vacant_for_ever pool' index (removal_vacates pool index s pool' removes) turns later ran).vacant

@@ -7,7 +7,7 @@ abbrev pub IsPlace : List ℕ → ℕ → Option ℕ → Type 0
 IsPlace indices index (Some place) = (place < length indices) × (slice_index_or indices place 0 ≡ index)
 IsPlace indices index None = (k : ℕ) → k < length indices → slice_index_or indices k 0 ≢ index
 
--- each index is below those after it
+-- every index is below those after it
 abbrev pub Rises : List ℕ → Type 0
 Rises indices = AllPairs (λ i j. i < j) indices
 
@@ -17,7 +17,7 @@ module _ {X : Type 0} where
   value_of (i ∷ indices) (x ∷ values) index = if nat_eq i index then Some x else value_of indices values index
   value_of indices values index = None
 
-  -- each index up to this one has something
+  -- every index up to this one has something
   abbrev pub HasAllUpTo : List (Option X) → ℕ → Type 0
   HasAllUpTo values index = (k : ℕ) → k ≤ index → is_some (slice_index_or values k None) ≡ true
 
@@ -25,7 +25,7 @@ module _ {X : Type 0} where
   abbrev pub by_index : ℕ → List ℕ → List X → List (Option X)
   by_index next indices values = map (value_of indices values) (range_with_len 0 next)
 
-  -- each of the indices has a value, and they rise below the next one
+  -- every index has a value, and the indices rise below the next one
   pub record IsListed (next : ℕ) (indices : List ℕ) (values : List X) : Type 0 where
     pub same : length values ≡ length indices
     pub rises : Rises indices

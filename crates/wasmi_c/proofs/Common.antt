@@ -12,7 +12,7 @@ pub use Rattle.std_alloc.proofs.SendSync.{lies, quiet}
 pub use Rattle.wasmi_budget.specs.Pool.{PoolValue, RunsTenant, machine_of, tenant_at, tenant_rules}
 pub use Rattle.wasmi_machine.specs.State.{State, with_memories, with_reserved, HoldsTotals, total, Turn, byte_count, slot_count, world, with_tables, World, live_at}
 pub use Rattle.wasmi_machine.specs.declared.calls.Call.TheVariants.{Write, SetFuel, GrowMemory, Binary, GetFuel, Load, Store}
-pub use Rattle.wasmi_meter.specs.Capped.{holdings, quota_rules, IsWithinCaps, SameCaps, Asked, HoldsTheSame, Releases, amount_held, with_less, with_more, without_last, capped_quota}
+pub use Rattle.wasmi_meter.specs.Capped.{holdings, quota_rules, IsWithinCaps, SameCaps, Asked, HoldsTheSame, Releases, amount_held, with_less, with_more, capped_quota}
 pub use Rattle.wasmi_meter.specs.Limiter.{optional_rules, Rules, Question, Answer, Failure, NoticeAnswer, AskedIf, NoticedIf, kind_of}
 pub use Rattle.wasmi_meter.specs.Meter.{Meter, meter_after, meter_set}
 pub use Rattle.wasmi_meter.specs.declared.quota.Quota.{Quota}
@@ -52,7 +52,7 @@ pub use types.Part.{whole, sub, agg, look_in}
 pub use types.Run.{stop, fld, load, no_more, and_then, of_opd, addr, first, blocks, exec, returns, enter, lit}
 pub use Rattle.wasmi_c.specs.HeldBox.{box_or_none_owns, global_token, machine_row, pool_row}
 pub use Rattle.wasmi_c.specs.Instruction.{Leaves, zip3, lanes_of, extracted_value, replaced_value, ternary_value, unary_value}
-unfoldable pub use Rattle.wasmi_c.specs.Instruction.{each_of, each_of_two, each_of_three, binary_outcome, op_numbered}
+unfoldable pub use Rattle.wasmi_c.specs.Instruction.{each_of, each_of_two, each_of_three, binary_outcome}
 pub use Rattle.wasmi_c.specs.Machine.Calls.{CallsAreRuns, InTurn, ListsAreRuns, MachineReplies, QuotasAreKept, RepliesInStruct, world_of, PaysFuelIn, word_after, RepliesToStruct, vector_binary, item_load, item_store}
 unfoldable pub use Rattle.wasmi_c.specs.Machine.Calls.{RepliesInTurn}
 pub use Rattle.wasmi_c.specs.MemoryCalls.{WritesBytesAs, of_memory, by_pages, ended_memory}

@@ -160,7 +160,7 @@ pub kept_by_reserve : (s : State) (l : AnyLimiter) (more : SlotCounts) (s' : Sta
     → Keeps s l → Keeps s' l
 kept_by_reserve s l more s' reserved = kept_by_totals s l s' (λ kind. ap (λ state. total state kind) reserved)
 
--- nor do elements that are reserved
+-- elements that are reserved count nowhere
 pub kept_by_elements : (s : State) (l : AnyLimiter) (table elements : ℕ) (reply : Reply) (s' : State)
     → ReservesElementsAt table elements s.tables reply s'.tables → s' ≡ with_tables s s'.tables → Keeps s l → Keeps s' l
 kept_by_elements s l table elements reply s' tables rest =
@@ -195,7 +195,7 @@ module _ {V : Type 0} (Replies : CallStruct → V → ReplyStruct → V → Type
   in_turn_push (c ∷ calls) v (r ∷ replies) w ran call reply x step =
       (ran.0, ran.1, in_turn_push calls ran.0 replies w ran.2 call reply x step)
 
-  -- so the next of a list is, with its reply at the place of its number
+  -- the next call of a list is replied to after those before, with its reply at the place of its number
   pub next_in_turn : (calls : List CallStruct) (i : ℕ) (none : CallStruct) (v : V) (replies : List ReplyStruct)
       (reply : ReplyStruct) (w x : V) → InTurn Replies (take i calls) v (take i replies) w → i < length calls
       → length replies ≡ length calls → Replies (get_or calls i none) w reply x
@@ -204,7 +204,7 @@ module _ {V : Type 0} (Replies : CallStruct → V → ReplyStruct → V → Type
       rw (take_more calls i none inside, take_more_set replies i reply (omega (arith, inside, places)))
       (in_turn_push (take i calls) v (take i replies) w ran (get_or calls i none) reply x step)
 
-  -- once it is past the last call, all are
+  -- all calls are replied to once the place is past the last one
   pub all_in_turn : (calls : List CallStruct) (i : ℕ) (v : V) (replies : List ReplyStruct) (w : V)
       → InTurn Replies (take i calls) v (take i replies) w → length calls ≤ i → length replies ≡ length calls
       → InTurn Replies calls v replies w

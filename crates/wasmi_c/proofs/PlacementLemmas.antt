@@ -1,10 +1,13 @@
 -- Growths of and writes to what lies with C: what they take of its meter, and under which limiter they are.
 use Rattle.std.proofs.Common.{◌≡◌, Bool, true, false, ℕ, ◌-◌, Option, Some, None, Result, refl, ap, inl, inr, Ok, List, take, drop, length, ◌++◌, ◌∙◌}
-use Rattle.wasmi_c.proofs.Common.{take_at, drop_at, nat_eq, if◌then◌else◌, option_map, unwrap_or, Rules, Question, Answer, Failure, NoticeAnswer, optional_rules, AskedIf, NoticedIf, Meter, meter_after, meter_of, with_left, KeepsMeter, MeteredRegion, SameRest, limiter_of, quota_numbers_rules, Embedded, embedded, WritesBytesAs, of_memory, WritesTableAs, of_table, TableTypeValue, TableValue, TableWrite, WritesTable, table_of, Quota, quota_rules}
+use Rattle.wasmi_c.proofs.Common.{take_at, drop_at, nat_eq, if◌then◌else◌, option_map, unwrap_or, Rules, Question, Answer, Failure, NoticeAnswer, optional_rules, AskedIf, NoticedIf, Meter, meter_after, meter_of, with_left, KeepsMeter, MeteredRegion, SameRest, limiter_of, quota_numbers_rules, Embedded, embedded, WritesBytesAs, of_memory, WritesTableAs, of_table, TableTypeValue, TableValue, TableWrite, WritesTable, table_of, Quota, quota_rules, Placed, Lent, MemoryTypeValue, creation_of, new_memory}
 use Rattle.std.specs.Prelude.{OnErr}
 use Rattle.wasmi_store.specs.Growth.{Growth, Grows, Makes, metered_value, metered}
+use Rattle.wasmi_store.specs.Memory.{IsValid, MakesMemory, named_type}
 use Rattle.wasmi_store.specs.Write.{BulkWrites, item_price}
+use Rattle.wasmi_region.specs.Memory.{made_in}
 use Rattle.wasmi_meter.specs.declared.error.MemoryError.TheVariants.{OutOfBoundsAccess, OutOfFuel}
+use Rattle.wasmi_store.proofs.GrowthLemmas.{grows_too}
 use Rattle.wasmi_store.proofs.WriteLemmas.{items_taken, write_takes}
 use Rattle.wasmi_c.specs.declared.numbers.MeterNumbers.{MeterNumbers}
 use Rattle.wasmi_c.specs.declared.numbers.Range.{Range}
@@ -12,8 +15,11 @@ use Rattle.wasmi_meter.specs.declared.error.MemoryError.{MemoryError}
 use Rattle.wasmi_meter.proofs.AttemptLemmas.{meter_after_nothing}
 use Rattle.wasmi_meter.specs.Attempt.{MeteredValue, Attempt, Request, AttemptOutcome, Unasked, Denied, Met, Failed, Follows, answer_of}
 use Rattle.wasmi_meter.specs.declared.error.TableError.{TableError}
-use Rattle.wasmi_c.specs.Placement.{status_of, grown_number, written_number, Placement, GrowsAs, WritesAs, Limited, limiter_after, Allows, SettlesGrowth, SettlesCreation}
+use Rattle.wasmi_c.specs.Placement.{status_of, grown_number, written_number, Placement, GrowsAs, LeavesAs, WritesAs, Limited, limiter_after, Allows, SettlesGrowth, SettlesCreation}
+use Rattle.wasmi_c.specs.declared.numbers.MemoryNumbers.{MemoryNumbers}
 use Rattle.wasmi_c.specs.declared.numbers.QuotaNumbers.{QuotaNumbers}
+use Rattle.wasmi_c.specs.MemoryCalls.{MakesEmbedded}
+use Rattle.wasmi_c.specs.Numbers.{settings_of}
 use Rattle.wasmi_c.specs.Host.{fresh, host_rules}
 use Rattle.wasmi_c.specs.declared.host.HostAnswers.{HostAnswers}
 
@@ -110,7 +116,7 @@ asks (Some h) question answer None asked = absurd asked
 asks None question answer (Some h') asked = absurd asked
 asks None question answer None asked = asked
 
--- and what they answer to a notice
+-- what numbers that are lent answer to a notice, their quota answers
 notices : (l : Option QuotaNumbers) (failure : Failure) (answer : NoticeAnswer) (l' : Option QuotaNumbers)
     → lent_rules.noticed l failure answer l'
     → (optional_rules quota_rules).noticed (seen l) failure answer (seen l')
@@ -119,7 +125,7 @@ notices (Some h) failure answer None noticed = absurd noticed
 notices None failure answer (Some h') noticed = absurd noticed
 notices None failure answer None noticed = noticed
 
--- so their quota sees each end of an attempt
+-- the quota of numbers that are lent sees every end of an attempt that they see
 follows : {V E : Type 0} (e : Request V E) (l l' : Option QuotaNumbers) (outcome : AttemptOutcome E)
     → Follows e lent_rules l outcome l' → Follows e (optional_rules quota_rules) (seen l) outcome (seen l')
 follows e l l' (Unasked cause) same = ap seen same
@@ -143,18 +149,9 @@ growth_by : {V E S R : Type 0} {rules : Rules S} {rules' : Rules R} (g : Growth 
     → Follows g.request rules' r outcome r')
     → Grows rules g s result charge s'
     → Grows rules' g (metered_value s.value s.meter r) result charge (metered_value s'.value s'.meter r')
-growth_by g r r' stays follows (inl none) = inl (record {
-  none = none.none;
-  answered = none.answered;
-  uncharged = none.uncharged;
-  same = rw (none.same, stays (ap (λ s. s.limiter) none.same)) refl;
-})
-growth_by g r r' stays follows (inr some) = inr (record {
-  some = some.some;
-  outcome = some.outcome;
-  attempt = attempt_by r r' some.attempt (follows some.outcome some.attempt.follows);
-  answered = some.answered;
-})
+growth_by g r r' stays follows = grows_too g g.request
+    (λ same. rw (same, stays (ap (λ s. s.limiter) same)) refl)
+    (λ outcome answered a. (answered, attempt_by r r' a (follows outcome a.follows)))
 
 -- a creation under the numbers of a quota, which may be off, is one under the quota
 pub made_by_quota : {T E : Type 0} (e : Request (Unit {0}) E) (made : T) {result : Result T E} (q q' : QuotaNumbers)
@@ -163,6 +160,24 @@ pub made_by_quota : {T E : Type 0} (e : Request (Unit {0}) E) (made : T) {result
 made_by_quota e made q q' makes =
     let seen_so = follows e (Some q) (Some q') makes.0 makes.1.follows in
     (makes.0, attempt_by (limiter_of q) (limiter_of q') makes.1 seen_so, makes.2)
+
+-- a creation of a memory under the numbers of a quota, which may be off, is one by a call
+pub makes_memory : (a a' : Placed MemoryNumbers) (ty : MemoryTypeValue) (q q' : QuotaNumbers) {status : ℕ}
+    → (named_type (settings_of a.numbers) ≡ Some ty) × IsValid ty → (result : Result ℕ MemoryError)
+    → MakesMemory (optional_rules quota_numbers_rules) (Lent a.region) ty (Some q) (made_in ty a'.region result) (Some q')
+    → status ≡ status_of of_memory result → LeavesAs of_memory ty a result a'
+    → MakesEmbedded a (limiter_of q) status a' (limiter_of q')
+makes_memory a a' ty q q' named result makes is left = inr (
+  ty,
+  named.0,
+  named.1,
+  record {
+    result = result;
+    makes = made_by_quota (creation_of (Lent a.region) ty) (new_memory (Lent a.region) ty) q q' makes;
+    status_is = is;
+    left = left;
+  },
+)
 
 -- what is made is what was to be made
 pub made_is : {T E : Type 0} (e : Request (Unit {0}) E) (made x : T) (outcome : AttemptOutcome E)
@@ -270,7 +285,7 @@ module _ {V E S : Type 0} (rules : Rules S) (e : Request V E) (a a' : HostAnswer
         rw (state, tells.0, ← noticed) (allows.tells was_told cause),
       )
 
-  -- so is each end of an attempt
+  -- every end of an attempt is one by the rules
   by_outcome : (outcome : AttemptOutcome E)
       → Follows e (optional_rules host_rules) (Some (fresh a)) outcome (Some a')
       → Follows e rules l.before outcome (limiter_after a' l)
@@ -279,14 +294,14 @@ module _ {V E S : Type 0} (rules : Rules S) (e : Request V E) (a a' : HostAnswer
   by_outcome Met asks = by_answer (Ok true) asks
   by_outcome (Failed cause notice_answer) fails = by_failure cause notice_answer fails.0 fails.1 fails.2
 
--- so is a growth
+-- a growth by the host's answers is one by the rules that allow them
 pub settled_growth : {V E S : Type 0} (rules : Rules S) (g : Growth V E) (x : V)
     → SettlesGrowth rules g x
 settled_growth rules g x x' m m' a a' l result charge grows allows =
     growth_by g l.before (limiter_after a' l) (λ same. untouched a a' l (let e : a' ≡ fresh a = cc in e))
     (by_outcome rules g.request a a' l allows) grows
 
--- and a creation
+-- a creation by the host's answers is one by the rules that allow them
 pub settled_creation : {T E S : Type 0} (rules : Rules S) (e : Request (Unit {0}) E) (made : T)
     → SettlesCreation rules e made
 settled_creation rules e made a a' l result makes allows = (

@@ -1,6 +1,6 @@
 -- What one quota holds, as memories and tables are made and grow under it.
 use Rattle.std.proofs.Common.{◌≡◌, ◌∙◌, ℕ, ◌+◌, ◌-◌, ◌*◌, ◌≤◌, true, false, Option, Some, None, Result, Ok, Err, List, [], ◌∷◌, ◌++◌, length, take, replicate, sum, refl, ap, sym, subst, inl, inr, arith, length-append}
-use Rattle.wasmi_c.proofs.Common.{nat_eq, length-replicate, length-take-le, Quota, Asked, HoldsTheSame, Releases, amount_held, with_less, with_more, without_last, IsWithinCaps, holdings, capped_quota, quota_rules, Answer, kind_of, optional_rules, Meter, Lent, creation_of, new_memory, MemoryTypeValue, minimum_bytes, page_bytes, new_table, size_of, TableTypeValue, creation_in, Embedded, KeepsQuota, Placed, limiter_of, quota_of, table_type_of, by_pages, ended_memory, of_memory, by_elements, ended_table, of_table, DONE, byte_count}
+use Rattle.wasmi_c.proofs.Common.{nat_eq, length-replicate, length-take-le, Quota, Asked, HoldsTheSame, Releases, amount_held, with_less, with_more, IsWithinCaps, holdings, capped_quota, quota_rules, Answer, kind_of, optional_rules, Meter, Lent, creation_of, new_memory, MemoryTypeValue, minimum_bytes, page_bytes, new_table, size_of, TableTypeValue, creation_in, Embedded, KeepsQuota, Placed, limiter_of, quota_of, table_type_of, by_pages, ended_memory, of_memory, by_elements, ended_table, of_table, DONE, byte_count}
 use Rattle.std.specs.Prelude.{slice_get}
 use Rattle.std.proofs.lemmas.List.Elements.{All-cons, All-nil}
 use Rattle.std.proofs.lemmas.Bool.{cases_lt}
@@ -14,24 +14,20 @@ use Rattle.wasmi_meter.specs.declared.limiter.Kind.TheVariants.{Bytes, Elements}
 use Rattle.wasmi_meter.specs.declared.quota.Holdings.{Holdings}
 use Rattle.wasmi_meter.specs.Attempt.{Request, AttemptOutcome, Unasked, Denied, Met, Failed, MayEnd, Follows, answer_of, value_after}
 use Rattle.wasmi_meter.specs.CappedProofs.{asked_reserves}
-use Rattle.wasmi_meter.proofs.CappedLemmas.{asked_is_within, noticed_is_within, quota_keeps, released_within}
+use Rattle.wasmi_meter.proofs.CappedLemmas.{denial_keeps, given_back, asked_is_within, noticed_is_within, quota_keeps, released_within}
 use Rattle.wasmi_store.specs.Growth.{Growth, Grows, Makes, metered_value}
 use Rattle.wasmi_region.specs.Memory as memory
 use Rattle.wasmi_region.specs.Table as table
+use Rattle.wasmi_c.specs.MemoryCalls.{MakesEmbedded}
 use Rattle.wasmi_c.specs.Placement.{EndsBy, GrowsBy, LeavesAs, Placement, status_of}
-use Rattle.wasmi_c.specs.SharedQuota.{UnderQuota, HoldsSums, MakesMemoryUnder, GrowsMemoryUnder, MakesTableUnder, GrowsTableUnder, EndsMemoryUnder, EndsTableUnder, CallsUnder, OneQuotaHoldsAll, OneQuotaHoldsEach, sizes_made}
+use Rattle.wasmi_c.specs.SharedQuota.{UnderQuota, HoldsSums, MakesUnder, GrowsUnder, EndsUnder, CallsUnder, OneQuotaHoldsAll, OneQuotaHoldsEach, other, sizes_made, sizes_of}
 use Rattle.wasmi_c.specs.Status.{memory_status, table_status}
+use Rattle.wasmi_c.specs.TableCalls.{MakesTableEmbedded}
 use Rattle.wasmi_c.specs.declared.numbers.MemoryNumbers.{MemoryNumbers}
 use Rattle.wasmi_c.specs.declared.numbers.QuotaNumbers.{QuotaNumbers}
 use Rattle.wasmi_c.specs.declared.numbers.TableNumbers.{TableNumbers}
-use Rattle.wasmi_machine.proofs.HoldingLemmas.{denial_keeps}
 use Rattle.wasmi_machine.proofs.TotalLemmas.{sum_set, sum_push}
 use Rattle.wasmi_machine.proofs.EffectLemmas.{on_live}
-
--- the kind that isn't this one
-abbrev other : Kind → Kind
-other Bytes = Elements
-other Elements = Bytes
 
 -- from one quota to another, so much more of a kind is held and the same of the other, and the caps are kept
 pub record Counts (kind : Kind) (size size' : ℕ) (quota quota' : Quota) : Type 0 where
@@ -50,12 +46,6 @@ held_same : (kind : Kind) (h h' : Holdings) → HoldsTheSame h h'
     → (amount_held h' kind ≡ amount_held h kind) × (amount_held h' (other kind) ≡ amount_held h (other kind))
 held_same Bytes h h' same = (same.bytes, same.elements)
 held_same Elements h h' same = (same.elements, same.bytes)
-
--- after n more of a kind that were taken back, as much is held
-taken_back : (kind : Kind) (n : ℕ) (h p h' : Holdings) → p ≡ with_more h kind n → h' ≡ without_last kind p
-    → (amount_held h' kind ≡ amount_held h kind) × (amount_held h' (other kind) ≡ amount_held h (other kind))
-taken_back Bytes n h p h' more back = rw (back, more) (omega arith, refl)
-taken_back Elements n h p h' more back = rw (back, more) (omega arith, refl)
 
 -- after n of a kind that were given up, so many less are held
 held_less : (kind : Kind) (n : ℕ) (h h' : Holdings) → Releases h kind n true h'
@@ -87,7 +77,7 @@ module _ {V E : Type 0} (e : Request V E) where
   abbrev pub asked_for : ℕ
   asked_for = e.question.desired - e.question.current
 
-  -- by how much an attempt adds to what is held
+  -- how much an attempt adds to what is held
   abbrev added : AttemptOutcome E → ℕ
   added Met = asked_for
   added outcome = 0
@@ -121,7 +111,8 @@ module _ {V E : Type 0} (e : Request V E) where
     attempt_counts m (Failed cause notice_answer) may (Some p, asked, noticed) =
         let more = asked_reserves capped_quota quota p e.question (Ok true) asked in
         let back = rw (tells cause) at noticed.gives_back in
-        let same = taken_back kind asked_for (holdings quota) (holdings p) (holdings quota') more back in
+        let same = held_same kind (holdings quota) (holdings quota')
+        (given_back kind asked_for (holdings quota) (holdings p) (holdings quota') more back) in
         record {
           held = omega (arith, same.0);
           others = same.1;
@@ -187,7 +178,7 @@ pub refused_status : (e : MemoryError) → nat_eq (memory_status e) 0 ≡ false
 refused_status (memory_error.OutOfFuel required) = refl
 refused_status other = refl
 
--- and none of a table
+-- no error of a table has the status of a call that is done
 refused_table_status : (e : TableError) → nat_eq (table_status e) 0 ≡ false
 refused_table_status (table_error.OutOfFuel required) = refl
 refused_table_status other = refl
@@ -223,11 +214,6 @@ table_summed ty p p' (Err e) status sizes is left = rw (is, refused_table_status
 pub limiter_on : (h : QuotaNumbers) → (h.is_on ≡ 0 → ⊥) → limiter_of h ≡ Some (quota_of h)
 limiter_on h on = let some : nat_eq h.is_on 0 ≡ false = grind (arith, nat_tests, on) in rw some refl
 
--- the sizes of one kind
-abbrev sizes_of : UnderQuota → Kind → List ℕ
-sizes_of u Bytes = u.bytes
-sizes_of u Elements = u.elements
-
 module _ (u u' : UnderQuota) (holds : HoldsSums u) (keeps : KeepsQuota u.quota u'.quota) where
   abbrev q : Quota
   q = quota_of u.quota
@@ -235,7 +221,7 @@ module _ (u u' : UnderQuota) (holds : HoldsSums u) (keeps : KeepsQuota u.quota u
   abbrev q' : Quota
   q' = quota_of u'.quota
 
-  -- it stays on
+  -- the quota stays on
   on : u'.quota.is_on ≡ 0 → ⊥
   on off = holds.on (sym keeps.flag ∙ off)
 
@@ -269,32 +255,32 @@ module _ (u u' : UnderQuota) (holds : HoldsSums u) (keeps : KeepsQuota u.quota u
       summed k 0 0 (nothing_counts k 0 q q' (same_quota limiter)) (ap (λ (xs : List ℕ). sum xs + 0) sizes) same
 
   -- a memory is made
-  memory_made : MakesMemoryUnder u u' → HoldsSums u'
+  memory_made : MakesUnder of_memory Bytes MakesEmbedded u u' → HoldsSums u'
   memory_made c =
       elim c.makes [
-        | inl refused ↦ summed_same Bytes refused.3 (rw (c.bytes, refused.1) refl) c.elements
+        | inl refused ↦ summed_same Bytes refused.3 (rw (c.sizes, refused.1) refl) c.others
         | inr made ↦
             let makes = rw (limiter_on u.quota holds.on, limiter_on u'.quota on) at made.3.makes in
             let counts = creation_counts (creation_of (Lent c.before.region) made.0)
             (new_memory (Lent c.before.region) made.0) (made_size byte_count) (length_made (minimum_bytes made.0) 0) (λ cause. refl)
             (λ cause. refl) q q' _ makes in
-            let sized = ap sum c.bytes
+            let sized = ap sum c.sizes
             ∙ memory_summed made.0 c.before c.after made.3.result c.status u.bytes made.3.status_is made.3.left in
-            summed Bytes 0 _ counts (omega (arith, sized)) c.elements
+            summed Bytes 0 _ counts (omega (arith, sized)) c.others
       ]
 
   -- a table is made
-  table_made : MakesTableUnder u u' → HoldsSums u'
-  table_made c =
+  table_made : (reference : ℕ) → MakesUnder of_table Elements (MakesTableEmbedded reference) u u' → HoldsSums u'
+  table_made reference c =
       on_live (table_type_of c.before.numbers) _ _ c.makes
-      (λ refused. summed_same Elements refused.2 (rw (c.elements, refused.0) refl) c.bytes)
+      (λ refused. summed_same Elements refused.2 (rw (c.sizes, refused.0) refl) c.others)
       (λ ty found made.
       let makes = rw (limiter_on u.quota holds.on, limiter_on u'.quota on) at made.makes in
-      let counts = creation_counts (creation_in ty (length c.before.region)) (new_table ty c.reference)
-      (made_size size_of) (length_made ty.minimum c.reference) (λ cause. refl) (λ cause. refl) q q' _ makes in
-      let sized = ap sum c.elements
+      let counts = creation_counts (creation_in ty (length c.before.region)) (new_table ty reference)
+      (made_size size_of) (length_made ty.minimum reference) (λ cause. refl) (λ cause. refl) q q' _ makes in
+      let sized = ap sum c.sizes
       ∙ table_summed ty c.before c.after made.result c.status u.elements made.status_is made.left in
-      summed Elements 0 _ counts (omega (arith, sized)) c.bytes)
+      summed Elements 0 _ counts (omega (arith, sized)) c.others)
 
   -- a growth by a call counts as the difference of the sizes, or as nothing where it isn't made
   module _ {H T V E : Type 0} (p : Placement H T V E) (growth : List ℕ → V → Growth V E) (count : V → ℕ) (k : Kind)
@@ -317,26 +303,27 @@ module _ (u u' : UnderQuota) (holds : HoldsSums u) (keeps : KeepsQuota u.quota u
           sizes s'.numbers s'.region grown.0 grown.2.state,
         ) at (growth_counts (growth s.region x) count x (counted s.region x) _ _ q q' _ _ _ grows.1)
 
+    -- the sums are held after a growth
+    grown : GrowsUnder p k growth u u' → HoldsSums u'
+    grown c = summed k _ _ (grown_counts c.before c.status c.after c.grows c.asked c.left)
+        (rw c.sizes (sum_set (sizes_of u k) c.index _ _ c.there)) c.others
+
   -- a memory grows
-  memory_grown : GrowsMemoryUnder u u' → HoldsSums u'
-  memory_grown c =
-      let counts = grown_counts of_memory (by_pages c.pages) byte_count Bytes
+  memory_grown : (pages : ℕ) → GrowsUnder of_memory Bytes (by_pages pages) u u' → HoldsSums u'
+  memory_grown pages = grown of_memory (by_pages pages) byte_count Bytes
       (λ h region ty at. length-take-le h.size region at.within)
       (λ region x. record {
-        full = length_grown x.bytes (c.pages * page_bytes x.ty.page) 0;
+        full = length_grown x.bytes (pages * page_bytes x.ty.page) 0;
         tells = λ cause. refl;
       })
-      (λ region x. refl) c.before c.status c.after c.grows c.asked c.left in
-      summed Bytes _ _ counts (rw c.bytes (sum_set u.bytes c.index _ _ c.there)) c.elements
+      (λ region x. refl)
 
   -- a table grows
-  table_grown : GrowsTableUnder u u' → HoldsSums u'
-  table_grown c =
-      let counts = grown_counts of_table (by_elements c.delta c.reference) size_of Elements
+  table_grown : (delta reference : ℕ) → GrowsUnder of_table Elements (by_elements delta reference) u u' → HoldsSums u'
+  table_grown delta reference = grown of_table (by_elements delta reference) size_of Elements
       (λ h region ty at. length-take-le h.size region at.within)
-      (λ region x. record { full = length_grown x.elements c.delta c.reference; tells = λ cause. refl })
-      (λ region x. refl) c.before c.status c.after c.grows c.asked c.left in
-      summed Elements _ _ counts (rw c.elements (sum_set u.elements c.index _ _ c.there)) c.bytes
+      (λ region x. record { full = length_grown x.elements delta reference; tells = λ cause. refl })
+      (λ region x. refl)
 
   -- an end by a call counts as the size that is given up, or as nothing where it isn't made
   module _ {H T V E : Type 0} (p : Placement H T V E) (k : Kind) (ended : H → H)
@@ -358,30 +345,23 @@ module _ (u u' : UnderQuota) (holds : HoldsSums u) (keeps : KeepsQuota u.quota u
           within = released_within q q' k (p.size a.numbers) true releases.0 releases.1;
         }
 
-  -- a memory ends
-  memory_ended : EndsMemoryUnder u u' → HoldsSums u'
-  memory_ended c =
-      let counts = ended_counts of_memory Bytes ended_memory (λ h. refl) c.before c.status c.after c.ends in
-      summed Bytes _ _ counts (rw c.bytes (sum_set u.bytes c.index _ _ c.there)) c.elements
+    -- the sums are held after an end
+    gone : EndsUnder p k ended u u' → HoldsSums u'
+    gone c = summed k _ _ (ended_counts c.before c.status c.after c.ends)
+        (rw c.sizes (sum_set (sizes_of u k) c.index _ _ c.there)) c.others
 
-  -- a table ends
-  table_ended : EndsTableUnder u u' → HoldsSums u'
-  table_ended c =
-      let counts = ended_counts of_table Elements ended_table (λ h. refl) c.before c.status c.after c.ends in
-      summed Elements _ _ counts (rw c.elements (sum_set u.elements c.index _ _ c.there)) c.bytes
-
--- so after each call
+-- the sums are held after a call
 after_call : (u u' : UnderQuota) → HoldsSums u → CallsUnder u u' → HoldsSums u'
 after_call u u' holds (keeps, call) = elim call [
   | inl made ↦ memory_made u u' holds keeps made
-  | inr (inl grown) ↦ memory_grown u u' holds keeps grown
-  | inr (inr (inl made)) ↦ table_made u u' holds keeps made
-  | inr (inr (inr (inl grown))) ↦ table_grown u u' holds keeps grown
-  | inr (inr (inr (inr (inl ended)))) ↦ memory_ended u u' holds keeps ended
-  | inr (inr (inr (inr (inr ended)))) ↦ table_ended u u' holds keeps ended
+  | inr (inl (pages, grown)) ↦ memory_grown u u' holds keeps pages grown
+  | inr (inr (inl (reference, made))) ↦ table_made u u' holds keeps reference made
+  | inr (inr (inr (inl (delta, reference, grown)))) ↦ table_grown u u' holds keeps delta reference grown
+  | inr (inr (inr (inr (inl ended)))) ↦ gone u u' holds keeps of_memory Bytes ended_memory (λ h. refl) ended
+  | inr (inr (inr (inr (inr ended)))) ↦ gone u u' holds keeps of_table Elements ended_table (λ h. refl) ended
 ]
 
--- and after all of them
+-- the sums are held after all calls
 pub one_quota_holds_all : OneQuotaHoldsAll
 one_quota_holds_all u [] holds calls = All-nil HoldsSums
 one_quota_holds_all u (u' ∷ after) holds calls =

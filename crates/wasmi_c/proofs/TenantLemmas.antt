@@ -4,6 +4,7 @@ use Rattle.wasmi_c.proofs.Common.{set-get_or, same_Some, option_map, MatchOption
 use Rattle.std.proofs.lemmas.Result.{IfOk-at_ok}
 use Rattle.std.specs.Prelude.{slice_get}
 use Rattle.wasmi_machine.proofs.StoreLemmas.{run_of_one}
+use Rattle.wasmi_machine.specs.State.{outcome_of}
 use Rattle.wasmi_machine.specs.Steps.{FuelSet, HasEffect, IsRunOf, RepliesWith, effect_of}
 use Rattle.wasmi_machine.specs.declared.calls.Call.{Call}
 use Rattle.wasmi_machine.specs.declared.calls.Reply.{Reply}
@@ -32,13 +33,13 @@ module _ (pool : PoolValue) (tenant : ℕ) (s : State) (found : machine_of pool 
         after = put_back;
       }
 
-  -- so it leaves a status and a word
+  -- such a call leaves a status and a word
   pub word_in_place : (word : ℕ) (left : ℕ × ℕ) → left.0 ≡ status_of full → left.1 ≡ word_after full word
       → TenantRepliesInWord tenant (Some call) word left pool pool
   unfolding TenantRepliesInWord
   word_in_place word left status_is word_is = inr (full, runs_in_place, λ i. (status_is i, word_is i))
 
-  -- and a struct
+  -- such a call leaves a struct
   pub struct_in_place : (told : ReplyStruct) → told ≡ reply_struct full → TenantReplies tenant call told pool pool
   unfolding TenantReplies
   struct_in_place told is = inr (full, runs_in_place, is)
@@ -64,8 +65,8 @@ set_by_run rules fuel w full w' ([], called, told, ran) = absurd (omega (arith, 
 set_by_run {S} rules fuel w full w' (turn ∷ [], called, told, (v, step, ran)) =
     let is : turn.call ≡ SetFuel fuel =
     same_Some turn.call (SetFuel fuel) (ap (λ (calls : List Call). slice_get calls 0) called) in
-    let sets : HasEffect rules (FuelSet fuel) w turn v =
-    subst (λ call. HasEffect rules (effect_of w.state call) w turn v) is step in
+    let sets : HasEffect rules (FuelSet fuel) w (outcome_of turn) v =
+    subst (λ call. HasEffect rules (effect_of w.state call) w (outcome_of turn) v) is step in
     ap (λ (u : World S). u.state) (ran ∙ sets.after) ∙ sets.effect.1
 set_by_run rules fuel w full w' (turn ∷ t ∷ turns, called, told, ran) = absurd (omega (arith, ap length called))
 

@@ -4,7 +4,6 @@ use Rattle.std.specs.Option.{unwrap_or}
 use Rattle.wasmi_meter.specs.declared.error.LimiterError.TheVariants.{ResourceLimiterDeniedAllocation}
 use Rattle.wasmi_meter.specs.declared.error.MemoryError.{MemoryError}
 use Rattle.wasmi_meter.specs.Limiter.{Answer, NoticeAnswer, Rules}
-use Rattle.wasmi_meter.specs.Limiter as limiter
 use Rattle.wasmi_store.specs.Growth.{Growth}
 use Rattle.wasmi_store.specs.Memory.{MemoryValue, growth_of, pages_of}
 use Rattle.wasmi_c.specs.declared.host.HostAnswers.{HostAnswers}
@@ -38,10 +37,6 @@ plain_sizes current desired maximum = record {
   maximum = unwrap_or maximum 0;
   has_maximum = if is_some maximum then 1 else 0;
 }
-
--- a question to a limiter, as C reads it
-abbrev pub plain_question : limiter.Question → Question
-plain_question q = plain_sizes q.current q.desired q.maximum
 
 -- a growth of a memory by so many pages
 abbrev pub memory_growth : MemoryValue → ℕ → Growth MemoryValue MemoryError

@@ -3,12 +3,12 @@ pub mod FuelCalls
 pub mod HeldBox
 pub mod Host
 pub mod Instruction
+pub mod Lending
 pub mod Machine
 pub mod MemoryCalls
 pub mod Numbers
 pub mod Placement
 pub mod Pool
-pub mod PoolLending
 pub mod ReleasedNumbers
 pub mod Script
 pub mod SharedQuota

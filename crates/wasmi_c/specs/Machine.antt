@@ -4,4 +4,3 @@ pub mod NewMachines
 pub mod CallStructs
 pub mod Replies
 pub mod Calls
-pub mod Lending

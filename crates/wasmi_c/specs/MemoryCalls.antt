@@ -1,5 +1,5 @@
 -- What the calls on a memory do to what lies with C.
-use Rattle.std.specs.Prelude.{◌≡◌, ◌+◌, ◌/◌, ◌⊎◌, ℕ, List, take, drop, length, nat_eq, if◌then◌else◌, Option, Some, None}
+use Rattle.std.specs.Prelude.{◌≡◌, ◌+◌, ◌/◌, ◌⊎◌, ℕ, List, take, length, nat_eq, if◌then◌else◌, Option, Some, None}
 use Rattle.wasmi_types.specs.Access.{at, overwrite}
 use Rattle.wasmi_meter.specs.declared.error.MemoryError.{MemoryError}
 use Rattle.wasmi_meter.specs.declared.error.MemoryError.TheVariants as error
@@ -12,7 +12,7 @@ use Rattle.wasmi_store.specs.Write.{filled, copied, BulkWrites}
 use Rattle.wasmi_store.specs.Memory.{MemoryValue, MakesMemory, growth_of, pages_of, MemoryTypeValue, IsValid, named_type, page_bytes, in_bounds}
 use Rattle.wasmi_region.specs.Memory.{memory_in, made_in, zeroed}
 use Rattle.wasmi_c.specs.Host.{memory_growth}
-use Rattle.wasmi_c.specs.Numbers.{settings_of, IsState, MeteredRegion, Placed, placed}
+use Rattle.wasmi_c.specs.Numbers.{settings_of, IsState, MeteredRegion, Placed, placed, SameRest}
 use Rattle.wasmi_c.specs.Placement.{Placement, AsksAs, ByType, ByTypes, EndsBy, MakesAs, WritesAs}
 use Rattle.wasmi_meter.specs.declared.limiter.Kind.TheVariants.{Bytes}
 use Rattle.wasmi_c.specs.Status.{memory_status}
@@ -76,30 +76,21 @@ abbrev pub CountsEmbedded : MemoryNumbers → List ℕ → ℕ → ℕ → ℕ �
 CountsEmbedded h region number status number' = ByType of_memory h region status (number' ≡ number) (λ ty.
     (status ≡ DONE) × (number' ≡ h.size / page_bytes ty.page))
 
--- bytes of a memory from an offset on are copied out where they end within it, and nothing is copied else
-abbrev pub ReadsAs : List ℕ → ℕ → List ℕ → ℕ → List ℕ → Type 0
-ReadsAs bytes offset old status new =
-    ((at bytes offset (length old) ≡ Some new) × (status ≡ DONE))
-    ⊎ ((at bytes offset (length old) ≡ None) × (status ≡ MEMORY_ACCESS) × (new ≡ old))
-
--- bytes of a memory are read by a call
+-- bytes of a memory from an offset on are read by a call where they end within it, and nothing is read else
 abbrev pub ReadsEmbedded : Placed MemoryNumbers → ℕ → List ℕ → ℕ → List ℕ → Type 0
 ReadsEmbedded a offset old status new = ByType of_memory a.numbers a.region status (new ≡ old) (λ ty.
-    ReadsAs (take a.numbers.size a.region) offset old status new)
+    ((at (take a.numbers.size a.region) offset (length old) ≡ Some new) × (status ≡ DONE))
+    ⊎ ((at (take a.numbers.size a.region) offset (length old) ≡ None) × (status ≡ MEMORY_ACCESS) × (new ≡ old)))
 
--- bytes are written over those of a memory from an offset on where they end within it, and nothing is written else; the
--- rest of the region stays
-abbrev pub OverwritesAs : ℕ → List ℕ → ℕ → List ℕ → ℕ → List ℕ → Type 0
-OverwritesAs size region offset source status region' =
-    ((overwrite (take size region) offset source ≡ Some (take size region'))
-    × (drop size region' ≡ drop size region) × (status ≡ DONE))
-    ⊎ ((overwrite (take size region) offset source ≡ None) × (status ≡ MEMORY_ACCESS) × (region' ≡ region))
-
--- bytes of a memory are written by a call
+-- bytes are written by a call over those of a memory from an offset on where they end within it, and nothing is written
+-- else; the rest of the region stays
 abbrev pub WritesEmbedded : Placed MemoryNumbers → ℕ → List ℕ → ℕ → List ℕ → Type 0
 WritesEmbedded a offset source status region' =
     ByType of_memory a.numbers a.region status (region' ≡ a.region) (λ ty.
-    OverwritesAs a.numbers.size a.region offset source status region')
+    ((overwrite (take a.numbers.size a.region) offset source ≡ Some (take a.numbers.size region'))
+    × SameRest a.numbers.size a.region region' × (status ≡ DONE))
+    ⊎ ((overwrite (take a.numbers.size a.region) offset source ≡ None) × (status ≡ MEMORY_ACCESS)
+    × (region' ≡ a.region)))
 
 -- bytes of which those of a range are filled with a value
 abbrev pub filled_range : ℕ → Range → List ℕ → Option (List ℕ)

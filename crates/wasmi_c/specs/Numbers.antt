@@ -90,16 +90,12 @@ quota_of h = record {
 abbrev pub limiter_of : QuotaNumbers → Option Quota
 limiter_of h = if_flag h.is_on (quota_of h)
 
--- the numbers of a last difference where there is none
-abbrev pub HasNoLast : QuotaNumbers → Type 0
-HasNoLast h = (h.last_kind ≡ 0) × (h.last ≡ 0)
-
 -- what a call keeps of a quota: its flag, and all of it if the quota is off; a quota that isn't the same and has no last
 -- difference has zeros for it
 pub record KeepsQuota (h h' : QuotaNumbers) : Type 0 where
   pub flag : h'.is_on ≡ h.is_on
   pub off : h.is_on ≡ 0 → h' ≡ h
-  pub last : (h' ≡ h) ⊎ (last_of h'.last_kind h'.last ≡ None → HasNoLast h')
+  pub last : (h' ≡ h) ⊎ (last_of h'.last_kind h'.last ≡ None → (h'.last_kind ≡ 0) × (h'.last ≡ 0))
 
 -- a limiter that may be absent gives up so many of a kind, or not, and has the same caps; an absent one holds nothing
 abbrev pub ReleasesIf : Kind → ℕ → Option Quota → Bool → Option Quota → Type 0

@@ -5,7 +5,7 @@ use Rattle.wasmi_meter.specs.declared.quota.Quota.{Quota}
 use Rattle.wasmi_meter.specs.Limiter.{optional_rules, Rules}
 use Rattle.wasmi_meter.specs.Meter.{Meter}
 use Rattle.wasmi_store.specs.Growth.{Growth, Grows, metered_value, Makes}
-use Rattle.wasmi_c.specs.Host.{fresh, host_rules, is_about, plain_question, answer_of, notice_answer_of, memory_growth}
+use Rattle.wasmi_c.specs.Host.{fresh, host_rules, is_about, plain_sizes, answer_of, notice_answer_of, memory_growth}
 use Rattle.wasmi_c.specs.Numbers.{meter_of, KeepsMeter, Embedded, MeteredRegion, Placed, ReleasesIf, SameRest}
 use Rattle.wasmi_c.specs.declared.status.TheConstants.{DONE, INVALID_STATE, ASKS, NOT_HELD, OTHER_SIZE}
 use Rattle.wasmi_c.specs.declared.host.HostAnswers.{HostAnswers}
@@ -35,7 +35,7 @@ abbrev pub AsksAs : ℕ → Bool → ℕ → limiter.Question → ℕ → Questi
 AsksAs amount allowed refusal asked status q q' =
     ((amount ≡ 0) × (status ≡ DONE) × (q' ≡ q))
     ⊎ ((0 < amount) × (allowed ≡ false) × (status ≡ refusal) × (q' ≡ q))
-    ⊎ ((0 < amount) × (allowed ≡ true) × (status ≡ ASKS) × (q' ≡ plain_question asked))
+    ⊎ ((0 < amount) × (allowed ≡ true) × (status ≡ ASKS) × (q' ≡ plain_sizes asked.current asked.desired asked.maximum))
 
 module _ {H T V E : Type 0} (p : Placement H T V E) where
   -- numbers stand for nothing on a region
@@ -169,21 +169,21 @@ SettlesCreation {T = T} {E = E} {S = S} rules e made =
     → Makes rules e made l.before result (limiter_after a' l)
 
 module _ {S : Type 0} (rules : Rules S) where
-  -- each growth of a memory by the host's answers is one by rules that allow these answers
+  -- every growth of a memory by the host's answers is one by rules that allow these answers
   abbrev pub SettlementsAreGrowths : Type 0
   SettlementsAreGrowths = (pages : ℕ) (x : MemoryValue) → SettlesGrowth rules (memory_growth x pages) x
 
-  -- each growth of a table on a region by the host's answers is one by rules that allow these answers
+  -- every growth of a table on a region by the host's answers is one by rules that allow these answers
   abbrev pub TableSettlementsAreGrowths : Type 0
   TableSettlementsAreGrowths =
       (room n reference : ℕ) (x : TableValue) → SettlesGrowth rules (region_growth room n reference x) x
 
-  -- each creation of a memory by the host's answers is one by rules that allow these answers
+  -- every creation of a memory by the host's answers is one by rules that allow these answers
   abbrev pub SettlementsAreCreations : Type 0
   SettlementsAreCreations =
       (room : Room) (ty : MemoryTypeValue) → SettlesCreation rules (creation_of room ty) (new_memory room ty)
 
-  -- each creation of a table on a region by the host's answers is one by rules that allow these answers
+  -- every creation of a table on a region by the host's answers is one by rules that allow these answers
   abbrev pub TableSettlementsAreCreations : Type 0
   TableSettlementsAreCreations =
       (room reference : ℕ) (ty : TableTypeValue)

@@ -80,25 +80,27 @@ TenantRepliesInStatus tenant called status pool pool' = MatchOption called
     ((status ≡ NO_CALL) × (pool' ≡ pool))
     (λ call. CallsTenant tenant call pool pool' (status ≡ NO_TENANT) (λ full. status ≡ status_of full))
 
--- so the call that numbers stand for; where they stand for none, the pool is the same
+-- the call that numbers stand for is replied to on a tenant's machine; where they stand for none, the pool is the same
 abbrev pub TenantRepliesToStruct : ℕ → CallStruct → ReplyStruct → PoolValue → PoolValue → Type 0
 TenantRepliesToStruct tenant numbers reply pool pool' = MatchOption (call_of numbers)
     ((reply ≡ only NO_CALL) × (pool' ≡ pool))
     (λ call. TenantReplies tenant call reply pool pool')
 
--- so a call that takes the caller's list
+-- a call on a tenant's machine that takes the caller's list is replied to
 unfoldable pub TenantRepliesToItems
     : ℕ → (Vec ℕ Global → Call) → List ℕ → ReplyStruct → PoolValue → PoolValue → Type 0
 TenantRepliesToItems tenant call items reply pool pool' =
     SomeCopy items (λ copy. TenantReplies tenant (call copy) reply pool pool')
 
--- so one that takes a copy of it; or memory for that is refused, and the pool is the same
+-- a call on a tenant's machine that takes a copy of the list is replied to; or memory for the copy is refused, and the
+-- pool is the same
 unfoldable pub TenantRepliesToCopy
     : ℕ → (Vec ℕ Global → Call) → List ℕ → ReplyStruct → PoolValue → PoolValue → Type 0
 TenantRepliesToCopy tenant call items reply pool pool' = ((reply ≡ only NO_ROOM) × (pool' ≡ pool))
     ⊎ TenantRepliesToItems tenant call items reply pool pool'
 
--- so the making of an element segment; where the number is none of a reference type, the pool is the same
+-- the making of an element segment on a tenant's machine is replied to; where the number is none of a reference type,
+-- the pool is the same
 abbrev pub TenantRepliesToSegment : ℕ → ℕ → List ℕ → ReplyStruct → PoolValue → PoolValue → Type 0
 TenantRepliesToSegment tenant ty items reply pool pool' = MatchOption (reference_type_of ty)
     ((reply ≡ only NO_CALL) × (pool' ≡ pool))

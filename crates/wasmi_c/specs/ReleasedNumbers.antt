@@ -93,7 +93,7 @@ abbrev pub store_lane_names : List (List ℕ)
 store_lane_names = map codes (
     "v128_store8_lane" ∷ "v128_store16_lane" ∷ "v128_store32_lane" ∷ "v128_store64_lane" ∷ [])
 
--- each status as the code has it, and its number
+-- every status as the code has it, and its number
 abbrev pub statuses : List (ℕ × ℕ)
 statuses =
     (status.DONE, 0) ∷ (code_number trap.MemoryOutOfBounds, 2) ∷ (code_number trap.IntegerDivisionByZero, 5) ∷

@@ -1,15 +1,16 @@
 -- One quota over many memories and tables that lie with C.
-use Rattle.std.specs.Prelude.{◌≡◌, ◌≤◌, ◌⊎◌, ℕ, List, [], ◌∷◌, ◌++◌, All, sum, slice_get, slice_set, nat_eq, if◌then◌else◌, Some}
+use Rattle.std.specs.Prelude.{◌≡◌, ◌≤◌, ◌⊎◌, ℕ, List, [], ◌∷◌, ◌++◌, All, sum, slice_get, slice_set, nat_eq, if◌then◌else◌, Option, Some}
 use Rattle.wasmi_meter.specs.Capped.{IsWithinCaps, quota_rules}
+use Rattle.wasmi_meter.specs.declared.limiter.Kind.{Kind}
+use Rattle.wasmi_meter.specs.declared.limiter.Kind.TheVariants.{Bytes, Elements}
 use Rattle.wasmi_meter.specs.declared.quota.Quota.{Quota}
-use Rattle.wasmi_c.specs.MemoryCalls.{EndsMemory, MakesEmbedded, by_pages, of_memory}
+use Rattle.wasmi_store.specs.Growth.{Growth}
+use Rattle.wasmi_c.specs.MemoryCalls.{MakesEmbedded, by_pages, ended_memory, of_memory}
 use Rattle.wasmi_c.specs.Numbers.{Embedded, KeepsQuota, Placed, limiter_of, quota_of}
-use Rattle.wasmi_c.specs.Placement.{GrowsBy}
+use Rattle.wasmi_c.specs.Placement.{EndsBy, GrowsBy, Placement}
 use Rattle.wasmi_c.specs.declared.status.TheConstants.{DONE}
-use Rattle.wasmi_c.specs.TableCalls.{EndsTable, MakesTableEmbedded, by_elements, of_table}
-use Rattle.wasmi_c.specs.declared.numbers.MemoryNumbers.{MemoryNumbers}
+use Rattle.wasmi_c.specs.TableCalls.{MakesTableEmbedded, by_elements, ended_table, of_table}
 use Rattle.wasmi_c.specs.declared.numbers.QuotaNumbers.{QuotaNumbers}
-use Rattle.wasmi_c.specs.declared.numbers.TableNumbers.{TableNumbers}
 
 -- a quota, and the sizes of what was made under it: of memories in bytes, and of tables in elements
 pub record UnderQuota : Type 0 where
@@ -28,82 +29,62 @@ pub record HoldsSums (u : UnderQuota) : Type 0 where
 abbrev pub sizes_made : List ℕ → ℕ → ℕ → List ℕ
 sizes_made sizes status size = if nat_eq status DONE then sizes ++ size ∷ [] else sizes
 
--- a memory is made under a quota by a call
-pub record MakesMemoryUnder (u u' : UnderQuota) : Type 0 where
-  pub before : Placed MemoryNumbers
-  pub status : ℕ
-  pub after : Placed MemoryNumbers
-  pub makes : MakesEmbedded before (limiter_of u.quota) status after (limiter_of u'.quota)
-  pub bytes : u'.bytes ≡ sizes_made u.bytes status after.numbers.size
-  pub elements : u'.elements ≡ u.elements
+-- the sizes of one kind
+abbrev pub sizes_of : UnderQuota → Kind → List ℕ
+sizes_of u Bytes = u.bytes
+sizes_of u Elements = u.elements
 
--- a memory grows under a quota by a call
-pub record GrowsMemoryUnder (u u' : UnderQuota) : Type 0 where
-  pub index : ℕ
-  pub pages : ℕ
-  pub before : Embedded MemoryNumbers Quota
-  pub status : ℕ
-  pub after : Embedded MemoryNumbers Quota
-  pub grows : GrowsBy of_memory quota_rules (by_pages pages) before status after
-  pub asked : before.limiter ≡ limiter_of u.quota
-  pub left : after.limiter ≡ limiter_of u'.quota
-  pub there : slice_get u.bytes index ≡ Some before.numbers.size
-  pub bytes : u'.bytes ≡ slice_set u.bytes index after.numbers.size
-  pub elements : u'.elements ≡ u.elements
+-- the kind that isn't this one
+abbrev pub other : Kind → Kind
+other Bytes = Elements
+other Elements = Bytes
 
--- a table is made under a quota by a call
-pub record MakesTableUnder (u u' : UnderQuota) : Type 0 where
-  pub reference : ℕ
-  pub before : Placed TableNumbers
-  pub status : ℕ
-  pub after : Placed TableNumbers
-  pub makes : MakesTableEmbedded reference before (limiter_of u.quota) status after (limiter_of u'.quota)
-  pub bytes : u'.bytes ≡ u.bytes
-  pub elements : u'.elements ≡ sizes_made u.elements status after.numbers.size
+module _ {H T V E : Type 0} (p : Placement H T V E) (kind : Kind) where
+  -- a memory or a table is made under a quota by a call
+  pub record MakesUnder (Makes : Placed H → Option Quota → ℕ → Placed H → Option Quota → Type 0) (u u' : UnderQuota)
+      : Type 0
+    where
+      pub before : Placed H
+      pub status : ℕ
+      pub after : Placed H
+      pub makes : Makes before (limiter_of u.quota) status after (limiter_of u'.quota)
+      pub sizes : sizes_of u' kind ≡ sizes_made (sizes_of u kind) status (p.size after.numbers)
+      pub others : sizes_of u' (other kind) ≡ sizes_of u (other kind)
 
--- a table grows under a quota by a call
-pub record GrowsTableUnder (u u' : UnderQuota) : Type 0 where
-  pub index : ℕ
-  pub delta : ℕ
-  pub reference : ℕ
-  pub before : Embedded TableNumbers Quota
-  pub status : ℕ
-  pub after : Embedded TableNumbers Quota
-  pub grows : GrowsBy of_table quota_rules (by_elements delta reference) before status after
-  pub asked : before.limiter ≡ limiter_of u.quota
-  pub left : after.limiter ≡ limiter_of u'.quota
-  pub there : slice_get u.elements index ≡ Some before.numbers.size
-  pub bytes : u'.bytes ≡ u.bytes
-  pub elements : u'.elements ≡ slice_set u.elements index after.numbers.size
+  -- a memory or a table grows under a quota by a call
+  pub record GrowsUnder (growth : List ℕ → V → Growth V E) (u u' : UnderQuota) : Type 0 where
+    pub index : ℕ
+    pub before : Embedded H Quota
+    pub status : ℕ
+    pub after : Embedded H Quota
+    pub grows : GrowsBy p quota_rules growth before status after
+    pub asked : before.limiter ≡ limiter_of u.quota
+    pub left : after.limiter ≡ limiter_of u'.quota
+    pub there : slice_get (sizes_of u kind) index ≡ Some (p.size before.numbers)
+    pub sizes : sizes_of u' kind ≡ slice_set (sizes_of u kind) index (p.size after.numbers)
+    pub others : sizes_of u' (other kind) ≡ sizes_of u (other kind)
 
--- a memory ends by a call, and its bytes are given up
-pub record EndsMemoryUnder (u u' : UnderQuota) : Type 0 where
-  pub index : ℕ
-  pub before : Placed MemoryNumbers
-  pub status : ℕ
-  pub after : MemoryNumbers
-  pub ends : EndsMemory before (limiter_of u.quota) status after (limiter_of u'.quota)
-  pub there : slice_get u.bytes index ≡ Some before.numbers.size
-  pub bytes : u'.bytes ≡ slice_set u.bytes index after.size
-  pub elements : u'.elements ≡ u.elements
-
--- a table ends by a call, and its elements are given up
-pub record EndsTableUnder (u u' : UnderQuota) : Type 0 where
-  pub index : ℕ
-  pub before : Placed TableNumbers
-  pub status : ℕ
-  pub after : TableNumbers
-  pub ends : EndsTable before (limiter_of u.quota) status after (limiter_of u'.quota)
-  pub there : slice_get u.elements index ≡ Some before.numbers.size
-  pub bytes : u'.bytes ≡ u.bytes
-  pub elements : u'.elements ≡ slice_set u.elements index after.size
+  -- a memory or a table ends by a call, and its size is given up
+  pub record EndsUnder (ended : H → H) (u u' : UnderQuota) : Type 0 where
+    pub index : ℕ
+    pub before : Placed H
+    pub status : ℕ
+    pub after : H
+    pub ends : EndsBy p kind ended before (limiter_of u.quota) status after (limiter_of u'.quota)
+    pub there : slice_get (sizes_of u kind) index ≡ Some (p.size before.numbers)
+    pub sizes : sizes_of u' kind ≡ slice_set (sizes_of u kind) index (p.size after)
+    pub others : sizes_of u' (other kind) ≡ sizes_of u (other kind)
 
 -- a call under a quota, which keeps the quota's flag
 abbrev pub CallsUnder : UnderQuota → UnderQuota → Type 0
 CallsUnder u u' =
     KeepsQuota u.quota u'.quota
-    × (MakesMemoryUnder u u' ⊎ GrowsMemoryUnder u u' ⊎ MakesTableUnder u u' ⊎ GrowsTableUnder u u'
-    ⊎ EndsMemoryUnder u u' ⊎ EndsTableUnder u u')
+    × (MakesUnder of_memory Bytes MakesEmbedded u u'
+    ⊎ ((pages : ℕ) × GrowsUnder of_memory Bytes (by_pages pages) u u')
+    ⊎ ((reference : ℕ) × MakesUnder of_table Elements (MakesTableEmbedded reference) u u')
+    ⊎ ((delta reference : ℕ) × GrowsUnder of_table Elements (by_elements delta reference) u u')
+    ⊎ EndsUnder of_memory Bytes ended_memory u u'
+    ⊎ EndsUnder of_table Elements ended_table u u')
 
 -- calls in turn, with what is under the quota after each
 abbrev pub CallsInTurn : UnderQuota → List UnderQuota → Type 0

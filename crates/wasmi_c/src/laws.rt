@@ -31,7 +31,7 @@ pub fn quotas_are_kept()
 /// are one. So calls and lines by a handle, one after the other, are one run of its machine, of
 /// which the laws of `wasmi_machine` hold. Fuel that is taken between two calls ends a run. So is a
 /// list of calls by numbers, if all of them stand for calls.
-#[tactic(auto, using(crate::proofs::MachineLemmas::calls_run))]
+#[tactic(auto, using(crate::proofs::MachineLemmas::calls_run, crate::proofs::MachineLemmas::lists_run))]
 pub fn calls_are_runs()
     ensures call { CallsAreRuns }
     ensures lists { ListsAreRuns }

@@ -62,8 +62,6 @@ pub struct PoolHandle {
 }
 
 impl PoolHandle {
-    ghost use Rattle.wasmi_budget.specs.Pool.{IsWithinCaps};
-
     /// Whether there is a pool.
     pub fn is_made(&self) -> bool
         ensures { result ≡ is_some self.now.pool.held }
@@ -71,45 +69,11 @@ impl PoolHandle {
         self.is_made
     }
 
-    /// Takes the pool out, if there is one. It takes no memory.
-    pub fn take(&mut self, alloc: Global) -> Option<Box<TenantPool>>
-        ensures taken { MatchOption result (self.old.pool.held ≡ None)
-            (λ pool. self.old.pool.held ≡ Some pool.value) }
-        ensures left { self.new.pool.held ≡ None }
-    {
-        let none = PoolHandle {
-            pool: PoolBox::from_held(HeldBox::empty(alloc)),
-            is_made: false,
-        };
-        let PoolHandle { pool, is_made } = mem::replace(self, none);
-        if is_made {
-            Some(pool.into_held().into_box())
-        } else {
-            pool.into_held().end();
-            None
-        }
-    }
-
-    /// Puts a pool in where there is none. It takes no memory.
-    pub fn put(&mut self, pool: Box<TenantPool>)
-        requires empty { self.old.pool.held ≡ None }
-        ensures held { self.new.pool.held ≡ Some pool.value }
-        ensures within { IsWithinCaps pool.value }
-    {
-        pool.show_within();
-        let made = PoolHandle {
-            pool: PoolBox::from_held(HeldBox::from_box(pool)),
-            is_made: true,
-        };
-        let PoolHandle { pool, is_made: _ } = mem::replace(self, made);
-        pool.into_held().end();
-    }
-
     /// Makes a pool with these caps in a handle that has none.
     pub fn new_pool(&mut self, alloc: Global, bytes: u64, elements: u64) -> u8
         ensures { MakesPool bytes elements self.old.pool.held result self.new.pool.held }
     {
-        if self.is_made {
+        if self.is_made() {
             return HAS_POOL;
         }
         let pool = TenantPool {
@@ -118,7 +82,12 @@ impl PoolHandle {
         let Ok(pool) = Box::new(alloc, pool) else {
             return NO_ROOM;
         };
-        self.put(pool);
+        let made = PoolHandle {
+            pool: PoolBox::from_held(HeldBox::from_box(pool)),
+            is_made: true,
+        };
+        let PoolHandle { pool, is_made: _ } = mem::replace(self, made);
+        pool.into_held().end();
         DONE
     }
 
@@ -126,7 +95,17 @@ impl PoolHandle {
     pub fn drop_pool(&mut self, alloc: Global)
         ensures { self.new.pool.held ≡ None }
     {
-        let _pool = self.take(alloc);
+        let none = PoolHandle {
+            pool: PoolBox::from_held(HeldBox::empty(alloc)),
+            is_made: false,
+        };
+        let PoolHandle { pool, is_made } = mem::replace(self, none);
+        let held = pool.into_held();
+        if is_made {
+            let _pool = held.into_box();
+        } else {
+            held.end();
+        }
     }
 
     /// Replies to a call on the machine of a tenant, if the numbers stand for one.
@@ -520,10 +499,7 @@ impl TenantPool {
         if pages == 0 {
             return self.grow_by_none(tenant, memory, number);
         }
-        match self.pool.step(tenant, &Call::GrowMemory { memory, pages }) {
-            Ok(reply) => leave(reply, number),
-            Err(_) => NO_TENANT,
-        }
+        self.reply_in_word(tenant, &Call::GrowMemory { memory, pages }, number)
     }
 
     /// Grows a memory of a tenant by no page. It asks no limiter, so none is made.

@@ -1,5 +1,5 @@
 -- What a machine has and was charged, under a quota or a limiter of one's own.
-use Rattle.std.proofs.Common.{ℕ, ◌≡◌, ◌≤◌, Some, List, sym, subst, arith, ◌∙◌, ◌+◌, ◌*◌, true, nat_le, Option, None, Result, length, replicate, ap, inl, inr, length-append, ◌-◌, refl}
+use Rattle.std.proofs.Common.{ℕ, ◌≡◌, ◌≤◌, Some, List, sym, subst, arith, ◌∙◌, ◌+◌, ◌*◌, true, nat_le, Option, None, Result, length, replicate, ap, inl, inr, length-append, ◌-◌, refl, All}
 use Rattle.std.proofs.lemmas.Option.{same_Some}
 use Rattle.wasmi_meter.specs.declared.limiter.Kind.TheVariants.{Bytes, Elements}
 use Rattle.wasmi_meter.specs.Meter.{Meter, amount_left}
@@ -15,7 +15,6 @@ use Rattle.wasmi_meter.specs.Attempt.{MeteredValue, Request, AttemptOutcome, Una
 use Rattle.wasmi_meter.specs.Limiter.{optional_rules, Rules}
 use Rattle.wasmi_store.specs.Memory.{MemoryValue, GrowsMemoryCharging, growth_of, page_bytes}
 use Rattle.wasmi_example_callers.specs.declared.limiter.AtMost.{AtMost}
-use Rattle.std.specs.Prelude.{All}
 use Rattle.wasmi_core.specs.Account.{SetsNoFuel}
 use Rattle.wasmi_core.specs.Steps.{IsRunOf}
 
@@ -48,7 +47,7 @@ module _ (l l' : AtMost) where
   limiter_stays e (Failed cause notice_answer) (Some p, asked, noticed) = noticed.1 ∙ asked.1
   limiter_stays e (Failed cause notice_answer) (None, asked, noticed) = elim asked [ ]
 
-  -- however it ends, a memory that was within the limit is so
+  -- however an attempt ends, a memory that was within the limit is within it
   value_within : (x : MemoryValue) (pages : ℕ) (outcome : AttemptOutcome MemoryError)
       → Follows (growth_of x pages) (optional_rules at_most_rules) (Some l) outcome (Some l') → length x.bytes ≤ l.bytes
       → length (value_after (growth_of x pages) x outcome).bytes ≤ l.bytes
@@ -71,23 +70,21 @@ module _ (l l' : AtMost) where
       limiter = Some l;
     }) result charge (record { value = x'; meter = m'; limiter = Some l' })
 
-    -- so the limiter stays after a growth
+    -- the limiter stays after a growth
     pub grown_stays : (pages : ℕ) (result : Result ℕ MemoryError) (charge : ℕ) → Grown pages result charge → l' ≡ l
     grown_stays pages result charge (inl none) = same_Some l' l (ap (λ (s : MeteredValue MemoryValue (Option AtMost)).
         s.limiter) none.same)
     grown_stays pages result charge (inr some) = limiter_stays (growth_of x pages) some.outcome some.attempt.follows
 
-    -- and a memory that was within the limit is so after a growth
+    -- a memory that was within the limit is within it after a growth
     pub grown_within : (pages : ℕ) (result : Result ℕ MemoryError) (charge : ℕ) → Grown pages result charge
         → length x.bytes ≤ l.bytes → length x'.bytes ≤ l.bytes
     grown_within pages result charge (inl none) small =
-        subst (λ (y : MemoryValue). length y.bytes ≤ l.bytes) (sym (ap (λ (s : MeteredValue MemoryValue (Option
-        AtMost)). s.value) none.same)) small
+        rw (ap (λ (s : MeteredValue MemoryValue (Option AtMost)). s.value) none.same) small
     grown_within pages result charge (inr some) small =
-        subst (λ (y : MemoryValue). length y.bytes ≤ l.bytes) (sym some.attempt.value) (value_within x pages
-        some.outcome some.attempt.follows small)
+        rw some.attempt.value (value_within x pages some.outcome some.attempt.follows small)
 
--- so much is left where metering is on
+-- the amount that is left is what a meter that is on has
 left_is : (m : Meter) (left : ℕ) → m.left ≡ Some left → amount_left m ≡ left
 left_is m left on = rw on refl
 

@@ -1,6 +1,5 @@
 -- What a program did is a run, and what fuel it took.
-use Rattle.std.proofs.Common.{◌≡◌, ◌∙◌, ◌+◌, ◌-◌, ◌*◌, ◌<◌, ◌≤◌, ◌⊎◌, inl, inr, ℕ, zero, suc, Bool, true, false, ◌==◌, Option, Some, None, MatchOption, MatchBool, Result, Ok, Err, cond, List, [], ◌∷◌, ◌++◌, map, refl, sym, ap, subst, arith}
-use Rattle.std.specs.Prelude.{All, if◌then◌else◌, is_some, IsSome, slice_get}
+use Rattle.std.proofs.Common.{◌≡◌, ◌∙◌, ◌+◌, ◌-◌, ◌*◌, ◌<◌, ◌≤◌, ◌⊎◌, inl, inr, ℕ, zero, suc, Bool, true, false, ◌==◌, Option, Some, None, MatchOption, MatchBool, Result, Ok, Err, cond, List, [], ◌∷◌, ◌++◌, map, refl, sym, ap, subst, arith, All, if◌then◌else◌, is_some, IsSome, slice_get, add-one, add-zero}
 use Rattle.std.specs.Int.{w64, cast_unsigned}
 use Rattle.std.specs.Option.{option_map, option_map_or, option_and_then, unwrap_or}
 use Rattle.std.proofs.Math.Nat.{mul-le-mul_left}
@@ -60,7 +59,7 @@ module _ (s s' : State) (result : Result ℕ FuelError)
   metered : (m : Meter) → s'.meter ≡ m → s' ≡ record s { meter = m }
   metered m is = rest ∙ ap (λ m. record s { meter = m }) is
 
-  -- the answer, by what was left
+  -- what the answer tells, by what was left
   told_by : (o : Option ℕ) → s.meter.left ≡ o → Tells s s' result
   told_by None is =
       let answer = off is in
@@ -73,7 +72,7 @@ module _ (s s' : State) (result : Result ℕ FuelError)
       let some : (suc n == 0) ≡ false = grind (arith, nat_tests) in
       subst (Tells s s') (sym enough.0) (tested (Some (suc n)) is ∙ some, metered (meter_after s.meter 1) enough.1)
 
-  -- so it tells
+  -- what the answer tells, whatever was left
   pub told : Tells s s' result
   told = told_by s.meter.left refl
 
@@ -87,7 +86,7 @@ module _ {S : Type 0} (rules : Rules S) where
     record { calls_of = refl; replies_of = refl },
   )
 
-  -- two are a run of two
+  -- two calls that are answered one after the other are a run of two turns
   pub answered_twice : (c c' : Call) (w : World S) (reply : Reply) (v : World S) (reply' : Reply) (w' : World S)
       → RepliesWith rules c w reply v → RepliesWith rules c' v reply' w'
       → (turns : List Turn) × Run rules w turns w' × AreTurns (c ∷ c' ∷ []) (reply ∷ reply' ∷ []) turns
@@ -104,14 +103,14 @@ pub grown : (dst pages : ℕ) (turns : List Turn) (reply last : Reply) (size : �
     → IsGrowth dst pages turns last
 grown dst pages turns reply last size is are = (reply, rw is are)
 
--- no other reply has one
+-- a reply that is neither a number nor an error of a memory gives no result
 no_result : (reply : Reply) → ((size : ℕ) → reply ≡ Number size → ⊥)
     → ((error : MemoryError) → reply ≡ Memory error → ⊥) → grow_result reply ≡ None
 no_result (Number size) number memory = absurd (number size refl)
 no_result (Memory error) number memory = absurd (memory error refl)
 no_result reply number memory = refl
 
--- so the growth ends there
+-- a growth whose reply gives no result ends there
 pub ungrown : (dst pages : ℕ) (turns : List Turn) (reply : Reply) → ((size : ℕ) → reply ≡ Number size → ⊥)
     → ((error : MemoryError) → reply ≡ Memory error → ⊥)
     → AreTurns (GrowMemory 0 pages ∷ []) (reply ∷ []) turns → IsGrowth dst pages turns reply
@@ -123,27 +122,26 @@ pub reaches_more : {S : Type 0} (rules : Rules S) (program : List Instruction) (
     (v' : World S) → StepsAt rules program at v more (Ok at') v'
     → Reaches rules program w (n + 1) at' (turns ++ more) v'
 reaches_more rules program w n at turns v path more at' v' steps =
-    let next : n + 1 ≡ suc n = omega arith in
-    subst (λ k. Reaches rules program w k at' (turns ++ more) v') (sym next) (at, turns, v, path, more, steps, refl)
+    rw (add-one n) (at, turns, v, path, more, steps, refl)
 
 -- the call of an action doesn't set the fuel
 abbrev ActsWithoutFuel : Option Action → Type 0
 ActsWithoutFuel (Some (Calls c)) = SetsNoFuel c
 ActsWithoutFuel action = Unit {0}
 
--- so of what is made of a register
+-- what is made of a register, if that is there, doesn't set the fuel
 of_one : {A : Type 0} (o : Option A) (f : A → Action) → ((x : A) → ActsWithoutFuel (Some (f x)))
     → ActsWithoutFuel (option_map f o)
 of_one None f each = tt
 of_one (Some x) f each = each x
 
--- of two
+-- what is made of two registers, if they are there, doesn't set the fuel
 of_two : {A B : Type 0} (o : Option A) (p : Option B) (f : A → B → Action)
     → ((x : A) (y : B) → ActsWithoutFuel (Some (f x y))) → ActsWithoutFuel (option_and_then (λ x. option_map (f x) p) o)
 of_two None p f each = tt
 of_two (Some x) p f each = of_one p (f x) (each x)
 
--- of a branch
+-- a branch doesn't set the fuel, taken or not
 of_branch : (stays : Bool) (target : ℕ) → ActsWithoutFuel (Some (if stays then Continues else Branches target))
 of_branch true target = tt
 of_branch false target = tt
@@ -174,53 +172,44 @@ acts_without_fuel (BranchIf condition target) s =
     (λ x. of_branch (x.lo == 0) target)
 acts_without_fuel (Return local) s = of_one (slice_get s.registers local) (λ (x : RawVal). Returns x) (λ x. tt)
 
--- nor does that of a place
+-- the instruction of a place, if there is one, doesn't set the fuel
 place_without_fuel : (o : Option Instruction) (s : State) → ActsWithoutFuel (option_and_then (λ i. action_of i s) o)
 place_without_fuel None s = tt
 place_without_fuel (Some i) s = acts_without_fuel i s
 
--- turns of these calls don't set the fuel
-turns_without_fuel : (calls : List Call) (replies : List Reply) (turns : List Turn) → All SetsNoFuel calls
-    → AreTurns calls replies turns → All SetsNoFuel (map Turn.call turns)
-turns_without_fuel calls replies turns none are = subst (All SetsNoFuel) (sym are.calls_of) none
-
--- so those of a growth, by its result
+-- the turns of a growth don't set the fuel, by its result
 growth_without_fuel : (o : Option ℕ) (dst pages : ℕ) (turns : List Turn) (reply last : Reply)
     → MatchOption o (AreTurns (GrowMemory 0 pages ∷ []) (reply ∷ []) turns × (last ≡ reply))
     (λ size. AreTurns (GrowMemory 0 pages ∷ SetRegister dst (raw_of size) ∷ []) (reply ∷ last ∷ []) turns)
     → All SetsNoFuel (map Turn.call turns)
 growth_without_fuel None dst pages turns reply last are =
-    turns_without_fuel _ _ turns (All-cons SetsNoFuel (GrowMemory 0 pages) [] tt (All-nil SetsNoFuel)) are.0
+    rw are.0.calls_of (All-cons SetsNoFuel (GrowMemory 0 pages) [] tt (All-nil SetsNoFuel))
 growth_without_fuel (Some size) dst pages turns reply last are =
-    turns_without_fuel _ _ turns (All-cons SetsNoFuel (GrowMemory 0 pages) (SetRegister dst (raw_of size) ∷ []) tt
-    (All-cons SetsNoFuel (SetRegister dst (raw_of size)) [] tt (All-nil SetsNoFuel))) are
+    rw are.calls_of (All-cons SetsNoFuel (GrowMemory 0 pages) (SetRegister dst (raw_of size) ∷ []) tt
+    (All-cons SetsNoFuel (SetRegister dst (raw_of size)) [] tt (All-nil SetsNoFuel)))
 
--- there are none
-none_without_fuel : (turns : List Turn) → turns ≡ [] → All SetsNoFuel (map Turn.call turns)
-none_without_fuel turns none = subst (λ ts. All SetsNoFuel (map Turn.call ts)) (sym none) (All-nil SetsNoFuel)
-
--- so those of an action
+-- the turns of an action don't set the fuel
 action_without_fuel : (action : Action) (next : ℕ) (turns : List Turn) (result : Result ℕ Ending)
     → ActsWithoutFuel (Some action) → CarriesOut action next turns result → All SetsNoFuel (map Turn.call turns)
 action_without_fuel (Calls c) next turns result free (reply, are, is) =
-    turns_without_fuel (c ∷ []) (reply ∷ []) turns (All-cons SetsNoFuel c [] free (All-nil SetsNoFuel)) are
+    rw are.calls_of (All-cons SetsNoFuel c [] free (All-nil SetsNoFuel))
 action_without_fuel (Grows dst pages) next turns result free (last, (reply, are), is) =
     growth_without_fuel (grow_result reply) dst pages turns reply last are
-action_without_fuel Continues next turns result free (none, is) = none_without_fuel turns none
-action_without_fuel (Branches target) next turns result free (none, is) = none_without_fuel turns none
-action_without_fuel (Returns value) next turns result free (none, is) = none_without_fuel turns none
+action_without_fuel Continues next turns result free (none, is) = rw none (All-nil SetsNoFuel)
+action_without_fuel (Branches target) next turns result free (none, is) = rw none (All-nil SetsNoFuel)
+action_without_fuel (Returns value) next turns result free (none, is) = rw none (All-nil SetsNoFuel)
 
 -- whether an instruction takes fuel, by what follows it
 abbrev instruction_of : Result ℕ Ending → ℕ
 instruction_of (Ok place) = 1
 instruction_of (Err ending) = last_instruction ending
 
--- so where a call is answered
+-- an instruction takes fuel where its call is answered
 reply_instruction : (reply : Reply) (next : ℕ) → instruction_of (place_after reply next) ≡ 1
 reply_instruction Done next = refl
 reply_instruction reply next = refl
 
--- so does each action
+-- an instruction takes fuel where its action is carried out
 action_instruction : (action : Action) (next : ℕ) (turns : List Turn) (result : Result ℕ Ending)
     → CarriesOut action next turns result → instruction_of result ≡ 1
 action_instruction (Calls c) next turns result (reply, are, is) = ap instruction_of is ∙ reply_instruction reply next
@@ -230,13 +219,13 @@ action_instruction Continues next turns result (none, is) = ap instruction_of is
 action_instruction (Branches target) next turns result (none, is) = ap instruction_of is
 action_instruction (Returns value) next turns result (none, is) = ap instruction_of is
 
--- as many turns have written as much, and were charged as much for it
+-- two lists of turns have written as much, by as many turns, which were charged as much for it
 record IsWrittenAs (all turns : List Turn) : Type 0 where
   bytes : bytes_written all ≡ bytes_written turns
   number : writing_turns all ≡ writing_turns turns
   charged : charges_for_writing all ≡ charges_for_writing turns
 
--- so have they and more
+-- two lists of turns have written as much where both of their parts have
 written_append : (all turns more extra : List Turn) → IsWrittenAs all turns → IsWrittenAs more extra
     → IsWrittenAs (all ++ more) (turns ++ extra)
 written_append all turns more extra first second = record {
@@ -307,7 +296,7 @@ module _ {S : Type 0} (rules : Rules S) where
       → last_instruction ending ≡ 0 → Stops ending w turns result w' → Needs w turns (instruction_of result) w'
   stops_needs ending w turns result w' free stops = inl (stops.1, stops.2, ap instruction_of stops.0 ∙ free)
 
-  -- an action, by whether fuel is left for it
+  -- what an action needs, by whether fuel is left for it
   action_needs : (action : Action) (next : ℕ) (w : World S) (turns : List Turn) (result : Result ℕ Ending)
       (w' : World S) (out : Bool) → ActsWithoutFuel (Some action) → is_out_of_fuel w.state.meter ≡ out
       → MatchBool out (Stops ending.OutOfFuel w turns result w')
@@ -322,7 +311,7 @@ module _ {S : Type 0} (rules : Rules S) where
     action_instruction action next turns result follows,
   )
 
-  -- so an instruction
+  -- what the instruction of a place needs, by what it comes to
   place_needs : (o : Option Action) (next : ℕ) (w : World S) (turns : List Turn) (result : Result ℕ Ending)
       (w' : World S) → ActsWithoutFuel o → MatchOption o (Stops ending.Undefined w turns result w')
       (λ action. MatchBool (is_out_of_fuel w.state.meter) (Stops ending.OutOfFuel w turns result w')
@@ -333,7 +322,7 @@ module _ {S : Type 0} (rules : Rules S) where
       action_needs action next w turns result w' (is_out_of_fuel w.state.meter) free refl h
 
 module _ {S : Type 0} (rules : Rules S) (joins : RunsJoin rules) (spends : ChargesAreSpent rules) where
-  -- so much fuel is taken by it
+  -- the fuel that an instruction needs is taken by it
   needs_taken : (w : World S) (turns : List Turn) (fuel : ℕ) (w' : World S) → Needs rules w turns fuel w'
       → Taken rules w turns fuel w'
   needs_taken w turns fuel w' (inl (none, same, free)) = record {
@@ -361,7 +350,7 @@ module _ {S : Type 0} (rules : Rules S) (joins : RunsJoin rules) (spends : Charg
             (rest.0, rest.1, omega (arith, rest.2.charged, one, some));
       }
 
-  -- so by more turns
+  -- the fuel that is taken by turns, and by those that follow, is taken by all of them
   taken_more : (w : World S) (turns : List Turn) (n : ℕ) (v : World S) → Taken rules w turns n v
       → (more : List Turn) (k : ℕ) (w' : World S) → Taken rules v more k w' → Taken rules w (turns ++ more) (n + k) w'
   taken_more w turns n v first more k w' second = record {
@@ -376,7 +365,7 @@ module _ {S : Type 0} (rules : Rules S) (joins : RunsJoin rules) (spends : Charg
   }
 
   module _ (program : List Instruction) where
-    -- so by the instruction of a place
+    -- the instruction of a place takes fuel, as what follows it says
     step_taken : (place : ℕ) (w : World S) (turns : List Turn) (result : Result ℕ Ending) (w' : World S)
         → StepsAt rules program place w turns result w' → Taken rules w turns (instruction_of result) w'
     step_taken place w turns result w' steps =
@@ -384,17 +373,15 @@ module _ {S : Type 0} (rules : Rules S) (joins : RunsJoin rules) (spends : Charg
         (place_needs rules (action_at program place w.state) (place + 1) w turns result w'
         (place_without_fuel (slice_get program place) w.state) steps)
 
-    -- by so many
+    -- the instructions that reach a place take one fuel each
     reached_taken : (w : World S) (n place : ℕ) (turns : List Turn) (v : World S)
         → Reaches rules program w n place turns v → Taken rules w turns n v
     reached_taken w zero place turns v (start, none, same) = needs_taken w turns 0 v (inl (none, same, refl))
     reached_taken w (suc n) place turns v (last, before, u, path, more, steps, are) =
-        let next : n + 1 ≡ suc n = omega arith in
-        subst (λ k. Taken rules w turns k v) next (subst (λ ts. Taken rules w ts (n + 1) v) (sym are)
-        (taken_more w before n u (reached_taken w n last before u path) more 1 v
-        (step_taken last u more (Ok place) v steps)))
+        rw (are, ← (add-one n)) (taken_more w before n u (reached_taken w n last before u path) more 1 v
+        (step_taken last u more (Ok place) v steps))
 
-    -- by a whole program
+    -- a program takes one fuel for each instruction that it counts
     program_taken : (w : World S) (turns : List Turn) (outcome : Outcome) (w' : World S)
         → ExecutesProgram rules program w turns outcome w' → Taken rules w turns (instructions_of outcome) w'
     program_taken w turns outcome w' (before, v, path, ends) = by outcome.ending ends
@@ -402,17 +389,13 @@ module _ {S : Type 0} (rules : Rules S) (joins : RunsJoin rules) (spends : Charg
         by : (o : Option Ending) → MatchOption o ((turns ≡ before) × (w' ≡ v))
             (λ ending. (more : List Turn) × StepsAt rules program outcome.place v more (Err ending) w'
             × (turns ≡ before ++ more)) → Taken rules w turns (outcome.executed + option_map_or last_instruction o 0) w'
-        by None (are, same) =
-            let n = outcome.executed in
-            let next : n ≡ n + 0 = omega arith in
-            subst (λ k. Taken rules w turns k w') next (subst (λ ts. Taken rules w ts n w') (sym are)
-            (subst (λ u. Taken rules w before n u) (sym same) (reached_taken w n outcome.place before v path)))
-        by (Some ending) (more, steps, are) =
-            subst (λ ts. Taken rules w ts (outcome.executed + last_instruction ending) w') (sym are)
+        by None (are, same) = rw (are, same, add-zero outcome.executed)
+            (reached_taken w outcome.executed outcome.place before v path)
+        by (Some ending) (more, steps, are) = rw are
             (taken_more w before outcome.executed v (reached_taken w outcome.executed outcome.place before v path) more
             (last_instruction ending) w' (step_taken outcome.place v more (Err ending) w' steps))
 
--- so what was left is spent
+-- the fuel that a program takes is spent of what was left
 taken_spent : {S : Type 0} (rules : Rules S) → FuelBoundsWriting rules → (w : World S) (turns : List Turn)
     (outcome : Outcome) (w' : World S) → Taken rules w turns (instructions_of outcome) w'
     → PaysProgramFuel w.state.meter turns outcome w'.state.meter

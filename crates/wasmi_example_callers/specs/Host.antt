@@ -34,7 +34,7 @@ at_most_rules = record {
   noticed = λ l failure notice_answer l'. (notice_answer ≡ Ok tt) × (l' ≡ l);
 }
 
--- so much is what turns were charged, and what was left is what is left and that
+-- turns were charged this much, and what was left before them is what is left after them and that
 pub record Accounts (turns : List Turn) (before charged after : ℕ) : Type 0 where
   pub charges_of : charges turns ≡ charged
   pub left : after + charged ≡ before

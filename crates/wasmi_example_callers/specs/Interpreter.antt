@@ -110,14 +110,14 @@ module _ {S : Type 0} (rules : Rules S) where
         (λ action. MatchBool (is_out_of_fuel w.state.meter) (Stops OutOfFuel w turns result w')
         (Run rules (world (fuel_taken w.state) w.limiter) turns w' × CarriesOut action (place + 1) turns result))
 
-    -- so many instructions, from the first on, reach a place and a world by turns
+    -- a number of instructions, from the first on, reach a place and a world by turns
     abbrev pub Reaches : World S → ℕ → ℕ → List Turn → World S → Type 0
     Reaches w zero place turns w' = (place ≡ 0) × (turns ≡ []) × (w' ≡ w)
     Reaches w (suc n) place turns w' = (last : ℕ) × (before : List Turn) × (v : World S) × Reaches w n last before v
         × (more : List Turn) × StepsAt last v more (Ok place) w' × (turns ≡ before ++ more)
 
-    -- so many instructions are executed, and then the program ends, unless it may execute no more; the turns are those
-    -- of all these instructions
+    -- a number of instructions are executed, and then the program ends, unless it may execute no more; the turns are
+    -- those of all these instructions
     abbrev pub ExecutesProgram : World S → List Turn → Outcome → World S → Type 0
     ExecutesProgram w turns outcome w' = (before : List Turn) × (v : World S)
         × Reaches w outcome.executed outcome.place before v × MatchOption outcome.ending ((turns ≡ before) × (w' ≡ v))

@@ -53,7 +53,7 @@ elements_form = (
 
 -- What tools/generate writes begins.
 -- the forms of commands whose operands are read at once
-abbrev pub forms : List (List ℕ × Form)
+abbrev forms : List (List ℕ × Form)
 forms =
     (codes "fuel", made ℕ (λ a. call.SetFuel a)) ∷
     (codes "left", made ⊤ (λ a. call.GetFuel)) ∷

@@ -3,6 +3,8 @@ use Rattle.std.proofs.Common.{ℕ, ◌≡◌, ◌∙◌, ◌++◌, List, [], ◌
 use Rattle.std.proofs.lemmas.Bool.{cases_lt}
 use Rattle.wasmi_grammar.proofs.Common.{option_map, map-append, take_at, Line, Meter, Limiter, Region, Reserve, As, Script, LimiterLine, Tenants, RegionLine, LineWords, word_at, AreApart, tenants_of, HasNoCommands, NamesLine, AddsLine, AddsWords, AcceptsLine, AcceptsLines, IsNewScript, AreTaken, lines_in, IsBadLine, IsFirstBadLine, TenantRun, PartsValue, parts_in}
 use Rattle.std.proofs.Math.Seq.{take-append-add}
+use Rattle.wasmi_grammar.specs.Lines.{AddsHeader}
+use Rattle.wasmi_grammar.specs.declared.header.Header.{Header}
 use Rattle.wasmi_grammar.specs.declared.script.Line.TheVariants.{Call as Command}
 use Rattle.wasmi_grammar.specs.Meanings.{call_meaning, limiter_meaning, LimiterMeaning, OtherLimiter, part_meaning, TextsWriteOneScript, FirstBadLinesAreOne, WrittenTextsHaveNoBadLine}
 use Rattle.wasmi_grammar.proofs.MeaningLemmas.{line_meaning, line_is, meaning_of, lines_meaning, LinesHaveSameMeaning, meaning_after, added}
@@ -87,52 +89,35 @@ module _ (old old' : Script) (same : LinesHaveSameMeaning old old') where
   tenants_same = tenants_is old.header.limiter_line ∙ ap (λ s. tenants_meaning s.limiter) same
       ∙ sym (tenants_is old'.header.limiter_line)
 
+  -- a header line that the one takes is one that the other takes, where what allows the first allows the second
+  header_too : {Allowed Allowed' : Type 0} {header header' : Header} {new : Script} → (Allowed → Allowed')
+      → AddsHeader old Allowed header new → (new' : Script) × AddsHeader old' Allowed' header' new'
+  header_too {header' = header'} allows a = (
+    record old' { header = header' },
+    record { before_commands = none_too a.before_commands; allowed = allows a.allowed; header = refl; parts = refl },
+  )
+
   -- a line that the one takes the other takes, and each line that says the same
   takes_too : (line line' : Line) → line_meaning line ≡ line_meaning line' → (new : Script) → AddsLine old line new
       → (new' : Script) × AddsLine old' line' new'
-  takes_too (Meter line) (Meter line') says new a = (
-    record old' { header = record old'.header { meter = Some line' } },
-    record {
-      before_commands = none_too a.before_commands;
-      first = ap (λ s. s.meter) (sym same) ∙ a.first;
-      header = refl;
-      parts = refl;
-    },
-  )
+  takes_too (Meter line) (Meter line') says new a = header_too (λ first. ap (λ s. s.meter) (sym same) ∙ first) a
   takes_too (Limiter line) (Limiter line') says new a =
-      let told : limiter_meaning line ≡ limiter_meaning line' = cc in (
-        record old' { header = record old'.header { limiter_line = Some line' } },
-        record {
-          before_commands = none_too a.before_commands;
-          first = none_of limiter_meaning old'.header.limiter_line
-              (ap (λ s. s.limiter) (sym same) ∙ ap (option_map limiter_meaning) a.first);
-          apart = apart_too (Some line) (Some line') old'.header.region (ap (λ t. Some t) told)
-              (subst (AreApart (Some line)) (ap (λ s. s.region) same) a.apart);
-          header = refl;
-          parts = refl;
-        },
-      )
+      let told : limiter_meaning line ≡ limiter_meaning line' = cc in
+      header_too (λ allowed. (
+        none_of limiter_meaning old'.header.limiter_line
+            (ap (λ s. s.limiter) (sym same) ∙ ap (option_map limiter_meaning) allowed.0),
+        apart_too (Some line) (Some line') old'.header.region (ap (λ t. Some t) told)
+            (subst (AreApart (Some line)) (ap (λ s. s.region) same) allowed.1),
+      )) a
   takes_too (Region line) (Region line') says new a =
-      let told : line ≡ line' = cc in (
-        record old' { header = record old'.header { region = Some line' } },
-        record {
-          before_commands = none_too a.before_commands;
-          first = ap (λ s. s.region) (sym same) ∙ a.first;
-          apart = apart_too old.header.limiter_line old'.header.limiter_line (Some line') (ap (λ s. s.limiter) same)
-              (subst (λ r. AreApart old.header.limiter_line (Some r)) told a.apart);
-          header = refl;
-          parts = refl;
-        },
-      )
-  takes_too (Reserve slots) (Reserve slots') says new a = (
-    record old' { header = record old'.header { reserve = Some slots' } },
-    record {
-      before_commands = none_too a.before_commands;
-      first = ap (λ s. s.reserve) (sym same) ∙ a.first;
-      header = refl;
-      parts = refl;
-    },
-  )
+      let told : line ≡ line' = cc in
+      header_too (λ allowed. (
+        ap (λ s. s.region) (sym same) ∙ allowed.0,
+        apart_too old.header.limiter_line old'.header.limiter_line (Some line') (ap (λ s. s.limiter) same)
+            (subst (λ r. AreApart old.header.limiter_line (Some r)) told allowed.1),
+      )) a
+  takes_too (Reserve slots) (Reserve slots') says new a =
+      header_too (λ first. ap (λ s. s.reserve) (sym same) ∙ first) a
   takes_too (As tenant) (As tenant') says new a =
       let told : tenant ≡ tenant' = cc in (
         record old' { parts = record { earlier = parts_in old'.parts; tenant = tenant'; calls = [] } },

@@ -95,7 +95,7 @@ command_word (call.LoadLane op dst a memory ptr offset) = codes "vloadlane"
 command_word (call.VectorStore a memory ptr offset) = codes "vstore"
 command_word (call.StoreLane op a memory ptr offset) = codes "vstorelane"
 
--- so many operands, the k-th of which is the text `word k`, write what the call is given, but for a list at their end
+-- as many operands, the k-th of which is the text `word k`, write what the call is given, but for a list at their end
 abbrev pub OperandsWrite : ℕ → (ℕ → List ℕ) → Call → Type 0
 OperandsWrite count word (call.SetFuel fuel) = (count ≡ 1) × WritesNumber 64 (word 0) fuel
 OperandsWrite count word call.GetFuel = count ≡ 0

@@ -3,10 +3,7 @@ use Rattle.std.specs.Prelude.{◌≡◌, ◌<◌, ℕ, ◌⊎◌, List, [], ◌�
 use Rattle.std.specs.List.{slice_split}
 use Rattle.std.specs.Str.{IsUtf8}
 use Rattle.wasmi_machine.specs.declared.calls.Call.{Call}
-use Rattle.wasmi_machine.specs.declared.slots.SlotCounts.{SlotCounts}
-use Rattle.wasmi_grammar.specs.declared.header.LimiterLine.{LimiterLine}
-use Rattle.wasmi_grammar.specs.declared.header.MeterLine.{MeterLine}
-use Rattle.wasmi_grammar.specs.declared.header.RegionLine.{RegionLine}
+use Rattle.wasmi_grammar.specs.declared.header.Header.{Header}
 use Rattle.wasmi_grammar.specs.declared.script.Line.{Line}
 use Rattle.wasmi_grammar.specs.declared.script.Line.TheVariants.{Meter, Limiter, Region, Reserve, As, Call as Command}
 use Rattle.wasmi_grammar.specs.declared.script.Script.{Script}
@@ -31,34 +28,11 @@ pub record HasNoCommands (script : Script) : Type 0 where
   pub no_calls : script.parts.calls ≡ []
   pub no_parts : script.parts.earlier ≡ []
 
--- a `meter` line, the first one and before all commands
-pub record AddsMeter (old : Script) (line : MeterLine) (new : Script) : Type 0 where
+-- a header line, before all commands: the lines before it allow it, and the header has it from then on
+pub record AddsHeader (old : Script) (Allowed : Type 0) (header' : Header) (new : Script) : Type 0 where
   pub before_commands : HasNoCommands old
-  pub first : old.header.meter ≡ None
-  pub header : new.header ≡ record old.header { meter = Some line }
-  pub parts : new.parts ≡ old.parts
-
--- a limiter line, the first one of any kind and before all commands
-pub record AddsLimiter (old : Script) (line : LimiterLine) (new : Script) : Type 0 where
-  pub before_commands : HasNoCommands old
-  pub first : old.header.limiter_line ≡ None
-  pub apart : AreApart (Some line) old.header.region
-  pub header : new.header ≡ record old.header { limiter_line = Some line }
-  pub parts : new.parts ≡ old.parts
-
--- a `region` line, the first one and before all commands
-pub record AddsRegion (old : Script) (line : RegionLine) (new : Script) : Type 0 where
-  pub before_commands : HasNoCommands old
-  pub first : old.header.region ≡ None
-  pub apart : AreApart old.header.limiter_line (Some line)
-  pub header : new.header ≡ record old.header { region = Some line }
-  pub parts : new.parts ≡ old.parts
-
--- a `reserve` line, the first one and before all commands
-pub record AddsReserve (old : Script) (slots : SlotCounts) (new : Script) : Type 0 where
-  pub before_commands : HasNoCommands old
-  pub first : old.header.reserve ≡ None
-  pub header : new.header ≡ record old.header { reserve = Some slots }
+  pub allowed : Allowed
+  pub header : new.header ≡ header'
   pub parts : new.parts ≡ old.parts
 
 -- a command, whose call comes after those of the lines before
@@ -72,12 +46,19 @@ pub record AddsPart (old : Script) (named : ℕ) (new : Script) : Type 0 where
   pub parts : new.parts ≡ record { earlier = parts_in old.parts; tenant = named; calls = [] }
   pub header : new.header ≡ old.header
 
--- what a line says, added to the lines before
+-- what a line says, added to the lines before: there is one `meter`, one `region` and one `reserve` line at most, one
+-- limiter line of any kind, and no region beside a pool
 abbrev pub AddsLine : Script → Line → Script → Type 0
-AddsLine old (Meter line) new = AddsMeter old line new
-AddsLine old (Limiter line) new = AddsLimiter old line new
-AddsLine old (Region line) new = AddsRegion old line new
-AddsLine old (Reserve slots) new = AddsReserve old slots new
+AddsLine old (Meter line) new =
+    AddsHeader old (old.header.meter ≡ None) (record old.header { meter = Some line }) new
+AddsLine old (Limiter line) new =
+    AddsHeader old ((old.header.limiter_line ≡ None) × AreApart (Some line) old.header.region)
+    (record old.header { limiter_line = Some line }) new
+AddsLine old (Region line) new =
+    AddsHeader old ((old.header.region ≡ None) × AreApart old.header.limiter_line (Some line))
+    (record old.header { region = Some line }) new
+AddsLine old (Reserve slots) new =
+    AddsHeader old (old.header.reserve ≡ None) (record old.header { reserve = Some slots }) new
 AddsLine old (As tenant) new = AddsPart old tenant new
 AddsLine old (Command call) new = AddsCall old call new
 

@@ -153,7 +153,7 @@ fn calls_at(calls: &[Call], start: usize, end: usize) -> &[Call]
 }
 
 impl Script {
-    ghost use Rattle.wasmi_grammar.specs.Lines.{AddsWords, AddsLine, AddsMeter, AddsLimiter, AddsRegion, AddsReserve, AddsCall, AddsPart, IsNewScript};
+    ghost use Rattle.wasmi_grammar.specs.Lines.{AddsWords, AddsLine, AddsCall, AddsPart, IsNewScript};
 
     /// A script without lines.
     fn new(alloc: Global) -> Self
@@ -196,8 +196,9 @@ impl Script {
 
     /// Takes in a `meter` line, of which a script has at most one.
     fn take_meter(&mut self, line: MeterLine) -> Result<(), LineError>
-        ensures ok { OnOk result (AddsMeter self.old line self.new) }
-        ensures refused { OnErr result ((new : Script) → ¬ (AddsMeter self.old line new)) }
+        ensures ok { OnOk result (AddsLine self.old (Line.Meter line) self.new) }
+        ensures refused { OnErr result
+            ((new : Script) → ¬ (AddsLine self.old (Line.Meter line) new)) }
     {
         if !self.parts.is_empty() || self.header.meter.is_some() {
             return Err(LineError::BadCommand);
@@ -208,8 +209,9 @@ impl Script {
 
     /// Takes in a limiter line, of which a script has at most one. A pool has no region.
     fn take_limiter(&mut self, line: LimiterLine) -> Result<(), LineError>
-        ensures ok { OnOk result (AddsLimiter self.old line self.new) }
-        ensures refused { OnErr result ((new : Script) → ¬ (AddsLimiter self.old line new)) }
+        ensures ok { OnOk result (AddsLine self.old (Line.Limiter line) self.new) }
+        ensures refused { OnErr result
+            ((new : Script) → ¬ (AddsLine self.old (Line.Limiter line) new)) }
     {
         if !self.parts.is_empty() || self.header.limiter_line.is_some() {
             return Err(LineError::BadCommand);
@@ -223,8 +225,9 @@ impl Script {
 
     /// Takes in a `region` line, of which a script has at most one, and none beside a pool.
     fn take_region(&mut self, line: RegionLine) -> Result<(), LineError>
-        ensures ok { OnOk result (AddsRegion self.old line self.new) }
-        ensures refused { OnErr result ((new : Script) → ¬ (AddsRegion self.old line new)) }
+        ensures ok { OnOk result (AddsLine self.old (Line.Region line) self.new) }
+        ensures refused { OnErr result
+            ((new : Script) → ¬ (AddsLine self.old (Line.Region line) new)) }
     {
         if !self.parts.is_empty()
             || self.header.region.is_some()
@@ -238,8 +241,9 @@ impl Script {
 
     /// Takes in a `reserve` line, of which a script has at most one.
     fn take_reserve(&mut self, slots: SlotCounts) -> Result<(), LineError>
-        ensures ok { OnOk result (AddsReserve self.old slots self.new) }
-        ensures refused { OnErr result ((new : Script) → ¬ (AddsReserve self.old slots new)) }
+        ensures ok { OnOk result (AddsLine self.old (Line.Reserve slots) self.new) }
+        ensures refused { OnErr result
+            ((new : Script) → ¬ (AddsLine self.old (Line.Reserve slots) new)) }
     {
         if !self.parts.is_empty() || self.header.reserve.is_some() {
             return Err(LineError::BadCommand);

@@ -1,8 +1,6 @@
 -- Lanes as std::simd computes them: the digits of a number, and sums.
-use Rattle.std.proofs.Common.{ℕ, ◌+◌, ◌%◌, ◌<◌, ◌≡◌, List, [], ◌∷◌, length, get_or, map, replicate, refl, sym, ap, ◌∙◌, arith, zero, suc, pos, ◌*◌, ◌/◌, ◌^◌, ◌≤◌, subst, mul_comm, zero-mul, suc-mul}
+use Rattle.std.proofs.Common.{ℕ, ◌+◌, ◌%◌, ◌<◌, ◌≡◌, List, [], ◌∷◌, length, get_or, map, replicate, refl, sym, ap, ◌∙◌, arith, zero, suc, pos, ◌*◌, ◌/◌, ◌^◌, ◌≤◌, subst, mul_comm, zero-mul, suc-mul, mul-add, mul-one, mod-eq_of_lt, w8, w64}
 use Rattle.wasmi_lanes.proofs.Common.{zip2, digits_l, number_l, Each1, Each1-from_get_or, mod-one, mod-pow-add, div-mul-add, mod-mul-add, pow-add, mul-le, get_or-map, Width, w16, w32, bits, signed, lane, field}
-use Rattle.std.proofs.Math.Nat.{mul-add, mul-one, mod-eq_of_lt}
-use Rattle.wasmi_types.specs.Numbers.{w8, w64}
 use Rattle.wasmi_raw.specs.RawVal.{vector_of}
 use Rattle.wasmi_lanes.proofs.FieldLemmas.{first_lane, next_lane}
 use Rattle.wasmi_lanes.proofs.ItemLemmas.{items, repeated, zipped}
@@ -53,7 +51,7 @@ repeated_lane w n i x fits inside =
     number_at w (replicate n x) i 0 (Each1-replicate (λ y. y < 2 ^ w) n x fits) (omega (arith, of_x.long))
     ∙ of_x.are i inside
 
--- and is below the power that has one digit more
+-- the number of a list of digits is below the power of the base that has one digit more
 pub number_below : (b : ℕ) (xs : List ℕ) → Each1 (λ x. x < 2 ^ b) xs → number_l (2 ^ b) xs < 2 ^ (length xs * b)
 number_below b [] fits = let none : 2 ^ (0 * b) ≡ 1 = ap (λ k. 2 ^ k) (zero-mul b) in omega arith
 number_below b (x ∷ xs) fits =

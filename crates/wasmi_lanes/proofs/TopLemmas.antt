@@ -170,7 +170,7 @@ some_top h z s zero fits pos e small at =
 some_top h z s (suc zero) fits pos e small at = omega (arith, bit_at-lt s h)
 some_top h z s (suc (suc b)) fits pos e small at = absurd (omega (arith, bit_at-lt z h))
 
--- so the top of a lane that isn't 0, in the lane or in that sum, is set
+-- the top of a lane that isn't 0 is set, in the lane or in that sum
 lane_some : (h z : ℕ) → z < 2 ^ suc h → 0 < z →
     bit_and (bit_or ((bit_and z (2 ^ h - 1) + (2 ^ h - 1)) % 2 ^ suc h) z) (2 ^ h) ≡ 2 ^ h
 lane_some h z fits pos =

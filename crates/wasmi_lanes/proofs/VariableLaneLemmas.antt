@@ -1,9 +1,8 @@
 -- One lane of a vector: by its bytes, and among lanes that are chosen by their numbers.
-use Rattle.std.proofs.Common.{ℕ, ◌+◌, ◌-◌, ◌*◌, ◌/◌, ◌%◌, ◌^◌, ◌<◌, ◌≡◌, List, [], ◌∷◌, get_or, replicate, map, refl, sym, subst, ap, ◌∙◌, arith, true, false, cond, eqb, ltb, bit_and, zero-add, mul_comm, mul-add, mul-one, add-mul}
+use Rattle.std.proofs.Common.{ℕ, ◌+◌, ◌-◌, ◌*◌, ◌/◌, ◌%◌, ◌^◌, ◌<◌, ◌≡◌, List, [], ◌∷◌, get_or, replicate, map, refl, sym, subst, ap, ◌∙◌, arith, true, false, cond, eqb, ltb, bit_and, zero-add, mul_comm, mul-add, mul-one, add-mul, w8}
 use Rattle.wasmi_lanes.proofs.Common.{shr-shr, mod-pow-add, and_mask, zip2, sel_l, number_l, digits_l, ltb-true, swz_l, SwzOk, SwzOk-from_below, Each1-from_get_or, get_or-swz_l_below, Width, bits, lane, with_lane}
 use Rattle.std.proofs.lemmas.List.FromFn.{get_or-range_with_len, length-range_with_len, get_or-map-range_with_len}
 use Rattle.std.specs.List.{range_with_len}
-use Rattle.wasmi_types.specs.Numbers.{w8}
 use Rattle.wasmi_lanes.proofs.ItemLemmas.{AreItems, repeated, chosen_by}
 use Rattle.wasmi_lanes.proofs.SimdLaneLemmas.{digit_at}
 use Rattle.wasmi_lanes.proofs.VectorLemmas.{lanes_make_vector, lane_below}
@@ -132,7 +131,7 @@ module _ {f : ℕ → ℕ} {js : List ℕ} (of_j : AreItems 16 0 f js) (below : 
       SwzOk-from_below w8 16 1 16 0 js refl (omega (arith, of_j.long))
       (Each1-from_get_or (λ j. j < 16) js 0 (λ i inside. index_below i (omega (arith, of_j.long))))
 
-  -- by indices below 16, the byte of a table at the index is chosen
+  -- an index below 16 chooses the byte of a table at the index
   pub picked_inside_at : (table : List ℕ) (i : ℕ) → i < 16
       → get_or (swz_l w8 16 table 0 js) i 0 ≡ get_or table (f i) 0
   picked_inside_at table i inside =

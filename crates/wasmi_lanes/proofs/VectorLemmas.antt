@@ -1,11 +1,8 @@
 -- A vector is made of its lanes.
-use Rattle.std.proofs.Common.{ℕ, zero, suc, ◌+◌, ◌-◌, ◌*◌, ◌/◌, ◌%◌, ◌^◌, ◌<◌, ◌≡◌, refl, sym, ◌∙◌, ap, ap₂, subst, arith, add_comm, Bool, true, false, if◌then◌else◌, ◌≤◌, inl, inr, add-mul, mul-zero, one-mul, le_refl}
+use Rattle.std.proofs.Common.{ℕ, zero, suc, ◌+◌, ◌-◌, ◌*◌, ◌/◌, ◌%◌, ◌^◌, ◌<◌, ◌≡◌, refl, sym, ◌∙◌, ap, ap₂, subst, arith, add_comm, Bool, true, false, if◌then◌else◌, ◌≤◌, inl, inr, add-mul, mul-zero, one-mul, le_refl, mod-eq_of_lt, mod-lt, mul-suc, w8, w64, ◌==◌}
 use Rattle.wasmi_lanes.proofs.Common.{pow_pos, mod-pow-add, pow-add, div-mul-add, mod-mul-add, mul-le, mod-one, mod-mod, lane, lane_count, first_lanes, from_lanes, unary_of_lanes, binary_of_lanes, comparison_of_lanes, splat_of, with_lane, Width, w16, w32, bits, cases_eq, field}
-use Rattle.std.proofs.Math.Nat.{mod-eq_of_lt, mod-lt, mul-suc}
 use Rattle.wasmi_lanes.specs.declared.item.LaneInteger.{Ghosts}
-use Rattle.wasmi_types.specs.Numbers.{w8, w64}
 use mir.Syntax.{w128}
-use Rattle.std.specs.Prelude.{◌==◌}
 use Rattle.wasmi_lanes.proofs.FieldLemmas.{field_mod}
 
 -- a lane is below 2 to the power of its width

@@ -1,11 +1,10 @@
 -- Sums, differences and inequality of the lanes of a word, and a word made of its lanes.
-use Rattle.std.proofs.Common.{◌≡◌, ℕ, zero, suc, ◌+◌, ◌-◌, ◌*◌, ◌%◌, ◌^◌, ◌<◌, ◌≤◌, ◌⊎◌, ap, ap₂, subst, ◌∙◌, arith, mod-eq_of_lt, bit_and, bit_or, bit_xor, cond, eqb, pow-suc, ◌/◌, List, [], ◌∷◌, sum, refl, sym, mul_assoc, mul_comm, add-mul, div-one, mul-one}
+use Rattle.std.proofs.Common.{◌≡◌, ℕ, zero, suc, ◌+◌, ◌-◌, ◌*◌, ◌%◌, ◌^◌, ◌<◌, ◌≤◌, ◌⊎◌, ap, ap₂, subst, ◌∙◌, arith, mod-eq_of_lt, bit_and, bit_or, bit_xor, cond, eqb, pow-suc, ◌/◌, List, [], ◌∷◌, sum, refl, sym, mul_assoc, mul_comm, add-mul, div-one, mul-one, zero-mul}
 use Rattle.wasmi_lanes.proofs.Common.{and_assoc, and_le_l, and_mask, div-add-mod', shr-shr, pow-add, bit_at, field, IsLane, IsLastLane, AreLanes, word_of_lanes, div-eq_of_lt}
 use Rattle.std.specs.Int.Bits.{and_self, and_zero_r, or_zero_r, xor_zero_r}
 use Rattle.wasmi_lanes.proofs.FieldLemmas.{field_lt, field_and, field_or, field_xor, field_add, field_mod, field_not, field_wrapping_sub}
 use Rattle.wasmi_lanes.proofs.TopLemmas.{room, filled, lane_add, lane_sub, lane_differ}
 use Rattle.std.proofs.lemmas.List.Sums.{sum_by-cons}
-use Rattle.std.proofs.Math.Nat.{zero-mul}
 
 -- the bits of a word from k to k + w - 1, where those of tops are `top` and what comes from below has room
 module _ (tops k w top : ℕ) (fits : tops < 2 ^ 64) (starts : (k ≡ 0) ⊎ (bit_at tops (k - 1) ≡ 1)) (within : k + w ≤ 64)

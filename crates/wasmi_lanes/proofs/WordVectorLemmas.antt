@@ -1,10 +1,9 @@
 -- Vectors by their two words, and words of equal lanes.
-use Rattle.std.proofs.Common.{◌≡◌, ℕ, zero, suc, ◌+◌, ◌-◌, ◌*◌, ◌/◌, ◌%◌, ◌^◌, ◌<◌, ◌≤◌, ◌⊎◌, inl, inr, refl, sym, ap, ap₂, subst, ◌∙◌, arith, mul-suc, mul-zero, mul-add, mul_comm}
+use Rattle.std.proofs.Common.{◌≡◌, ℕ, zero, suc, ◌+◌, ◌-◌, ◌*◌, ◌/◌, ◌%◌, ◌^◌, ◌<◌, ◌≤◌, ◌⊎◌, inl, inr, refl, sym, ap, ap₂, subst, ◌∙◌, arith, mul-suc, mul-zero, mul-add, mul_comm, w8, w64}
 use Rattle.wasmi_lanes.proofs.Common.{cases_lt, pow_pos, shr-shr, field_of, zero-mod, mod_self, bit_at, Width, w16, w32, bits, lane, from_lanes, field, IsLane, IsLastLane, lanes_in_word, in_each_lane}
 use Rattle.std.proofs.Math.Pow.{mod-mod-pow}
 use Rattle.std.proofs.lemmas.Nat.Bits.{bit_at-pow_same}
 use Rattle.wasmi_raw.specs.RawVal.{vector_of}
-use Rattle.wasmi_types.specs.Numbers.{w8, w64}
 use Rattle.wasmi_lanes.proofs.FieldLemmas.{field_mod, lane_ends, top_of_lane}
 use Rattle.wasmi_lanes.proofs.SimdLaneLemmas.{repeated_lane}
 use Rattle.wasmi_lanes.proofs.VectorLemmas.{lanes_make_vector}
@@ -105,7 +104,7 @@ module _ (w : Width) (whole : lanes_in_word w * bits w ≡ 64) where
 
 -- ---- the highest bits of lanes of one width
 
--- each lane begins at the bottom, or right above the top of the lane below
+-- a lane begins at the bottom, or right above the top of the lane below
 top_below : (h n tops : ℕ) → ((j : ℕ) → j < n → field (suc h * j) (suc h) tops ≡ 2 ^ h) → (i : ℕ) → i < n
     → (suc h * i ≡ 0) ⊎ (bit_at tops (suc h * i - 1) ≡ 1)
 top_below h n tops each zero lt = inl (mul-zero (suc h))

@@ -48,7 +48,7 @@ pub record IsWordLane (width : Width) (lane_bits tops ones : ℕ) : Type 0 where
   pub highest : tops ≡ in_each_lane width (2 ^ (bits width - 1))
   pub lowest : ones ≡ in_each_lane width 1
 
--- each lane of w bits of a word is 0 or its highest bit alone
+-- every lane of w bits of a word is 0 or its highest bit alone
 abbrev pub AreMarks : Width → ℕ → Type 0
 AreMarks w marks =
     (i : ℕ) → i < lanes_in_word w

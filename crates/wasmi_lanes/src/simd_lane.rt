@@ -1,7 +1,7 @@
 //! The lanes of a vector as a vector of `std::simd`, and one of them at an index that is known only
 //! when the program runs.
 
-ghost use Rattle.std.specs.Prelude.{◌≡◌, ℕ, ◌+◌, ◌-◌, ◌*◌, ◌/◌, ◌%◌, ◌^◌, ◌<◌, [], ◌∷◌, nat_lt, replicate, slice_index, slice_index_or, if◌then◌else◌};
+ghost use Rattle.std.specs.Prelude.{◌≡◌, ℕ, ◌+◌, ◌-◌, ◌/◌, ◌%◌, ◌^◌, ◌<◌, [], ◌∷◌, nat_lt, slice_index, slice_index_or, if◌then◌else◌};
 ghost use Rattle.wasmi_types.specs.Numbers.{bits, w8};
 ghost use Rattle.wasmi_lanes.specs.Vector.{lane, lane_count};
 ghost use Rattle.wasmi_lanes.specs.Vector as vectors;

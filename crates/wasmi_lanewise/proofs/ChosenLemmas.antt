@@ -1,10 +1,8 @@
 -- Bytes chosen by indices, as std::simd chooses them.
-use Rattle.std.proofs.Common.{ℕ, ◌%◌, ◌<◌, ◌≤◌, ◌≡◌, List, length, get_or, replicate, map, ◌+◌, ◌*◌, ◌/◌, ◌⊎◌, refl, sym, subst, ap, ap₂, ◌∙◌, arith, inl, inr, nat_lt, if◌then◌else◌, true, false, not, ◌||◌, cond, ltb, leb, bit_and, w8, Fits}
+use Rattle.std.proofs.Common.{ℕ, ◌%◌, ◌<◌, ◌≤◌, ◌≡◌, List, length, get_or, replicate, map, ◌+◌, ◌*◌, ◌/◌, ◌⊎◌, refl, sym, subst, ap, ap₂, ◌∙◌, arith, inl, inr, nat_lt, if◌then◌else◌, true, false, not, ◌||◌, cond, ltb, leb, bit_and, w8, Fits, mod-eq_of_lt, T}
 use Rattle.wasmi_lanewise.proofs.Common.{zip2, sel_l, Each1, cases_lt, lt-ltb, le-ltb, and_mask, swz_l, SwzOk, SwzOk-from_Each1, Each1-from_get_or, Each1-get_or, below_from_Fits, get_or-swz_l, lane, lane_below}
-use Rattle.std.proofs.Math.Nat.{mod-eq_of_lt}
 use Rattle.wasmi_lanes.proofs.ItemLemmas.{AreItems, items, repeated, zipped, chosen_by}
 use Rattle.wasmi_lanes.proofs.VariableLaneLemmas.{computed, indices_may_index, picked_inside_at}
-use lib.Dec.{T}
 use lib.Lanes.{top}
 
 -- the low four bits of each index
@@ -18,7 +16,7 @@ module _ (js : List ℕ) (long : length js ≡ 16) where
       let masked = zipped bit_and (items 16 js long) (repeated 16 15) in
       record { long = masked.long; are = λ i inside. masked.are i inside ∙ and_mask (get_or js i 0) 4 }
 
-  -- each is below 16
+  -- a nibble is below 16
   nibble_below : (i : ℕ) → i < 16 → get_or js i 0 % 16 < 16
   nibble_below i inside = omega arith
 
@@ -93,7 +91,7 @@ module _ (js : List ℕ) (long : length js ≡ 16) (fits : Each1 (Fits w8) js) w
       subst T (sym (ap (λ p. leb 128 p || ltb p 16) (positions_are.are i within)
       ∙ position_fits (get_or js i 0) (index_below i within))) tt))
 
-  -- by the positions, the byte of a table at the index is chosen where the index is below 16, else 0
+  -- a position chooses the byte of a table at the index where the index is below 16, else 0
   pub picked_or_zero_at : (table : List ℕ) (i : ℕ) → i < 16
       → get_or (swz_l w8 16 table 0 (positions js)) i 0
       ≡ (if nat_lt (get_or js i 0) 16 then get_or table (get_or js i 0) 0 else 0)

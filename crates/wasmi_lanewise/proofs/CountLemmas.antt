@@ -38,7 +38,7 @@ mask_off h n mask j is below =
     let here : field k (suc t) mask ≡ 2 ^ suc h - 1 = ap (λ n. field k n mask) (sym width) ∙ is j below in
     sym (top_of_lane k t mask) ∙ ap (λ n. bit_at n t) here ∙ bit_at_ones_above (suc h) t (omega arith)
 
--- it leaves room for a carry
+-- what lies below a lane, masked to the lower halves of its lanes, leaves room for a carry
 half_room : (w n mask v i : ℕ) → 0 < w → ((j : ℕ) → j < n → field ((w + w) * j) (w + w) mask ≡ 2 ^ w - 1) → i < n →
     2 * (bit_and v mask % 2 ^ ((w + w) * i)) < 2 ^ ((w + w) * i)
 half_room w n mask v zero pos is lt =
@@ -53,7 +53,7 @@ half_room (suc h) n mask v (suc j) pos is lt =
     subst (λ n. 2 * (bit_and v mask % 2 ^ n) < 2 ^ n) (sym place)
     (omega (arith, clear_top (bit_and v mask) top clear, pow-suc 2 top))
 
--- One step: from the counts of lanes of w bits to those of lanes of twice as many.
+-- one step: from the counts of lanes of w bits to those of lanes of twice as many
 pub count_step : (w n v y mask : ℕ) → 0 < w → w + w < 2 ^ (w + w)
     → ((j : ℕ) → j < n → field ((w + w) * j) (w + w) mask ≡ 2 ^ w - 1) →
     ((j : ℕ) → j < n + n → field (w * j) w y ≡ count_ones (field (w * j) w v)) →
@@ -149,7 +149,7 @@ module _ (v z : ℕ) (counted : (j : ℕ) → j < 16 → field (4 * j) 4 z ≡ c
       let turned : 4 + k ≡ k + 4 = omega arith in
       ap (λ n. n % 16) (shr-shr z 4 k) ∙ ap (λ n. z / 2 ^ n % 16) turned
 
-  -- each byte of the masked sum is the number of ones of that byte of v
+  -- a byte of the masked sum is the number of ones of that byte of v
   last_bytes : (i : ℕ) → i < 8
       → field (8 * i) 8 (bit_and ((z + z / 16) % 2 ^ 64) 0x0f0f_0f0f_0f0f_0f0f) ≡ count_ones (field (8 * i) 8 v)
   last_bytes i below =
@@ -179,7 +179,7 @@ counts v =
 pub counts_below : (v : ℕ) → counts v < 2 ^ 64
 counts_below v = omega (arith, and_le_r)
 
--- each byte of the word of counts is the number of ones of that byte of the word
+-- a byte of the word of counts is the number of ones of that byte of the word
 pub counts_at : (v : ℕ) → v < 2 ^ 64 → (i : ℕ) → i < 8 → field (8 * i) 8 (counts v) ≡ count_ones (field (8 * i) 8 v)
 counts_at v fits i below =
     let pairs : ℕ = (v + (2 ^ 64 - bit_and (v / 2) 0x5555_5555_5555_5555)) % 2 ^ 64 in

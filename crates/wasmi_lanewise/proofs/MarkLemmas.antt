@@ -55,7 +55,7 @@ less_case h f b (inr e) at =
     let small : f - b < 2 ^ suc h = omega (arith, pow-suc 2 h, pow_pos h) in
     ap (λ n. n % 2 ^ suc h) sum ∙ add-mod_right (f - b) (2 ^ suc h) ∙ mod-eq_of_lt small
 
--- it lies below the mark, and fills the lane with it
+-- a lane of marks less its lowest bit lies below the mark, and fills the lane with it
 fill_case : (h f b : ℕ) → (f ≡ 0) ⊎ (f ≡ 2 ^ h) → b ≡ bit_at f h → bit_or f (f - b) ≡ cond (eqb f 0) 0 (2 ^ suc h - 1)
 fill_case h f b (inl e) at =
     let less : f - b ≡ 0 = omega arith in
@@ -156,7 +156,7 @@ module _ (h n v : ℕ) (fits : v < 2 ^ 64) (whole : n * suc h ≡ 64)
       (λ i lt. apart_lane h (suc h * i) v (marks i lt) (next_clear h n v fits whole marks i lt)
       ∙ sym (field_of_zero (suc h * i) (suc h)))
 
-  -- each lane of the filled marks is all ones where it was marked, else all zeros
+  -- a lane of the filled marks is all ones where it was marked, else all zeros
   filled_lane : (i : ℕ) → i < n
       → field (suc h * i) (suc h) (filled v h) ≡ cond (eqb (field (suc h * i) (suc h) v) 0) 0 (2 ^ suc h - 1)
   filled_lane i lt =

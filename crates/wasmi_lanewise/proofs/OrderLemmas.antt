@@ -1,10 +1,7 @@
 -- The order of lanes, and what is chosen by it. Numbers of w bits, moved by half of their range, stand in the order of
 -- the signed numbers with their bits.
-use Rattle.std.proofs.Common.{ℕ, ℤ, suc, ◌+◌, ◌-◌, ◌*◌, ◌%◌, ◌^◌, ◌<◌, ◌≤◌, ◌≡◌, min, max, Bool, true, false, not, cond, if◌then◌else◌, ltb, leb, refl, sym, ap, ap₂, ◌∙◌, arith, inl, inr, pos, negsuc}
+use Rattle.std.proofs.Common.{ℕ, ℤ, suc, ◌+◌, ◌-◌, ◌*◌, ◌%◌, ◌^◌, ◌<◌, ◌≤◌, ◌≡◌, min, max, Bool, true, false, not, cond, if◌then◌else◌, ltb, leb, refl, sym, ap, ap₂, ◌∙◌, arith, inl, inr, pos, negsuc, int_lt, int_le, mod-eq_of_lt, w8}
 use Rattle.wasmi_lanewise.proofs.Common.{pow_pos, int_min, int_max, add-mod_right, cases_lt, lt-ltb, le-ltb, le-leb, lt-leb, ltb-true, ltb-false, Width, w16, w32, w64, bits, signed, wrap, lane, lane_count, from_lanes, comparison_of_lanes, field, field_not, field_of_zero, lane_ends, lanes_make_vector, lane_below, lane_count_fills, lane_of_comparison, v128_not}
-use Rattle.std.specs.Int.RustNames.{int_lt, int_le}
-use Rattle.std.proofs.Math.Nat.{mod-eq_of_lt}
-use Rattle.wasmi_types.specs.Numbers.{w8}
 use Rattle.wasmi_types.proofs.NumbersLemmas.{wrap_of_bits}
 use mir.Syntax.{w128}
 use mir.Val.{sel, hbits}
@@ -41,7 +38,7 @@ at_most_is_not_less a b =
       | inr below ↦ le-leb a b below ∙ sym (ap not (le-ltb b a below))
     ]
 
--- so for integers
+-- an integer is at most another just where that one isn't less
 pub int_at_most_is_not_less : (a b : ℤ) → int_le a b ≡ not (int_lt b a)
 int_at_most_is_not_less (pos a) (pos b) = at_most_is_not_less a b
 int_at_most_is_not_less (pos a) (negsuc b) = refl
@@ -108,14 +105,14 @@ wrap_chosen : (w : Width) (t : Bool) (x y : ℕ) → x < 2 ^ bits w → y < 2 ^ 
 wrap_chosen w true x y fits_x fits_y = sym (wrap_of_bits w x fits_x)
 wrap_chosen w false x y fits_x fits_y = sym (wrap_of_bits w y fits_y)
 
--- chosen by the order of the moved numbers, it has the bits of the smaller of the signed numbers
+-- the number that is chosen as the smaller one by the order of the moved numbers has the bits of the smaller signed one
 pub signed_smaller_is : (w : Width) (a b : ℕ) → a < 2 ^ bits w → b < 2 ^ bits w
     → (if ltb (biased w b) (biased w a) then b else a) ≡ wrap w (int_min (signed w a) (signed w b))
 signed_smaller_is w a b fits_a fits_b =
     ap (λ t. if t then b else a) (biased_is_less w b a fits_b fits_a)
     ∙ wrap_chosen w (int_lt (signed w b) (signed w a)) b a fits_b fits_a
 
--- so the larger of the signed numbers
+-- the number that is chosen as the larger one has the bits of the larger signed one
 pub signed_larger_is : (w : Width) (a b : ℕ) → a < 2 ^ bits w → b < 2 ^ bits w
     → (if ltb (biased w b) (biased w a) then a else b) ≡ wrap w (int_max (signed w a) (signed w b))
 signed_larger_is w a b fits_a fits_b =

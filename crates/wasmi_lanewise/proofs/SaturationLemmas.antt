@@ -1,7 +1,6 @@
 -- Clamped sums and differences, and rounded products of q15 numbers, as std::simd computes them.
-use Rattle.std.proofs.Common.{ℕ, ◌+◌, ◌-◌, ◌%◌, ◌^◌, ◌<◌, ◌≡◌, List, length, get_or, map, refl, sym, ap, subst, ◌∙◌, arith, Bool, true, false, cond, ltb, Fits, pos, ◌+ℤ◌, ◌-ℤ◌, ℤ, negsuc, suc, ◌*◌, ◌/◌, ◌≤◌, ◌⊎◌, inl, inr, ◌*ℤ◌, nat_lt, if◌then◌else◌, ap₂, FitsSigned, unsigned_abs, replicate, bit_xor, mod-lt}
+use Rattle.std.proofs.Common.{ℕ, ◌+◌, ◌-◌, ◌%◌, ◌^◌, ◌<◌, ◌≡◌, List, length, get_or, map, refl, sym, ap, subst, ◌∙◌, arith, Bool, true, false, cond, ltb, Fits, pos, ◌+ℤ◌, ◌-ℤ◌, ℤ, negsuc, suc, ◌*◌, ◌/◌, ◌≤◌, ◌⊎◌, inl, inr, ◌*ℤ◌, nat_lt, if◌then◌else◌, ap₂, FitsSigned, unsigned_abs, replicate, bit_xor, mod-lt, mod-eq_of_lt}
 use Rattle.wasmi_lanewise.proofs.Common.{zip2, sel_l, Each1, add-mod_right, mul-le-mul, mod-add-mod, ltb-true, ltb-false, cases_lt, lt-ltb, le-ltb, ints, fits_signed_from_abs, unsigned_abs-mul, of_z-to_z, wrapping_mul_is, int_wrap_fits, Each1-get_or, Each1-from_get_or, below_from_Fits, get_or-replicate, Width, bits, clamp_unsigned, w16, w32, signed, wrap, clamp_signed, lane, lane_count, signed_fits, binary_of_lanes, lane_below, lanes_make_vector, lane_count_fills, add_sat_u, sub_sat_u, q15mulr, cast_unsigned, int_shr, pow_pos, mul-mod, mod-mod-pow}
-use Rattle.std.proofs.Math.Nat.{mod-eq_of_lt}
 use Rattle.wasmi_lanes.proofs.ItemLemmas.{AreItems, items, repeated, mapped, zipped, chosen_by}
 use lib.Lanes.{top}
 use mir.Val.{hbits, sel}
@@ -262,7 +261,7 @@ module _ (xs ys : List ℕ) (long_x : length xs ≡ 8) (long_y : length ys ≡ 8
       let is = uppers_are.are i within in
       record { fits = omega (arith, is, mod-lt (get_or xs i 0 * get_or ys i 0) (pow_pos 32)) })
 
-  -- so after they were cast to 16 bits
+  -- an upper half that was cast to 16 bits is that of the product in its place
   pub upper_halves_at : (i : ℕ) → i < 8
       → get_or (map (λ x. x) (uppers xs ys)) i 0 ≡ get_or xs i 0 * get_or ys i 0 % 2 ^ 32 / 65536
   upper_halves_at = let cast = mapped uppers_are (λ x. x) in cast.are

@@ -85,7 +85,7 @@ module _ (w : Width) (d : ℕ) (less : d < bits w) where
   low_bits_fit : 2 ^ (bits w - d) - 1 < 2 ^ bits w
   low_bits_fit = omega (arith, pow_mono {i = bits w - d} {j = bits w} (omega arith), pow_pos (bits w - d))
 
-  -- each lane of the mask of entry d has all but its d highest bits
+  -- a lane of the mask of entry d has all but its d highest bits
   pub masked_lane : EachLane w (λ k. field k (bits w) (shift_masks w d) ≡ 2 ^ (bits w - d) - 1)
   masked_lane = lane_of_each w (2 ^ (bits w - d) - 1) (shift_masks w d) low_bits_fit refl
 

@@ -10,7 +10,7 @@ use Rattle.wasmi_lanes.specs.Vector.{lane, unsigned, from_lanes, unary_of_lanes,
 
 -- ---- making and taking lanes
 
--- each lane is the number modulo 2 to the width
+-- the number modulo 2 to the width, in all lanes
 abbrev pub splat : Width → ℤ → ℕ
 splat w x = splat_of w (wrap w x)
 
@@ -100,23 +100,23 @@ avgr_u w = binary_of_lanes w unsigned average
 
 -- ---- bit by bit, on the whole number
 
--- each bit is inverted
+-- all bits inverted
 abbrev pub v128_not : ℕ → ℕ
 v128_not a = 2 ^ 128 - 1 - a
 
--- each bit is set where it is set in both
+-- the bits that are set in both
 abbrev pub v128_and : ℕ → ℕ → ℕ
 v128_and a b = bit_and a b
 
--- each bit is set where it is set in one or both
+-- the bits that are set in one or both
 abbrev pub v128_or : ℕ → ℕ → ℕ
 v128_or a b = bit_or a b
 
--- each bit is set where it is set in exactly one
+-- the bits that are set in exactly one
 abbrev pub v128_xor : ℕ → ℕ → ℕ
 v128_xor a b = bit_xor a b
 
--- each bit is set where it is set in the first and not in the second
+-- the bits that are set in the first and not in the second
 abbrev pub v128_andnot : ℕ → ℕ → ℕ
 v128_andnot a b = bit_and a (v128_not b)
 
@@ -140,15 +140,15 @@ popcnt w = unary_of_lanes w unsigned count_ones
 
 -- ---- shifts, by an amount modulo the width
 
--- each lane shifted to the left by the amount modulo the width
+-- the lanes shifted to the left by the amount modulo the width
 abbrev pub shl : Width → ℕ → ℕ → ℕ
 shl w v amount = unary_of_lanes w unsigned (λ x. (x * 2 ^ (amount % bits w)) % 2 ^ bits w) v
 
--- each lane shifted to the right by the amount modulo the width, with its sign from above
+-- the lanes shifted to the right by the amount modulo the width, with their signs from above
 abbrev pub shr_s : Width → ℕ → ℕ → ℕ
 shr_s w v amount = unary_of_lanes w (signed w) (λ x. wrap w (int_shr x (amount % bits w))) v
 
--- each lane shifted to the right by the amount modulo the width, with zeros from above
+-- the lanes shifted to the right by the amount modulo the width, with zeros from above
 abbrev pub shr_u : Width → ℕ → ℕ → ℕ
 shr_u w v amount = unary_of_lanes w unsigned (λ x. x / 2 ^ (amount % bits w)) v
 

@@ -4,7 +4,7 @@
 //! lane 0 is the lowest. `i8x16_mul` is no instruction of WebAssembly. Core specification: vector
 //! instructions; what each gives stands in `specs/VectorTable.antt`. Upstream: `wasmi_core::simd`.
 
-ghost use Rattle.std.specs.Prelude.{◌≡◌, ℕ, ◌+◌, ◌-◌, ◌*◌, ◌/◌, ◌%◌, ◌^◌, ◌<◌, ◌==◌, length, nat_lt, slice_index, if◌then◌else◌};
+ghost use Rattle.std.specs.Prelude.{◌≡◌, ℕ, ◌+◌, ◌-◌, ◌*◌, ◌/◌, ◌%◌, ◌^◌, ◌<◌, ◌==◌, nat_lt, slice_index, if◌then◌else◌};
 ghost use Rattle.wasmi_types.specs.Numbers.{w8, w16, w32, w64, signed};
 ghost use Rattle.std.specs.Int.{cast_unsigned};
 ghost use Rattle.wasmi_lanewise.specs.VectorTable as vector;

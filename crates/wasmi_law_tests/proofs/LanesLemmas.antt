@@ -1,9 +1,8 @@
 -- Lists of numbers and of types, words divided into lanes of unequal widths, and a byte made of tests.
-use Rattle.std.proofs.Common.{◌≡◌, ℕ, ℤ, ◌<◌, ◌≤◌, ◌^◌, Bool, true, false, if◌then◌else◌, refl, sym, ap, ap₂, ◌∙◌, arith, inl, inr, lit<, lit≤, List, ◌∷◌, [], ◌+◌, ◌-◌, zero, suc, Some, length, get_or, slice_get, subst}
+use Rattle.std.proofs.Common.{◌≡◌, ℕ, ℤ, ◌<◌, ◌≤◌, ◌^◌, Bool, true, false, if◌then◌else◌, refl, sym, ap, ap₂, ◌∙◌, arith, inl, inr, lit<, lit≤, List, ◌∷◌, [], ◌+◌, ◌-◌, zero, suc, Some, length, get_or, slice_get, subst, map}
 use Rattle.wasmi_law_tests.proofs.Common.{All-head, All-tail, ◌↔◌, FitsSigned, IsTrue, All, same_Some, slice_get_read, RelatesForward}
 use Rattle.std.proofs.lemmas.Nat.Bits.{bit_at_ones, same_from_bits_below}
 use Rattle.wasmi_types.specs.Numbers.{Width, signed, wrap}
-use Rattle.std.specs.Prelude.{map}
 use Rattle.std.specs.Int.{bit_at}
 use Rattle.wasmi_lanes.specs.Words.{field, AreLanes}
 use Rattle.std.proofs.lemmas.Bool.{cases_lt}
@@ -44,7 +43,7 @@ ones_where_each_holds bits test below bit = (
       (λ i inside. bit i inside ∙ ap (λ holds. if holds then 1 else 0) (each i inside) ∙ sym (bit_at_ones 8 i inside)),
 )
 
--- each of the first n items of a list stands in a relation to the next
+-- every one of the first n items of a list stands in a relation to the next
 abbrev pub RelatesNext : {X : Type 0} → (X → X → Type 0) → List X → ℕ → Type 0
 RelatesNext {X} Relates xs n =
     (k : ℕ) (a b : X) → k + 1 < n → slice_get xs k ≡ Some a → slice_get xs (k + 1) ≡ Some b → Relates a b

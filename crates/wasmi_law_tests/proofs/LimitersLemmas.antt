@@ -1,9 +1,9 @@
 -- What a quota and a recorder hold after creations and growths, and growths in lent regions.
-use Rattle.std.proofs.Common.{◌≡◌, ◌∙◌, ℕ, ◌+◌, ◌*◌, ◌≤◌, Option, Some, Result, length, replicate, IfOk, refl, sym, ap, inl, inr, arith, length-append, ◌⊎◌, Ok, Err, List, subst, None, true, false, [], ◌∷◌, ◌++◌}
-use Rattle.wasmi_law_tests.proofs.Common.{length-replicate, append_assoc, Rules, optional_rules, Question, kind_of, IsWithinCaps, MemoryValue, GrowsMemoryCharging, pages_of, growth_of, page_bytes, Reply, Number, Memory, IsRefusal, LentGrowthsSucceed, Run, Sequence, MemoryGrown, HasEffect, effect_of, Step, live_at, with_memories, World, Turn, world, CanGrowInRegion, IsGrownOrDenied, GrowsInRegion, same_Some, KeepsQuota, Placed, limiter_of, quota_of, HoldsSums, OneQuotaHoldsEach, sizes_made}
+use Rattle.std.proofs.Common.{◌≡◌, ◌∙◌, ℕ, ◌+◌, ◌*◌, ◌≤◌, Option, Some, Result, length, replicate, IfOk, refl, sym, ap, inl, inr, arith, length-append, ◌⊎◌, Ok, Err, List, subst, None, true, false, [], ◌∷◌, ◌++◌, ⊎_elim}
+use Rattle.wasmi_law_tests.proofs.Common.{length-replicate, append_assoc, Rules, optional_rules, Question, kind_of, IsWithinCaps, MemoryValue, GrowsMemoryCharging, pages_of, growth_of, page_bytes, Reply, Number, Memory, IsRefusal, LentGrowthsSucceed, Run, Sequence, MemoryGrown, HasEffect, effect_of, Step, live_at, with_memories, World, Turn, outcome_of, world, CanGrowInRegion, IsGrownOrDenied, GrowsInRegion, same_Some, KeepsQuota, Placed, limiter_of, quota_of, HoldsSums, OneQuotaHoldsEach, sizes_made}
 use Rattle.wasmi_meter.specs.declared.error.MemoryError.{MemoryError}
 use Rattle.wasmi_meter.specs.declared.limiter.Kind.{Kind}
-use Rattle.wasmi_meter.specs.Attempt.{MeteredValue, AttemptOutcome, Met, Failed, answer_of, value_after}
+use Rattle.wasmi_meter.specs.Attempt.{MeteredValue, AttemptOutcome, Met, answer_of, value_after}
 use Rattle.wasmi_meter.specs.Meter.{Meter}
 use Rattle.wasmi_store.specs.Growth.{IsDenied, metered_value}
 use Rattle.wasmi_law_tests.specs.Limiters.{event_of, recorder_rules, OneGrows, LeavesTrace}
@@ -18,7 +18,6 @@ use Rattle.wasmi_c.specs.declared.status.TheConstants.{DONE, NOT_HELD}
 use Rattle.wasmi_meter.specs.declared.quota.Holdings.{Holdings}
 use Rattle.wasmi_c.specs.declared.numbers.QuotaNumbers.{QuotaNumbers}
 use Rattle.wasmi_c.proofs.SharedQuotaLemmas.{limiter_on}
-use Rattle.wasmi_store.specs.Memory as memory
 use Rattle.wasmi_law_tests.specs.declared.recorder.Event.TheVariants as event
 
 module _ {S : Type 0} (pages : ℕ) (s s' : MeteredValue MemoryValue S) (result : Result ℕ MemoryError) where
@@ -26,10 +25,10 @@ module _ {S : Type 0} (pages : ℕ) (s s' : MeteredValue MemoryValue S) (result 
   abbrev HasMore : Type 0
   HasMore = IfOk result (λ _. length s'.value.bytes ≡ length s.value.bytes + pages * page_bytes s.value.ty.page)
 
-  -- so it has where an attempt to let it grow is answered by a number
+  -- a memory has so many bytes more where an attempt to let it grow is answered by a number
   attempt_sized : (outcome : AttemptOutcome MemoryError)
-      → s'.value ≡ value_after (memory.growth_of s.value pages) s.value outcome
-      → result ≡ answer_of (memory.growth_of s.value pages) (pages_of s.value) outcome → HasMore
+      → s'.value ≡ value_after (growth_of s.value pages) s.value outcome
+      → result ≡ answer_of (growth_of s.value pages) (pages_of s.value) outcome → HasMore
   attempt_sized Met value answered =
       let more = pages * page_bytes s.value.ty.page in
       rw answered (
@@ -37,7 +36,7 @@ module _ {S : Type 0} (pages : ℕ) (s s' : MeteredValue MemoryValue S) (result 
       ∙ ap (λ n. length s.value.bytes + n) (length-replicate {A = ℕ} more 0))
   attempt_sized outcome value answered = rw answered tt
 
-  -- so it has where it grows
+  -- a memory that grows has so many bytes more
   pub grown_sized : (rules : Rules S) (charge : ℕ) → GrowsMemoryCharging rules pages s result charge s' → HasMore
   grown_sized rules charge (inl none) =
       let same = ap (λ (t : MeteredValue MemoryValue S). length t.value.bytes) none.same in
@@ -45,13 +44,13 @@ module _ {S : Type 0} (pages : ℕ) (s s' : MeteredValue MemoryValue S) (result 
   grown_sized rules charge (inr some) = attempt_sized some.outcome some.attempt.value some.answered
 
 module _ {S : Type 0} (rules : Rules S) (pages : ℕ) (s s' : MeteredValue MemoryValue S) (charge : ℕ) where
-  -- a number that is answered is the size that there was
+  -- a number that an attempt answers is the size that there was
   answered_size : (outcome : AttemptOutcome MemoryError) (n : ℕ)
       → Ok n ≡ answer_of (growth_of s.value pages) (pages_of s.value) outcome → n ≡ pages_of s.value
   answered_size Met n is = cc
   answered_size outcome n is = cc
 
-  -- so it is where a memory grows
+  -- a number that a growth answers is the size that there was
   grown_size : (n : ℕ) → GrowsMemoryCharging rules pages s (Ok n) charge s' → n ≡ pages_of s.value
   grown_size n (inl none) = let is = none.answered in cc
   grown_size n (inr some) = answered_size some.outcome n some.answered
@@ -65,23 +64,13 @@ module _ {S : Type 0} (rules : Rules S) (pages : ℕ) (s s' : MeteredValue Memor
       × IsDenied rules (growth_of s.value pages).question s.limiter s'.limiter)
   told succeed can (Ok n) grows = inl (ap Number (grown_size n grows), grown_sized pages s s' (Ok n) rules charge grows)
   told succeed can (Err error) grows =
-      by_law (succeed pages s can.lent.0 can.lent.1 can.inside can.place can.paid (Err error) s' (charge, grows))
-    where
-      by_law : {Grown : Type 0} → (Err error ≡ Ok (pages_of s.value))
-          ⊎ IsDenied rules (growth_of s.value pages).question s.limiter s'.limiter
-          → Grown ⊎ (Unit {0} × IsDenied rules (growth_of s.value pages).question s.limiter s'.limiter)
-      by_law (inl is) = cc
-      by_law (inr denied) = inr (tt, denied)
-
--- from the first of two facts to another
-first_too : {A B C : Type 0} → (A → C) → A ⊎ B → C ⊎ B
-first_too too (inl a) = inl (too a)
-first_too too (inr b) = inr b
+      ⊎_elim (λ (is : Err error ≡ Ok (pages_of s.value)). absurd cc) (λ denied. inr (tt, denied))
+      (succeed pages s can.lent.0 can.lent.1 can.inside can.place can.paid (Err error) s' (charge, grows))
 
 module _ {S : Type 0} (rules : Rules S) (succeed : LentGrowthsSucceed rules) where
   module _ (w : World S) (k pages : ℕ) (x : MemoryValue) (found : live_at w.state.memories k ≡ Some x)
       (can : CanGrowInRegion (Some w.state.meter) pages x) where
-    -- so it is where the memory of an index grows
+    -- the memory of an index has grown, or the limiter has denied it, where a call acts on it
     acted : (w' : World S) (m' : Option Meter) (reply : Reply) (charge : ℕ)
         → ActsAt k (reply_of Number Memory) (GrowsMemoryCharging rules pages)
         (metered_value w.state.memories (Some w.state.meter) w.limiter) reply charge
@@ -89,23 +78,24 @@ module _ {S : Type 0} (rules : Rules S) (succeed : LentGrowthsSucceed rules) whe
     acted w' m' reply charge acts =
         let live = rw found at acts in
         rw live.3 (
-        first_too (λ longer. (longer.0, (live.1, live.4, longer.1)))
+        ⊎_elim (λ longer. inl (longer.0, (live.1, live.4, longer.1))) (λ denied. inr denied)
         (told rules pages _ _ charge succeed can live.0 live.2))
 
-    -- so in a turn
-    grown : (turn : Turn) (w' : World S) → HasEffect rules (MemoryGrown k pages) w turn w'
+    -- the memory has grown, or the limiter has denied it, in a turn with that effect
+    grown : (turn : Turn) (w' : World S) → HasEffect rules (MemoryGrown k pages) w (outcome_of turn) w'
         → IsGrownOrDenied rules k pages x w turn.reply w'
     grown turn w' grows =
         let state = record (with_memories w.state grows.part) { meter = grows.meter } in
         let after = world state grows.limiter in
         rw grows.after (acted after (Some grows.meter) turn.reply turn.charge grows.effect)
 
-  -- so in a turn by a call that grows it
+  -- a memory has grown, or the limiter has denied it, in a turn by a call that grows it
   grows_in_region : (w : World S) (turn : Turn) (w' : World S) → Step rules w turn w' → GrowsInRegion rules w turn w'
   grows_in_region w turn w' step k pages x is found can =
-      grown w k pages x found can turn w' (subst (λ call. HasEffect rules (effect_of w.state call) w turn w') is step)
+      grown w k pages x found can turn w'
+      (subst (λ call. HasEffect rules (effect_of w.state call) w (outcome_of turn) w') is step)
 
-  -- so in each turn of a run
+  -- a memory has grown, or the limiter has denied it, in each turn of a run by a call that grows it
   pub grows_in_regions : (w : World S) (turns : List Turn) (w' : World S) → Run rules w turns w'
       → Sequence (λ v turn v'. Step rules v turn v' × GrowsInRegion rules v turn v') w turns w'
   grows_in_regions = each_turn rules (GrowsInRegion rules) grows_in_region

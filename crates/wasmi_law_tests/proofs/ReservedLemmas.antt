@@ -1,10 +1,7 @@
 -- Results of runs into memory that is kept for replies, and tables that are reserved.
-use Rattle.std.proofs.Common.{Bool, Err, IsOk, List, Ok, OnOk, Result, Some, [], ap, refl, subst, sym, ℕ, ◌++◌, ◌∙◌, ◌∷◌, ◌≤◌, ◌≡◌, ◌≢◌, ⊎_elim, arith}
-use Rattle.wasmi_law_tests.proofs.Common.{append-nil, same_Some, MatchOption, max, nat_eq, TableValue, optional_rules, Reply, Done, NoRoom, NoSuch, AcceptsNotices, IsDeterministic, RepliesAreOne, State, live_at, live_value, IsReservedFor, IsReservedTable, IsReservedToMaximum, ReservedRunsSucceed, RunsAlone}
+use Rattle.std.proofs.Common.{Bool, Err, IsOk, List, Ok, OnOk, Result, Some, [], ap, refl, subst, sym, ℕ, ◌++◌, ◌∙◌, ◌∷◌, ◌≡◌, ◌≢◌, ⊎_elim, arith, if◌then◌else◌, slice_get}
+use Rattle.wasmi_law_tests.proofs.Common.{append-nil, same_Some, max, nat_eq, TableValue, optional_rules, Reply, Done, NoRoom, NoSuch, AcceptsNotices, IsDeterministic, RepliesAreOne, State, live_at, IsReservedFor, IsReservedTable, ReservedRunsSucceed, RunsAlone}
 use Rattle.std.proofs.lemmas.Bool.{eq-eqb, ne_eqb}
-use Rattle.std.specs.Prelude.{if◌then◌else◌, slice_get}
-use Rattle.std.specs.Option.{option_and_then}
-use Rattle.wasmi_meter.specs.declared.quota.Amounts.{Amounts}
 use Rattle.wasmi_machine.specs.declared.calls.Call.{Call}
 use Rattle.wasmi_machine.specs.declared.slots.Slot.{Slot}
 use Rattle.wasmi_machine.specs.declared.slots.Slot.TheVariants.{Live}
@@ -28,12 +25,6 @@ module _ {E : Type 0} where
   accepted_fact (Ok done) is fact = fact
   accepted_fact (Err error) is fact = absurd cc
 
-  -- a fact from another where it is accepted
-  pub accepted_too : {Fact Fact' : Type 0} (result : Result (Unit {0}) E) → (Fact → Fact') → OnOk result Fact
-      → OnOk result Fact'
-  accepted_too (Ok done) too fact = too fact
-  accepted_too (Err error) too fact = tt
-
 -- a run of a tenant that is there, for whose replies there is memory, is accepted
 pub accepted_there : (result : Result (Unit {0}) RunIntoError) → result ≢ Err NoTenant → result ≢ Err TooManyCalls
     → result ≡ Ok tt
@@ -52,12 +43,6 @@ run_with_memory suffices pool index calls replies pool' reserved ran = record {
   ran = ran;
 }
 
--- the only tenant of a pool is one that has reserved as much as its machine has
-only_reserved : (caps : Amounts) (s : State) (calls : List Call) → IsReservedFor s calls
-    → (s' : State) → machine_of (pool_of caps (Some s ∷ [])) 0 ≡ Some s' → IsReservedFor s' calls
-only_reserved caps s calls reserved s' found =
-    subst (λ m. IsReservedFor m calls) (same_Some s s' found) reserved
-
 -- a run of a tenant that is never denied, and one of an equal machine alone, have the same replies and leave equal
 -- machines, where enough is reserved
 pub as_alone : RepliesAreOne tenant_rules → IsDeterministic tenant_rules → AcceptsNotices tenant_rules
@@ -71,19 +56,14 @@ as_alone one once accepts suffices pool pool' alone alone' index calls replies r
     (s, s', found, found', (next, ran, ended)) second =
     let start = pool_of pool.caps (Some s ∷ []) in
     let end = pool_of pool.caps (Some s' ∷ []) in
-    let has = only_reserved pool.caps s calls (reserved s found) in
+    let has : (m : State) → machine_of start 0 ≡ Some m → IsReservedFor m calls =
+    λ m there. rw (same_Some s m there) at (reserved s found) in
     let same = pools_same one once accepts start end alone' 0 calls
     (run_with_memory suffices start 0 calls replies end has
     (subst (λ p. RunsTenant start 0 calls replies p) (sym ended) ran))
     (run_with_memory suffices start 0 calls replies' alone' has
     (subst (λ p. RunsTenant p 0 calls replies' alone') (equal s found) second)) in
     (same.0, found' ∙ ap (λ p. machine_of p 0) same.1)
-
--- a table for as many elements of which as its maximum memory is reserved
-at_maximum : (x x' : TableValue) (n : ℕ) → x.ty.maximum ≡ Some n → x'.ty ≡ x.ty → n ≤ x'.reserved
-    → IsReservedToMaximum x'
-at_maximum x x' n most same enough =
-    subst (λ o. MatchOption o ⊥ (λ m. m ≤ x'.reserved)) (sym (ap (λ ty. ty.maximum) same ∙ most)) enough
 
 -- a table that was reserved up to its maximum is
 pub reserved_table : (k n : ℕ) (slots : List (Slot TableValue)) (reply : Reply) (slots' : List (Slot TableValue))
@@ -93,11 +73,9 @@ reserved_table k n slots reply slots' most reserves done = on_live (live_at slot
     (both_live (live_at slots k) _ _ _ _ most reserves)
     (λ missing. let other : NoSuch ≡ Done = sym missing.1.0 ∙ done in absurd cc)
     (λ x found h. ⊎_elim (λ kept.
-    subst (λ l. IsReservedTable l k) (sym h.1.2)
-    (subst (λ slot. OnLive (option_and_then live_value slot) (Unit {0}) IsReservedToMaximum)
-    (sym (set_same slots k (Live h.1.0) (Live x) (live_slot (slice_get slots k) x found)))
-    (at_maximum x h.1.0 n h.0 (ap (λ (t : TableValue). t.ty) kept.1)
-    (let is : h.1.0.reserved ≡ max x.reserved n = ap (λ (t : TableValue). t.reserved) kept.1 in grind (arith, is)))))
+    rw (h.1.2, set_same slots k (Live h.1.0) (Live x) (live_slot (slice_get slots k) x found))
+    (rw (ap (λ (t : TableValue). t.ty.maximum) kept.1 ∙ h.0)
+    (let is : h.1.0.reserved ≡ max x.reserved n = ap (λ (t : TableValue). t.reserved) kept.1 in grind (arith, is))))
     (λ refused. let other : NoRoom ≡ Done = sym refused.0 ∙ done in absurd cc) h.1.1)
 
 -- of what a run of another tenant and one of a tenant have, the tenant has that of its own

@@ -1,7 +1,6 @@
 -- Calls and runs that were answered, also on pools and by handles.
-use Rattle.std.proofs.Common.{◌≡◌, Option, Some, OnErr, Result, Ok, Err, List, [], ◌∷◌, length, map, refl, sym, ap, subst, ◌∙◌, arith, IfOk, ℕ, true, None, inl, inr}
-use Rattle.wasmi_law_tests.proofs.Common.{All-cons, All-head, All-nil, All-tail, same_Some, All, nat_eq, slice_set, MatchOption, MemoryTypeValue, Rules, optional_rules, Reply, World, Turn, world, IsValid, IsValidCall, State, HoldsTotals, Step, RepliesWith, Run, Sequence, IsRunOf, IsNotOutOfMemory, IsDeterministic, AcceptsNotices, permitting, IsWithinCapsOf, RunsOfCallsAreCut, FitsAnyRegions, HasRegionFor, IsRunInParts, RunsAlone, RunsBeside, KeepsCaps, KeepsTenant, RunsBoth, RunsList, LentRunsAreOwned, LentCreationsAreOwned, HoldsTotalsAlways, QuotasStayWithin, RunsKeepValidity, RepliesAreOne, Quota, holdings, cap_of, IsWithinCaps, SameCaps, quota_rules, IsIndependent, LeavesAlone, MemoryAt, NumberStore, store_call, get_or-set_other}
-use Rattle.std.specs.Prelude.{slice_get, ◌≢◌}
+use Rattle.std.proofs.Common.{◌≡◌, Option, Some, OnErr, Result, Ok, Err, List, [], ◌∷◌, length, map, refl, sym, ap, subst, ◌∙◌, arith, IfOk, ℕ, true, None, inl, inr, slice_get, ◌≢◌}
+use Rattle.wasmi_law_tests.proofs.Common.{All-cons, All-head, All-nil, All-tail, same_Some, All, nat_eq, slice_set, MatchOption, MemoryTypeValue, Rules, optional_rules, Reply, World, Turn, world, IsValid, IsValidCall, State, HoldsTotals, Step, Run, Sequence, IsRunOf, IsNotOutOfMemory, IsDeterministic, AcceptsNotices, permitting, IsWithinCapsOf, RunsOfCallsAreCut, FitsAnyRegions, HasRegionFor, IsRunInParts, RunsAlone, RunsBeside, KeepsCaps, KeepsTenant, RunsBoth, RunsList, LentRunsAreOwned, LentCreationsAreOwned, HoldsTotalsAlways, QuotasStayWithin, RunsKeepValidity, RepliesAreOne, Quota, holdings, cap_of, IsWithinCaps, SameCaps, quota_rules, IsIndependent, LeavesAlone, MemoryAt, NumberStore, store_call, get_or-set_other}
 use Rattle.wasmi_machine.specs.declared.calls.Call.{Call}
 use Rattle.wasmi_machine.specs.declared.calls.Call.TheVariants.{NewMemory, NewLentMemory}
 use Rattle.wasmi_machine.specs.LentMemory.{RunInRegions, owned_world, unlent_world}
@@ -12,9 +11,8 @@ use Rattle.wasmi_budget.specs.declared.tenant.Tenant.{Tenant}
 use Rattle.wasmi_budget.specs.Pool.{tenant_rules, PoolValue, machine_of, tenant_at, IsWithinCaps as IsPoolWithinCaps, RunsTenantBy, RunsTenant}
 use Rattle.wasmi_budget.specs.Laws.{CapsHold, OthersDontShow, RunsAsAlone, Ran}
 use Rattle.wasmi_c.specs.Machine.CallStructs.{call_of}
-use Rattle.wasmi_c.specs.Machine.Calls.{ActsOnHeld, RepliesInStruct, RepliesToStruct}
 use Rattle.wasmi_c.specs.Machine.Caps.{MachineValue}
-use Rattle.wasmi_c.specs.Machine.Calls.{CallsAreRuns, ListsAreRuns, MachineRunsJoin, RepliesInTurn, RepliesToList}
+use Rattle.wasmi_c.specs.Machine.Calls.{ActsOnHeld, CallsAreRuns, ListsAreRuns, MachineRunsJoin, RepliesInStruct, RepliesInTurn, RepliesToList, RepliesToStruct}
 use Rattle.wasmi_c.specs.Machine.Replies.{only}
 use Rattle.wasmi_c.specs.Pool.{TenantReplies, TenantRepliesToStruct}
 use Rattle.wasmi_c.specs.declared.status.TheConstants.{DONE, NO_CALL, NO_MACHINE, NO_POOL}
@@ -60,10 +58,11 @@ if_ok_always (Err e) holds = tt
 module _ {S : Type 0} (rules : Rules S) where
   -- a run of one call is one step
   pub one_turn : (calls : List Call) (w w' : World S) (replies : List Reply) → length calls ≡ 1
-      → IsRunOf rules calls w replies w' → (turn : Turn) × (turn.reply ∷ [] ≡ replies) × Step rules w turn w'
+      → IsRunOf rules calls w replies w'
+      → (turn : Turn) × (turn.call ∷ [] ≡ calls) × (turn.reply ∷ [] ≡ replies) × Step rules w turn w'
   one_turn calls w w' replies one ([], made, told, ran) = absurd (omega (arith, one, ap length made))
   one_turn calls w w' replies one (turn ∷ [], made, told, (v, step, ran)) =
-      (turn, told, subst (λ u. Step rules w turn u) (sym ran) step)
+      (turn, made, told, subst (λ u. Step rules w turn u) (sym ran) step)
   one_turn calls w w' replies one (turn ∷ t ∷ turns, made, told, ran) = absurd (omega (arith, one, ap length made))
 
   -- calls that fit any regions
@@ -72,8 +71,7 @@ module _ {S : Type 0} (rules : Rules S) where
   fitting_runs w [] w' fits ran = ran
   fitting_runs w (turn ∷ turns) w' fits (v, step, ran) = (
     v,
-    All-head FitsAnyRegions turn.call (map Turn.call turns) fits w.state,
-    step,
+    (All-head FitsAnyRegions turn.call (map Turn.call turns) fits w.state, step),
     fitting_runs v turns w' (All-tail FitsAnyRegions turn.call (map Turn.call turns) fits) ran,
   )
 
@@ -89,19 +87,17 @@ module _ {S : Type 0} (rules : Rules S) where
       → (ty : MemoryTypeValue) (calls : List Call) (w w' : World S) (replies : List Reply)
       → calls ≡ NewLentMemory ty ∷ [] → HasRegionFor ty w.state → IsRunOf rules calls w replies w'
       → IsRunOf rules (NewMemory ty ∷ []) (unlent_world w) replies (unlent_world w')
-  made_owned owns ty calls w w' replies is region ([], made, told, ran) = absurd (omega (arith, ap length (made ∙ is)))
-  made_owned owns ty calls w w' replies is region (turn ∷ [], made, told, (v, step, ran)) =
+  made_owned owns ty calls w w' replies is region ran =
+      let (turn, made, told, step) = one_turn calls w w' replies (ap length is) ran in
       let call = same_Some turn.call (NewLentMemory ty) (ap (λ (cs : List Call). slice_get cs 0) (made ∙ is)) in (
         record turn { call = NewMemory ty } ∷ [],
         refl,
         told,
-        (unlent_world v, owns w turn v ty region.0 call region.1 region.2 step, ap unlent_world ran),
+        (unlent_world w', owns w turn w' ty region.0 call region.1 region.2 step, refl),
       )
-  made_owned owns ty calls w w' replies is region (turn ∷ t ∷ turns, made, told, ran) =
-      absurd (omega (arith, ap length (made ∙ is)))
 
 module _ {S : Type 0} (rules : Rules S) where
-  -- each turn of a run of calls whose types are valid leads to a valid state
+  -- every turn of a run of calls whose types are valid leads to a valid state
   pub stays_valid : RunsKeepValidity rules → (w : World S) (turns : List Turn) (w' : World S) → IsValid w.state
       → All IsValidCall (map Turn.call turns) → Run rules w turns w'
       → Sequence (λ v turn v'. Step rules v turn v' × IsValid v'.state) w turns w'
@@ -136,28 +132,14 @@ within_quota items stays s s' quota quota' calls (Ok replies) within held ran sa
 within_quota items stays s s' quota quota' calls (Err error) within held ran same =
     held_within s' quota quota' held (subst IsWithinCaps (sym same.1) within) (λ kind. ap (λ q. cap_of q kind) same.1)
 
-module _ {S : Type 0} (rules : Rules S) (w w' : World S) where
-  -- a call that is another one
-  pub answers_call : (call call' : Call) (reply : Reply) → call ≡ call' → RepliesWith rules call w reply w'
-      → RepliesWith rules call' w reply w'
-  answers_call call call' reply is answers = subst (λ c. RepliesWith rules c w reply w') is answers
-
-  -- and a reply that is another one
-  pub answers_as : (call call' : Call) (reply reply' : Reply) → call ≡ call' → reply ≡ reply'
-      → RepliesWith rules call w reply w' → RepliesWith rules call' w reply' w'
-  answers_as call call' reply reply' is told answers =
-      subst (λ r. RepliesWith rules call' w r w') told (answers_call call call' reply is answers)
-
--- one index of a memory is one number
-memory_index : (k j : ℕ) → MemoryAt k ≡ MemoryAt j → k ≡ j
-memory_index k j same = cc
-
 -- stores to different memories are independent
 pub stores_apart : (it other : NumberStore) → it.memory ≢ other.memory
     → IsIndependent (store_call it) (store_call other)
 stores_apart it other differ = record {
-  changes = λ location here there. differ (memory_index it.memory other.memory
-      (same_Some (MemoryAt it.memory) location here ∙ sym (same_Some (MemoryAt other.memory) location there)));
+  changes = λ location here there.
+      let one = same_Some (MemoryAt it.memory) location here in
+      let two = same_Some (MemoryAt other.memory) location there in
+      differ cc;
   first_leaves = All-nil (λ location. LeavesAlone location (store_call it));
   second_leaves = All-nil (λ location. LeavesAlone location (store_call other));
 }
@@ -169,7 +151,7 @@ pub same_caps : {R E : Type 0} (items : R → List Reply) (pool pool' : PoolValu
 same_caps items pool pool' index calls (Ok replies) ran same = ap (λ (p : PoolValue). p.caps) ran.after
 same_caps items pool pool' index calls (Err error) ran same = ap (λ (p : PoolValue). p.caps) same
 
--- they hold after whatever calls follow
+-- the caps hold after whatever calls follow
 pub stays_within : CapsHold → (caps : Amounts) (pool : PoolValue) → pool.caps ≡ caps → IsPoolWithinCaps pool
     → KeepsCaps caps pool
 stays_within holds caps pool same within turns later ran =
@@ -186,7 +168,7 @@ alone_after as_alone pool index calls replies pool' permitted =
     (pool', rw same permitted, refl) in
     (permitted.machine, after.0, permitted.found, after.1, rw same at after.2)
 
--- and as one beside tenants that hold nothing
+-- a run in which each question was permitted, as that of a tenant beside others that hold nothing
 pub beside_after : OthersDontShow
     → (pool : PoolValue) (index : ℕ) (calls : List Call) (replies : List Reply) (pool' : PoolValue)
     → RunsTenantBy (permitting (optional_rules tenant_rules)) pool index calls replies pool'
@@ -213,9 +195,7 @@ pools_same one once accepts pool p p' index calls a b =
     let second = b.ran in
     let found : second.machine ≡ first.machine =
     same_Some second.machine first.machine (sym second.found ∙ first.found) in
-    let ran = subst
-    (λ s. IsRunOf (optional_rules tenant_rules) calls (world s (Some (tenant_at pool index s))) b.replies
-    (world second.machine' (Some second.tenant'))) found second.ran in
+    let ran = rw found at second.ran in
     let same = one once accepts calls _ a.replies b.replies _ _ a.has b.has first.ran ran in
     let machine : first.machine' ≡ second.machine' = ap (λ (w : World (Option Tenant)). w.state) same.1 in (
       same.0,
@@ -282,7 +262,7 @@ other_stays tenant other call reply pool pool' apart (inr (full, run, told)) =
     ap (λ p. machine_of p other) run.after
     ∙ get_or-set_other pool.machines tenant other (Some run.machine') None (λ same. apart (sym same))
 
--- so does the call that numbers stand for, if there is one
+-- the call that numbers stand for, if there is one, leaves the machine of another index
 numbered_stays : (found : Option Call) (tenant other : ℕ) (reply none : ReplyStruct) (pool pool' : PoolValue)
     → tenant ≢ other
     → MatchOption found ((reply ≡ none) × (pool' ≡ pool)) (λ call. TenantReplies tenant call reply pool pool')
@@ -297,6 +277,5 @@ pub beside : (numbers : CallStruct) (tenant other : ℕ) (held held' : Option Po
     (pool : PoolValue) → ActsOnHeld (only NO_POOL) held reply held' (TenantRepliesToStruct tenant numbers reply)
     → held ≡ Some pool → tenant ≢ other → KeepsTenant other pool held'
 beside numbers tenant other held held' reply pool step there apart =
-    let here = subst
-    (λ h. ActsOnHeld (only NO_POOL) h reply held' (TenantRepliesToStruct tenant numbers reply)) there step in
+    let here = rw there at step in
     (here.0, here.2, numbered_stays (call_of numbers) tenant other reply _ pool here.0 apart here.1)

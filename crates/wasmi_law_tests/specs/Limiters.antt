@@ -1,5 +1,5 @@
 -- What a limiter holds after what it permitted: a quota, and a recorder with its trace.
-use Rattle.std.specs.Prelude.{◌≡◌, ◌+◌, ℕ, Ok, Err, length, ◌<◌, ◌⊎◌, ◌++◌, Bool, true, false, Some, List, [], ◌∷◌, slice_get, slice_set}
+use Rattle.std.specs.Prelude.{◌≡◌, ℕ, Ok, Err, length, ◌<◌, ◌⊎◌, ◌++◌, Bool, true, false, Some, List, [], ◌∷◌, slice_get, slice_set}
 use Rattle.wasmi_meter.specs.declared.limiter.Kind.{Kind}
 use Rattle.std.specs.Vec.{vec_capacity}
 use Rattle.wasmi_meter.specs.Limiter.{Question, Answer, kind_of, NoticeAnswer, Rules}

@@ -72,7 +72,7 @@ abbrev pub IsMeterKept : {S : Type 0} → Rules S → Call → World S → Reply
 IsMeterKept rules call w reply w' = (turn : Turn) × AreTurns (call ∷ []) (reply ∷ []) (turn ∷ []) × Step rules w turn w'
     × KeepsMeter rules w turn w'
 
--- each turn that is refused keeps what a refused turn keeps
+-- every turn that is refused keeps what a refused turn keeps
 abbrev pub KeepsWhereRefused : {S : Type 0} → Rules S → List Call → World S → List Reply → World S → Type 0
 KeepsWhereRefused rules calls w replies w' =
     RunsByTurns rules (λ v turn v'. IsRefusal turn.reply → Keeps rules v turn v') calls w replies w'
@@ -89,7 +89,7 @@ AreSameTurns rules w v v' = (turns : List Turn) × Run rules w turns v × Run ru
 abbrev pub IsLent : MemoryValue → Type 0
 IsLent x = (rest : List ℕ) × (x.room ≡ Lent rest)
 
--- so much is left, or no meter is there, that a request can be paid
+-- enough is left to pay a request, or no meter is there
 abbrev pub CanPay : {V E : Type 0} → Option Meter → Request V E → Type 0
 CanPay m request = covers m (optional_due m request.price) ≡ true
 
@@ -136,7 +136,7 @@ IsSpentBy rules calls w replies w' =
     → (left' : ℕ) × (w'.state.meter.left ≡ Some left')
     × IsSpent w.state.meter.costs.bytes_copied_per_fuel left left' turns) calls w replies w'
 
--- each turn of a run leads to a valid state
+-- every turn of a run leads to a valid state
 abbrev pub StaysValid : {S : Type 0} → Rules S → List Call → World S → List Reply → World S → Type 0
 StaysValid rules calls w replies w' = RunsByTurns rules (λ v turn v'. IsValid v'.state) calls w replies w'
 
@@ -206,7 +206,7 @@ abbrev pub KeepsTenant : ℕ → PoolValue → Option PoolValue → Type 0
 KeepsTenant index pool held' = (pool' : PoolValue) × (held' ≡ Some pool')
     × (machine_of pool' index ≡ machine_of pool index)
 
--- Each of the first n items of a list stands in a relation to itself and to each that follows among them.
+-- Every one of the first n items of a list stands in a relation to itself and to each that follows among them.
 abbrev pub RelatesForward : {X : Type 0} → (X → X → Type 0) → List X → ℕ → Type 0
 RelatesForward {X} Relates xs n =
     (i j : ℕ) (a b : X) → i ≤ j → j < n → slice_get xs i ≡ Some a → slice_get xs j ≡ Some b → Relates a b

@@ -1,13 +1,8 @@
 -- Turns whose calls are local and independent may be exchanged.
-use Rattle.std.proofs.Common.{Err, List, None, Ok, Option, Result, Some, [], ap, ap₂, refl, set, subst, sym, ℕ, ◌+◌, ◌∙◌, ◌∷◌, ◌≡◌}
-use Rattle.wasmi_laws.proofs.Common.{changes_too, All-head, All-tail, set_comm, option_and_then, option_map, All, slice_get, slice_set, ChangesFound, ChangesPart, DropsAt, OnLive, reply_of, ReadsBytes, StoresMemory, WritesMemoryAt, load_reply, StoresVectorAt, SetsAt, SetsRegister, given_vector, lane_loaded, of_one, of_three, of_two, raw_reply, vector_at, vector_loaded, Run, BytesRead, BytesStored, BytesWritten, Change, Changed, DataDropped, DataMade, Effect, ElementSet, GlobalMade, GlobalSet, ItemsDropped, MemoryDropped, RegisterSet, SegmentMade, Step, TableDropped, HasChange, HasEffect, Told, effect_of, State, live_at, live_value, with_data_segments, with_globals, with_memories, with_registers, with_segments, with_tables, byte_count, Turn, World, SetsElementAt, element_reply, DropsDataAt, DropsItemsAt, SetsGlobalAt, global_reply, Call, Reply, Done, NoSuch, Trap, Slot, Gone, Live, set_other, Content, DataAt, GlobalAt, IndependentTurnsSwap, IsIndependent, IsLocal, Location, MemoryAt, RegisterAt, SegmentAt, TableAt, changed_location, content_at, read_locations, Rules, RawVal, MemoryValue, size_of, at, TrapCode}
+use Rattle.std.proofs.Common.{Err, List, None, Ok, Option, Result, Some, [], ap, refl, set, subst, sym, ℕ, ◌∙◌, ◌∷◌, ◌≡◌}
+use Rattle.wasmi_laws.proofs.Common.{changes_too, All-head, All-tail, set_comm, option_and_then, All, slice_get, slice_set, ChangesFound, ChangesPart, DropsAt, OnLive, reply_of, StoresMemory, WritesMemoryAt, StoresVectorAt, SetsAt, SetsRegister, Run, BytesRead, BytesStored, BytesWritten, Change, Changed, DataDropped, DataMade, Effect, ElementSet, GlobalMade, GlobalSet, ItemsDropped, MemoryDropped, RegisterSet, SegmentMade, Step, TableDropped, HasChange, HasEffect, Told, effect_of, State, live_at, live_value, with_data_segments, with_globals, with_memories, with_registers, with_segments, with_tables, byte_count, Turn, outcome_of, World, SetsElementAt, DropsDataAt, DropsItemsAt, SetsGlobalAt, Call, Reply, Done, NoSuch, Trap, Slot, Gone, Live, set_other, Content, DataAt, GlobalAt, IndependentTurnsSwap, IsIndependent, IsLocal, Location, MemoryAt, RegisterAt, SegmentAt, TableAt, changed_location, content_at, read_locations, Rules, RawVal, MemoryValue, size_of, TrapCode}
 use Rattle.wasmi_machine.specs.declared.calls.Call.TheVariants as call
 use Rattle.wasmi_laws.proofs.LocationLemmas.{changed_by, changed_in, changed_is}
-use Rattle.wasmi_lanewise.specs.VectorTable.{shuffle}
-use Rattle.wasmi_ops.specs.VectorOps.{binary_vector, made_vector, shifted_vector, ternary_vector, tested_raw, unary_vector, stored_lane}
-use Rattle.wasmi_ops.specs.LaneOps.{extracted_raw, replaced_vector}
-use Rattle.wasmi_raw.specs.RawVal.{vector_in}
-use Rattle.wasmi_types.specs.Numbers.{le_bytes}
 
 -- what a call does to a state: nothing, or it puts something at an index
 data Edit : Type 0 where
@@ -35,20 +30,14 @@ IsEditAt changed (Put location x) = changed ≡ Some location
 
 -- two states have the same at an index, if there is one
 abbrev SameIn : Option Location → State → State → Type 0
-SameIn None s t = Unit {0}
-SameIn (Some location) s t = content_at location t ≡ content_at location s
+SameIn changed s t = (location : Location) → changed ≡ Some location → content_at location t ≡ content_at location s
 
--- so at each of some indices
+-- two states have the same at all of some indices
 abbrev SameAll : List Location → State → State → Type 0
 SameAll [] s t = Unit {0}
 SameAll (location ∷ locations) s t = (content_at location t ≡ content_at location s) × SameAll locations s t
 
--- so the other way around
-back_in : (changed : Option Location) (s t : State) → SameIn changed s t → SameIn changed t s
-back_in None s t same = tt
-back_in (Some location) s t same = sym same
-
--- at each of some
+-- what two states have the same at some indices is the same the other way around
 back_all : (locations : List Location) (s t : State) → SameAll locations s t → SameAll locations t s
 back_all [] s t same = tt
 back_all (location ∷ locations) s t (same, rest) = (sym same, back_all locations s t rest)
@@ -69,7 +58,7 @@ twice : {X : Type 0} (At : ℕ → Location) (xs : List X) (k j : ℕ) (x y : X)
     → set (set xs j y) k x ≡ set (set xs k x) j y
 twice At xs k j x y apart = set_comm xs j k y x (λ same. apart (ap At (sym same)))
 
--- two puts at different indices
+-- two puts at different indices may be exchanged
 puts_swap : (location other : Location) (x : Content location) (y : Content other) (s : State)
     → (location ≡ other → ⊥) → put_at location x (put_at other y s) ≡ put_at other y (put_at location x s)
 puts_swap (MemoryAt k) (MemoryAt j) x y s apart = ap (with_memories s) (twice MemoryAt s.memories k j x y apart)
@@ -81,7 +70,7 @@ puts_swap (GlobalAt k) (GlobalAt j) x y s apart = ap (with_globals s) (twice Glo
 puts_swap (RegisterAt k) (RegisterAt j) x y s apart = ap (with_registers s) (twice RegisterAt s.registers k j x y apart)
 puts_swap location other x y s apart = refl
 
--- two edits at different indices
+-- two edits at different indices may be exchanged
 edits_swap : (changed changed' : Option Location) (e f : Edit) (s : State) → IsEditAt changed e → IsEditAt changed' f
     → ((location : Location) → changed ≡ Some location → changed' ≡ Some location → ⊥)
     → edited e (edited f s) ≡ edited f (edited e s)
@@ -97,14 +86,7 @@ edit_outside changed Keep s location here apart = refl
 edit_outside changed (Put other x) s location here apart =
     put_outside other x location s (λ same. apart (here ∙ ap Some same))
 
--- so at one that may be there
-edit_leaves_in : (changed changed' : Option Location) (e : Edit) (s : State) → IsEditAt changed e
-    → ((location : Location) → changed' ≡ Some location → changed ≡ Some location → ⊥) → SameIn changed' s (edited e s)
-edit_leaves_in changed None e s here apart = tt
-edit_leaves_in changed (Some location) e s here apart =
-    edit_outside changed e s location here (λ is. apart location refl is)
-
--- and at each of some
+-- an edit leaves what is at some other indices
 edit_leaves_all : (changed : Option Location) (locations : List Location) (e : Edit) (s : State) → IsEditAt changed e
     → All (λ location. changed ≡ Some location → ⊥) locations → SameAll locations s (edited e s)
 edit_leaves_all changed [] e s here apart = tt
@@ -130,7 +112,7 @@ module _ {X Y : Type 0} (k : ℕ) (look : Option Y → Option X) (back : X → Y
   abbrev Found : List Y → Reply → List Y → Type 0
   Found xs r xs' = ChangesFound (look (slice_get xs k)) (λ x. slice_set xs k (back x)) xs r xs' (Change r)
 
-  -- it goes by what is there
+  -- a change goes by what is at the index, by whether something is found there
   found_moves_by : (items : List Y) (reply : Reply) (items' : List Y) (found : Option X)
       → look (slice_get items k) ≡ found → OnLive found ((reply ≡ NoSuch) × (items' ≡ items))
       (λ x. (x' : X) × Change reply x x' × (items' ≡ slice_set items k (back x'))) → ListMoves k Found items reply items'
@@ -139,32 +121,28 @@ module _ {X Y : Type 0} (k : ℕ) (look : Option Y → Option X) (back : X → Y
   found_moves_by items reply items' (Some x) is h =
       record { put = Some (back h.0); after = h.2; too = λ ys same. rw (ap look same ∙ is) (h.0, h.1, refl) }
 
-  -- whatever that is
+  -- a change goes by what is at the index, whatever that is
   found_moves : (items : List Y) (reply : Reply) (items' : List Y) → Found items reply items'
       → ListMoves k Found items reply items'
   found_moves items reply items' changes = found_moves_by items reply items' (look (slice_get items k)) refl changes
 
 module _ {X : Type 0} (count : X → ℕ) (k : ℕ) (slots : List (Slot X)) (reply : Reply) (slots' : List (Slot X)) where
-  -- so a drop
-  drop_moves_by : (found : Option X) → live_at slots k ≡ found → OnLive found ((reply ≡ NoSuch) × (slots' ≡ slots))
+  -- a drop goes by what is at the index, by whether a live value is there
+  drop_moves : (found : Option X) → live_at slots k ≡ found → OnLive found ((reply ≡ NoSuch) × (slots' ≡ slots))
       (λ x. (reply ≡ Done) × (slots' ≡ slice_set slots k (Gone (count x))))
       → ListMoves k (DropsAt count k) slots reply slots'
-  drop_moves_by None is h = record {
+  drop_moves None is h = record {
     put = None;
     after = h.1;
     too = λ ys same. rw (ap (option_and_then live_value) same ∙ is) (h.0, refl);
   }
-  drop_moves_by (Some x) is h = record {
+  drop_moves (Some x) is h = record {
     put = Some (Gone (count x));
     after = h.1;
     too = λ ys same. rw (ap (option_and_then live_value) same ∙ is) (h.0, refl);
   }
 
-  -- by what is there
-  drop_moves : DropsAt count k slots reply slots' → ListMoves k (DropsAt count k) slots reply slots'
-  drop_moves drops = drop_moves_by (live_at slots k) refl drops
-
--- so a store to a memory, whose bytes may be missing
+-- a store to a memory, whose bytes may be missing, goes by what is at the index
 store_moves : (k a : ℕ) (slots : List (Slot MemoryValue)) (reply : Reply) (slots' : List (Slot MemoryValue))
     (stored : Option (List ℕ)) → StoresVectorAt k a stored slots reply slots'
     → ListMoves k (StoresVectorAt k a stored) slots reply slots'
@@ -175,22 +153,17 @@ store_moves k a slots reply slots' (Some stored) stores =
     × (r ≡ reply_of (λ _. Done) Trap result)) slots reply slots' stores
 
 module _ (dst : ℕ) (registers : List RawVal) (reply : Reply) (registers' : List RawVal) where
-  -- so a register that takes what it is given
-  register_moves_by : (given : Option (Result RawVal TrapCode)) (old : Option RawVal) → slice_get registers dst ≡ old
+  -- the setting of a register goes by what is at its index, by what it is given and what it had
+  register_moves : (given : Option (Result RawVal TrapCode)) (old : Option RawVal) → slice_get registers dst ≡ old
       → SetsAt given old dst registers reply registers'
       → ListMoves dst (SetsRegister dst given) registers reply registers'
-  register_moves_by None old is takes = record { put = None; after = takes.1; too = λ ys same. (takes.0, refl) }
-  register_moves_by (Some (Ok value)) (Some old) is takes =
+  register_moves None old is takes = record { put = None; after = takes.1; too = λ ys same. (takes.0, refl) }
+  register_moves (Some (Ok value)) (Some old) is takes =
       record { put = Some value; after = takes.1; too = λ ys same. rw (same ∙ is) (takes.0, refl) }
-  register_moves_by (Some given) None is takes =
+  register_moves (Some given) None is takes =
       record { put = None; after = takes.1; too = λ ys same. rw (same ∙ is) (takes.0, refl) }
-  register_moves_by (Some (Err trap)) (Some old) is takes =
+  register_moves (Some (Err trap)) (Some old) is takes =
       record { put = None; after = takes.1; too = λ ys same. rw (same ∙ is) (takes.0, refl) }
-
-  -- by what it has
-  register_moves : (given : Option (Result RawVal TrapCode)) → SetsRegister dst given registers reply registers'
-      → ListMoves dst (SetsRegister dst given) registers reply registers'
-  register_moves given takes = register_moves_by given (slice_get registers dst) refl takes
 
 -- what is done to a state goes by what is at an index: each state with the same there is edited in the same way
 record Moves (changed : Option Location) (Becomes : State → State → Type 0) (s s' : State) : Type 0 where
@@ -235,7 +208,7 @@ module _ (location : Location) (p : Part location)
   abbrev PartMoves : Type 0
   PartMoves = Moves (Some location) (λ t t'. ChangesPart (p.with_part t) (Effect (p.read t)) reply t') s s'
 
-  -- a change of a part, as an effect on its list goes by what is at an index
+  -- a change of a part goes by what is at an index, by what its effect on the list puts there
   part_moves_by : (part : List (Content location)) → s' ≡ p.with_part s part → (put : Option (Content location))
       → part ≡ put_in p.index put (p.read s)
       → ((ys : List (Content location)) → slice_get ys p.index ≡ slice_get (p.read s) p.index
@@ -244,7 +217,11 @@ module _ (location : Location) (p : Part location)
     edit = Keep;
     here = tt;
     after = is ∙ ap (p.with_part s) after ∙ p.whole s;
-    too = λ t same. record { part = p.read t; effect = too (p.read t) (p.found s t same); after = sym (p.whole t) };
+    too = λ t same. record {
+      part = p.read t;
+      effect = too (p.read t) (p.found s t (same location refl));
+      after = sym (p.whole t);
+    };
   }
   part_moves_by part is (Some x) after too = record {
     edit = Put location x;
@@ -252,12 +229,12 @@ module _ (location : Location) (p : Part location)
     after = is ∙ ap (p.with_part s) after ∙ sym (p.puts x s);
     too = λ t same. record {
       part = slice_set (p.read t) p.index x;
-      effect = too (p.read t) (p.found s t same);
+      effect = too (p.read t) (p.found s t (same location refl));
       after = p.puts x t;
     };
   }
 
-  -- by what it puts
+  -- a change of a part goes by what is at an index, as its effect on the list does
   part_moves : (c : ChangesPart (p.with_part s) (Effect (p.read s)) reply s')
       → ListMoves p.index Effect (p.read s) reply c.part → PartMoves
   part_moves c moves = part_moves_by c.part c.after moves.put moves.after moves.too
@@ -269,7 +246,7 @@ IsLocalChange (DataMade bytes) = ⊥
 IsLocalChange (GlobalMade global) = ⊥
 IsLocalChange change = Unit {0}
 
--- each such change goes by what is at its index
+-- a change that makes nothing goes by what is at its index
 change_moves : (s : State) (reply : Reply) (s' : State) (change : Change) → IsLocalChange change
     → HasChange change s reply s' → Moves (changed_by change) (λ t t'. HasChange change t reply t') s s'
 change_moves s reply s' (BytesWritten k offset bytes) local c =
@@ -280,12 +257,12 @@ change_moves s reply s' (BytesStored k a stored) local c =
     (store_moves k a s.memories reply c.part stored c.effect)
 change_moves s reply s' (RegisterSet dst given) local c =
     part_moves _ (part_at (RegisterAt dst)) (SetsRegister dst given) s reply s' c
-    (register_moves dst s.registers reply c.part given c.effect)
+    (register_moves dst s.registers reply c.part given (slice_get s.registers dst) refl c.effect)
 change_moves s reply s' (MemoryDropped k) local c =
     part_moves _ (part_at (MemoryAt k)) (DropsAt byte_count k) s reply s' c
-    (drop_moves byte_count k s.memories reply c.part c.effect)
+    (drop_moves byte_count k s.memories reply c.part (live_at s.memories k) refl c.effect)
 change_moves s reply s' (TableDropped k) local c = part_moves _ (part_at (TableAt k)) (DropsAt size_of k) s reply s' c
-    (drop_moves size_of k s.tables reply c.part c.effect)
+    (drop_moves size_of k s.tables reply c.part (live_at s.tables k) refl c.effect)
 change_moves s reply s' (ElementSet k index value) local c =
     part_moves _ (part_at (TableAt k)) (SetsElementAt k index value) s reply s' c
     (found_moves k (option_and_then live_value) Live _ s.tables reply c.part c.effect)
@@ -321,9 +298,9 @@ record TurnMoves {S : Type 0} (Becomes : World S → World S → Type 0) (change
       → Becomes u (record u { state = edited edit u.state })
 
 module _ {S : Type 0} (rules : Rules S) (w : World S) (turn : Turn) (w' : World S) where
-  -- a local effect
-  effect_moves : (effect : Effect) → IsLocalEffect effect → HasEffect rules effect w turn w'
-      → TurnMoves (λ u u'. HasEffect rules effect u turn u') (changed_in effect) (read_in effect) w w'
+  -- a turn with a local effect goes by what is at indices
+  effect_moves : (effect : Effect) → IsLocalEffect effect → HasEffect rules effect w (outcome_of turn) w'
+      → TurnMoves (λ u u'. HasEffect rules effect u (outcome_of turn) u') (changed_in effect) (read_in effect) w w'
   effect_moves (Told told) local step = record {
     edit = Keep;
     here = tt;
@@ -336,8 +313,7 @@ module _ {S : Type 0} (rules : Rules S) (w : World S) (turn : Turn) (w' : World 
     after = step.after;
     too = λ u same reads. record {
       free = step.free;
-      effect = subst (λ slot. OnLive (option_and_then live_value slot) (turn.reply ≡ NoSuch)
-          (λ x. ReadsBytes (at x.bytes offset len) turn.reply)) (sym reads.0) step.effect;
+      effect = rw reads.0 step.effect;
       after = refl;
     };
   }
@@ -365,53 +341,31 @@ module _ (s t : State) where
   -- the effect of a local call goes by what the call reads
   same_effect : (c : Call) → IsLocal c → SameAll (read_locations c) s t → effect_of t c ≡ effect_of s c
   same_effect call.GetFuel local same = absurd local
-  same_effect (call.Load op k ptr offset) local same =
-      ap (λ slot. Told (load_reply op (ptr + offset) (option_and_then live_value slot))) same.0
-  same_effect (call.GetElement k index) local same =
-      ap (λ slot. Told (element_reply index (option_and_then live_value slot))) same.0
+  same_effect (call.Load op k ptr offset) local same = rw same.0
+  same_effect (call.GetElement k index) local same = rw same.0
   same_effect (call.CopyMemory k dst j src len) local same = absurd local
   same_effect (call.InitMemory k j dst src len) local same = absurd local
   same_effect (call.InitTable k j dst src len) local same = absurd local
   same_effect (call.CopyTable k dst j src len) local same = absurd local
-  same_effect (call.GetGlobal k) local same = ap (λ global. Told (global_reply global)) same.0
-  same_effect (call.GetRegister a) local same = ap (λ raw. Told (raw_reply raw)) same.0
-  same_effect (call.Make op dst a) local same =
-      ap (λ raw. Changed (RegisterSet dst (option_map (λ x. given_vector (made_vector op x)) raw))) same.0
-  same_effect (call.Unary op dst a) local same =
-      ap (λ raw. Changed (RegisterSet dst (of_one (unary_vector op) (option_map vector_in raw)))) same.0
-  same_effect (call.Binary op dst a b) local same =
-      ap₂ (λ x y. Changed (RegisterSet dst (of_two (binary_vector op) (option_map vector_in x)
-      (option_map vector_in y)))) same.0 same.1.0
-  same_effect (call.Ternary op dst a b c) local same =
-      ap₂ (λ x y. Changed (RegisterSet dst (of_three (ternary_vector op) (option_map vector_in x)
-      (option_map vector_in y) (vector_at t.registers c)))) same.0 same.1.0
-      ∙ ap (λ z. Changed (RegisterSet dst (of_three (ternary_vector op) (vector_at s.registers a)
-      (vector_at s.registers b) (option_map vector_in z)))) same.1.1.0
-  same_effect (call.Shift op dst a amount) local same =
-      ap (λ raw. Changed (RegisterSet dst (of_one (λ v. shifted_vector op v amount) (option_map vector_in raw)))) same.0
-  same_effect (call.Test op a) local same =
-      ap (λ raw. Told (raw_reply (option_map (tested_raw op) (option_map vector_in raw)))) same.0
-  same_effect (call.Extract op a) local same =
-      ap (λ raw. Told (raw_reply (option_map (extracted_raw op) (option_map vector_in raw)))) same.0
-  same_effect (call.Replace op dst a item) local same =
-      ap₂ (λ x y. Changed (RegisterSet dst (option_and_then (λ raw. of_one (λ v. replaced_vector op v raw)
-      (option_map vector_in x)) y))) same.0 same.1.0
-  same_effect (call.Shuffle dst a b lanes) local same =
-      ap₂ (λ x y. Changed (RegisterSet dst (of_two (λ v w. shuffle v w lanes) (option_map vector_in x)
-      (option_map vector_in y)))) same.0 same.1.0
-  same_effect (call.VectorLoad op dst k ptr offset) local same =
-      ap (λ slot. Changed (RegisterSet dst (vector_loaded op (ptr + offset) (option_and_then live_value slot)))) same.0
-  same_effect (call.LoadLane op dst a k ptr offset) local same =
-      ap₂ (λ x slot. Changed (RegisterSet dst (lane_loaded op (ptr + offset) (option_map vector_in x)
-      (option_and_then live_value slot)))) same.0 same.1.0
-  same_effect (call.VectorStore a k ptr offset) local same =
-      ap (λ raw. Changed (BytesStored k (ptr + offset) (option_map (le_bytes 16) (option_map vector_in raw)))) same.0
-  same_effect (call.StoreLane op a k ptr offset) local same =
-      ap (λ raw. Changed (BytesStored k (ptr + offset) (option_map (stored_lane op) (option_map vector_in raw)))) same.0
+  same_effect (call.GetGlobal k) local same = rw same.0
+  same_effect (call.GetRegister a) local same = rw same.0
+  same_effect (call.Make op dst a) local same = rw same.0
+  same_effect (call.Unary op dst a) local same = rw same.0
+  same_effect (call.Binary op dst a b) local same = rw (same.0, same.1.0)
+  same_effect (call.Ternary op dst a b c) local same = rw (same.0, same.1.0, same.1.1.0)
+  same_effect (call.Shift op dst a amount) local same = rw same.0
+  same_effect (call.Test op a) local same = rw same.0
+  same_effect (call.Extract op a) local same = rw same.0
+  same_effect (call.Replace op dst a item) local same = rw (same.0, same.1.0)
+  same_effect (call.Shuffle dst a b lanes) local same = rw (same.0, same.1.0)
+  same_effect (call.VectorLoad op dst k ptr offset) local same = rw same.0
+  same_effect (call.LoadLane op dst a k ptr offset) local same = rw (same.0, same.1.0)
+  same_effect (call.VectorStore a k ptr offset) local same = rw same.0
+  same_effect (call.StoreLane op a k ptr offset) local same = rw same.0
   same_effect c local same = refl
 
 module _ {S : Type 0} (rules : Rules S) where
-  -- the turn of a local call
+  -- a turn of a local call goes by what is at indices
   turn_moves : (w : World S) (turn : Turn) (w' : World S) → IsLocal turn.call → Step rules w turn w'
       → TurnMoves (λ u u'. Step rules u turn u') (changed_location turn.call) (read_locations turn.call) w w'
   turn_moves w turn w' local step =
@@ -420,36 +374,31 @@ module _ {S : Type 0} (rules : Rules S) where
       let changed = changed_is w.state turn.call in
       record {
         edit = moves.edit;
-        here = subst (λ l. IsEditAt l moves.edit) changed moves.here;
+        here = rw changed at moves.here;
         after = moves.after;
-        too = λ u same reads. subst (λ effect. HasEffect rules effect u turn (record u {
-          state = edited moves.edit u.state;
-        })) (sym (same_effect w.state u.state turn.call local reads))
-            (moves.too u (subst (λ l. SameIn l w.state u.state) (sym changed) same)
-            (reads_in w.state u.state turn.call reads));
+        too = λ u same reads. rw (same_effect w.state u.state turn.call local reads)
+            (moves.too u (rw changed same) (reads_in w.state u.state turn.call reads));
       }
 
-  -- two such turns
+  -- two independent turns that go by what is at indices may be exchanged
   turns_swap : (w : World S) (first second : Turn) (v w' : World S) → IsIndependent first.call second.call
       → TurnMoves (λ u u'. Step rules u first u') (changed_location first.call) (read_locations first.call) w v
       → TurnMoves (λ u u'. Step rules u second u') (changed_location second.call) (read_locations second.call) v w'
       → Run rules w (second ∷ first ∷ []) w'
   turns_swap w first second v w' apart a after =
-      let b = subst (λ x. TurnMoves (λ u u'. Step rules u second u') (changed_location second.call)
-      (read_locations second.call) x w') a.after after in
+      let b = rw a.after at after in
       let one = edited a.edit w.state in
       let two = edited b.edit w.state in (
         record w { state = two },
-        b.too w (back_in (changed_location second.call) w.state one
-            (edit_leaves_in (changed_location first.call) (changed_location second.call) a.edit w.state a.here
-            (λ location is also. apart.changes location also is))) (back_all (read_locations second.call) w.state one
+        b.too w (λ location is. sym (edit_outside (changed_location first.call) a.edit w.state location a.here
+            (λ also. apart.changes location also is))) (back_all (read_locations second.call) w.state one
             (edit_leaves_all (changed_location first.call) (read_locations second.call) a.edit w.state a.here
             apart.first_leaves)),
         (
           record w { state = edited a.edit two },
           a.too (record w { state = two })
-              (edit_leaves_in (changed_location second.call) (changed_location first.call) b.edit w.state b.here
-              apart.changes)
+              (λ location is. edit_outside (changed_location second.call) b.edit w.state location b.here
+              (apart.changes location is))
               (edit_leaves_all (changed_location second.call) (read_locations first.call) b.edit w.state b.here
               apart.second_leaves),
           b.after
@@ -459,7 +408,7 @@ module _ {S : Type 0} (rules : Rules S) where
         ),
       )
 
-  -- so in a run of both
+  -- a run of two turns whose calls are local and independent is a run in the other order
   pub independent_turns_swap : IndependentTurnsSwap rules
   independent_turns_swap w first second w' local local' apart (v, one, (u, two, same)) =
       turns_swap w first second v w' apart (turn_moves w first v local one)

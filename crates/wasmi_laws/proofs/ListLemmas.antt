@@ -1,5 +1,5 @@
 -- What becomes of each item of a list, as one item changes or one comes to the end.
-use Rattle.std.proofs.Common.{Err, List, None, Ok, Option, Result, Some, [], ap, arith, inl, inr, length, length-set, refl, subst, suc, sym, zero, ℕ, ◌+◌, ◌++◌, ◌≤◌, ◌∙◌, ◌∷◌, ◌≡◌, ◌⊎◌, ⊎_elim}
+use Rattle.std.proofs.Common.{Err, List, None, Ok, Option, Result, Some, [], ap, arith, inl, inr, length, length-set, refl, subst, suc, zero, ℕ, ◌+◌, ◌++◌, ◌≤◌, ◌∙◌, ◌∷◌, ◌≡◌, ◌⊎◌, ⊎_elim}
 use Rattle.std.proofs.lemmas.Bool.{cases_eq}
 use Rattle.wasmi_laws.proofs.Common.{length-append, slice_get, slice_set, both_live, on_live, value_kept, live_slot, set_other, set_same, ActsAt, AddsEntry, ChangesAt, ChangesItem, Creates, DropsAt, MeteredSlots, OnLive, WritesRangeAt, reply_of, live_at, Reply, Done, Slot, Gone, Live, MeteredValue, with_value, MeteredWrite, WritesCharging}
 
@@ -12,7 +12,7 @@ module _ {X : Type 0} where
   at_appended (x ∷ xs) y zero = inl refl
   at_appended (x ∷ xs) y (suc j) = at_appended xs y j
 
--- each index of a list has what it had, if anything, or what that may become, and there are at most so many more items
+-- every index of a list has what it had, if anything, or what that may become, and there are at most so many more items
 abbrev pub EachAfter : {X : Type 0} → ℕ → (ℕ → Option X → Option X → Type 0) → List X → List X → Type 0
 EachAfter {X} more Becomes xs xs' =
     (j : ℕ) → ((slice_get xs' j ≡ slice_get xs j) ⊎ Becomes j (slice_get xs j) (slice_get xs' j))
@@ -35,9 +35,7 @@ module _ {X : Type 0} (Becomes : ℕ → Option X → Option X → Type 0) (xs x
       → EachAfter 0 Becomes xs xs'
   put k x y found becomes is j = (
     ⊎_elim
-        (λ same. inr (subst (λ i. Becomes i (slice_get xs i) (slice_get xs' i)) same
-        (subst (λ o. Becomes k o (slice_get xs' k)) (sym found)
-        (subst (Becomes k (Some x)) (sym (ap (λ ys. slice_get ys k) is ∙ set_same xs k y x found)) becomes))))
+        (λ same. inr (rw (← same, found, is, set_same xs k y x found) becomes))
         (λ other. inl (ap (λ ys. slice_get ys j) is ∙ set_other xs k j y other)) (cases_eq k j),
     omega (arith, ap length is, length-set xs k y),
   )

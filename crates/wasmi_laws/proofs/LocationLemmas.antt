@@ -1,6 +1,6 @@
 -- What becomes of what is at each index of a machine, in a step and in a run.
 use Rattle.std.proofs.Common.{Err, List, None, Ok, Option, Result, Some, [], ap, ⊎_elim, arith, inl, inr, length, map, refl, subst, sym, ℕ, ◌*◌, ◌+◌, ◌≤◌, ◌∙◌, ◌∷◌, ◌≡◌, ◌⊎◌}
-use Rattle.wasmi_laws.proofs.Common.{All-head, All-tail, none-some, same_Some, option_and_then, option_map, slice_get, on_live, on_live_too, source_writes, AddsItem, OnLive, reply_of, ByteSource, CreatesLent, byte_write_of, StoresVectorAt, SetsAt, MemoryPart, State, Turn, World, byte_count, live_value, memory_part, BytesStored, BytesWritten, Change, Changed, DataDropped, DataMade, Effect, ElementSet, FuelSet, GlobalMade, GlobalSet, ItemsDropped, LentMemoryMade, MemoryDropped, MemoryGrown, MemoryMade, RangeWritten, RegisterSet, SegmentMade, Step, TableDropped, TableGrown, TableMade, MemoryWritten, TableWritten, HasChange, HasEffect, effect_of, OfReference, OfSegment, OfTable, Source, write_of, CreatesSegment, Call, SetFuel, Reply, Slot, Gone, Live, Content, DataAt, DropsNot, GlobalAt, HasAt, IndicesLast, IsLater, IsLaterSlot, IsLive, LeavesAlone, LiveUntilDropped, Location, MemoryAt, OthersStay, OthersStayInRuns, RegisterAt, SegmentAt, TableAt, changed_location, content_at, dropped_location, IsLent, IsLentRoom, IsReservedToMaximum, AttemptOutcome, Met, MeteredValue, answer_of, value_after, Rules, Meter, meter_set, MemoryError, TableError, RawVal, on_test, Lent, Owned, Room, room_after, Grows, Growth, metered, metered_value, GrowsMemoryCharging, MakesMemory, MemoryTypeValue, MemoryValue, MemoryWrite, WritesMemory, new_memory, page_bytes, copied, filled, GrowsTableCharging, MakesTable, SetsTable, TableValue, same_type, size_of, with_elements, TypedRawRef, overwrite, TrapCode, RefType, memory_growth, table_growth}
+use Rattle.wasmi_laws.proofs.Common.{All-head, All-tail, none-some, same_Some, option_and_then, option_map, slice_get, on_live, on_live_too, source_writes, AddsItem, OnLive, reply_of, ByteSource, CreatesLent, byte_write_of, StoresVectorAt, SetsAt, MemoryPart, State, Turn, outcome_of, World, byte_count, live_value, memory_part, BytesStored, BytesWritten, Change, Changed, DataDropped, DataMade, Effect, ElementSet, FuelSet, GlobalMade, GlobalSet, ItemsDropped, LentMemoryMade, MemoryDropped, MemoryGrown, MemoryMade, RangeWritten, RegisterSet, SegmentMade, Step, TableDropped, TableGrown, TableMade, MemoryWritten, TableWritten, HasChange, HasEffect, effect_of, OfReference, OfSegment, OfTable, Source, write_of, CreatesSegment, Call, SetFuel, Reply, Slot, Gone, Live, Content, DataAt, DropsNot, GlobalAt, HasAt, IndicesLast, IsLater, IsLaterSlot, IsLive, LeavesAlone, LiveUntilDropped, Location, MemoryAt, OthersStay, OthersStayInRuns, RegisterAt, SegmentAt, TableAt, changed_location, content_at, dropped_location, IsLent, IsLentRoom, IsReservedToMaximum, AttemptOutcome, Met, MeteredValue, answer_of, value_after, Rules, Meter, meter_set, MemoryError, TableError, RawVal, on_test, Lent, Owned, Room, room_after, Grows, Growth, metered, metered_value, GrowsMemoryCharging, MakesMemory, MemoryTypeValue, MemoryValue, MemoryWrite, WritesMemory, new_memory, page_bytes, copied, filled, GrowsTableCharging, MakesTable, SetsTable, TableValue, same_type, size_of, with_elements, TypedRawRef, overwrite, TrapCode, RefType, memory_growth, table_growth}
 use Rattle.wasmi_laws.proofs.ListLemmas.{EachAfter, appended, entry_added, item_changed, put, slot_acted, slot_changed, slot_dropped, slot_made, slot_written, unchanged}
 use Rattle.wasmi_store.specs.Memory as memory
 use Rattle.wasmi_store.specs.Segment.{SegmentValue}
@@ -16,7 +16,7 @@ use Rattle.wasmi_machine.specs.declared.calls.Reply.TheVariants as replied
 abbrev StaysMemory : MemoryValue → MemoryValue → Type 0
 StaysMemory x x' = (x'.ty ≡ x.ty) × (IsLent x → IsLent x')
 
--- as the same does
+-- the same memory keeps its type and its region
 memory_stays : (x : MemoryValue) → StaysMemory x x
 memory_stays x = (refl, λ lent. lent)
 
@@ -24,7 +24,7 @@ memory_stays x = (refl, λ lent. lent)
 abbrev StaysTable : TableValue → TableValue → Type 0
 StaysTable x x' = (x'.ty ≡ x.ty) × (IsReservedToMaximum x → IsReservedToMaximum x')
 
--- as the same does
+-- the same table keeps its type and what is reserved
 table_stays : (x : TableValue) → StaysTable x x
 table_stays x = (refl, λ full. full)
 
@@ -34,13 +34,13 @@ written_stays : (x x' : MemoryValue) (offset : ℕ) (source : List ℕ) (result 
 written_stays x x' offset source (Ok _) writes = (writes.1, λ lent. subst IsLentRoom (sym writes.2) lent)
 written_stays x x' offset source (Err error) writes = subst (StaysMemory x) (sym writes.2) (memory_stays x)
 
--- so one over a range of which is written
+-- a memory over a range of which is written stays
 bytes_stay : (x : MemoryValue) (written : Option (List ℕ)) (x' : MemoryValue)
     → option_map (λ bytes. record x { bytes = bytes }) written ≡ Some x' → StaysMemory x x'
 bytes_stay x None x' is = absurd (none-some x' is)
 bytes_stay x (Some bytes) x' is = subst (StaysMemory x) (same_Some (record x { bytes = bytes }) x' is) (memory_stays x)
 
--- each write to a memory, by its source
+-- a memory stays in a write over a range of it, whatever its source
 range_stays : (source : ByteSource) (dst len : ℕ) → OnLive (byte_write_of source dst len) (Unit {0})
     (λ w. (x x' : MemoryValue) → (w x).written ≡ Some x' → StaysMemory x x')
 range_stays source dst len = on_live_too (byte_write_of source dst len) _ _ _ _ (λ missing. missing)
@@ -68,14 +68,14 @@ set_stays index value x result x' sets = on_test (same_type x.ty.element value.t
     (λ elements found set. subst (StaysTable x) (sym set.1) (table_stays x)))
     (λ other. subst (StaysTable x) (sym other.1) (table_stays x))
 
--- so one over a range of which is written
+-- a table over a range of which is written stays
 elements_stay : (x : TableValue) (written : Option (List ℕ)) (x' : TableValue)
     → option_map (with_elements x) written ≡ Some x' → StaysTable x x'
 elements_stay x None x' is = absurd (none-some x' is)
 elements_stay x (Some elements) x' is =
     subst (StaysTable x) (same_Some (with_elements x elements) x' is) (table_stays x)
 
--- each write to a table, by its source
+-- a table stays in a write over a range of it, whatever its source
 table_range_stays : (source : Source) (dst len : ℕ) → OnLive (write_of source dst len) (Unit {0})
     (λ w. (x x' : TableValue) → (w x).written ≡ Some x' → StaysTable x x')
 table_range_stays (OfReference value) dst len = λ x. elements_stay x (filled x.elements dst value.raw len)
@@ -90,7 +90,7 @@ attempted_stays : {V E : Type 0} (Stays : V → V → Type 0) (g : Growth V E) (
 attempted_stays Stays g value same grown Met = grown
 attempted_stays Stays g value same grown outcome = same
 
--- and what grows
+-- what grows stays, if what it grows into does
 grown_stays : {V E S : Type 0} (Stays : V → V → Type 0) (rules : Rules S) (g : Growth V E) (s s' : MeteredValue V S)
     (result : Result ℕ E) (charge : ℕ) → Stays s.value s.value → Stays s.value g.request.grown
     → Grows rules g s result charge s' → Stays s.value s'.value
@@ -99,7 +99,7 @@ grown_stays {V} {E} {S} Stays rules g s s' result charge same grown (inl none) =
 grown_stays Stays rules g s s' result charge same grown (inr some) =
     subst (Stays s.value) (sym some.attempt.value) (attempted_stays Stays g s.value same grown some.outcome)
 
--- a table that grows
+-- a table that grows stays
 table_grown_stays : {S : Type 0} (rules : Rules S) (n : ℕ) (init : TypedRawRef) (s s' : MeteredValue TableValue S)
     (result : Result ℕ TableError) (charge : ℕ) → GrowsTableCharging rules n init s result charge s'
     → StaysTable s.value s'.value
@@ -108,7 +108,7 @@ table_grown_stays {S} rules n init s s' result charge grows = on_test (same_type
     (table_stays s.value))
     (λ other. subst (λ (t : MeteredValue TableValue S). StaysTable s.value t.value) (sym other.2) (table_stays s.value))
 
--- a memory that grows
+-- a memory that grows stays
 memory_grown_stays : {S : Type 0} (rules : Rules S) (pages : ℕ) (s s' : MeteredValue MemoryValue S)
     (result : Result ℕ MemoryError) (charge : ℕ) → GrowsMemoryCharging rules pages s result charge s'
     → StaysMemory s.value s'.value
@@ -123,7 +123,7 @@ global_later k x value (Ok _) x' sets =
 global_later k x value (Err ImmutableWrite) x' sets = (ap (λ (g : GlobalInstance). g.ty) sets.1, λ const. sets.1)
 global_later k x value (Err TypeMismatch) x' sets = (ap (λ (g : GlobalInstance). g.ty) sets.2, λ const. sets.2)
 
--- the index at which a change may change what is there, and the one at which it drops it
+-- the index at which a change may change what is there
 abbrev pub changed_by : Change → Option Location
 changed_by (BytesWritten k offset bytes) = Some (MemoryAt k)
 changed_by (BytesStored k a stored) = Some (MemoryAt k)
@@ -136,13 +136,13 @@ changed_by (DataDropped k) = Some (DataAt k)
 changed_by (GlobalSet k value) = Some (GlobalAt k)
 changed_by change = None
 
--- dropped
+-- the index at which a change drops what is there
 abbrev pub dropped_by : Change → Option Location
 dropped_by (MemoryDropped k) = Some (MemoryAt k)
 dropped_by (TableDropped k) = Some (TableAt k)
 dropped_by change = None
 
--- so an effect
+-- the index at which an effect may change what is there
 abbrev pub changed_in : Effect → Option Location
 changed_in (Changed change) = changed_by change
 changed_in (MemoryGrown k pages) = Some (MemoryAt k)
@@ -151,7 +151,7 @@ changed_in (RangeWritten (TableWritten k source dst len)) = Some (TableAt k)
 changed_in (RangeWritten (MemoryWritten k source dst len)) = Some (MemoryAt k)
 changed_in effect = None
 
--- dropped
+-- the index at which an effect drops what is there
 abbrev pub dropped_in : Effect → Option Location
 dropped_in (Changed change) = dropped_by change
 dropped_in effect = None
@@ -195,24 +195,24 @@ pub record May (changed dropped : Option Location) (location : Location) (x x' :
   live : IsLive location x → IsLive location x' ⊎ (dropped ≡ Some location)
   reserved : IsReservedIn location (Some x) → IsReservedIn location (Some x')
 
--- so by an effect, also where nothing was at the index: what is made there may take memory that isn't reserved
+-- what may become of an index by an effect, also where nothing was there: what is made may take memory that isn't
+-- reserved
 abbrev pub MayAt : Effect → (location : Location) → Option (Content location) → Option (Content location) → Type 0
 MayAt effect location None new = TakesMemory effect ⊎ IsReservedIn location new
 MayAt effect location (Some x) None = ⊥
 MayAt effect location (Some x) (Some x') = May (changed_in effect) (dropped_in effect) location x x'
 
-module _ (dropped : Option Location) (k : ℕ) where
+module _ (k : ℕ) where
   -- a live memory stays of its type, and in its region
-  same_memory : (x x' : MemoryValue) → StaysMemory x x'
-      → May (Some (MemoryAt k)) dropped (MemoryAt k) (Live x) (Live x')
+  same_memory : (x x' : MemoryValue) → StaysMemory x x' → May (Some (MemoryAt k)) None (MemoryAt k) (Live x) (Live x')
   same_memory x x' stays = record { named = refl; later = stays.0; live = λ live. inl live; reserved = stays.1 }
 
-  -- so a table
-  same_table : (x x' : TableValue) → StaysTable x x' → May (Some (TableAt k)) dropped (TableAt k) (Live x) (Live x')
+  -- a live table stays of its type, and reserved up to its maximum
+  same_table : (x x' : TableValue) → StaysTable x x' → May (Some (TableAt k)) None (TableAt k) (Live x) (Live x')
   same_table x x' stays = record { named = refl; later = stays.0; live = λ live. inl live; reserved = stays.1 }
 
--- by an effect each index has what it had, if anything, or what that may become, and of its kind there are at most so
--- many more
+-- after an effect every index has what it had, if anything, or what that may become, and of its kind there are at most
+-- so many more
 abbrev pub EachLocation : Effect → State → State → Type 0
 EachLocation effect s s' = (location : Location) → ((content_at location s' ≡ content_at location s)
     ⊎ MayAt effect location (content_at location s) (content_at location s'))
@@ -294,26 +294,26 @@ lent_made rules ty part l reply part' l' creates =
     (MakesMemory rules (Lent region) ty) part.slots l reply part'.slots l'
     (λ j x makes. inr (made_lent region ty makes.0 x makes.2)) h.0)
 
--- what the effect of a call may change is what the call names
+-- the effect of a call may change what is at the index that the call names for that
 pub changed_is : (s : State) (call : Call) → changed_in (effect_of s call) ≡ changed_location call
 changed_is s (SetFuel fuel) = refl
 changed_is s call = refl
 
--- dropped
+-- the effect of a call drops what is at the index that the call names for that
 dropped_is : (s : State) (call : Call) → dropped_in (effect_of s call) ≡ dropped_location call
 dropped_is s (SetFuel fuel) = refl
 dropped_is s call = refl
 
 module _ (s : State) (reply : Reply) (s' : State) where
-  -- what becomes of what is at each index by a change
+  -- a change leaves what is at each index, or what that may become
   change_locations : (change : Change) → HasChange change s reply s'
       → EachLocation (Changed change) s s'
   change_locations (BytesWritten k offset bytes) c (MemoryAt j) = rw c.after
       (slot_changed (λ i. MayAt (Changed (BytesWritten k offset bytes)) (MemoryAt i)) k s.memories reply c.part _
-      (λ x x' h. same_memory None k x x' (written_stays x x' offset bytes h.0 h.1)) c.effect j)
+      (λ x x' h. same_memory k x x' (written_stays x x' offset bytes h.0 h.1)) c.effect j)
   change_locations (BytesStored k a stored) c (MemoryAt j) =
       rw c.after (memory_stored (λ i. MayAt (Changed (BytesStored k a stored)) (MemoryAt i)) k a s.memories reply c.part
-      stored (same_memory None k) c.effect j)
+      stored (same_memory k) c.effect j)
   change_locations (RegisterSet dst given) c (RegisterAt j) = rw c.after
       (register_set (λ i. MayAt (Changed (RegisterSet dst given)) (RegisterAt i)) dst s.registers reply c.part given
       (slice_get s.registers dst)
@@ -326,7 +326,7 @@ module _ (s : State) (reply : Reply) (s' : State) where
       (λ x. record { named = refl; later = tt; live = λ live. inr refl; reserved = λ full. tt }) c.effect j)
   change_locations (ElementSet k index value) c (TableAt j) = rw c.after
       (slot_changed (λ i. MayAt (Changed (ElementSet k index value)) (TableAt i)) k s.tables reply c.part _
-      (λ x x' h. same_table None k x x' (set_stays index value x h.0 x' h.1)) c.effect j)
+      (λ x x' h. same_table k x x' (set_stays index value x h.0 x' h.1)) c.effect j)
   change_locations (SegmentMade ty items) c (SegmentAt j) =
       rw c.after (segment_made (λ i. MayAt (Changed (SegmentMade ty items)) (SegmentAt i)) ty items s.segments reply c.part
       (λ i x. inr tt) c.effect j)
@@ -356,8 +356,8 @@ module _ (s : State) (reply : Reply) (s' : State) where
   change_locations change c location = (inl (ap (content_at location) c.after), rw c.after (omega arith))
 
 module _ {S : Type 0} (rules : Rules S) (w : World S) (turn : Turn) (w' : World S) where
-  -- in a turn with this effect
-  pub effect_locations : (effect : Effect) → HasEffect rules effect w turn w'
+  -- a turn with an effect leaves what is at each index, or what that may become
+  pub effect_locations : (effect : Effect) → HasEffect rules effect w (outcome_of turn) w'
       → EachLocation effect w.state w'.state
   effect_locations (FuelSet fuel) step location =
       let same = at_metered w.state (meter_set w.state.meter fuel) location in (
@@ -375,7 +375,7 @@ module _ {S : Type 0} (rules : Rules S) (w : World S) (turn : Turn) (w' : World 
       (slot_acted (λ i. MayAt (MemoryGrown k pages) (MemoryAt i)) k (reply_of replied.Number replied.Memory)
       (GrowsMemoryCharging rules pages) (metered_value w.state.memories (Some w.state.meter) w.limiter)
       (metered_value step.part (Some step.meter) step.limiter) turn.reply turn.charge
-      (λ x x' result acts. same_memory None k x x' (memory_grown_stays rules pages
+      (λ x x' result acts. same_memory k x x' (memory_grown_stays rules pages
       (metered_value x (Some w.state.meter) w.limiter)
       (metered_value x' (Some step.meter) step.limiter) result turn.charge acts)) step.effect j)
   effect_locations (TableMade ty init) step (TableAt j) = rw step.after
@@ -385,23 +385,23 @@ module _ {S : Type 0} (rules : Rules S) (w : World S) (turn : Turn) (w' : World 
       (slot_acted (λ i. MayAt (TableGrown k n init) (TableAt i)) k (reply_of replied.Number replied.Table)
       (GrowsTableCharging rules n init) (metered_value w.state.tables (Some w.state.meter) w.limiter)
       (metered_value step.part (Some step.meter) step.limiter) turn.reply turn.charge
-      (λ x x' result acts. same_table None k x x' (table_grown_stays rules n init
+      (λ x x' result acts. same_table k x x' (table_grown_stays rules n init
       (metered_value x (Some w.state.meter) w.limiter)
       (metered_value x' (Some step.meter) step.limiter) result turn.charge acts)) step.effect j)
   effect_locations (RangeWritten (TableWritten k source dst len)) step (TableAt j) = rw step.after
       (slot_written (λ i. MayAt (RangeWritten (TableWritten k source dst len)) (TableAt i)) replied.Table StaysTable
-      table_stays k (same_table None k) (write_of source dst len) (table_range_stays source dst len)
+      table_stays k (same_table k) (write_of source dst len) (table_range_stays source dst len)
       (metered w.state.tables (Some w.state.meter)) turn.reply turn.charge (metered step.part (Some step.meter))
       step.effect j)
   effect_locations (RangeWritten (MemoryWritten k source dst len)) step (MemoryAt j) = rw step.after
       (slot_written (λ i. MayAt (RangeWritten (MemoryWritten k source dst len)) (MemoryAt i)) replied.Memory StaysMemory memory_stays k
-      (same_memory None k) (byte_write_of source dst len) (range_stays source dst len)
+      (same_memory k) (byte_write_of source dst len) (range_stays source dst len)
       (metered w.state.memories (Some w.state.meter)) turn.reply turn.charge (metered step.part (Some step.meter))
       step.effect j)
   effect_locations effect step location =
       (inl (ap (λ (v : World S). content_at location v.state) step.after), rw step.after (omega arith))
 
-  -- so in a turn
+  -- what holds of what was there, and of what that may become in a turn, holds of what is there afterwards
   after_step : Step rules w turn w' → (location : Location) (x : Content location) → content_at location w.state ≡ Some x
       → (Holds : Content location → Type 0) → Holds x
       → ((now : Content location) → May (changed_in (effect_of w.state turn.call))
@@ -409,14 +409,14 @@ module _ {S : Type 0} (rules : Rules S) (w : World S) (turn : Turn) (w' : World 
   after_step step location x found = item_after (effect_of w.state turn.call) location x _ _ found
       (effect_locations (effect_of w.state turn.call) step location).0
 
--- each turn leaves what is at the other indices
+-- a turn leaves what is at each index that its call may not change
 pub others_stay : {S : Type 0} (rules : Rules S) → OthersStay rules
 others_stay rules w turn w' step location leaves x found =
     let after = after_step rules w turn w' step location x found (λ now. now ≡ x) refl
     (λ now may. absurd (leaves (sym (changed_is w.state turn.call) ∙ may.named))) in
     after.1 ∙ ap Some after.2
 
--- so each run
+-- a run leaves what is at each index that none of its calls may change
 pub others_stay_in_runs : {S : Type 0} (rules : Rules S) → OthersStayInRuns rules
 others_stay_in_runs rules w [] w' ran location leaves x found =
     ap (λ (v : World _). content_at location v.state) ran ∙ found
@@ -426,12 +426,12 @@ others_stay_in_runs rules w (turn ∷ turns) w' (v, step, ran) location leaves x
     others_stay_in_runs rules v turns w' ran location
     (All-tail (LeavesAlone location) turn.call (map Turn.call turns) leaves) x first
 
--- what is at an index may stay as it is
+-- a slot may stay as it is
 later_same_slot : {X T : Type 0} (type : X → T) (x : Slot X) → IsLaterSlot type x x
 later_same_slot type (Live x) = refl
 later_same_slot type (Gone size) = refl
 
--- so anywhere
+-- what is at an index may stay as it is
 pub later_same : (location : Location) (x : Content location) → IsLater location x x
 later_same (MemoryAt k) x = later_same_slot (λ (m : MemoryValue). m.ty) x
 later_same (TableAt k) x = later_same_slot (λ (t : TableValue). t.ty) x
@@ -440,7 +440,7 @@ later_same (DataAt k) x = inl refl
 later_same (GlobalAt k) x = (refl, λ const. refl)
 later_same (RegisterAt k) x = tt
 
--- what has become of what a slot has become
+-- what may become of what a slot has become may become of the slot
 later_twice_slot : {X T : Type 0} (type : X → T) (x y z : Slot X) → IsLaterSlot type x y → IsLaterSlot type y z
     → IsLaterSlot type x z
 later_twice_slot type (Live x) (Live y) (Live z) first second = second ∙ first
@@ -448,13 +448,13 @@ later_twice_slot type (Live x) (Gone size) (Live z) first second = absurd cc
 later_twice_slot type (Live x) y (Gone last) first second = tt
 later_twice_slot type (Gone size) y z first second = subst (λ v. IsLaterSlot type v z) first second
 
--- so of what a segment has
+-- items that are kept or lost, and then kept or lost again, are kept or lost
 items_twice : (xs ys zs : List ℕ) → (ys ≡ xs) ⊎ (ys ≡ []) → (zs ≡ ys) ⊎ (zs ≡ []) → (zs ≡ xs) ⊎ (zs ≡ [])
 items_twice xs ys zs first (inr none) = inr none
 items_twice xs ys zs (inl same) (inl second) = inl (second ∙ same)
 items_twice xs ys zs (inr none) (inl second) = inr (second ∙ none)
 
--- so anywhere
+-- what may become of what something at an index has become may become of it
 later_twice : (location : Location) (x y z : Content location) → IsLater location x y → IsLater location y z
     → IsLater location x z
 later_twice (MemoryAt k) x y z first second = later_twice_slot (λ (m : MemoryValue). m.ty) x y z first second
@@ -468,7 +468,7 @@ later_twice (GlobalAt k) x y z first second = (
 )
 later_twice (RegisterAt k) x y z first second = tt
 
--- after a run
+-- what was at an index is there after a run, as it may have become
 pub indices_last : {S : Type 0} (rules : Rules S) → IndicesLast rules
 indices_last rules w [] w' ran location x found =
     (x, ap (λ (v : World _). content_at location v.state) ran ∙ found, later_same location x)
@@ -478,7 +478,7 @@ indices_last rules w (turn ∷ turns) w' (v, step, ran) location x found =
     let rest = indices_last rules v turns w' ran location first.0 first.1 in
     (rest.0, rest.1, later_twice location x first.0 rest.0 first.2 rest.2)
 
--- after a run that doesn't drop it
+-- what was live at an index is live after a run that doesn't drop it
 pub live_until_dropped : {S : Type 0} (rules : Rules S) → LiveUntilDropped rules
 live_until_dropped rules w [] w' ran location drops has =
     (has.0, ap (λ (v : World _). content_at location v.state) ran ∙ has.1, has.2)

@@ -1,11 +1,11 @@
 -- A run that never ran short of fuel, with more of it.
-use Rattle.std.proofs.Common.{◌≡◌, ◌∙◌, ◌≤◌, ℕ, Bool, true, false, Option, Some, None, Result, Ok, Err, List, [], ◌∷◌, map, inl, inr, refl, sym, ap, subst, arith}
-use Rattle.wasmi_laws.proofs.Common.{nat_tests, All-head, All-tail, same_Some, option_map, All, MatchBool, is_none, nat_le, ◌&&◌, if◌then◌else◌, acts_too, asks_too, changes_too, unasked_too, TypedRawRef, TableError, AttemptOutcome, Met, Failed, Follows, IsFirstCause, MayEnd, MeteredValue, Request, answer_of, covers, error_of_failure, optional_due, outcome_charge, with_value, Rules, optional_rules, Meter, amount_left, meter_after, Grows, Growth, metered, metered_value, GrowsMemoryCharging, GrowsTableCharging, TableValue, same_type, EndsBy, MeteredWrite, WritesCharging, write_charge, Call, SetFuel, GetFuel, Reply, Slot, AcceptsNotices, ActsAt, OnLive, WritesRangeAt, reply_of, Run, BytesRead, BytesWritten, Change, Changed, Effect, FuelSet, MemoryGrown, RangeWritten, Step, TableGrown, MemoryWritten, TableWritten, HasChange, HasEffect, Told, effect_of, State, live_at, Turn, World, byte_write_of, write_of, both_live, on_live_too, on_test_too, IsRange, KeepsMemory, KeepsTable, byte_range, source_range, HasFuel, MoreFuelChangesNothing, NamesNoFuel, meter_with_more, world_with_more, memory_growth, table_growth}
+use Rattle.std.proofs.Common.{◌≡◌, ◌∙◌, ◌≤◌, ℕ, Bool, true, false, Option, Some, None, Result, Ok, Err, List, [], ◌∷◌, map, refl, sym, ap, subst, arith}
+use Rattle.wasmi_laws.proofs.Common.{nat_tests, All-head, All-tail, option_map, All, MatchBool, is_none, nat_le, ◌&&◌, if◌then◌else◌, acts_too, asks_too, changes_too, unasked_too, TypedRawRef, TableError, AttemptOutcome, Met, Failed, Follows, IsFirstCause, MayEnd, MeteredValue, Request, answer_of, covers, optional_due, outcome_charge, with_value, Rules, optional_rules, Meter, meter_after, Grows, Growth, metered, metered_value, GrowsMemoryCharging, GrowsTableCharging, TableValue, same_type, EndsBy, MeteredWrite, WritesCharging, write_charge, Call, SetFuel, GetFuel, Reply, Slot, AcceptsNotices, ActsAt, OnLive, WritesRangeAt, reply_of, Run, BytesRead, BytesWritten, Change, Changed, Effect, FuelSet, MemoryGrown, RangeWritten, Step, TableGrown, MemoryWritten, TableWritten, HasChange, HasEffect, Told, effect_of, State, live_at, Turn, World, byte_write_of, write_of, both_live, on_live_too, on_test_too, grows_too, IsRange, KeepsMemory, KeepsTable, byte_range, source_range, HasFuel, MoreFuelChangesNothing, NamesNoFuel, meter_with_more, world_with_more, memory_growth, table_growth, outcome_of}
 use Rattle.wasmi_meter.specs.declared.error.TableError.TheVariants as table_error
 use Rattle.wasmi_meter.specs.declared.error.MemoryError.TheVariants as memory_error
 use Rattle.wasmi_meter.specs.declared.fuel.CustomFuelCosts.{CustomFuelCosts}
 use Rattle.wasmi_machine.specs.declared.calls.Reply.TheVariants as replied
-use Rattle.wasmi_machine.proofs.AccountLemmas.{Growing, after, before, growing, grows_takes}
+use Rattle.wasmi_machine.proofs.AccountLemmas.{grows_takes}
 use Rattle.wasmi_machine.proofs.ToldLemmas.{optional_accepts}
 
 module _ {V E : Type 0} (refusal : E → Reply) (e : Request V E) where
@@ -14,13 +14,12 @@ module _ {V E : Type 0} (refusal : E → Reply) (e : Request V E) where
   Tells (Failed cause notice_answer) = HasFuel (refusal cause)
   Tells outcome = Unit {0}
 
-  -- so where the limiter accepts each notice, and the reply to the attempt doesn't say it
+  -- the cause doesn't say so where the limiter accepts each notice and the reply to the attempt doesn't say so
   tells : {S T : Type 0} (rules : Rules S) → AcceptsNotices rules → (answer : T → Reply) (value : T) (l l' : S)
       (outcome : AttemptOutcome E) → HasFuel (reply_of answer refusal (answer_of e value outcome))
       → Follows e rules l outcome l' → Tells outcome
   tells rules accepts answer value l l' (Failed cause notice_answer) has (permitted, asks, notices) =
-      subst (λ h. HasFuel (refusal (error_of_failure e.refusal cause h)))
-      (accepts permitted (e.notice cause) notice_answer l' notices) has
+      rw (accepts permitted (e.notice cause) notice_answer l' notices) at has
   tells rules accepts answer value l l' outcome has follows = tt
 
 module _ (more : ℕ) where
@@ -50,37 +49,41 @@ module _ (more : ℕ) where
       let within : nat_le amount n ≡ true = enough in grind (arith, nat_tests, within)
 
   -- a charge leaves as much more
-  same_after : (left : Option ℕ) (costs : CustomFuelCosts) (charge : ℕ) → charge ≤ amount_left (meter_of left costs)
+  same_after : (left : Option ℕ) (costs : CustomFuelCosts) (charge : ℕ)
+      → covers (Some (meter_of left costs)) charge ≡ true
       → richer (meter_after (meter_of left costs) charge) ≡ meter_after (richer (meter_of left costs)) charge
-  same_after None costs charge within = refl
-  same_after (Some n) costs charge within =
-      let left : charge ≤ n = within in ap (λ k. meter_of (Some k) costs) (omega (arith, left))
+  same_after None costs charge enough = refl
+  same_after (Some n) costs charge enough =
+      let within : nat_le charge n ≡ true = enough in
+      let left : charge ≤ n = grind (arith, nat_tests, within) in
+      ap (λ k. meter_of (Some k) costs) (omega (arith, left))
+
+  -- the meter after a charge
+  after_is : (m m' : Option Meter) (charge : ℕ) → covers m charge ≡ true
+      → m' ≡ option_map (λ m. meter_after m charge) m
+      → option_map richer m' ≡ option_map (λ m. meter_after m charge) (option_map richer m)
+  after_is None m' charge enough same = ap (option_map richer) same
+  after_is (Some m) m' charge enough same =
+      ap (option_map richer) same ∙ ap Some (same_after m.left m.costs charge enough)
 
   module _ (m : Meter) where
     -- what is due for a price
     module _ (price : Option (CustomFuelCosts → ℕ)) where
-      -- before
+      -- what is due
       abbrev due : ℕ
       due = optional_due (Some m) price
 
-      -- with more fuel
+      -- what is due with more fuel
       abbrev richer_due : ℕ
       richer_due = optional_due (Some (richer m)) price
 
-      -- both are the same
+      -- the same is due with more fuel
       due_is : richer_due ≡ due
       due_is = same_due m.left m.costs price
 
-      -- and can still be paid
+      -- what could be paid can be paid with more fuel
       payable : covers (Some m) due ≡ true → covers (Some (richer m)) richer_due ≡ true
-      payable enough =
-          subst (λ d. covers (Some (richer m)) d ≡ true) (sym due_is) (still_covers m.left m.costs due enough)
-
-    -- the meter after a charge
-    after_is : (charge : ℕ) (m' : Meter) → charge ≤ amount_left m → Some m' ≡ Some (meter_after m charge)
-        → Some (richer m') ≡ Some (meter_after (richer m) charge)
-    after_is charge m' within same =
-        ap Some (ap richer (same_Some m' (meter_after m charge) same) ∙ same_after m.left m.costs charge within)
+      payable enough = rw due_is (still_covers m.left m.costs due enough)
 
   -- an attempt whose error for want of fuel has a reply that says so
   module _ {V E : Type 0} (refusal : E → Reply) (e : Request V E)
@@ -94,16 +97,14 @@ module _ (more : ℕ) where
       tested_cause cause has false short first =
           absurd (unpaid (due m e.price) (subst (λ c. HasFuel (refusal c)) first has))
 
-      -- it is the first with more fuel
+      -- the first cause is the first with more fuel too
       first_cause : (cause : E) → HasFuel (refusal cause) → (late : Option E) → IsFirstCause e (Some m) late cause
           → IsFirstCause e (Some (richer m)) late cause
       first_cause cause has (Some c) first = first
       first_cause cause has None first =
-          let tested = tested_cause cause has _ refl first in
-          subst (λ b. MatchBool b (e.refuses cause) (cause ≡ e.unpaid (richer_due m e.price)))
-          (sym (payable m e.price tested.0)) tested.1
+          let tested = tested_cause cause has _ refl first in rw (payable m e.price tested.0) tested.1
 
-      -- it is charged the same
+      -- a failure for that cause is charged the same with more fuel
       failed_charge : (cause : E) → HasFuel (refusal cause) → (late : Option E) → IsFirstCause e (Some m) late cause
           → (if is_none late && covers (Some m) (due m e.price) then due m e.price else 0)
           ≡ (if is_none late && covers (Some (richer m)) (richer_due m e.price) then richer_due m e.price else 0)
@@ -112,62 +113,50 @@ module _ (more : ℕ) where
           let tested = tested_cause cause has _ refl first in
           rw (tested.0, payable m e.price tested.0) (sym (due_is m e.price))
 
-      -- the attempt may end so
-      may_end : (outcome : AttemptOutcome E) → Tells refusal e outcome → MayEnd e (Some m) outcome
-          → MayEnd e (Some (richer m)) outcome
-      may_end Met told may = (may.0, may.1, payable m e.price may.2)
-      may_end (Failed cause notice_answer) told may = (may.0, first_cause cause told e.late may.1)
-      may_end outcome told may = may
+    -- an attempt may end with more fuel as without
+    may_end : (m : Option Meter) (outcome : AttemptOutcome E) → Tells refusal e outcome → MayEnd e m outcome
+        → MayEnd e (option_map richer m) outcome
+    may_end (Some m) Met told may = (may.0, may.1, payable m e.price may.2)
+    may_end (Some m) (Failed cause notice_answer) told may = (may.0, first_cause m cause told e.late may.1)
+    may_end (Some m) outcome told may = may
+    may_end None outcome told may = may
 
-      -- the attempt is charged the same
-      same_charge : (outcome : AttemptOutcome E) → Tells refusal e outcome → MayEnd e (Some m) outcome
-          → outcome_charge e (Some m) outcome ≡ outcome_charge e (Some (richer m)) outcome
-      same_charge Met told may = sym (due_is m e.price)
-      same_charge (Failed cause notice_answer) told may = failed_charge cause told e.late may.1
-      same_charge outcome told may = refl
+    -- an attempt is charged the same with more fuel
+    same_charge : (m : Option Meter) (outcome : AttemptOutcome E) → Tells refusal e outcome → MayEnd e m outcome
+        → outcome_charge e m outcome ≡ outcome_charge e (option_map richer m) outcome
+    same_charge (Some m) Met told may = sym (due_is m e.price)
+    same_charge (Some m) (Failed cause notice_answer) told may = failed_charge m cause told e.late may.1
+    same_charge m outcome told may = refl
 
   module _ {S : Type 0} (rules : Rules S) (accepts : AcceptsNotices rules) where
-    -- a growth
+    -- a growth is one with more fuel
     grows_richer : {V E : Type 0} (refusal : E → Reply) (g : Growth V E)
         → ((n : ℕ) → HasFuel (refusal (g.request.unpaid n)) → ⊥)
-        → (t : Growing V S) (result : Result ℕ E) → HasFuel (reply_of replied.Number refusal result)
-        → Grows rules g (before t) result t.charge (after t)
-        → Grows rules g (enriched (before t)) result t.charge (enriched (after t))
-    grows_richer refusal g unpaid t result has (inl none) = inl (record {
-      none = none.none;
-      answered = none.answered;
-      uncharged = none.uncharged;
-      same = ap enriched none.same;
-    })
-    grows_richer refusal g unpaid t result has (inr some) =
-        let a = some.attempt in
-        let m = t.first.meter in
-        let told = tells refusal g.request rules accepts replied.Number g.size t.first.limiter t.last.limiter
-        some.outcome (subst (λ r. HasFuel (reply_of replied.Number refusal r)) some.answered has) a.follows in
-        let takes = grows_takes rules g t.first.value m t.first.limiter result t.charge t.last.value t.last.meter
-        t.last.limiter (inr some) in
-        inr (record {
-          some = some.some;
-          outcome = some.outcome;
-          attempt = record {
-            may_end = may_end refusal g.request unpaid m some.outcome told a.may_end;
+        → (s s' : MeteredValue V S) (result : Result ℕ E) (charge : ℕ)
+        → HasFuel (reply_of replied.Number refusal result)
+        → Grows rules g s result charge s' → Grows rules g (enriched s) result charge (enriched s')
+    grows_richer refusal g unpaid s s' result charge has grows = grows_too g g.request (ap enriched) (λ outcome answered a.
+        let told = tells refusal g.request rules accepts replied.Number g.size s.limiter s'.limiter outcome
+        (subst (λ r. HasFuel (reply_of replied.Number refusal r)) answered has) a.follows in
+        let takes = grows_takes rules g s s' result charge grows in (
+          answered,
+          record {
+            may_end = may_end refusal g.request unpaid s.meter outcome told a.may_end;
             follows = a.follows;
-            charged = a.charged ∙ same_charge refusal g.request unpaid m some.outcome told a.may_end;
-            meter = after_is m t.charge t.last.meter takes.0 a.meter;
+            charged = a.charged ∙ same_charge refusal g.request unpaid s.meter outcome told a.may_end;
+            meter = after_is s.meter s'.meter charge takes.0 a.meter;
             value = a.value;
-          };
-          answered = some.answered;
-        })
+          },
+        )) grows
 
     -- a growth of a table, whose type is tested first
-    table_grows_richer : (n : ℕ) (init : TypedRawRef) (t : Growing TableValue S) (result : Result ℕ TableError)
-        → HasFuel (reply_of replied.Number replied.Table result)
-        → GrowsTableCharging rules n init (before t) result t.charge (after t)
-        → GrowsTableCharging rules n init (enriched (before t)) result t.charge (enriched (after t))
-    table_grows_richer n init t result has =
-        let x = t.first.value in
-        on_test_too (same_type x.ty.element init.ty) _ _ _ _ (grows_richer replied.Table (table_growth n init.raw x)
-        (λ n none. none) t result has) (λ h. (h.0, h.1, ap enriched h.2))
+    table_grows_richer : (n : ℕ) (init : TypedRawRef) (s s' : MeteredValue TableValue S)
+        (result : Result ℕ TableError) (charge : ℕ) → HasFuel (reply_of replied.Number replied.Table result)
+        → GrowsTableCharging rules n init s result charge s'
+        → GrowsTableCharging rules n init (enriched s) result charge (enriched s')
+    table_grows_richer n init s s' result charge has = on_test_too (same_type s.value.ty.element init.ty) _ _ _ _
+        (grows_richer replied.Table (table_growth n init.raw s.value) (λ n none. none) s s' result charge has)
+        (λ h. (h.0, h.1, ap enriched h.2))
 
   -- a call with a charge on what an index names
   acts_richer : {X R S : Type 0} (k : ℕ) (reply_to : R → Reply)
@@ -192,11 +181,13 @@ module _ (more : ℕ) where
     write_to = metered x' (Some m')
 
     -- what becomes of the meter and the value by a charge
-    paid_after : (value : X) (charge : ℕ) → charge ≤ amount_left m → write_to ≡ metered value (Some (meter_after m charge))
+    paid_after : (value : X) (charge : ℕ) → covers (Some m) charge ≡ true
+        → write_to ≡ metered value (Some (meter_after m charge))
         → enriched write_to ≡ metered value (Some (meter_after (richer m) charge))
-    paid_after value charge within after =
+    paid_after value charge enough after =
         let values : x' ≡ value = ap (λ (t : MeteredValue X (Unit {0})). t.value) after in
-        let meters = after_is m charge m' within (ap (λ (t : MeteredValue X (Unit {0})). t.meter) after) in
+        let meters = after_is (Some m) (Some m') charge enough
+        (ap (λ (t : MeteredValue X (Unit {0})). t.meter) after) in
         λ i. metered (values i) (meters i)
 
     -- where so much can be paid, it can be with more fuel
@@ -209,22 +200,18 @@ module _ (more : ℕ) where
     paid_richer value false short ends = absurd (unpaid (due m w.price)
         (subst (λ r. HasFuel (reply_of (λ _. replied.Done) refusal r)) ends.0 has))
     paid_richer value true enough ends =
-        let within : nat_le (due m w.price) (amount_left m) ≡ true = enough in
-        let after = paid_after value (due m w.price) (grind (arith, nat_tests, within)) ends.1 in
-        subst (λ b. MatchBool b
-        ((result ≡ Ok tt) × (enriched write_to ≡ metered value (Some (meter_after (richer m) (richer_due m w.price)))))
-        ((result ≡ Err (w.unpaid (richer_due m w.price))) × (enriched write_to ≡ enriched write_from)))
-        (sym (payable m w.price enough))
+        let after = paid_after value (due m w.price) enough ends.1 in
+        rw (payable m w.price enough)
         (ends.0, after ∙ ap (λ n. metered value (Some (meter_after (richer m) n))) (sym (due_is m w.price)))
 
-    -- it ends so with more fuel
+    -- the write ends with more fuel as without
     ends_richer : (early : Option E) (written : Option X) → EndsBy w write_from result write_to early written
         → EndsBy w (enriched write_from) result (enriched write_to) early written
     ends_richer (Some cause) written ends = (ends.0, ap enriched ends.1)
     ends_richer None None ends = (ends.0, ap enriched ends.1)
     ends_richer None (Some value) ends = paid_richer value (covers (Some m) (due m w.price)) refl ends
 
-    -- it is charged the same
+    -- the write is charged the same with more fuel
     charged_richer : (r : Result (Unit {0}) E) → write_charge w write_from r ≡ write_charge w (enriched write_from) r
     charged_richer (Ok done) = sym (due_is m w.price)
     charged_richer (Err error) = refl
@@ -276,7 +263,7 @@ abbrev KeepsFuel : Effect → Type 0
 KeepsFuel (FuelSet fuel) = ⊥
 KeepsFuel effect = Unit {0}
 
--- so where the call doesn't
+-- the effect of a call that doesn't set the fuel doesn't set it
 keeps_fuel : (s : State) (call : Call) → NamesNoFuel call → KeepsFuel (effect_of s call)
 keeps_fuel s (SetFuel fuel) other = absurd other
 keeps_fuel s call other = tt
@@ -293,9 +280,9 @@ module _ (more : ℕ) {S : Type 0} (rules : Rules S) (accepts : AcceptsNotices r
   richer_world w = world_with_more more w
 
   module _ (w : World S) (turn : Turn) (w' : World S) (has : HasFuel turn.reply) where
-    -- each effect
-    effect_richer : (effect : Effect) → KeepsFuel effect → HasEffect rules effect w turn w'
-        → HasEffect rules effect (richer_world w) turn (richer_world w')
+    -- a turn with an effect that doesn't set the fuel is one with more fuel
+    effect_richer : (effect : Effect) → KeepsFuel effect → HasEffect rules effect w (outcome_of turn) w'
+        → HasEffect rules effect (richer_world w) (outcome_of turn) (richer_world w')
     effect_richer (Told told) keeps step =
         record { free = step.free; effect = step.effect; after = ap richer_world step.after }
     effect_richer (BytesRead k offset len) keeps step =
@@ -308,13 +295,13 @@ module _ (more : ℕ) {S : Type 0} (rules : Rules S) (accepts : AcceptsNotices r
         (metered_value w.state.memories (Some w.state.meter) w.limiter)
         (metered_value step.part (Some step.meter) step.limiter) turn.reply turn.charge has
         (λ x x' result. grows_richer more rules accepts replied.Memory (memory_growth pages x) (λ n none. none)
-        (growing w x turn.charge x' step.meter step.limiter) result) step.effect) refl (ap richer_world step.after)
+        _ _ result turn.charge) step.effect) refl (ap richer_world step.after)
     effect_richer (TableGrown k n init) keeps step = acts_too step step.part (richer more step.meter) step.limiter
         (acts_richer more k (reply_of replied.Number replied.Table) (GrowsTableCharging rules n init)
         (metered_value w.state.tables (Some w.state.meter) w.limiter)
         (metered_value step.part (Some step.meter) step.limiter) turn.reply turn.charge has
-        (λ x x' result. table_grows_richer more rules accepts n init
-        (growing w x turn.charge x' step.meter step.limiter) result) step.effect) refl (ap richer_world step.after)
+        (λ x x' result. table_grows_richer more rules accepts n init _ _ result turn.charge) step.effect) refl
+        (ap richer_world step.after)
     effect_richer (RangeWritten (TableWritten k source dst len)) keeps step =
         unasked_too step step.part (richer more step.meter)
         (range_richer more replied.Table KeepsTable _ table_error.OutOfFuel (λ n none. none) k
@@ -328,13 +315,12 @@ module _ (more : ℕ) {S : Type 0} (rules : Rules S) (accepts : AcceptsNotices r
     effect_richer effect keeps step =
         asks_too step step.part step.limiter step.effect step.room (ap richer_world step.after)
 
-    -- so each step
+    -- a step of a call that doesn't name the fuel is one with more fuel
     step_richer : NamesNoFuel turn.call → Step rules w turn w' → Step rules (richer_world w) turn (richer_world w')
-    step_richer other step = subst (λ effect. HasEffect rules effect (richer_world w) turn (richer_world w'))
-        (sym (same_effect w.state (richer more w.state.meter) turn.call other))
+    step_richer other step = rw (same_effect w.state (richer more w.state.meter) turn.call other)
         (effect_richer (effect_of w.state turn.call) (keeps_fuel w.state turn.call other) step)
 
-  -- so a run
+  -- a run of calls that don't name the fuel is one with more fuel
   run_richer : (w : World S) (turns : List Turn) (w' : World S) → All NamesNoFuel (map Turn.call turns)
       → All HasFuel (map Turn.reply turns) → Run rules w turns w' → Run rules (richer_world w) turns (richer_world w')
   run_richer w [] w' others has ran = ap richer_world ran
@@ -346,6 +332,6 @@ module _ (more : ℕ) {S : Type 0} (rules : Rules S) (accepts : AcceptsNotices r
         (All-tail HasFuel turn.reply (map Turn.reply turns) has) ran,
   )
 
--- a run under a limiter that accepts each notice
+-- a run under a limiter that accepts each notice is one with more fuel
 pub more_fuel_changes_nothing : {L : Type 0} (rules : Rules L) → MoreFuelChangesNothing rules
 more_fuel_changes_nothing rules accepts more = run_richer more (optional_rules rules) (optional_accepts rules accepts)

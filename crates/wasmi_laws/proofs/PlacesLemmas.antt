@@ -1,5 +1,5 @@
 -- What was stored is read back, and memories and tables by themselves, as those at an index of a machine.
-use Rattle.std.proofs.Common.{Err, List, Ok, Result, Some, ap, length, mod-eq_of_lt, pos, pow_pos, refl, subst, sym, ℕ, ◌%◌, ◌*◌, ◌+◌, ◌^◌, ◌∙◌, ◌≡◌, Option, None, inr}
+use Rattle.std.proofs.Common.{Err, List, Ok, Result, Some, ap, length, mod-eq_of_lt, pos, pow_pos, refl, sym, ℕ, ◌%◌, ◌*◌, ◌+◌, ◌^◌, ◌∙◌, ◌≡◌, Option, None, inr}
 use Rattle.std.proofs.lemmas.Nat.{mod_below}
 use Rattle.wasmi_laws.proofs.Common.{stored_count, same_Some, option_and_then, slice_get, MatchOption, slice_set, acts, alters, replies, on_live, reply_of, StoresMemory, load_reply, State, live_at, live_value, World, RepliesWith, Read, Done, NoSuch, Trap, Value, Memory, Live, live_slot, set_same, MemoryAt, NumberStore, StoresAreReadBack, StoresKeepOtherBytes, load_of, store_call, stored_part, stored_size, MemoriesGrowAlike, TablesGrowAlike, MemoriesReadAlike, MemoriesWriteAlike, Rules, RawVal, MemoryValue, TrapCode, at}
 use Rattle.std.specs.Int.{Width, w32, w64}
@@ -26,7 +26,7 @@ module _ (value : RawVal) (a : ℕ) (old new : List ℕ) where
       ∙ ap (λ m. Ok (raw_of (value.lo % 2 ^ n % 2 ^ m))) bits
       ∙ ap (λ m. Ok (raw_of m)) (cut_twice value.lo n)
 
-  -- so for each store
+  -- the load of as many bytes gives what a store has written
   read_back : (op : StoreOp) → IsStore old a (stored_bytes op value) new (Ok (tt {0}))
       → loaded_raw (load_of op) new a ≡ Ok (stored_part op value)
   read_back store.I32Store8 is = narrow_read w32 1 8 is refl
@@ -38,7 +38,7 @@ module _ (value : RawVal) (a : ℕ) (old new : List ℕ) where
       ∙ ap (λ m. Ok (raw_of m)) (cut_twice value.lo 32)
   read_back store.Store64 is = ap (as_raw raw_of) (loaded-stored 8 value.lo a old new (λ n. n) is)
 
-  -- and what it leaves
+  -- a store keeps the bytes outside of those that it writes
   outside : (op : StoreOp) → IsStore old a (stored_bytes op value) new (Ok (tt {0}))
       → IsSameOutside old new a (stored_size op)
   outside store.I32Store8 is = outside-stored _ _ a old new is
@@ -58,10 +58,6 @@ accepted : (x x' : MemoryValue) (a : ℕ) (stored : List ℕ) (result : Result (
 accepted x x' a stored (Ok done) is stores = stores
 accepted x x' a stored (Err trap) is stores = absurd cc
 
--- no store is done where nothing is
-none_done : Done ≡ NoSuch → ⊥
-none_done is = cc
-
 module _ {S : Type 0} (rules : Rules S) (it : NumberStore) where
   -- where it is stored
   abbrev address : ℕ
@@ -71,11 +67,11 @@ module _ {S : Type 0} (rules : Rules S) (it : NumberStore) where
   abbrev bytes : List ℕ
   bytes = stored_bytes it.op it.value
 
-  -- by its step
+  -- an accepted store to a memory, by its step
   stored_by : (t u : World S) → RepliesWith rules (store_call it) t Done u
       → Stored it.memory address bytes t.state u.state
   stored_by t u (charge, written, step) = on_live (live_at t.state.memories it.memory) _ _ step.effect.effect
-      (λ missing. absurd (none_done missing.0))
+      (λ missing. let is : Done ≡ NoSuch = missing.0 in absurd cc)
       (λ x found h. record {
         before = x;
         after = h.0;
@@ -88,7 +84,7 @@ module _ {S : Type 0} (rules : Rules S) (it : NumberStore) where
         store = accepted x h.0 address bytes h.1.0 h.1.2 h.1.1;
       })
 
--- what is loaded of it
+-- what is loaded after a store is what was stored
 pub stores_are_read_back : {S : Type 0} (rules : Rules S) → StoresAreReadBack rules
 stores_are_read_back rules it t u v w turns reply stores ran leaves (charge, written, step) =
     let stored = stored_by rules it t u stores in
@@ -100,7 +96,7 @@ stores_are_read_back rules it t u v w turns reply stores ran leaves (charge, wri
       step.after,
     )
 
--- what it leaves
+-- a store keeps the other bytes of its memory
 pub stores_keep_other_bytes : {S : Type 0} (rules : Rules S) → StoresKeepOtherBytes rules
 stores_keep_other_bytes rules it t u stores x x' found found' =
     let a = it.ptr + it.offset in
@@ -112,11 +108,7 @@ stores_keep_other_bytes rules it t u stores x x' found found' =
     × (length stored.after.bytes ≡ length stored.before.bytes) = (
       outside it.value a stored.before.bytes stored.after.bytes it.op stored.store.0,
       stored_count stored.before stored.after a (stored_bytes it.op it.value) (Ok tt) stored.store,
-    ) in
-    subst (λ (y : MemoryValue). IsSameOutside y.bytes x'.bytes a (stored_size it.op)
-    × (length x'.bytes ≡ length y.bytes)) before
-    (subst (λ (y : MemoryValue). IsSameOutside stored.before.bytes y.bytes a (stored_size it.op)
-    × (length y.bytes ≡ length stored.before.bytes)) after left)
+    ) in rw (before, after) at left
 
 module _ {S : Type 0} (rules : Rules S) where
   -- a memory grows

@@ -1,6 +1,6 @@
 -- Refusals that leave the whole world.
 use Rattle.std.proofs.Common.{◌≡◌, ◌∙◌, ℕ, Bool, Option, Some, None, Result, Ok, Err, List, [], ◌∷◌, length, map, inl, inr, refl, sym, ap, subst}
-use Rattle.wasmi_laws.proofs.Common.{lacks_owned, All-head, All-tail, none-some, if◌then◌else◌, RefType, TypedRawRef, MemoryError, TableError, Attempt, AttemptOutcome, Unasked, Denied, Met, Failed, IsFirstCause, MeteredValue, Request, alone, answer_of, covers, optional_due, with_value, Failure, MemoryFailure, TableFailure, NoticeAnswer, Rules, Meter, LacksMemory, Lent, Owned, Room, Grows, Growth, Makes, metered_value, GrowsMemoryCharging, MakesMemory, MemoryValue, new_memory, MemoryTypeValue, GrowsTableCharging, TableValue, new_table, TableTypeValue, same_type, on_test, Call, NewMemory, NewLentMemory, GrowMemory, NewTable, GrowTable, Reply, Slot, Live, IsOtherFailure, ActsAt, AddsEntry, Creates, reply_of, CreatesLent, spare_after, MemoryPart, State, live_at, memory_part, IsRefusal, Turn, World, Effect, LentMemoryMade, MemoryGrown, MemoryMade, RangeWritten, Step, TableGrown, TableMade, HasEffect, effect_of, Creation, on_live, range_unasked, IsPlainRefusal, OtherRefusalsChangeNothing, PlainRefusalsChangeNothing, PlainlyRefusedRunsChangeNothing, memory_growth, table_growth}
+use Rattle.wasmi_laws.proofs.Common.{lacks_owned, All-head, All-tail, none-some, if◌then◌else◌, RefType, TypedRawRef, MemoryError, TableError, Attempt, AttemptOutcome, Unasked, Denied, Met, Failed, IsFirstCause, MeteredValue, Request, alone, answer_of, covers, optional_due, with_value, Failure, MemoryFailure, TableFailure, NoticeAnswer, Rules, Meter, LacksMemory, Lent, Owned, Room, Grows, Growth, Makes, metered_value, GrowsMemoryCharging, MakesMemory, MemoryValue, new_memory, MemoryTypeValue, GrowsTableCharging, TableValue, new_table, TableTypeValue, same_type, on_test, Call, NewMemory, NewLentMemory, GrowMemory, NewTable, GrowTable, Reply, Slot, Live, IsOtherFailure, ActsAt, AddsEntry, Creates, reply_of, CreatesLent, spare_after, MemoryPart, State, live_at, memory_part, IsRefusal, Turn, World, Effect, LentMemoryMade, MemoryGrown, MemoryMade, RangeWritten, Step, TableGrown, TableMade, HasEffect, effect_of, Creation, on_live, range_holds, IsPlainRefusal, OtherRefusalsChangeNothing, PlainRefusalsChangeNothing, PlainlyRefusedRunsChangeNothing, memory_growth, table_growth, outcome_of}
 use Rattle.wasmi_meter.specs.declared.error.MemoryError.TheVariants as memory_error
 use Rattle.wasmi_meter.specs.declared.error.TableError.TheVariants as table_error
 use Rattle.wasmi_store.specs.Memory as memory
@@ -29,7 +29,7 @@ pub record LaterCauses {V E : Type 0} (Fact : E → Type 0) (e : Request V E) : 
   pub unpaid : (n : ℕ) → Fact (e.unpaid n)
   pub refuses : e.late ≡ None → (c : E) → e.refuses c → Fact c
 
--- so the first cause after the permission
+-- the first cause after the permission has a fact that all later causes have
 pub first_has : {V E : Type 0} (Fact : E → Type 0) (e : Request V E) → LaterCauses Fact e → (m : Option Meter)
     (late : Option E) → e.late ≡ late → (cause : E) → IsFirstCause e m late cause → Fact cause
 first_has Fact e has m (Some c) is cause first = has.late cause (is ∙ ap Some (sym first))
@@ -121,15 +121,15 @@ module _ {S : Type 0} (rules : Rules S) where
       on_live (live_at s.value k) _ _ acts (λ missing. ap (λ (t : MeteredValue (List (Slot X)) S). t.limiter) missing.2)
       (λ x found h. grows x h.1 h.0 h.2 (subst IsPlainRefusal h.3 plain))
 
--- memory is refused
+-- want of memory for a memory is no plain refusal
 lacks_loud : (room : Room) (c : MemoryError) → LacksMemory room c → IsLoud (replied.Memory c)
 lacks_loud room c lacks plain = subst (λ x. IsPlainRefusal (replied.Memory x)) (lacks_owned room c lacks) plain
 
--- so for tables
+-- want of memory for a table is no plain refusal
 table_lacks_loud : (c : TableError) → c ≡ table_error.OutOfSystemMemory → IsLoud (replied.Table c)
 table_lacks_loud c lacks plain = subst (λ x. IsPlainRefusal (replied.Table x)) lacks plain
 
--- a memory is made
+-- no later cause of a creation of a memory is a plain refusal
 memory_made_loud : (room : Room) (ty : MemoryTypeValue) → AllLoud replied.Memory (memory.creation_of room ty)
 memory_made_loud room ty = record {
   denied = λ p. p;
@@ -139,7 +139,7 @@ memory_made_loud room ty = record {
   refuses = λ late. lacks_loud room;
 }
 
--- a memory grows
+-- no later cause of a growth of a memory is a plain refusal
 memory_grown_loud : (x : MemoryValue) (pages : ℕ) → AllLoud replied.Memory (memory.growth_of x pages)
 memory_grown_loud x pages = record {
   denied = λ p. p;
@@ -149,7 +149,7 @@ memory_grown_loud x pages = record {
   refuses = λ late. lacks_loud x.room;
 }
 
--- a table is made
+-- no later cause of a creation of a table is a plain refusal
 table_made_loud : (ty : TableTypeValue) (init : RefType) → AllLoud replied.Table (table.creation_of ty init)
 table_made_loud ty init = record {
   denied = λ p. p;
@@ -159,7 +159,7 @@ table_made_loud ty init = record {
   refuses = λ late. table_lacks_loud;
 }
 
--- a table grows
+-- no later cause of a growth of a table is a plain refusal
 table_grown_loud : (x : TableValue) (n reference : ℕ) → AllLoud replied.Table (table.growth_of x n reference)
 table_grown_loud x n reference = record {
   denied = λ p. p;
@@ -182,7 +182,7 @@ module _ {S : Type 0} (rules : Rules S) where
       absurd (tested (λ c. IsLoud (replied.Memory c)) _ memory_error.MinimumSizeOverflow (λ p. p) unasked.cause
       unasked.early unasked.plain)
 
-  -- so the limiter stays, and the spare region too
+  -- a plain refusal of a memory in the spare region leaves the limiter and that region
   lent_unasked : (ty : MemoryTypeValue) (part : MemoryPart) (l : S) (reply : Reply) (part' : MemoryPart) (l' : S)
       → CreatesLent rules ty part l reply part' l' → IsPlainRefusal reply → (l' ≡ l) × (part'.spare ≡ part.spare)
   lent_unasked ty part l reply part' l' creates plain =
@@ -201,7 +201,7 @@ module _ {S : Type 0} (rules : Rules S) where
 
   module _ (w : World S) (turn : Turn) (w' : World S) (plain : IsPlainRefusal turn.reply) where
     -- the limiter stays, by each effect
-    limiter_stays : (effect : Effect) → HasEffect rules effect w turn w' → w'.limiter ≡ w.limiter
+    limiter_stays : (effect : Effect) → HasEffect rules effect w (outcome_of turn) w' → w'.limiter ≡ w.limiter
     limiter_stays (MemoryMade ty) step = ap (λ (v : World S). v.limiter) step.after
         ∙ creates_unasked rules replied.Memory (memory.creation_of Owned ty) (memory_made_loud Owned ty)
         (new_memory Owned ty) w.state.memories w.limiter
@@ -221,15 +221,15 @@ module _ {S : Type 0} (rules : Rules S) where
         ∙ acts_unasked rules k replied.Table (GrowsTableCharging rules n init) _ _ turn.reply turn.charge
         (λ x x' result. table_grows_unasked n init (metered_value x (Some w.state.meter) w.limiter)
         (metered_value x' (Some step.meter) step.limiter) result turn.charge) step.effect plain
-    limiter_stays (RangeWritten write) step = range_unasked w write turn w' step
+    limiter_stays (RangeWritten write) step = (range_holds w write turn w' step).unasked
     limiter_stays effect step = ap (λ (v : World S). v.limiter) step.after
 
     -- the spare region stays
     spare_stays : (call : Call) → turn.call ≡ call → Step rules w turn w'
         → KeepsSpare call turn.reply w.state w'.state → w'.state.spare ≡ w.state.spare
     spare_stays (NewLentMemory ty) is step keeps =
-        let made : HasEffect rules (LentMemoryMade ty) w turn w' =
-        subst (λ call. HasEffect rules (effect_of w.state call) w turn w') is step in
+        let made : HasEffect rules (LentMemoryMade ty) w (outcome_of turn) w' =
+        subst (λ call. HasEffect rules (effect_of w.state call) w (outcome_of turn) w') is step in
         ap (λ (v : World S). v.state.spare) made.after
         ∙ (lent_unasked ty (memory_part w.state) w.limiter turn.reply made.part made.limiter made.effect plain).1
     spare_stays call is step keeps = keeps
@@ -278,7 +278,7 @@ no_question s (NewTable ty init) is = absurd (new_place is)
 no_question s (GrowTable k n init) is = absurd (old_place k is)
 no_question s call is = refl
 
--- and keeps the spare region where it is refused
+-- a call that lets nothing grow keeps the spare region where it is refused
 other_spare : (s s' : State) (call : Call) (reply : Reply) → place_of call ≡ Nowhere → KeepsSpare call reply s s'
     → s'.spare ≡ s.spare
 other_spare s s' (NewLentMemory ty) reply is keeps = absurd (new_place is)
@@ -300,13 +300,13 @@ module _ {S : Type 0} (rules : Rules S) (w : World S) (turn : Turn) (w' : World 
   plain_meter plain (inr fails) =
       absurd (want_loud fails.failure fails.notice_answer fails.wants (subst IsPlainRefusal fails.replies plain))
 
-  -- so of a call that lets nothing grow
+  -- the meter stays where a call that lets nothing grow is refused
   other_meter : place_of turn.call ≡ Nowhere → KeepsMeter rules w turn w' → w'.state.meter ≡ w.state.meter
   other_meter is (inl same) = same
   other_meter is (inr fails) = absurd (old_place fails.index (sym fails.grows ∙ is))
 
 module _ {S : Type 0} (rules : Rules S) where
-  -- each turn with a plain refusal
+  -- a turn with a plain refusal changes nothing
   pub plain_refusals_change_nothing : PlainRefusalsChangeNothing rules
   plain_refusals_change_nothing w turn w' step plain =
       let keeps = refusals_keep_contents rules w turn w' step (plain_refusal turn.reply plain) in
@@ -314,7 +314,7 @@ module _ {S : Type 0} (rules : Rules S) where
       (spare_stays rules w turn w' plain turn.call refl step keeps.spare)
       (limiter_stays rules w turn w' plain (effect_of w.state turn.call) step)
 
-  -- each refusal of a call that lets nothing grow
+  -- a refused turn of a call that lets nothing grow changes nothing
   pub other_refusals_change_nothing : OtherRefusalsChangeNothing rules
   other_refusals_change_nothing w turn w' step nowhere refused =
       let keeps = refusals_keep_contents rules w turn w' step refused in
@@ -324,7 +324,7 @@ module _ {S : Type 0} (rules : Rules S) where
       (unasked_limiter rules (question_of w.state turn.call) w.limiter turn.reply w'.limiter
       (no_question w.state turn.call nowhere) x.exchange x.asks x.passes)
 
-  -- a run of plain refusals
+  -- a run of plain refusals changes nothing
   pub plainly_refused_runs_change_nothing : PlainlyRefusedRunsChangeNothing rules
   plainly_refused_runs_change_nothing w [] w' ran plain = ran
   plainly_refused_runs_change_nothing w (turn ∷ turns) w' (v, step, ran) plain =

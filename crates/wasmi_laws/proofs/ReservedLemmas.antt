@@ -1,5 +1,5 @@
 -- What is reserved is enough: no call that needs nothing else lacks memory, and a call takes no more than its slot.
-use Rattle.wasmi_laws.proofs.Common.{nat_tests, append-nil, All-cons, All-head, All-nil, All-tail, All-weaker, none-some, same_Some, option_map, option_map_or, All, MatchOption, count_by, if◌then◌else◌, is_some, max, nat_eq, nat_le, slice_get, slice_set, at, overwrite, TrapCode, RefType, RawVal, TypedRawRef, AttemptOutcome, Denied, Failed, MayEnd, Met, MeteredValue, Request, Unasked, answer_of, covers, with_value, Rules, Meter, MemoryError, TableError, on_test, LacksMemory, Lent, Owned, Room, metered, metered_value, GrowsMemoryCharging, MakesMemory, MemoryTypeValue, MemoryValue, MemoryWrite, WritesMemory, new_memory, pages_of, GrowsTableCharging, SetsTable, TableValue, elements_write, is_within_maximum, same_type, size_of, with_elements_reserved, EndsBy, IsRefusedFor, MeteredWrite, copied, filled, write_due, both_live, on_live, on_live_too, WritesBytes, source_writes, IsNotOutOfMemory, AddsEntry, AddsItem, ChangesFound, Creates, IfNoRoom, MeteredSlots, OnLive, WritesRangeAt, reply_of, ByteSource, ReadsBytes, byte_write_of, SetsAt, StoresVectorAt, vector_at, State, Turn, World, live_at, reserved_for, with_reserved, with_tables, BytesRead, BytesStored, BytesWritten, Change, Changed, DataDropped, DataMade, Effect, ElementSet, FuelSet, GlobalMade, GlobalSet, HasChange, HasEffect, IsRunOf, ItemsDropped, LacksSlot, LentMemoryMade, MemoryDropped, MemoryGrown, MemoryMade, MemoryWritten, RangeWritten, RegisterSet, Run, SegmentMade, Step, TableDropped, TableGrown, TableMade, TableWritten, Told, effect_of, ReservesElementsAt, OfReference, OfSegment, OfTable, Source, write_of, CreatesSegment, IsSegmentOf, Call, Extract, GetElement, GetFuel, GetGlobal, GetRegister, GrowMemory, GrowTable, Load, NewData, NewGlobal, NewLentMemory, NewMemory, NewSegment, NewTable, Read, Test, Reply, Slot, Live, DataAt, GlobalAt, Location, MemoryAt, SegmentAt, TableAt, content_at, HasElements, HasElementsAt, HasSlot, HasSlots, IsReservedToMaximum, IsLent, IsLentRoom, IsReservedFor, IsReservedTable, NeedsNoMemory, NeedsOnlySlot, ReservedCallsSucceed, ReservedRunsSucceed, SlotsSuffice, makes_data, makes_global, makes_lent_memory, makes_segment, IsInRegion}
+use Rattle.wasmi_laws.proofs.Common.{nat_tests, append-nil, All-cons, All-head, All-nil, All-tail, All-weaker, none-some, same_Some, option_map, option_map_or, All, MatchOption, count_by, if◌then◌else◌, is_some, max, nat_eq, nat_le, slice_get, slice_set, at, overwrite, TrapCode, RefType, RawVal, TypedRawRef, AttemptOutcome, Denied, Failed, MayEnd, Met, MeteredValue, Request, Unasked, answer_of, covers, with_value, Rules, Meter, MemoryError, TableError, on_test, LacksMemory, Lent, Owned, Room, metered, metered_value, GrowsMemoryCharging, MakesMemory, MemoryTypeValue, MemoryValue, MemoryWrite, WritesMemory, new_memory, pages_of, GrowsTableCharging, SetsTable, TableValue, elements_write, is_within_maximum, same_type, size_of, with_elements_reserved, EndsBy, IsRefusedFor, MeteredWrite, copied, filled, write_due, both_live, on_live, on_live_too, WritesBytes, source_writes, IsNotOutOfMemory, AddsEntry, AddsItem, ChangesFound, Creates, IfNoRoom, MeteredSlots, OnLive, WritesRangeAt, reply_of, ByteSource, ReadsBytes, byte_write_of, SetsAt, StoresVectorAt, vector_at, State, Turn, World, live_at, with_reserved, with_tables, BytesRead, BytesStored, BytesWritten, Change, Changed, DataDropped, DataMade, Effect, ElementSet, FuelSet, GlobalMade, GlobalSet, HasChange, HasEffect, IsRunOf, ItemsDropped, LacksSlot, LentMemoryMade, MemoryDropped, MemoryGrown, MemoryMade, MemoryWritten, RangeWritten, RegisterSet, Run, SegmentMade, Step, TableDropped, TableGrown, TableMade, TableWritten, Told, effect_of, ReservesElementsAt, OfReference, OfSegment, OfTable, Source, write_of, CreatesSegment, IsSegmentOf, Call, Extract, GetElement, GetFuel, GetGlobal, GetRegister, GrowMemory, GrowTable, Load, NewData, NewGlobal, NewLentMemory, NewMemory, NewSegment, Test, Reply, Slot, Live, DataAt, GlobalAt, Location, MemoryAt, SegmentAt, TableAt, content_at, HasElements, HasElementsAt, HasSlot, HasSlots, SlotKind, Memories, Segments, DataSegments, Globals, made_of, slots_for, takes_slot, IsReservedToMaximum, IsLent, IsLentRoom, IsReservedFor, IsReservedTable, NeedsNoMemory, NeedsOnlySlot, ReservedCallsSucceed, ReservedRunsSucceed, SlotsSuffice, IsInRegion, outcome_of}
 use Rattle.std.proofs.Common.{◌++◌, Bool, Err, List, None, Ok, Option, Result, Some, [], ap, arith, cond, drop, false, inl, inr, length, map, refl, subst, sym, take, true, ℕ, ◌+◌, ◌<◌, ◌≤◌, ◌∙◌, ◌∷◌, ◌≡◌, ◌⊎◌, ⊎_elim}
 use Rattle.std.proofs.lemmas.List.Sums.{sum_by-cons}
 use Rattle.wasmi_ops.specs.LoadStoreOps.{loaded_raw}
@@ -36,10 +36,6 @@ result_told : {T E : Type 0} (result : Result T E) (answer : T → Reply) (refus
 result_told (Ok t) answer refusal done refused = done t
 result_told (Err error) answer refusal done refused = refused error refl
 
--- what a reply tells is told by an equal one
-told_by : (reply reply' : Reply) → reply ≡ reply' → IsNotOutOfMemory reply' → IsNotOutOfMemory reply
-told_by reply reply' is told = subst IsNotOutOfMemory (sym is) told
-
 -- ---- attempts
 
 module _ {V E : Type 0} (refusal : E → Reply) (e : Request V E)
@@ -72,15 +68,13 @@ module _ {V E : Type 0} (refusal : E → Reply) (w : MeteredWrite V E) (no : Wri
 
   -- a cause that isn't want of memory
   cause_told : (cause : E) → IsOther refusal cause → IsRefusedFor w s result s' cause → Tells
-  cause_told cause other is =
-      told_by _ _ (ap (reply_of (λ _. replied.Done) refusal) is.0) other
+  cause_told cause other is = rw is.0 other
 
   -- the reply to a write
   write_told : (early : Option E) (written : Option V) → w.early ≡ early → EndsBy w s result s' early written → Tells
   write_told (Some cause) written is ends = cause_told cause (no.early cause is) ends
   write_told None None is ends = cause_told w.outside no.outside ends
-  write_told None (Some value) is ends = on_test (covers s.meter (write_due w s)) _ _ ends
-      (λ paid. told_by _ _ (ap (reply_of (λ _. replied.Done) refusal) paid.0) tt)
+  write_told None (Some value) is ends = on_test (covers s.meter (write_due w s)) _ _ ends (λ paid. rw paid.0 tt)
       (λ unpaid. cause_told (w.unpaid (write_due w s)) (no.unpaid (write_due w s)) unpaid)
 
 -- a write to a memory
@@ -98,13 +92,13 @@ table_write_told x typed written outside paid other = record {
   unpaid = λ amount. tt;
 }
 
--- each write to a memory, by its source
+-- no cause of a write over a range of a memory is want of memory, whatever its source
 bytes_told : (source : ByteSource) (dst len : ℕ) → OnLive (byte_write_of source dst len) (Unit {0})
     (λ w. (x : MemoryValue) → WritesWithoutWant replied.Memory (w x))
 bytes_told source dst len = on_live_too (byte_write_of source dst len) _ _ _ _ (λ missing. missing)
     (memory_write_told len) (source_writes source dst len)
 
--- each write to a table, by its source
+-- no cause of a write over a range of a table is want of memory, whatever its source
 elements_told : (source : Source) (dst len : ℕ) → OnLive (write_of source dst len) (Unit {0})
     (λ w. (x : TableValue) → WritesWithoutWant replied.Table (w x))
 elements_told (OfReference value) dst len = λ x. table_write_told x (same_type x.ty.element value.ty)
@@ -121,10 +115,9 @@ elements_told (OfSegment (Some segment) src) dst len = λ x. table_write_told x 
 range_told : {X E : Type 0} (refusal : E → Reply) (k : ℕ) (write : Option (X → MeteredWrite X E))
     → OnLive write (Unit {0}) (λ w. (x : X) → WritesWithoutWant refusal (w x)) → (s : MeteredSlots X) (reply : Reply)
     (charge : ℕ) (s' : MeteredSlots X) → WritesRangeAt refusal k write s reply charge s' → IsNotOutOfMemory reply
-range_told refusal k None without s reply charge s' writes = told_by reply replied.NoSuch writes.0 tt
+range_told refusal k None without s reply charge s' writes = rw writes.0 tt
 range_told refusal k (Some w) without s reply charge s' writes = on_live (live_at s.value k) _ _ writes
-    (λ missing. told_by reply replied.NoSuch missing.0 tt)
-    (λ x found h. told_by reply _ h.3
+    (λ missing. rw missing.0 tt) (λ x found h. rw h.3
     (write_told refusal (w x) (without x) (with_value s x) h.0 (with_value s' h.1) (w x).early (w x).written refl h.2.writes))
 
 -- ---- creations and growths of memories in lent regions
@@ -145,7 +138,7 @@ lent_lacks : (room : Room) (cause : MemoryError) → IsLentRoom room → LacksMe
 lent_lacks Owned cause lent lacks = lent
 lent_lacks (Lent rest) cause lent lacks = lacks
 
--- nor of a growth of a lent memory
+-- no later cause of a growth of a lent memory is want of memory
 growth_told : (x : MemoryValue) (pages : ℕ) → IsLent x
     → LaterCauses (IsOther replied.Memory) (memory.growth_of x pages)
 growth_told x pages lent = record {
@@ -160,11 +153,9 @@ growth_told x pages lent = record {
 grown_told : {S : Type 0} (rules : Rules S) (pages : ℕ) (s : MeteredValue MemoryValue S) → IsLent s.value
     → (result : Result ℕ MemoryError) (charge : ℕ) (s' : MeteredValue MemoryValue S)
     → GrowsMemoryCharging rules pages s result charge s' → IsNotOutOfMemory (reply_of replied.Number replied.Memory result)
-grown_told rules pages s lent result charge s' (inl none) =
-    told_by _ _ (ap (reply_of replied.Number replied.Memory) none.answered) tt
+grown_told rules pages s lent result charge s' (inl none) = rw none.answered tt
 grown_told rules pages s lent result charge s' (inr some) =
-    told_by _ _ (ap (reply_of replied.Number replied.Memory) some.answered)
-    (attempt_told replied.Memory (memory.growth_of s.value pages)
+    rw some.answered (attempt_told replied.Memory (memory.growth_of s.value pages)
     (tested (IsOther replied.Memory) _ MemoryError.OutOfBoundsGrowth tt) (growth_told s.value pages lent) s.meter
     replied.Number (λ size. tt) (pages_of s.value) some.outcome some.attempt.may_end)
 
@@ -204,8 +195,8 @@ table_told x n reference has = record {
 entry_told : {X A E : Type 0} (entry : X → A) (refusal : E → Reply) (result : Result X E) (list : List A)
     (reply : Reply) (list' : List A) → ((error : E) → result ≡ Err error → IsOther refusal error)
     → AddsEntry entry refusal result list reply list' → IsNotOutOfMemory reply
-entry_told entry refusal (Ok x) list reply list' other adds = told_by reply _ adds.0 tt
-entry_told entry refusal (Err error) list reply list' other adds = told_by reply _ adds.0 (other error refl)
+entry_told entry refusal (Ok x) list reply list' other adds = rw adds.0 tt
+entry_told entry refusal (Err error) list reply list' other adds = rw adds.0 (other error refl)
 
 -- the error of a creation in a lent region
 made_told : (region : List ℕ) (ty : MemoryTypeValue) (outcome : AttemptOutcome MemoryError)
@@ -229,7 +220,7 @@ creation_told rules region ty slots l reply slots' l' room (inr (result, (outcom
     (λ error is. made_told region ty outcome attempt.may_end error (sym answered ∙ is)) adds
 
 -- a reply that there is no room, where a slot is reserved
-slot_there : {A : Type 0} (reserved : ℕ) (list : List A) (reply : Reply) → HasSlot reserved list
+slot_there : {A : Type 0} (reserved : ℕ) (list : List A) (reply : Reply) → length list < reserved
     → IfNoRoom reply (LacksSlot reserved list) → reply ≡ replied.NoRoom → ⊥
 slot_there reserved list reply has room is =
     let lacks : LacksSlot reserved list = subst (λ r. IfNoRoom r (LacksSlot reserved list)) is room in
@@ -246,9 +237,9 @@ none_read xs false bytes is = absurd (none-some bytes is)
 -- the reply to a read of no byte
 read_told : (found : Option (List ℕ)) (reply : Reply) → ((bytes : List ℕ) → found ≡ Some bytes → length bytes ≡ 0)
     → ReadsBytes found reply → IsNotOutOfMemory reply
-read_told None reply none reads = told_by reply _ reads tt
+read_told None reply none reads = rw reads tt
 read_told (Some bytes) reply none (inl refused) = absurd (omega (arith, none bytes refl, refused.1))
-read_told (Some bytes) reply none (inr read) = told_by reply _ read tt
+read_told (Some bytes) reply none (inr read) = rw read tt
 
 -- the reply to a read of so many bytes, of which there are none
 bytes_read_told : (xs : List ℕ) (offset len : ℕ) (reply : Reply) → len ≡ 0 → ReadsBytes (at xs offset len) reply
@@ -264,7 +255,7 @@ bytes_read_told xs offset len reply none reads =
 added_told : {Lacks X : Type 0} (x : X) (items : List X) (reply : Reply) (items' : List X) → (Lacks → ⊥)
     → AddsItem Lacks x items reply items' → IsNotOutOfMemory reply
 added_told x items reply items' has (inl none) = absurd (has none.2)
-added_told x items reply items' has (inr made) = told_by reply _ made.0 tt
+added_told x items reply items' has (inr made) = rw made.0 tt
 
 -- the error of a segment of no item
 segment_error_told : (ty : RefType) (items : List ℕ) (result : Result SegmentValue SegmentError) (error : SegmentError)
@@ -289,7 +280,7 @@ found_told : {X A : Type 0} (found : Option X) (put : X → A) (part : A) (reply
     (Change : X → X → Type 0) → ((x x' : X) → Change x x' → IsNotOutOfMemory reply)
     → ChangesFound found put part reply part' Change → IsNotOutOfMemory reply
 found_told found put part reply part' Change told changes = on_live found _ _ changes
-    (λ missing. told_by reply replied.NoSuch missing.0 tt) (λ x is h. told x h.0 h.1)
+    (λ missing. rw missing.0 tt) (λ x is h. told x h.0 h.1)
 
 -- the error of a write
 write_error_told : (x : MemoryValue) (offset : ℕ) (source : List ℕ) (result : Result (Unit {0}) MemoryError)
@@ -301,33 +292,31 @@ write_error_told x offset source (Err error) x' writes = subst (IsOther replied.
 -- the reply to a store, whose bytes may be missing
 store_told : (k a : ℕ) (stored : Option (List ℕ)) (slots : List (Slot MemoryValue)) (reply : Reply)
     (slots' : List (Slot MemoryValue)) → StoresVectorAt k a stored slots reply slots' → IsNotOutOfMemory reply
-store_told k a None slots reply slots' stores = told_by reply replied.NoSuch stores.0 tt
+store_told k a None slots reply slots' stores = rw stores.0 tt
 store_told k a (Some stored) slots reply slots' stores =
     found_told (live_at slots k) (λ x. slice_set slots k (Live x)) slots reply slots' _ (λ x x' h.
-    told_by reply _ h.2 (result_told h.0 (λ _. replied.Done) replied.Trap (λ done. tt) (λ trap is. tt))) stores
+    rw h.2 (result_told h.0 (λ _. replied.Done) replied.Trap (λ done. tt) (λ trap is. tt))) stores
 
 -- the reply to a call that sets a register
 takes_told : (given : Option (Result RawVal TrapCode)) (old : Option RawVal) (dst : ℕ) (registers : List RawVal)
     (reply : Reply) (registers' : List RawVal) → SetsAt given old dst registers reply registers'
     → IsNotOutOfMemory reply
-takes_told (Some given) None dst registers reply registers' takes = told_by reply replied.NoSuch takes.0 tt
-takes_told (Some (Err trap)) (Some old) dst registers reply registers' takes = told_by reply (replied.Trap trap) takes.0 tt
-takes_told given old dst registers reply registers' takes = told_by reply _ takes.0 tt
+takes_told (Some given) None dst registers reply registers' takes = rw takes.0 tt
+takes_told (Some (Err trap)) (Some old) dst registers reply registers' takes = rw takes.0 tt
+takes_told given old dst registers reply registers' takes = rw takes.0 tt
 
 -- the reply to a call that sets an element
 set_told : (index : ℕ) (value : TypedRawRef) (x : TableValue) (result : Result (Unit {0}) TableError) (x' : TableValue)
     → SetsTable index value x result x' → IsNotOutOfMemory (reply_of (λ _. replied.Done) replied.Table result)
 set_told index value x result x' sets = on_test (same_type x.ty.element value.ty) _ _ sets
     (λ raw. on_live (overwrite x.elements index (value.raw ∷ [])) _ _ raw
-    (λ outside. told_by _ _ (ap (reply_of (λ _. replied.Done) replied.Table) outside.0) tt)
-    (λ elements found set. told_by _ _ (ap (reply_of (λ _. replied.Done) replied.Table) set.0) tt))
-    (λ other. told_by _ _ (ap (reply_of (λ _. replied.Done) replied.Table) other.0) tt)
+    (λ outside. rw outside.0 tt) (λ elements found set. rw set.0 tt)) (λ other. rw other.0 tt)
 
 -- a change needs no memory
 abbrev ChangeHas : State → Change → Type 0
-ChangeHas s (SegmentMade ty items) = (items ≡ []) × HasSlot s.reserved.segments s.segments
-ChangeHas s (DataMade bytes) = (bytes ≡ []) × HasSlot s.reserved.data_segments s.data_segments
-ChangeHas s (GlobalMade global) = HasSlot s.reserved.globals s.globals
+ChangeHas s (SegmentMade ty items) = (items ≡ []) × HasSlot s Segments
+ChangeHas s (DataMade bytes) = (bytes ≡ []) × HasSlot s DataSegments
+ChangeHas s (GlobalMade global) = HasSlot s Globals
 ChangeHas s change = Unit {0}
 
 -- the reply to each change
@@ -335,33 +324,33 @@ change_told : (s : State) (reply : Reply) (s' : State) (change : Change) → Cha
     → HasChange change s reply s' → IsNotOutOfMemory reply
 change_told s reply s' (BytesWritten k offset bytes) has c =
     found_told (live_at s.memories k) (λ x. slice_set s.memories k (Live x)) s.memories reply c.part _
-    (λ x x' h. told_by reply _ h.2 (write_error_told x offset bytes h.0 x' h.1)) c.effect
+    (λ x x' h. rw h.2 (write_error_told x offset bytes h.0 x' h.1)) c.effect
 change_told s reply s' (BytesStored k a stored) has c = store_told k a stored s.memories reply c.part c.effect
 change_told s reply s' (RegisterSet dst given) has c =
     takes_told given (slice_get s.registers dst) dst s.registers reply c.part c.effect
 change_told s reply s' (MemoryDropped k) has c = on_live (live_at s.memories k) _ _ c.effect
-    (λ missing. told_by reply replied.NoSuch missing.0 tt) (λ x found h. told_by reply replied.Done h.0 tt)
+    (λ missing. rw missing.0 tt) (λ x found h. rw h.0 tt)
 change_told s reply s' (TableDropped k) has c = on_live (live_at s.tables k) _ _ c.effect
-    (λ missing. told_by reply replied.NoSuch missing.0 tt) (λ x found h. told_by reply replied.Done h.0 tt)
+    (λ missing. rw missing.0 tt) (λ x found h. rw h.0 tt)
 change_told s reply s' (ElementSet k index value) has c =
     found_told (live_at s.tables k) (λ x. slice_set s.tables k (Live x)) s.tables reply c.part _
-    (λ x x' h. told_by reply _ h.2 (set_told index value x h.0 x' h.1)) c.effect
+    (λ x x' h. rw h.2 (set_told index value x h.0 x' h.1)) c.effect
 change_told s reply s' (SegmentMade ty items) has c =
     segment_told ty items s.segments reply c.part has.0 (λ lacks. omega (arith, has.1, lacks)) c.effect
 change_told s reply s' (ItemsDropped k) has c =
     found_told (slice_get s.segments k) (slice_set s.segments k) s.segments reply c.part _
-    (λ x x' h. told_by reply replied.Done h.0 tt) c.effect
+    (λ x x' h. rw h.0 tt) c.effect
 change_told s reply s' (DataMade bytes) has c =
     added_told bytes s.data_segments reply c.part
     (⊎_elim (λ some. omega (arith, ap length has.0, some)) (λ lacks. omega (arith, has.1, lacks))) c.effect
 change_told s reply s' (DataDropped k) has c =
     found_told (slice_get s.data_segments k) (slice_set s.data_segments k) s.data_segments reply c.part _
-    (λ x x' h. told_by reply replied.Done h.0 tt) c.effect
+    (λ x x' h. rw h.0 tt) c.effect
 change_told s reply s' (GlobalMade global) has c =
     added_told global s.globals reply c.part (λ lacks. omega (arith, has, lacks)) c.effect
 change_told s reply s' (GlobalSet k value) has c =
     found_told (slice_get s.globals k) (slice_set s.globals k) s.globals reply c.part _
-    (λ x x' h. told_by reply _ h.2 (result_told h.0 (λ _. replied.Done) replied.Global (λ done. tt) (λ error is. tt)))
+    (λ x x' h. rw h.2 (result_told h.0 (λ _. replied.Done) replied.Global (λ done. tt) (λ error is. tt)))
     c.effect
 
 -- ---- effects
@@ -372,7 +361,7 @@ EffectHas s (Told reply) = IsNotOutOfMemory reply
 EffectHas s (BytesRead k offset len) = len ≡ 0
 EffectHas s (Changed change) = ChangeHas s change
 EffectHas s (MemoryMade ty) = ⊥
-EffectHas s (LentMemoryMade ty) = HasSlot s.reserved.memories s.memories
+EffectHas s (LentMemoryMade ty) = HasSlot s Memories
 EffectHas s (MemoryGrown k pages) = IsInRegion s.memories k
 EffectHas s (TableMade ty init) = ⊥
 EffectHas s (TableGrown k n init) = (n ≡ 0) ⊎ HasElementsAt s.tables k n
@@ -384,7 +373,7 @@ none_or_live : {X P : Type 0} (Fact : X → Type 0) (o : Option X) → P ⊎ OnL
 none_or_live Fact None has = tt
 none_or_live Fact (Some x) has = has
 
--- so the effect of a call that needs none
+-- the effect of a call that needs no memory needs none
 effect_has : (s : State) (call : Call) → NeedsNoMemory s call → EffectHas s (effect_of s call)
 effect_has s GetFuel needs =
     option_told s.meter.left (λ left. replied.Number left) (replied.Fuel FuelError.FuelMeteringDisabled) (λ left. tt) tt
@@ -404,8 +393,8 @@ module _ {S : Type 0} (rules : Rules S) (w : World S) (turn : Turn) (w' : World 
   set_fuel_told : (on : Bool)
       → turn.reply ≡ (if on then replied.Done else replied.Fuel FuelError.FuelMeteringDisabled)
       → IsNotOutOfMemory turn.reply
-  set_fuel_told true is = told_by turn.reply replied.Done is tt
-  set_fuel_told false is = told_by turn.reply _ is tt
+  set_fuel_told true is = rw is tt
+  set_fuel_told false is = rw is tt
 
   -- the reply to a growth of a table by nothing, or by what is reserved
   table_growth_told : (n : ℕ) (init : TypedRawRef) (s s' : MeteredValue TableValue S) → (n ≡ 0) ⊎ HasElements n s.value
@@ -413,37 +402,32 @@ module _ {S : Type 0} (rules : Rules S) (w : World S) (turn : Turn) (w' : World 
       → IsNotOutOfMemory (reply_of replied.Number replied.Table result)
   table_growth_told n init s s' has result charge grows =
       on_test (same_type s.value.ty.element init.ty) _ _ grows
-      (⊎_elim (λ grown. told_by _ _ (ap (reply_of replied.Number replied.Table) grown.answered) tt)
-      (λ grown. told_by _ _ (ap (reply_of replied.Number replied.Table) grown.answered) (⊎_elim
-      (λ none. absurd (omega (arith, none, grown.some)))
+      (⊎_elim (λ grown. rw grown.answered tt)
+      (λ grown. rw grown.answered (⊎_elim (λ none. absurd (omega (arith, none, grown.some)))
       (λ there. attempt_told replied.Table (table.growth_of s.value n init.raw)
       (tested (IsOther replied.Table) _ TableError.GrowOutOfBounds tt) (table_told s.value n init.raw there) s.meter
       replied.Number (λ size. tt) (size_of s.value) grown.outcome grown.attempt.may_end) has)))
-      (λ other. told_by _ _ (ap (reply_of replied.Number replied.Table) other.0) tt)
+      (λ other. rw other.0 tt)
 
   -- the reply in a turn with each effect
-  effect_told : (effect : Effect) → EffectHas w.state effect → HasEffect rules effect w turn w'
+  effect_told : (effect : Effect) → EffectHas w.state effect → HasEffect rules effect w (outcome_of turn) w'
       → IsNotOutOfMemory turn.reply
-  effect_told (Told reply) has step = told_by turn.reply reply step.effect has
+  effect_told (Told reply) has step = rw step.effect has
   effect_told (BytesRead k offset len) has step = on_live (live_at w.state.memories k) _ _ step.effect
-      (λ missing. told_by turn.reply replied.NoSuch missing tt)
-      (λ x found h. bytes_read_told x.bytes offset len turn.reply has h)
+      (λ missing. rw missing tt) (λ x found h. bytes_read_told x.bytes offset len turn.reply has h)
   effect_told (FuelSet fuel) has step = set_fuel_told (is_some w.state.meter.left) step.effect.0
   effect_told (Changed change) has step = change_told w.state turn.reply step.machine change has step.effect
-  effect_told (LentMemoryMade ty) has step = on_live w.state.spare _ _ step.effect
-      (λ none. told_by turn.reply replied.NoRegion none.0 tt)
+  effect_told (LentMemoryMade ty) has step = on_live w.state.spare _ _ step.effect (λ none. rw none.0 tt)
       (λ region found h. creation_told rules region ty w.state.memories w.limiter turn.reply step.part.slots step.limiter
       (slot_there w.state.reserved.memories w.state.memories turn.reply has step.room) h.0)
   effect_told (MemoryGrown k pages) has step =
       on_live (live_at w.state.memories k) _ _ (both_live (live_at w.state.memories k) _ _ _ _ has step.effect)
-      (λ missing. told_by turn.reply replied.NoSuch missing.1.0 tt)
-      (λ x found h. told_by turn.reply _ h.1.3 (grown_told rules pages
+      (λ missing. rw missing.1.0 tt) (λ x found h. rw h.1.3 (grown_told rules pages
       (metered_value x (Some w.state.meter) w.limiter) h.0 h.1.0 turn.charge
       (metered_value h.1.1 (Some step.meter) step.limiter) h.1.2))
   effect_told (TableGrown k n init) has step = on_live (live_at w.state.tables k) _ _
       (both_live (live_at w.state.tables k) _ _ _ _ (none_or_live (HasElements n) (live_at w.state.tables k) has) step.effect)
-      (λ missing. told_by turn.reply replied.NoSuch missing.1.0 tt)
-      (λ x found h. told_by turn.reply _ h.1.3 (table_growth_told n init
+      (λ missing. rw missing.1.0 tt) (λ x found h. rw h.1.3 (table_growth_told n init
       (metered_value x (Some w.state.meter) w.limiter)
       (metered_value h.1.1 (Some step.meter) step.limiter) h.0 h.1.0 turn.charge h.1.2))
   effect_told (RangeWritten (TableWritten k source dst len)) has step =
@@ -456,7 +440,7 @@ module _ {S : Type 0} (rules : Rules S) (w : World S) (turn : Turn) (w' : World 
       step.effect
   effect_told effect has step = absurd has
 
--- each call that needs no memory
+-- the reply to a call that needs no memory doesn't say out of memory
 pub reserved_calls_succeed : {S : Type 0} (rules : Rules S) → ReservedCallsSucceed rules
 reserved_calls_succeed rules w turn w' step needs = effect_told rules w turn w' (effect_of w.state turn.call)
     (effect_has w.state turn.call needs) step
@@ -476,8 +460,9 @@ change_reserves s reply s' (DataMade bytes) c = ap (λ (t : State). t.reserved) 
 change_reserves s reply s' change c = ap (λ (t : State). t.reserved) c.after
 
 module _ {S : Type 0} (rules : Rules S) (w : World S) (turn : Turn) (w' : World S) where
-  -- so each effect
-  effect_reserves : (effect : Effect) → HasEffect rules effect w turn w' → w'.state.reserved ≡ w.state.reserved
+  -- an effect leaves how many slots are reserved
+  effect_reserves : (effect : Effect) → HasEffect rules effect w (outcome_of turn) w'
+      → w'.state.reserved ≡ w.state.reserved
   effect_reserves (FuelSet fuel) step =
       ap (λ (v : World S). v.state.reserved) step.after ∙ ap (λ (t : State). t.reserved) step.effect.1
   effect_reserves (Changed change) step = ap (λ (v : World S). v.state.reserved) step.after
@@ -486,7 +471,7 @@ module _ {S : Type 0} (rules : Rules S) (w : World S) (turn : Turn) (w' : World 
   effect_reserves effect step = ap (λ (v : World S). v.state.reserved) step.after
 
   -- what is reserved at an index stays so where no memory is needed
-  still_reserved : (effect : Effect) → EffectHas w.state effect → HasEffect rules effect w turn w'
+  still_reserved : (effect : Effect) → EffectHas w.state effect → HasEffect rules effect w (outcome_of turn) w'
       → (location : Location) → IsReservedIn location (content_at location w.state)
       → IsReservedIn location (content_at location w'.state)
   still_reserved effect has step location = stays_reserved effect location (takes_none w.state effect has) _ _
@@ -503,13 +488,6 @@ needs_later s s' lent full (GrowTable k n init) (inl none) = inl none
 needs_later s s' lent full (GrowTable k n init) (inr needs) = inr (full k needs)
 needs_later s s' lent full call needs = needs
 
--- a kind of what is made in a slot that can be reserved for it
-data SlotKind : Type 0 where
-  Memories : SlotKind
-  Segments : SlotKind
-  DataSegments : SlotKind
-  Globals : SlotKind
-
 -- the first index of a kind
 abbrev first_of : SlotKind → Location
 first_of Memories = MemoryAt 0
@@ -517,59 +495,43 @@ first_of Segments = SegmentAt 0
 first_of DataSegments = DataAt 0
 first_of Globals = GlobalAt 0
 
--- how many slots of a kind are reserved
-abbrev reserved_of : SlotKind → SlotCounts → ℕ
-reserved_of Memories n = n.memories
-reserved_of Segments n = n.segments
-reserved_of DataSegments n = n.data_segments
-reserved_of Globals n = n.globals
-
--- whether a call takes a slot of a kind
-abbrev makes_kind : SlotKind → Call → Bool
-makes_kind Memories = makes_lent_memory
-makes_kind Segments = makes_segment
-makes_kind DataSegments = makes_data
-makes_kind Globals = makes_global
-
--- as many slots of a kind as calls take are reserved and free
-abbrev HasKind : State → SlotKind → List Call → Type 0
-HasKind s kind calls = count_at (first_of kind) s + count_by (makes_kind kind) calls ≤ reserved_of kind s.reserved
+-- as many of a kind were made as there are of the kind of its first index
+made_at : (s : State) (kind : SlotKind) → made_of s kind ≡ count_at (first_of kind) s
+made_at s Memories = refl
+made_at s kind = refl
 
 -- the slots that the first of calls takes, and those of the others
-slots_of_first : (kind : SlotKind) (call : Call) (calls : List Call) → count_by (makes_kind kind) (call ∷ calls)
-    ≡ cond (makes_kind kind call) 1 0 + count_by (makes_kind kind) calls
-slots_of_first kind call calls = sum_by-cons (λ c. cond (makes_kind kind c) 1 0) call calls
+slots_of_first : (kind : SlotKind) (call : Call) (calls : List Call) → count_by (takes_slot kind) (call ∷ calls)
+    ≡ cond (takes_slot kind call) 1 0 + count_by (takes_slot kind) calls
+slots_of_first kind call calls = sum_by-cons (λ c. cond (takes_slot kind c) 1 0) call calls
 
--- one for the first, if it takes one
-first_slot : (s : State) (kind : SlotKind) (call : Call) (calls : List Call) → makes_kind kind call ≡ true
-    → HasKind s kind (call ∷ calls) → count_at (first_of kind) s < reserved_of kind s.reserved
+-- a slot is free for the first of calls, if it takes one
+first_slot : (s : State) (kind : SlotKind) (call : Call) (calls : List Call) → takes_slot kind call ≡ true
+    → HasSlots s (call ∷ calls) kind → HasSlot s kind
 first_slot s kind call calls is fits =
     omega (arith, slots_of_first kind call calls, ap {B = ℕ} (λ b. cond b 1 0) is, fits)
 
--- the first call needs no memory
+-- the first call needs no memory where it needs only a slot
+with_slot : (s : State) (call : Call) (calls : List Call) → IsReservedFor s (call ∷ calls) → NeedsOnlySlot s call
+    → NeedsNoMemory s call
+with_slot s (NewLentMemory ty) calls r needs = first_slot s Memories (NewLentMemory ty) calls refl (r.enough Memories)
+with_slot s (GrowTable k n init) calls r (inl none) = inl none
+with_slot s (GrowTable k n init) calls r (inr full) =
+    inr (on_live_too (live_at s.tables k) _ _ _ _ (λ missing. missing) (λ x most. inr most) full)
+with_slot s (NewSegment ty items) calls r needs =
+    (needs, first_slot s Segments (NewSegment ty items) calls refl (r.enough Segments))
+with_slot s (NewData bytes) calls r needs =
+    (needs, first_slot s DataSegments (NewData bytes) calls refl (r.enough DataSegments))
+with_slot s (NewGlobal value ty) calls r needs = first_slot s Globals (NewGlobal value ty) calls refl (r.enough Globals)
+with_slot s call calls r needs = needs
+
+-- the first of calls for which enough was reserved needs no memory
 first_needs : (s : State) (call : Call) (calls : List Call) → IsReservedFor s (call ∷ calls) → NeedsNoMemory s call
-first_needs s (NewMemory ty) calls r = All-head (NeedsOnlySlot s) (NewMemory ty) calls r.needs
-first_needs s (NewLentMemory ty) calls r = first_slot s Memories (NewLentMemory ty) calls refl r.memories
-first_needs s (GrowMemory k pages) calls r = All-head (NeedsOnlySlot s) (GrowMemory k pages) calls r.needs
-first_needs s (Read k offset len) calls r = All-head (NeedsOnlySlot s) (Read k offset len) calls r.needs
-first_needs s (NewTable ty init) calls r = All-head (NeedsOnlySlot s) (NewTable ty init) calls r.needs
-first_needs s (GrowTable k n init) calls r = ⊎_elim (λ none. inl none)
-    (λ full. inr (on_live_too (live_at s.tables k) _ _ _ _ (λ missing. missing) (λ x most. inr most) full))
-    (All-head (NeedsOnlySlot s) (GrowTable k n init) calls r.needs)
-first_needs s (NewSegment ty items) calls r = (
-  All-head (NeedsOnlySlot s) (NewSegment ty items) calls r.needs,
-  first_slot s Segments (NewSegment ty items) calls refl r.segments,
-)
-first_needs s (NewData bytes) calls r = (
-  All-head (NeedsOnlySlot s) (NewData bytes) calls r.needs,
-  first_slot s DataSegments (NewData bytes) calls refl r.data_segments,
-)
-first_needs s (NewGlobal value ty) calls r = first_slot s Globals (NewGlobal value ty) calls refl r.globals
-first_needs s call calls r = tt
+first_needs s call calls r = with_slot s call calls r (All-head (NeedsOnlySlot s) call calls r.needs)
 
 -- an effect that takes no other memory takes the slots that its call does
 takes_slots : (s : State) (kind : SlotKind) (call : Call) → (TakesMemory (effect_of s call) → ⊥)
-    → cond (makes_kind kind call) 1 0 ≡ made_in (effect_of s call) (first_of kind)
+    → cond (takes_slot kind call) 1 0 ≡ made_in (effect_of s call) (first_of kind)
 takes_slots s Memories (NewMemory ty) none = absurd (none tt)
 takes_slots s Memories (NewLentMemory ty) none = refl
 takes_slots s Segments (NewSegment ty items) none = refl
@@ -577,16 +539,17 @@ takes_slots s DataSegments (NewData bytes) none = refl
 takes_slots s Globals (NewGlobal value ty) none = refl
 takes_slots s kind call none = refl
 
--- the others are left where the first call takes its own
+-- the slots of the other calls are left where the first takes its own
 slots_left : {S : Type 0} (rules : Rules S) (w : World S) (turn : Turn) (v : World S) (calls : List Call)
     → EffectHas w.state (effect_of w.state turn.call) → Step rules w turn v → (kind : SlotKind)
-    → HasKind w.state kind (turn.call ∷ calls) → HasKind v.state kind calls
+    → HasSlots w.state (turn.call ∷ calls) kind → HasSlots v.state calls kind
 slots_left rules w turn v calls has step kind fits =
     let effect = effect_of w.state turn.call in
     let slots = takes_slots w.state kind turn.call (takes_none w.state effect has) in
     let few = (effect_locations rules w turn v effect step (first_of kind)).1 in
-    let same = ap (reserved_of kind) (effect_reserves rules w turn v effect step) in
-    omega (arith, slots_of_first kind turn.call calls, slots, few, same, fits)
+    let same = ap (λ counts. slots_for counts kind) (effect_reserves rules w turn v effect step) in
+    let before = made_at w.state kind in
+    omega (arith, slots_of_first kind turn.call calls, slots, few, same, fits, before, made_at v.state kind)
 
 module _ {S : Type 0} (rules : Rules S) where
   -- what is left is reserved for the other calls
@@ -599,84 +562,72 @@ module _ {S : Type 0} (rules : Rules S) where
             (λ k. still_reserved rules w turn v (effect_of w.state turn.call) has step (MemoryAt k))
             (λ k. still_reserved rules w turn v (effect_of w.state turn.call) has step (TableAt k))) calls
             (All-tail (NeedsOnlySlot w.state) turn.call calls r.needs);
-        memories = slots_left rules w turn v calls has step Memories r.memories;
-        segments = slots_left rules w turn v calls has step Segments r.segments;
-        data_segments = slots_left rules w turn v calls has step DataSegments r.data_segments;
-        globals = slots_left rules w turn v calls has step Globals r.globals;
+        enough = λ kind. slots_left rules w turn v calls has step kind (r.enough kind);
       }
 
   module _ (rest : List Call) where
-    -- each turn of a run of the first calls
-    run_told : (w : World S) (turns : List Turn) (w' : World S) → IsReservedFor w.state (map Turn.call turns ++ rest)
-        → Run rules w turns w' → All IsNotOutOfMemory (map Turn.reply turns)
-    run_told w [] w' r ran = All-nil IsNotOutOfMemory
-    run_told w (turn ∷ turns) w' r (v, step, ran) = All-cons IsNotOutOfMemory turn.reply (map Turn.reply turns)
-        (reserved_calls_succeed rules w turn v step (first_needs w.state turn.call (map Turn.call turns ++ rest) r))
-        (run_told v turns w' (reserved_next w turn v (map Turn.call turns ++ rest) step r) ran)
+    -- no turn of the first calls is out of memory, and what is left is reserved for the others
+    turns_told : (w : World S) (turns : List Turn) (w' : World S) → IsReservedFor w.state (map Turn.call turns ++ rest)
+        → Run rules w turns w' → All IsNotOutOfMemory (map Turn.reply turns) × IsReservedFor w'.state rest
+    turns_told w [] w' r ran =
+        (All-nil IsNotOutOfMemory, subst (λ (v : World S). IsReservedFor v.state rest) (sym ran) r)
+    turns_told w (turn ∷ turns) w' r (v, step, ran) =
+        let calls = map Turn.call turns ++ rest in
+        let told = reserved_calls_succeed rules w turn v step (first_needs w.state turn.call calls r) in
+        let others = turns_told v turns w' (reserved_next w turn v calls step r) ran in
+        (All-cons IsNotOutOfMemory turn.reply (map Turn.reply turns) told others.0, others.1)
 
-    -- and what is left for the others
-    run_left : (w : World S) (turns : List Turn) (w' : World S) → IsReservedFor w.state (map Turn.call turns ++ rest)
-        → Run rules w turns w' → IsReservedFor w'.state rest
-    run_left w [] w' r ran = subst (λ (v : World S). IsReservedFor v.state rest) (sym ran) r
-    run_left w (turn ∷ turns) w' r (v, step, ran) =
-        run_left v turns w' (reserved_next w turn v (map Turn.call turns ++ rest) step r) ran
+    -- no reply to the first of calls for which enough was reserved says out of memory, and what is left is reserved for
+    -- the others
+    pub front_told : (calls : List Call) (w : World S) (replies : List Reply) (w' : World S)
+        → IsReservedFor w.state (calls ++ rest) → IsRunOf rules calls w replies w'
+        → All IsNotOutOfMemory replies × IsReservedFor w'.state rest
+    front_told calls w replies w' r (turns, made, told, ran) =
+        let both = turns_told w turns w' (subst (λ first. IsReservedFor w.state (first ++ rest)) (sym made) r) ran in
+        (subst (All IsNotOutOfMemory) told both.0, both.1)
 
-    module _ (calls : List Call) (w : World S) (replies : List Reply) (w' : World S)
-        (r : IsReservedFor w.state (calls ++ rest)) (ran : IsRunOf rules calls w replies w') where
-      -- each reply to the first of calls for which enough was reserved
-      pub front_told : All IsNotOutOfMemory replies
-      front_told = subst (All IsNotOutOfMemory) ran.2
-          (run_told w ran.0 w' (subst (λ first. IsReservedFor w.state (first ++ rest)) (sym ran.1) r) ran.3)
-
-      -- and what is reserved for the others then
-      pub rest_reserved : IsReservedFor w'.state rest
-      rest_reserved = run_left w ran.0 w' (subst (λ first. IsReservedFor w.state (first ++ rest)) (sym ran.1) r) ran.3
-
-  -- each reply to calls for which enough was reserved
+  -- no reply to calls for which enough was reserved says out of memory
   pub reserved_runs_succeed : ReservedRunsSucceed rules
   reserved_runs_succeed calls w replies w' r ran =
-      front_told [] calls w replies w' (subst (IsReservedFor w.state) (sym (append-nil calls)) r) ran
+      (front_told [] calls w replies w' (subst (IsReservedFor w.state) (sym (append-nil calls)) r) ran).0
 
 -- ---- what is reserved beside runs
 
--- the slots for what calls make are reserved, or are as many as are reserved in addition
-abbrev FindSlots : {A : Type 0} → (Call → Bool) → List Call → ℕ → ℕ → List A → Type 0
-FindSlots makes calls reserved additional list =
-    HasSlots reserved list makes calls ⊎ (count_by makes calls ≤ additional)
+-- where more slots are reserved, of each kind there is what there was, and there are slots for that and the more
+kind_reserved : (s : State) (more : SlotCounts) (kind : SlotKind) → (made_of (with_reserved s more) kind ≡ made_of s kind)
+    × (slots_for (with_reserved s more).reserved kind
+    ≡ max (slots_for s.reserved kind) (made_of s kind + slots_for more kind))
+kind_reserved s more Memories = (refl, refl)
+kind_reserved s more kind = (refl, refl)
 
-slots_found : {A : Type 0} (makes : Call → Bool) (calls : List Call) (reserved additional : ℕ) (list : List A)
-    → FindSlots makes calls reserved additional list
-    → HasSlots (reserved_for reserved list additional) list makes calls
-slots_found makes calls reserved additional list (inl has) = grind (arith, has)
-slots_found makes calls reserved additional list (inr fits) = grind (arith, fits)
+-- the slots that are found are reserved with those in addition
+abbrev FindSlots : State → SlotCounts → List Call → SlotKind → Type 0
+FindSlots s more calls kind = HasSlots s calls kind ⊎ (count_by (takes_slot kind) calls ≤ slots_for more kind)
+
+slots_found : (s : State) (more : SlotCounts) (calls : List Call) (kind : SlotKind) → FindSlots s more calls kind
+    → HasSlots (with_reserved s more) calls kind
+slots_found s more calls kind (inl has) =
+    let is = kind_reserved s more kind in grind (arith, has, is.0, is.1)
+slots_found s more calls kind (inr fits) =
+    let is = kind_reserved s more kind in grind (arith, fits, is.0, is.1)
 
 -- a machine has reserved what calls need if more slots are reserved on it, and these find theirs of each kind
 with_more_slots : (s : State) (more : SlotCounts) (calls : List Call) → All (NeedsOnlySlot s) calls
-    → FindSlots makes_lent_memory calls s.reserved.memories more.memories s.memories
-    → FindSlots makes_segment calls s.reserved.segments more.segments s.segments
-    → FindSlots makes_data calls s.reserved.data_segments more.data_segments s.data_segments
-    → FindSlots makes_global calls s.reserved.globals more.globals s.globals
-    → IsReservedFor (with_reserved s more) calls
-with_more_slots s more calls needs memories segments data_segments globals = record {
+    → ((kind : SlotKind) → FindSlots s more calls kind) → IsReservedFor (with_reserved s more) calls
+with_more_slots s more calls needs finds = record {
   needs = All-weaker (NeedsOnlySlot s) (NeedsOnlySlot (with_reserved s more))
       (needs_later s (with_reserved s more) (λ k holds. holds) (λ k holds. holds)) calls needs;
-  memories = slots_found makes_lent_memory calls s.reserved.memories more.memories s.memories memories;
-  segments = slots_found makes_segment calls s.reserved.segments more.segments s.segments segments;
-  data_segments =
-      slots_found makes_data calls s.reserved.data_segments more.data_segments s.data_segments data_segments;
-  globals = slots_found makes_global calls s.reserved.globals more.globals s.globals globals;
+  enough = λ kind. slots_found s more calls kind (finds kind);
 }
 
 -- where more slots are reserved, what was reserved is so
 pub more_reserved : (s : State) (more : SlotCounts) (calls : List Call) → IsReservedFor s calls
     → IsReservedFor (with_reserved s more) calls
-more_reserved s more calls r = with_more_slots s more calls r.needs (inl r.memories) (inl r.segments)
-    (inl r.data_segments) (inl r.globals)
+more_reserved s more calls r = with_more_slots s more calls r.needs (λ kind. inl (r.enough kind))
 
 -- with so many more slots a machine has reserved what calls need for which they are enough
 pub slots_suffice : SlotsSuffice
-slots_suffice s more calls fits = with_more_slots s more calls fits.needs (inr fits.memories) (inr fits.segments)
-    (inr fits.data_segments) (inr fits.globals)
+slots_suffice s more calls fits = with_more_slots s more calls fits.needs (λ kind. inr (fits.enough kind))
 
 -- a table for which so many elements are reserved stays reserved up to its maximum
 more_elements : (n : ℕ) (x x' : TableValue) → x' ≡ with_elements_reserved x n → IsReservedToMaximum x
@@ -700,8 +651,5 @@ elements_stay_reserved s table elements reply s' calls reserves rest r =
           (slot_changed (λ i x x'. IsReservedIn (TableAt i) x → IsReservedIn (TableAt i) x') table s.tables reply s'.tables _
           (λ x x' h here. ⊎_elim (λ done. more_elements elements x x' done.1 here)
           (λ refused. subst IsReservedToMaximum (sym refused.2) here) h) reserves k).0)) calls r.needs;
-      memories = r.memories;
-      segments = r.segments;
-      data_segments = r.data_segments;
-      globals = r.globals;
+      enough = r.enough;
     })

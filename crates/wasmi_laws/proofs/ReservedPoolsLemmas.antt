@@ -3,7 +3,7 @@ use Rattle.std.proofs.Common.{◌≡◌, ◌++◌, ◌∷◌, ◌∙◌, Bool, L
 use Rattle.wasmi_laws.proofs.Common.{Decides-eqb, All-append, All-nil, none-some, same_Some, All, get_or, if◌then◌else◌, nat_eq, slice_set, optional_rules, IsNotOutOfMemory, State, with_reserved, world, Call, FitsSlots, IsReservedFor}
 use Rattle.std.proofs.lemmas.Bool.{false≢true}
 use Rattle.std.specs.Bool.{Decides}
-use Rattle.wasmi_laws.proofs.ReservedLemmas.{elements_stay_reserved, front_told, more_reserved, rest_reserved, slots_suffice}
+use Rattle.wasmi_laws.proofs.ReservedLemmas.{elements_stay_reserved, front_told, more_reserved, slots_suffice}
 use Rattle.wasmi_laws.specs.ReservedPools.{ReservedTenantsSucceed, SlotsSufficeForTenants, calls_of, replies_of}
 use Rattle.wasmi_budget.proofs.IsolationLemmas.{kept_added, kept_set, set_at}
 use Rattle.wasmi_budget.proofs.PoolLemmas.{IsVacant, removal_vacates, vacant_stays}
@@ -34,7 +34,7 @@ module _ (index : ℕ) where
     ready : IsReservedFor machine calls
 
   module _ (pool : PoolValue) (calls : List Call) (it : IsReady pool calls) (next : PoolValue) where
-    -- in another pool it lies there with what it has reserved
+    -- the machine has reserved it in another pool where it lies there
     stays_at : machine_of next index ≡ Some it.machine → IsReady next calls
     stays_at found = record { machine = it.machine; found = found; ready = it.ready }
 
@@ -56,7 +56,7 @@ module _ (index : ℕ) where
     becomes_ready i s s' found after keeps false decides = stays_at (ap (λ p. machine_of p index) after
         ∙ kept_set pool.machines index i it.machine (Some s') (λ same. false≢true (decides.1 (sym same))) it.found)
 
-  -- each reply to the calls of a tenant that has reserved what they need
+  -- no reply to the calls of a tenant whose machine has reserved what they need says out of memory
   ready_told : (pool : PoolValue) (turns : List PoolTurn) → IsReady pool (calls_of index turns) → (pool' : PoolValue)
       → PoolRun pool turns pool' → All IsNotOutOfMemory (replies_of index turns)
   ready_told pool [] it pool' ran = All-nil IsNotOutOfMemory
@@ -99,14 +99,14 @@ module _ (index : ℕ) where
           let w = world runs.machine (Some (tenant_at pool i runs.machine)) in
           let w' = world runs.machine' (Some runs.tenant') in
           let r = subst (λ t. IsReservedFor t (calls ++ calls_of index turns)) own ready in
-          All-append IsNotOutOfMemory replies (replies_of index turns)
-          (front_told (optional_rules tenant_rules) (calls_of index turns) calls w replies w' r runs.ran)
+          let front = front_told (optional_rules tenant_rules) (calls_of index turns) calls w replies w' r runs.ran in
+          All-append IsNotOutOfMemory replies (replies_of index turns) front.0
           (rest (record {
             machine = runs.machine';
             found = ap (λ p. machine_of p index) runs.after
                 ∙ ap (machine_of (record pool { machines = slice_set pool.machines i (Some runs.machine') })) (sym is)
                 ∙ set_at pool.machines i runs.machine runs.machine' runs.found;
-            ready = rest_reserved (optional_rules tenant_rules) (calls_of index turns) calls w replies w' r runs.ran;
+            ready = front.1;
           }))
       by rest false decides ready = rest (record {
         machine = it.machine;
@@ -121,7 +121,7 @@ pub reserved_tenants_succeed : ReservedTenantsSucceed
 reserved_tenants_succeed pool index s found turns pool' r ran =
     ready_told index pool turns (record { machine = s; found = found; ready = r }) pool' ran
 
--- nor does any after slots were reserved that are enough
+-- no reply to the calls of a tenant says out of memory after slots were reserved that are enough
 pub slots_suffice_for_tenants : SlotsSufficeForTenants
 slots_suffice_for_tenants pool index s found more turns pool' fits (next, (caps, reserves), ran) =
     let own = same_Some s reserves.machine (sym found ∙ reserves.found) in

@@ -19,7 +19,7 @@ made_first : {X Y : Type 0} (f : X → Y) (xs : List X) (ys zs : List Y) → map
 made_first f xs ys zs made =
     sym (take-map f (length ys) xs) ∙ ap (take (length ys)) made ∙ take_at ys zs (length ys) refl
 
--- and the other of those that follow
+-- where two lists are made of one, the second is made of those that follow the first
 made_rest : {X Y : Type 0} (f : X → Y) (xs : List X) (ys zs : List Y) → map f xs ≡ ys ++ zs
     → map f (drop (length ys) xs) ≡ zs
 made_rest f xs ys zs made =
@@ -59,20 +59,20 @@ module _ {S : Type 0} (rules : Rules S) where
 abbrev Rises : ℕ → Option ℕ → Option ℕ → Type 0
 Rises k old new = (n : ℕ) → old ≡ Some n → (m : ℕ) × (new ≡ Some m) × (n ≤ m)
 
--- each number of a list is at its place in another, or a larger one
+-- every number of a list is at its place in another, or a larger one
 abbrev NoneShrinks : List ℕ → List ℕ → Type 0
 NoneShrinks xs ys = (k : ℕ) → Rises k (slice_get xs k) (slice_get ys k)
 
--- so where each stays or rises
+-- no number shrinks where each stays or rises
 none_shrinks : (more : ℕ) (xs ys : List ℕ) → EachAfter more Rises xs ys → NoneShrinks xs ys
 none_shrinks more xs ys each k n found =
     ⊎_elim (λ same. (n, same ∙ found, omega arith)) (λ rises. rises n found) (each k).0
 
--- so in the same list
+-- no number shrinks in the same list
 same_shrinks : (xs ys : List ℕ) → ys ≡ xs → NoneShrinks xs ys
 same_shrinks xs ys same = none_shrinks 0 xs ys (unchanged Rises xs ys 0 same)
 
--- where something grew as was asked
+-- no size shrinks where something grew as was asked
 asked_shrinks : (place : Place) (q : Question) (xs ys : List ℕ) → GrowsAsAsked place q xs ys → NoneShrinks xs ys
 asked_shrinks Nowhere q xs ys grows = absurd grows
 asked_shrinks New q xs ys (fresh, added) =
@@ -81,7 +81,7 @@ asked_shrinks (At k) q xs ys (up, found, is) = none_shrinks 0 xs ys (put Rises x
     (λ n was. (q.desired, refl, omega (arith, up, same_Some q.current n was))) is)
 
 module _ (before after : Kind → List ℕ) where
-  -- where the sizes of one kind grow, and the others are the same
+  -- no size shrinks where those of one kind grow and the others are the same
   kind_shrinks : (grown : Kind) → NoneShrinks (before grown) (after grown)
       → ((kind : Kind) → kind ≢ grown → after kind ≡ before kind)
       → (kind : Kind) → NoneShrinks (before kind) (after kind)
@@ -90,14 +90,14 @@ module _ (before after : Kind → List ℕ) where
   kind_shrinks Elements grows others Bytes = same_shrinks (before Bytes) (after Bytes) (others Bytes (λ e. cc))
   kind_shrinks Elements grows others Elements = grows
 
-  -- by an exchange
+  -- no size shrinks by an exchange
   exchange_shrinks : (place : Place) (exchange : Exchange) → GrowsBy place exchange before after
       → (kind : Kind) → NoneShrinks (before kind) (after kind)
   exchange_shrinks place (Permission q) (grows, others) kind =
       kind_shrinks q.kind (asked_shrinks place q (before q.kind) (after q.kind) grows) others kind
   exchange_shrinks place exchange still kind = same_shrinks (before kind) (after kind) (still kind)
 
--- the sum doesn't shrink
+-- the sum doesn't shrink where no number does
 sum_shrinks : (xs ys : List ℕ) → NoneShrinks xs ys → sum xs ≤ sum ys
 sum_shrinks [] ys none = omega arith
 sum_shrinks (x ∷ xs) [] none = absurd (none-some _ (none 0 x refl).1)
@@ -113,7 +113,7 @@ sum_shrinks (x ∷ xs) (y ∷ ys) none =
     )
 
 module _ {S : Type 0} (rules : Rules S) where
-  -- each size of a run
+  -- no size shrinks in a run
   pub sizes_never_shrink : SizesNeverShrink rules
   sizes_never_shrink w [] w' ran kind k n found =
       (n, ap (λ (v : World S). slice_get (sizes v.state kind) k) ran ∙ found, omega arith)
@@ -124,7 +124,7 @@ module _ {S : Type 0} (rules : Rules S) where
       let last = sizes_never_shrink v turns w' ran kind k next.0 next.1 in
       (last.0, last.1, omega (arith, next.2, last.2))
 
-  -- so the totals
+  -- no total shrinks in a run
   pub totals_never_shrink : TotalsNeverShrink rules
   totals_never_shrink w turns w' ran kind =
       sum_shrinks (sizes w.state kind) (sizes w'.state kind) (sizes_never_shrink w turns w' ran kind)
@@ -139,7 +139,7 @@ module _ {S : Type 0} (rules : Rules S) (u : World S) (Holds : World S → Type 
       let so_far = runs_joined rules u before v (turn ∷ []) v' ran (v', step, refl) in
       (v', (step, ends (before ++ turn ∷ []) v' so_far), holds_on (before ++ turn ∷ []) v' so_far turns w rest)
 
-  -- so of a whole run
+  -- what each run from a world ends in holds after each turn of a run
   pub holds_throughout : (turns : List Turn) (w : World S) → Run rules u turns w
       → Sequence (λ v turn v'. Step rules v turn v' × Holds v') u turns w
   holds_throughout = holds_on [] u refl

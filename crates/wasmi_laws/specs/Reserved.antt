@@ -43,23 +43,44 @@ HasElements n x = (size_of x + n ≤ x.reserved) ⊎ IsReservedToMaximum x
 abbrev pub HasElementsAt : List (Slot TableValue) → ℕ → ℕ → Type 0
 HasElementsAt slots k n = OnLive (live_at slots k) (Unit {0}) (HasElements n)
 
--- memory for one more slot is there, since one that is reserved is free
-abbrev pub HasSlot : {A : Type 0} → ℕ → List A → Type 0
-HasSlot reserved list = length list < reserved
+-- a kind of what is made in a slot that can be reserved for it, without memory of its own
+pub data SlotKind : Type 0 where
+  Memories : SlotKind
+  Segments : SlotKind
+  DataSegments : SlotKind
+  Globals : SlotKind
+
+-- how many of a kind were made
+abbrev pub made_of : State → SlotKind → ℕ
+made_of s Memories = length s.memories
+made_of s Segments = length s.segments
+made_of s DataSegments = length s.data_segments
+made_of s Globals = length s.globals
+
+-- how many slots for a kind there are among those for each
+abbrev pub slots_for : SlotCounts → SlotKind → ℕ
+slots_for counts Memories = counts.memories
+slots_for counts Segments = counts.segments
+slots_for counts DataSegments = counts.data_segments
+slots_for counts Globals = counts.globals
+
+-- memory for the slot of one more of a kind is there, since one that is reserved is free
+abbrev pub HasSlot : State → SlotKind → Type 0
+HasSlot s kind = made_of s kind < slots_for s.reserved kind
 
 -- a call on a machine in this state needs no memory: what it makes has a slot that is reserved, and nothing else that
 -- isn't in a lent region; the memory that it grows lies in one; the table that it grows has the memory reserved; no byte
 -- is read; and no table is made
 abbrev pub NeedsNoMemory : State → Call → Type 0
 NeedsNoMemory s (NewMemory ty) = ⊥
-NeedsNoMemory s (NewLentMemory ty) = HasSlot s.reserved.memories s.memories
+NeedsNoMemory s (NewLentMemory ty) = HasSlot s Memories
 NeedsNoMemory s (GrowMemory k pages) = IsInRegion s.memories k
 NeedsNoMemory s (Read k offset len) = len ≡ 0
 NeedsNoMemory s (NewTable ty init) = ⊥
 NeedsNoMemory s (GrowTable k n init) = (n ≡ 0) ⊎ HasElementsAt s.tables k n
-NeedsNoMemory s (NewSegment ty items) = (items.items ≡ []) × HasSlot s.reserved.segments s.segments
-NeedsNoMemory s (NewData bytes) = (bytes.items ≡ []) × HasSlot s.reserved.data_segments s.data_segments
-NeedsNoMemory s (NewGlobal value ty) = HasSlot s.reserved.globals s.globals
+NeedsNoMemory s (NewSegment ty items) = (items.items ≡ []) × HasSlot s Segments
+NeedsNoMemory s (NewData bytes) = (bytes.items ≡ []) × HasSlot s DataSegments
+NeedsNoMemory s (NewGlobal value ty) = HasSlot s Globals
 NeedsNoMemory s call = Unit {0}
 
 -- a call needs no memory but for the slot of what it makes, where a memory that it grows and that was there in this
@@ -74,46 +95,29 @@ NeedsOnlySlot s (NewSegment ty items) = items.items ≡ []
 NeedsOnlySlot s (NewData bytes) = bytes.items ≡ []
 NeedsOnlySlot s call = Unit {0}
 
--- whether a call makes a memory in the spare region
-abbrev pub makes_lent_memory : Call → Bool
-makes_lent_memory (NewLentMemory ty) = true
-makes_lent_memory call = false
+-- whether a call takes a slot of a kind: it makes a memory in the spare region, an element segment, a data segment or a
+-- global
+abbrev pub takes_slot : SlotKind → Call → Bool
+takes_slot Memories (NewLentMemory ty) = true
+takes_slot Segments (NewSegment ty items) = true
+takes_slot DataSegments (NewData bytes) = true
+takes_slot Globals (NewGlobal value ty) = true
+takes_slot kind call = false
 
--- whether a call makes an element segment
-abbrev pub makes_segment : Call → Bool
-makes_segment (NewSegment ty items) = true
-makes_segment call = false
-
--- whether a call makes a data segment
-abbrev pub makes_data : Call → Bool
-makes_data (NewData bytes) = true
-makes_data call = false
-
--- whether a call makes a global
-abbrev pub makes_global : Call → Bool
-makes_global (NewGlobal value ty) = true
-makes_global call = false
-
--- as many slots as these calls take are reserved and free
-abbrev pub HasSlots : {A : Type 0} → ℕ → List A → (Call → Bool) → List Call → Type 0
-HasSlots reserved list makes calls = length list + count_by makes calls ≤ reserved
+-- as many slots of a kind as these calls take are reserved and free
+abbrev pub HasSlots : State → List Call → SlotKind → Type 0
+HasSlots s calls kind = made_of s kind + count_by (takes_slot kind) calls ≤ slots_for s.reserved kind
 
 -- a machine has reserved what these calls need: each needs only a slot, and of each kind as many slots as they take are
 -- reserved and free
 pub record IsReservedFor (s : State) (calls : List Call) : Type 0 where
   pub needs : All (NeedsOnlySlot s) calls
-  pub memories : HasSlots s.reserved.memories s.memories makes_lent_memory calls
-  pub segments : HasSlots s.reserved.segments s.segments makes_segment calls
-  pub data_segments : HasSlots s.reserved.data_segments s.data_segments makes_data calls
-  pub globals : HasSlots s.reserved.globals s.globals makes_global calls
+  pub enough : (kind : SlotKind) → HasSlots s calls kind
 
--- so many slots are enough for what these calls make, and each of them needs only a slot
+-- these numbers of slots are enough for what these calls make, and each of them needs only a slot
 pub record FitsSlots (s : State) (more : SlotCounts) (calls : List Call) : Type 0 where
   pub needs : All (NeedsOnlySlot s) calls
-  pub memories : count_by makes_lent_memory calls ≤ more.memories
-  pub segments : count_by makes_segment calls ≤ more.segments
-  pub data_segments : count_by makes_data calls ≤ more.data_segments
-  pub globals : count_by makes_global calls ≤ more.globals
+  pub enough : (kind : SlotKind) → count_by (takes_slot kind) calls ≤ slots_for more kind
 
 -- with so many more slots a machine has reserved what such calls need
 abbrev pub SlotsSuffice : Type 0

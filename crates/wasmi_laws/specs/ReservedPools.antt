@@ -35,7 +35,8 @@ ReservedTenantsSucceed = (pool : PoolValue) (index : ℕ) (s : State) → machin
     → (turns : List PoolTurn) (pool' : PoolValue) → IsReservedFor s (calls_of index turns) → PoolRun pool turns pool'
     → All IsNotOutOfMemory (replies_of index turns)
 
--- nor does any where so many more slots are reserved on its machine first, which are enough for what the calls make
+-- no reply to the calls of a tenant says out of memory where so many more slots are reserved on its machine first,
+-- which are enough for what the calls make
 abbrev pub SlotsSufficeForTenants : Type 0
 SlotsSufficeForTenants = (pool : PoolValue) (index : ℕ) (s : State) → machine_of pool index ≡ Some s
     → (more : SlotCounts) (turns : List PoolTurn) (pool' : PoolValue) → FitsSlots s more (calls_of index turns)

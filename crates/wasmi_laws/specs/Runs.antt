@@ -88,7 +88,7 @@ module _ {S : Type 0} (rules : Rules S) where
   RunsOfCallsAreCut = (calls calls' : List Call) (u : World S) (replies : List Reply) (w : World S)
       → IsRunOf rules (calls ++ calls') u replies w → IsRunInTwo rules calls calls' u replies w
 
-  -- each size, of a memory in bytes or of a table in elements, stays at its index in a run and doesn't shrink
+  -- every size, of a memory in bytes or of a table in elements, stays at its index in a run and doesn't shrink
   abbrev pub SizesNeverShrink : Type 0
   SizesNeverShrink = (w : World S) (turns : List Turn) (w' : World S) → Run rules w turns w'
       → (kind : Kind) (k n : ℕ) → slice_get (sizes w.state kind) k ≡ Some n

@@ -1,6 +1,6 @@
 -- Where the limiter leaves no choice and memory isn't wanting, a turn is decided by its call.
 use Rattle.std.proofs.Common.{Bool, List, None, Ok, Option, Result, Some, [], ap, arith, false, inl, inr, map, refl, subst, sym, true, ℕ, ◌∙◌, ◌∷◌, ◌≡◌}
-use Rattle.wasmi_machine.proofs.Common.{none-some, same_Some, option_map, MatchBool, memory_growth, table_growth, IsNotOutOfMemory, AreNotOutOfMemory, IsDeterministic, IsOtherFailure, never_out_of_memory, CreatesLent, spare_after, byte_write_of, ActsMetered, ActsMeteredUnasked, Asks, Changes, Creates, OnlyReplies, reply_of, Run, BytesRead, Changed, Effect, FuelSet, LentMemoryMade, MemoryGrown, MemoryMade, RangeWritten, TableGrown, TableMade, MemoryWritten, TableWritten, HasEffect, Told, effect_of, MemoryPart, State, memory_part, Turn, World, write_of, Call, Reply, Slot, Attempt, Denied, Request, Failed, AttemptOutcome, Follows, IsFirstCause, MayEnd, Met, MeteredValue, Unasked, alone, optional_due, answer_of, covers, outcome_charge, value_after, Capped, capped_rules, capped_quota, quota_rules, Answer, AskedIf, NoticedIf, IsDenial, MemoryFailure, Rules, TableFailure, optional_rules, unlimited_rules, Meter, meter_after, MemoryError, TableError, LacksMemory, Lent, Owned, Room, Grows, Growth, Makes, metered_value, metered, GrowsMemoryCharging, MakesMemory, MemoryValue, new_memory, MemoryTypeValue, GrowsTableCharging, MakesTable, TableValue, new_table, same_type, TypedRawRef}
+use Rattle.wasmi_machine.proofs.Common.{All-head, All-tail, none-some, same_Some, option_map, MatchBool, memory_growth, table_growth, IsNotOutOfMemory, AreNotOutOfMemory, IsDeterministic, IsOtherFailure, never_out_of_memory, CreatesLent, spare_after, byte_write_of, ActsMetered, ActsMeteredUnasked, Asks, Changes, Creates, OnlyReplies, reply_of, Run, BytesRead, Changed, Effect, FuelSet, LentMemoryMade, MemoryGrown, MemoryMade, RangeWritten, TableGrown, TableMade, MemoryWritten, TableWritten, HasEffect, Told, effect_of, MemoryPart, State, memory_part, Turn, World, write_of, Call, Reply, Slot, Attempt, Denied, Request, Failed, AttemptOutcome, Follows, IsFirstCause, MayEnd, Met, MeteredValue, Unasked, alone, optional_due, answer_of, covers, outcome_charge, value_after, Capped, capped_rules, capped_quota, quota_rules, Answer, AskedIf, NoticedIf, IsDenial, MemoryFailure, Rules, TableFailure, optional_rules, unlimited_rules, Meter, meter_after, MemoryError, TableError, LacksMemory, Lent, Owned, Room, Grows, Growth, Makes, metered_value, metered, GrowsMemoryCharging, MakesMemory, MemoryValue, new_memory, MemoryTypeValue, GrowsTableCharging, MakesTable, TableValue, new_table, same_type, TypedRawRef, TurnOutcome, outcome_of}
 use Rattle.wasmi_machine.proofs.MemoryEffectsLemmas.{lacks_owned, reads_same}
 use Rattle.wasmi_machine.proofs.EffectLemmas.{Acted, HasOneEnding, HasOneOutcome, acts_same, creates_same, on_both}
 use Rattle.wasmi_machine.proofs.StepsLemmas.{change_facts}
@@ -140,7 +140,7 @@ lent_same once ty part l o o' has has' a b =
     (same.0, λ i. record { slots = same.1 i; spare = spare i }, same.2))
 
 -- what a turn on one part of the state ends in
-abbrev acted : {A S : Type 0} → Turn → A → Meter → S → Acted A S
+abbrev acted : {A S : Type 0} → TurnOutcome → A → Meter → S → Acted A S
 acted t part meter limiter = record {
   reply = t.reply;
   charge = t.charge;
@@ -148,7 +148,7 @@ acted t part meter limiter = record {
 }
 
 -- two turns from one world, whose effects are one
-module _ {S : Type 0} (w : World S) (t t' : Turn) (v v' : World S) where
+module _ {S : Type 0} (w : World S) (t t' : TurnOutcome) (v v' : World S) where
   abbrev Same : Type 0
   Same = (t.reply ≡ t'.reply) × (t.charge ≡ t'.charge) × (t.written ≡ t'.written) × (v ≡ v')
 
@@ -238,9 +238,9 @@ table_growth_same {rules = rules} once n init s result result' charge charge' s'
     (grows_same once (table_growth n init.raw s.value) (record { wants = λ cause lacks. table_wants cause lacks.0 }) s
     result result' charge charge' s' s'') (λ h h'. (h.0 ∙ sym h'.0, h.1 ∙ sym h'.1, h.2 ∙ sym h'.2))
 
-module _ {S : Type 0} (rules : Rules S) (once : IsDeterministic rules) (w : World S) (t t' : Turn) (v v' : World S)
-    (room : IsNotOutOfMemory t.reply) (room' : IsNotOutOfMemory t'.reply) where
-  -- each effect
+module _ {S : Type 0} (rules : Rules S) (once : IsDeterministic rules) (w : World S) (t t' : TurnOutcome)
+    (v v' : World S) (room : IsNotOutOfMemory t.reply) (room' : IsNotOutOfMemory t'.reply) where
+  -- two turns in which one effect takes place from one world are one
   effect_same : (effect : Effect) → HasEffect (never_out_of_memory rules) effect w t v
       → HasEffect (never_out_of_memory rules) effect w t' v' → Same w t t' v v'
   effect_same (Told reply) step step' = told_unique w t t' v v' step step' (λ is is'. is ∙ sym is')
@@ -279,11 +279,16 @@ module _ {S : Type 0} (rules : Rules S) (once : IsDeterministic rules) where
   runs_are_one w [] [] v v' calls rooms rooms' ran ran' = (refl, ran ∙ sym ran')
   runs_are_one w [] (t' ∷ turns') v v' calls rooms rooms' ran ran' = absurd cc
   runs_are_one w (t ∷ turns) [] v v' calls rooms rooms' ran ran' = absurd cc
-  runs_are_one w (t ∷ turns) (t' ∷ turns') v v' calls (room, rooms) (room', rooms') (u, step, ran) (u', step', ran') =
+  runs_are_one w (t ∷ turns) (t' ∷ turns') v v' calls rooms rooms' (u, step, ran) (u', step', ran') =
       let call = first_same t.call t'.call (map Turn.call turns) (map Turn.call turns') calls in
-      let one = effect_same rules once w t t' u u' room room' (effect_of w.state t.call) step
-      (subst (λ c. HasEffect (never_out_of_memory rules) (effect_of w.state c) w t' u') (sym call.0) step') in
-      let rest = runs_are_one u turns turns' v v' call.1 rooms rooms' ran
+      let room = All-head IsNotOutOfMemory t.reply (map Turn.reply turns) rooms in
+      let room' = All-head IsNotOutOfMemory t'.reply (map Turn.reply turns') rooms' in
+      let one = effect_same rules once w (outcome_of t) (outcome_of t') u u' room room' (effect_of w.state t.call) step
+      (subst (λ c. HasEffect (never_out_of_memory rules) (effect_of w.state c) w (outcome_of t') u') (sym call.0)
+      step') in
+      let rest = runs_are_one u turns turns' v v' call.1
+      (All-tail IsNotOutOfMemory t.reply (map Turn.reply turns) rooms)
+      (All-tail IsNotOutOfMemory t'.reply (map Turn.reply turns') rooms') ran
       (subst (λ x. Run (never_out_of_memory rules) x turns' v') (sym one.3) ran') in
       let turn : t ≡ t' = λ i. record { call = call.0 i; reply = one.0 i; charge = one.1 i; written = one.2 i } in
       (λ i. turn i ∷ rest.0 i, rest.1)

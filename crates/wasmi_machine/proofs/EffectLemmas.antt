@@ -1,6 +1,6 @@
 -- What holds of each effect, and of each kind of effect.
 use Rattle.std.proofs.Common.{Err, List, None, Ok, Option, Result, Some, ap, inl, inr, length, map, refl, set, subst, sym, ℕ, ◌∙◌, ◌≡◌, ◌⊎◌}
-use Rattle.wasmi_machine.proofs.Common.{All-get_or, All-push, All-set, get_or_from_slice_get, slice_get_within, All, slice_get, slice_set, IsNotOutOfMemory, ActsAt, AddsEntry, ChangesAt, ChangesFound, Creates, DropsAt, IfNoRoom, OnLive, reply_of, live_at, slot_count, IsValidSlot, Change, Reply, Slot, Gone, Live, Denied, Failed, AttemptOutcome, Met, MeteredValue, Unasked, answer_of, value_after, with_value, Rules, Grows, Growth, Makes}
+use Rattle.wasmi_machine.proofs.Common.{All-get_or, All-push, All-set, get_or_from_slice_get, slice_get_within, All, slice_get, slice_set, IsNotOutOfMemory, ActsAt, AddsEntry, ChangesAt, ChangesFound, Creates, DropsAt, IfNoRoom, OnLive, reply_of, live_at, slot_count, IsValidSlot, Change, Reply, Slot, Gone, Live, AttemptOutcome, Met, MeteredValue, answer_of, value_after, with_value, Rules, Grows, Growth, Makes}
 use Rattle.wasmi_machine.proofs.SlotsLemmas.{live_slot, set_read}
 use Rattle.wasmi_machine.proofs.TotalLemmas.{counts_kept}
 use Rattle.wasmi_machine.specs.Laws.{IsRefusal}
@@ -29,7 +29,7 @@ pub put_back : {X : Type 0} (slots : List (Slot X)) (k : ℕ) (x x' : X) → liv
 put_back slots k x x' found same =
     ap (λ z. set slots k (Live z)) same ∙ set_read slots k (Live x) (live_slot (slice_get slots k) x found)
 
--- each work, refused
+-- what a refusal leaves
 module _ {E : Type 0} (refusal : E → Reply) where
   -- a refused entry leaves the list
   pub appends_back : {X A : Type 0} (entry : X → A) (result : Result X E) (list : List A) (reply : Reply)
@@ -50,10 +50,8 @@ module _ {E : Type 0} (refusal : E → Reply) where
     attempt_back : (outcome : AttemptOutcome E)
         → IsRefusal (reply_of replied.Number refusal (answer_of g.request g.size outcome))
         → s'.value ≡ value_after g.request s.value outcome → s'.value ≡ s.value
-    attempt_back (Unasked cause) refused is = is
-    attempt_back (Denied answer) refused is = is
     attempt_back Met refused is = absurd refused
-    attempt_back (Failed cause notice_answer) refused is = is
+    attempt_back outcome refused is = is
 
     -- a refused growth leaves the value
     pub grows_back : (result : Result ℕ E) → IsRefusal (reply_of replied.Number refusal result)
@@ -122,7 +120,7 @@ pub record EffectFacts {A : Type 0} (Effect : Reply → A → Type 0) (old : A) 
       → Effect reply part → Effect reply' part' → (reply ≡ reply') × (part ≡ part')
   pub keeps : (reply : Reply) (part : A) → Effect reply part → Keeps part
 
--- so of one that has this reply and makes the part this one
+-- the facts of an effect that has this reply and makes the part this one
 pub settled_facts : {A : Type 0} {told : Reply} {new old : A} {Keeps : A → Type 0} → (IsRefusal told → new ≡ old)
     → Keeps new → EffectFacts (λ reply part. (reply ≡ told) × (part ≡ new)) old Keeps
 settled_facts {Keeps = Keeps} back keeps = record {
@@ -131,7 +129,7 @@ settled_facts {Keeps = Keeps} back keeps = record {
   keeps = λ reply part effect. subst Keeps (sym effect.1) keeps;
 }
 
--- so of one that leaves the part where there is no room
+-- the facts of an effect that leaves the part where there is no room
 pub room_facts : {A Lacks : Type 0} {Effect : Reply → A → Type 0} {old : A} {Keeps : A → Type 0} → Keeps old
     → EffectFacts Effect old Keeps
     → EffectFacts (λ reply part. ((reply ≡ replied.NoRoom) × (part ≡ old) × Lacks) ⊎ Effect reply part) old Keeps
@@ -158,7 +156,7 @@ abbrev pub ChangesOnce : {X : Type 0} → (Reply → X → X → Type 0) → Typ
 ChangesOnce {X} Change = (x : X) (reply reply' : Reply) (x' x'' : X) → Change reply x x' → Change reply' x x''
     → (reply ≡ reply') × (x' ≡ x'')
 
--- so of one that changes what was found, and puts it back
+-- the facts of an effect that changes what was found, and puts it back
 pub found_facts : {X A : Type 0} {found : Option X} {put : X → A} {old : A} {Change : Reply → X → X → Type 0}
     {Keeps : A → Type 0} → ((x : X) → found ≡ Some x → put x ≡ old)
     → ((reply : Reply) → IsRefusal reply → (x x' : X) → Change reply x x' → x' ≡ x) → ChangesOnce Change → Keeps old
@@ -284,7 +282,7 @@ abbrev pub KeepsSlots : {X : Type 0} → (X → ℕ) → (X → Type 0) → List
 KeepsSlots count Valid slots slots' =
     (map (slot_count count) slots' ≡ map (slot_count count) slots) × (AllValid Valid slots → AllValid Valid slots')
 
--- so where one value becomes another of its count that is as valid
+-- slots keep both where one value becomes another of its count that is as valid
 pub slot_kept : {X : Type 0} (count : X → ℕ) (Valid : X → Type 0) (slots : List (Slot X)) (k : ℕ) (x x' : X)
     → live_at slots k ≡ Some x → count x' ≡ count x → (Valid x → Valid x')
     → KeepsSlots count Valid slots (slice_set slots k (Live x'))
@@ -328,30 +326,30 @@ module _ {X E : Type 0} (count : X → ℕ) (Valid : X → Type 0) (refusal : E 
     (long : (x : X) (items : List ℕ) → written x ≡ Some items → length items ≡ count x)
     (keeps : (x : X) (items : List ℕ) → length items ≡ count x
     → (count (put x items) ≡ count x) × (Valid x → Valid (put x items))) where
-  -- it, with its reply
+  -- the change, with its reply
   abbrev Setting : Reply → X → X → Type 0
   Setting reply x x' = (result : Result (Unit {0}) E) × Sets x result x'
       × (reply ≡ reply_of (λ _. replied.Done) refusal result)
 
-  -- a refused one leaves the value
+  -- a refused change leaves the value
   setting_back : (reply : Reply) → IsRefusal reply → (x x' : X) → Setting reply x x' → x' ≡ x
   setting_back reply refused x x' c = on_live (written x) _ _ (puts x c.0 x' c.1) (λ none. none.1)
       (λ items is done. absurd (rw (c.2, done.0) at refused))
 
-  -- two are one
+  -- two changes of one value are one
   setting_once : ChangesOnce Setting
   setting_once x reply reply' x' x'' c c' =
       let both : (c.0 ≡ c'.0) × (x' ≡ x'') = on_both (written x) _ _ _ _ (puts x c.0 x' c.1) (puts x c'.0 x'' c'.1)
       (λ h h'. (h.0 ∙ sym h'.0, h.1 ∙ sym h'.1)) (λ items h h'. (h.0 ∙ sym h'.0, h.1 ∙ sym h'.1)) in
       (c.2 ∙ ap (reply_of (λ _. replied.Done) refusal) both.0 ∙ sym c'.2, both.1)
 
-  -- it keeps the count and validity
+  -- the change keeps the count and validity
   setting_kept : (reply : Reply) (x x' : X) → Setting reply x x' → (count x' ≡ count x) × (Valid x → Valid x')
   setting_kept reply x x' c = on_live (written x) _ _ (puts x c.0 x' c.1)
       (λ none. (ap count none.1, λ valid. subst Valid (sym none.1) valid))
       (λ items is done. subst (λ y. (count y ≡ count x) × (Valid x → Valid y)) (sym done.1) (keeps x items (long x items is)))
 
-  -- so a change of a slot by it
+  -- the facts of a change of a slot by it
   pub setting_facts : (k : ℕ)
       → SlotFacts count Valid (λ slots reply slots'. ChangesAt k slots reply slots' (Setting reply))
   setting_facts k slots = found_facts (λ x found. put_back slots k x x found refl) setting_back setting_once

@@ -1,10 +1,10 @@
 -- What passes between a machine and its limiter in each turn, what has grown by it, and what was charged for it.
 use Rattle.std.proofs.Common.{Bool, Err, List, None, Ok, Option, Result, Some, [], ap, arith, false, inl, inr, length, map, refl, replicate, subst, sym, true, ℕ, ◌*◌, ◌++◌, ◌+◌, ◌-◌, ◌<◌, ◌∙◌, ◌∷◌, ◌≡◌, ◌≢◌, ◌≤◌, ◌⊎◌}
-use Rattle.wasmi_machine.proofs.Common.{nat_tests, length-append, length-replicate, map-set, map_push, none-some, same_Some, option_and_then, MatchBool, if◌then◌else◌, is_none, nat_eq, slice_get, slice_set, ◌&&◌, CustomFuelCosts, IsOtherFailure, AsksFor, At, Denial, Exchange, Exchanges, GrowsAsAsked, GrowsBy, New, Nothing, NothingGrows, Notice, Nowhere, Passes, Permission, Place, RepliesTo, charge_at, writing_price, failed_charge, failed_reply, growth_charge, growth_due, growth_question, place_of, question_in, question_of, table_growth_question, writing_charge, RunsGrowAsPermitted, CreatesLent, ActsAt, AddsEntry, Creates, reply_of, MemoryPart, live_at, memory_part, byte_count, sizes, slot_count, Turn, World, Changed, Effect, FuelSet, LentMemoryMade, MemoryGrown, MemoryMade, RangeWritten, Step, TableGrown, TableMade, HasEffect, effect_of, Grows, Growth, Makes, metered_value, Call, GrowMemory, GrowTable, NewLentMemory, NewMemory, NewTable, Reply, Slot, Live, AttemptOutcome, Denied, Failed, Follows, IsFirstCause, MayEnd, Met, MeteredValue, Request, Unasked, answer_of, covers, error_of_answer, error_of_failure, optional_due, outcome_charge, value_after, copy_cost, Meter, due, Failure, MemoryFailure, NoticeAnswer, Question, Rules, TableFailure, kind_of, MemoryError, TableError, Kind, Bytes, Elements, Lent, Owned, Room, fits_room, GrowsMemoryCharging, MakesMemory, MemoryValue, new_memory, MemoryTypeValue, minimum_bytes, page_bytes, GrowsTableCharging, MakesTable, TableValue, new_table, size_of, TableTypeValue, is_within_maximum, same_type, TypedRawRef, memory_growth, table_growth}
+use Rattle.wasmi_machine.proofs.Common.{nat_tests, length-append, length-replicate, map-set, map_push, none-some, same_Some, option_and_then, MatchBool, if◌then◌else◌, is_none, nat_eq, slice_get, slice_set, ◌&&◌, CustomFuelCosts, IsOtherFailure, AsksFor, At, Denial, Exchange, Exchanges, GrowsAsAsked, GrowsBy, New, Nothing, NothingGrows, Notice, Nowhere, Passes, Permission, Place, RepliesTo, charge_at, writing_price, failed_charge, failed_reply, growth_charge, growth_due, growth_question, place_of, question_in, question_of, table_growth_question, writing_charge, RunsGrowAsPermitted, CreatesLent, ActsAt, AddsEntry, Creates, reply_of, MemoryPart, live_at, memory_part, byte_count, sizes, slot_count, Turn, outcome_of, World, Changed, Effect, FuelSet, LentMemoryMade, MemoryGrown, MemoryMade, RangeWritten, Step, TableGrown, TableMade, HasEffect, effect_of, Grows, Growth, Makes, metered_value, Call, GrowMemory, GrowTable, NewLentMemory, NewMemory, NewTable, Reply, Slot, Live, AttemptOutcome, Denied, Failed, Follows, IsFirstCause, MayEnd, Met, MeteredValue, Request, Unasked, answer_of, covers, error_of_answer, error_of_failure, optional_due, outcome_charge, value_after, copy_cost, Meter, due, Failure, MemoryFailure, NoticeAnswer, Question, Rules, TableFailure, kind_of, MemoryError, TableError, Kind, Bytes, Elements, Lent, Owned, Room, fits_room, GrowsMemoryCharging, MakesMemory, MemoryValue, new_memory, MemoryTypeValue, minimum_bytes, page_bytes, GrowsTableCharging, MakesTable, TableValue, new_table, size_of, TableTypeValue, is_within_maximum, same_type, TypedRawRef, memory_growth, table_growth}
 use Rattle.wasmi_machine.proofs.EffectLemmas.{on_found}
 use Rattle.wasmi_machine.proofs.MemoryEffectsLemmas.{lacks_owned}
 use Rattle.wasmi_machine.proofs.AccountLemmas.{step_meter}
-use Rattle.wasmi_machine.proofs.RangeLemmas.{range_charge, range_price, range_still, range_unasked}
+use Rattle.wasmi_machine.proofs.RangeLemmas.{range_holds, range_price}
 use Rattle.wasmi_machine.proofs.StepsLemmas.{change_facts}
 use Rattle.wasmi_machine.proofs.TotalLemmas.{count_at, counts_kept, each_kind}
 use Rattle.wasmi_machine.proofs.StoreLemmas.{each_turn}
@@ -43,14 +43,14 @@ abbrev pub IsOutOfMemoryOrFree : Failure → Type 0
 IsOutOfMemoryOrFree failure = ((IsOtherFailure failure → ⊥) × ((price : ℕ) → failed_charge failure price ≡ price))
     ⊎ ((price : ℕ) → failed_charge failure price ≡ 0)
 
--- each failure is want of memory, and its price is charged, or nothing is charged for it
+-- a failure is want of memory, and its price is charged, or nothing is charged for it
 pub out_of_memory_or_free : (failure : Failure) → IsOutOfMemoryOrFree failure
 out_of_memory_or_free (MemoryFailure memory_error.OutOfSystemMemory) = inl (λ no. no, λ price. refl)
 out_of_memory_or_free (TableFailure table_error.OutOfSystemMemory) = inl (λ no. no, λ price. refl)
 out_of_memory_or_free failure = inr (λ price. refl)
 
 -- what an exchange is between: a limiter and the sizes before and after, the meter before, the charge, the reply, and
--- the question of the call
+-- the question of the call and what it is charged for what it writes over a range
 record Meeting (S : Type 0) : Type 0 where
   first : S
   last : S
@@ -60,12 +60,7 @@ record Meeting (S : Type 0) : Type 0 where
   charge : ℕ
   reply : Reply
   question : Option Question
-
--- what a creation and a growth are charged
-abbrev IsCharged : Place → Exchange → Meter → ℕ → Type 0
-IsCharged Nowhere exchange m charge = Unit {0}
-IsCharged New exchange m charge = charge ≡ 0
-IsCharged (At k) exchange m charge = charge ≡ growth_charge exchange m
+  writing : ℕ
 
 -- the exchange of an attempt with this outcome
 abbrev exchange_of : {V E : Type 0} → Request V E → AttemptOutcome E → Exchange
@@ -137,11 +132,11 @@ module _ {S : Type 0} (rules : Rules S) (t : Meeting S) (place : Place) where
     passes : Passes rules t.first exchange t.last
     replies : RepliesTo exchange t.reply
     grows : GrowsBy place exchange t.before t.after
-    charged : IsCharged place exchange t.meter t.charge
+    charged : t.charge ≡ charge_at place exchange t.meter t.writing
 
   -- the limiter isn't reached, and nothing grows
   nothing_passes : AsksFor t.question Nothing t.reply → t.last ≡ t.first → NothingGrows t.before t.after
-      → IsCharged place Nothing t.meter t.charge → Passed
+      → t.charge ≡ charge_at place Nothing t.meter t.writing → Passed
   nothing_passes unasked same still free =
       record { exchange = Nothing; asks = unasked; passes = same; replies = tt; grows = still; charged = free }
 
@@ -160,7 +155,7 @@ module _ {S : Type 0} (rules : Rules S) (t : Meeting S) (place : Place) where
     -- the exchange
     attempt_passes : (meter : Option Meter) (outcome : AttemptOutcome E) → IsAnswered t e meter outcome
         → Follows e rules t.first outcome t.last → GrowsByOutcome outcome
-        → IsCharged place (exchange_of e outcome) t.meter t.charge → Passed
+        → t.charge ≡ charge_at place (exchange_of e outcome) t.meter t.writing → Passed
     attempt_passes meter (Unasked cause) is follows own charged =
         nothing_passes (inl (is.asks ∙ question_unrefused e (Some cause) is.may_end)) follows (still own) charged
     attempt_passes meter (Denied answer) is follows own charged = record {
@@ -234,7 +229,7 @@ module _ {S X : Type 0} (rules : Rules S) (v : Watch S X) where
   kept_passes : (kind : Kind) → IsWatched v kind → (place : Place)
       → AsksFor v.meeting.question Nothing v.meeting.reply → v.meeting.last ≡ v.meeting.first
       → map (slot_count v.count) v.later ≡ map (slot_count v.count) v.slots
-      → IsCharged place Nothing v.meeting.meter v.meeting.charge → Passed rules v.meeting place
+      → v.meeting.charge ≡ charge_at place Nothing v.meeting.meter v.meeting.writing → Passed rules v.meeting place
   kept_passes kind watched place unasked same kept free = nothing_passes rules v.meeting place unasked same
       (of_each (λ k. v.meeting.after k ≡ v.meeting.before k) kind
       (watched.own' ∙ kept ∙ sym watched.own) watched.others) free
@@ -433,9 +428,10 @@ table_growth_is n reference x m = record {
   told = record { refuses = λ error. tt; fails = table_fails };
 }
 
--- a turn, as an exchange is between its limiters
-abbrev meeting_of : {S : Type 0} → World S → Turn → Option Question → World S → Meeting S
-meeting_of w turn question w' = record {
+-- a turn, as an exchange is between its limiters, with what its call asks and the price of what it writes over a range
+abbrev meeting_of : {S : Type 0} → World S → Turn → Option Question → Option (CustomFuelCosts → ℕ) → World S
+    → Meeting S
+meeting_of w turn question price w' = record {
   first = w.limiter;
   last = w'.limiter;
   before = sizes w.state;
@@ -444,35 +440,34 @@ meeting_of w turn question w' = record {
   charge = turn.charge;
   reply = turn.reply;
   question = question;
+  writing = writing_charge w.state.meter price turn.reply;
 }
 
 module _ {S : Type 0} (rules : Rules S) (w : World S) (turn : Turn) (w' : World S) where
-  -- the turn asks nothing, and ends in a world with the same limiter and the same sizes of memories and tables
-  idle : {v : World S} → w' ≡ v → v.limiter ≡ w.limiter → NothingGrows (sizes w.state) (sizes v.state)
-      → Passed rules (meeting_of w turn None w') Nowhere
-  idle {v} is unasked still =
-      rw is (nothing_passes rules (meeting_of w turn None v) Nowhere (inl refl) unasked still tt)
+  module _ (call : Call) where
+    -- a turn by this call, as an exchange is between its limiters
+    abbrev meeting_by : Meeting S
+    meeting_by = meeting_of w turn (question_of w.state call) (writing_price call) w'
 
-  module _ (question : Option Question) where
-    -- its memories, and its tables
+    -- the memories before and after the turn
     abbrev memories_watch : Watch S MemoryValue
     memories_watch = record {
-      meeting = meeting_of w turn question w';
+      meeting = meeting_by;
       count = byte_count;
       slots = w.state.memories;
       later = w'.state.memories;
     }
 
-    -- its tables
+    -- the tables before and after the turn
     abbrev tables_watch : Watch S TableValue
     tables_watch = record {
-      meeting = meeting_of w turn question w';
+      meeting = meeting_by;
       count = size_of;
       slots = w.state.tables;
       later = w'.state.tables;
     }
 
-    -- its memories, where the tables stay
+    -- the memories are watched where the tables stay
     memories_watched : w'.state.tables ≡ w.state.tables → IsWatched memories_watch Bytes
     memories_watched same = record {
       own = refl;
@@ -481,7 +476,7 @@ module _ {S : Type 0} (rules : Rules S) (w : World S) (turn : Turn) (w' : World 
           (λ other. ap (map (slot_count size_of)) same);
     }
 
-    -- its tables, where the memories stay
+    -- the tables are watched where the memories stay
     tables_watched : w'.state.memories ≡ w.state.memories → IsWatched tables_watch Elements
     tables_watched same = record {
       own = refl;
@@ -492,9 +487,9 @@ module _ {S : Type 0} (rules : Rules S) (w : World S) (turn : Turn) (w' : World 
 
     -- a memory is made
     memory_made : w'.state.tables ≡ w.state.tables → turn.charge ≡ 0 → (room : Room) (ty : MemoryTypeValue)
-        → question ≡ question_in (memory.creation_of room ty)
+        → question_of w.state call ≡ question_in (memory.creation_of room ty)
         → Creates replied.Memory (MakesMemory rules room ty) w.state.memories w.limiter turn.reply w'.state.memories
-        w'.limiter → Passed rules (meeting_of w turn question w') New
+        w'.limiter → Passed rules meeting_by New
     memory_made same free room ty is creates =
         creates_passes rules memories_watch (memory.creation_of room ty) (new_memory room ty) (new_memory_is room ty)
         (memories_watched same) replied.Memory (record { refuses = λ error. tt; fails = memory_fails }) is free creates
@@ -502,24 +497,24 @@ module _ {S : Type 0} (rules : Rules S) (w : World S) (turn : Turn) (w' : World 
   -- a memory is made in the spare region, if there is one
   lent_made : w'.state.tables ≡ w.state.tables → turn.charge ≡ 0 → (ty : MemoryTypeValue)
       → CreatesLent rules ty (memory_part w.state) w.limiter turn.reply (memory_part w'.state) w'.limiter
-      → Passed rules (meeting_of w turn (question_of w.state (NewLentMemory ty)) w') New
+      → Passed rules (meeting_by (NewLentMemory ty)) New
   lent_made same free ty creates =
       let asked : List ℕ → Option Question = λ region. question_in (memory.creation_of (Lent region) ty) in
-      let question = question_of w.state (NewLentMemory ty) in
+      let call = NewLentMemory ty in
       on_found w.state.spare _ _ creates
-      (λ none h. kept_passes rules (memories_watch question) Bytes (memories_watched question same) New
+      (λ none h. kept_passes rules (memories_watch call) Bytes (memories_watched call same) New
       (inl (ap (option_and_then asked) none)) h.2
       (ap (λ (p : MemoryPart). map (slot_count byte_count) p.slots) h.1) free)
-      (λ region found h. memory_made question same free (Lent region) ty (ap (option_and_then asked) found) h.0)
+      (λ region found h. memory_made call same free (Lent region) ty (ap (option_and_then asked) found) h.0)
 
   -- a table is made
   table_made : w'.state.memories ≡ w.state.memories → turn.charge ≡ 0 → (ty : TableTypeValue) (init : TypedRawRef)
       → Creates replied.Table (MakesTable rules ty init) w.state.tables w.limiter turn.reply w'.state.tables w'.limiter
-      → Passed rules (meeting_of w turn (question_of w.state (NewTable ty init)) w') New
+      → Passed rules (meeting_by (NewTable ty init)) New
   table_made same free ty init creates =
-      let question = question_of w.state (NewTable ty init) in
-      creates_passes rules (tables_watch question) (table.creation_of ty init.ty) (new_table ty init.raw)
-      (new_table_is ty init) (tables_watched question same) replied.Table
+      let call = NewTable ty init in
+      creates_passes rules (tables_watch call) (table.creation_of ty init.ty) (new_table ty init.raw)
+      (new_table_is ty init) (tables_watched call same) replied.Table
       (record { refuses = λ error. tt; fails = table_fails }) refl free creates
 
   -- a memory grows
@@ -527,15 +522,15 @@ module _ {S : Type 0} (rules : Rules S) (w : World S) (turn : Turn) (w' : World 
       → ActsAt k (reply_of replied.Number replied.Memory) (GrowsMemoryCharging rules pages)
       (metered_value w.state.memories (Some w.state.meter) w.limiter) turn.reply turn.charge
       (metered_value w'.state.memories (Some m') w'.limiter)
-      → Passed rules (meeting_of w turn (question_of w.state (GrowMemory k pages)) w') (At k)
+      → Passed rules (meeting_by (GrowMemory k pages)) (At k)
   unfolding memory_growth_is
   memory_grows same k pages m' acts =
-      let question = question_of w.state (GrowMemory k pages) in
-      acts_pass rules (memories_watch question) Bytes (memories_watched question same) k
+      let call = GrowMemory k pages in
+      acts_pass rules (memories_watch call) Bytes (memories_watched call same) k
       (λ x. growth_question pages (memory.growth_of x pages)) refl (reply_of replied.Number replied.Memory)
       (GrowsMemoryCharging rules pages) m'
-      (λ x x' result replaced asks replies grows. grows_passes rules (memories_watch question)
-      (memory_growth pages x) (memories_watched question same) k x x' (memory_growth_is pages x w.state.meter) replaced
+      (λ x x' result replaced asks replies grows. grows_passes rules (memories_watch call)
+      (memory_growth pages x) (memories_watched call same) k x x' (memory_growth_is pages x w.state.meter) replaced
       m' result (record { asks = asks; replies = replies }) grows) acts
 
   -- a table grows, if what it is filled with has its type
@@ -543,12 +538,11 @@ module _ {S : Type 0} (rules : Rules S) (w : World S) (turn : Turn) (w' : World 
       → ActsAt k (reply_of replied.Number replied.Table) (GrowsTableCharging rules n init)
       (metered_value w.state.tables (Some w.state.meter) w.limiter) turn.reply turn.charge
       (metered_value w'.state.tables (Some m') w'.limiter)
-      → Passed rules (meeting_of w turn (question_of w.state (GrowTable k n init)) w') (At k)
+      → Passed rules (meeting_by (GrowTable k n init)) (At k)
   unfolding table_growth_is
   table_grows same k n init m' acts =
-      let question = question_of w.state (GrowTable k n init) in
-      let watch = tables_watch question in
-      let watched = tables_watched question same in
+      let watch = tables_watch (GrowTable k n init) in
+      let watched = tables_watched (GrowTable k n init) same in
       acts_pass rules watch Elements watched k (table_growth_question n init) refl
       (reply_of replied.Number replied.Table) (GrowsTableCharging rules n init) m'
       (λ x x' result replaced asks replies grows.
@@ -582,77 +576,60 @@ price_by (RangeWritten write) = range_price write
 price_by effect = None
 
 module _ {S : Type 0} (rules : Rules S) (w : World S) (turn : Turn) (w' : World S) where
-  -- each effect that makes nothing grow
-  effect_idles : (effect : Effect) → GrowsNothing effect → HasEffect rules effect w turn w'
-      → Passed rules (meeting_of w turn None w') Nowhere
-      × (turn.charge ≡ writing_charge w.state.meter (price_by effect) turn.reply)
+  -- the turn asks nothing, is charged nothing, and ends in a world with the same limiter and the same sizes
+  idle : {v : World S} → w' ≡ v → v.limiter ≡ w.limiter → NothingGrows (sizes w.state) (sizes v.state)
+      → turn.charge ≡ 0 → Passed rules (meeting_of w turn None None w') Nowhere
+  idle {v} is unasked still free = rw is (nothing_passes rules (meeting_of w turn None None v) Nowhere (inl refl)
+      unasked still (free ∙ sym (free_writing w.state.meter turn.reply)))
+
+  -- an effect that makes nothing grow asks nothing, and is charged for what it writes
+  effect_idles : (effect : Effect) → GrowsNothing effect → HasEffect rules effect w (outcome_of turn) w'
+      → Passed rules (meeting_of w turn None (price_by effect) w') Nowhere
   effect_idles (MemoryMade ty) nothing step = absurd nothing
   effect_idles (LentMemoryMade ty) nothing step = absurd nothing
   effect_idles (MemoryGrown k pages) nothing step = absurd nothing
   effect_idles (TableMade ty init) nothing step = absurd nothing
   effect_idles (TableGrown k n init) nothing step = absurd nothing
-  effect_idles (RangeWritten write) nothing step = (
-    idle rules w turn w' refl (range_unasked w write turn w' step) (range_still w write turn w' step),
-    range_charge w write turn w' step,
-  )
-  effect_idles (FuelSet fuel) nothing step = (
-    idle rules w turn w' step.after refl (λ kind. ap (λ t. sizes t kind) step.effect.1),
-    step.free.0 ∙ sym (free_writing w.state.meter turn.reply),
-  )
-  effect_idles (Changed change) nothing step = (
-    idle rules w turn w' step.after refl ((change_facts w.state change).still turn.reply step.machine step.effect),
-    step.free.0 ∙ sym (free_writing w.state.meter turn.reply),
-  )
-  effect_idles effect nothing step = (
-    idle rules w turn w' step.after refl (λ kind. refl),
-    step.free.0 ∙ sym (free_writing w.state.meter turn.reply),
-  )
+  effect_idles (RangeWritten write) nothing step =
+      let holds = range_holds w write turn w' step in
+      nothing_passes rules (meeting_of w turn None (range_price write) w') Nowhere (inl refl) holds.unasked holds.still
+      holds.charged
+  effect_idles (FuelSet fuel) nothing step =
+      idle step.after refl (λ kind. ap (λ t. sizes t kind) step.effect.1) step.free.0
+  effect_idles (Changed change) nothing step =
+      idle step.after refl ((change_facts w.state change).still turn.reply step.machine step.effect) step.free.0
+  effect_idles effect nothing step = idle step.after refl (λ kind. refl) step.free.0
 
-  -- what passes in a turn by this call, and the charge
-  abbrev CallPasses : Call → Type 0
-  CallPasses call = (passed : Passed rules (meeting_of w turn (question_of w.state call) w') (place_of call))
-      × (turn.charge ≡ charge_at (place_of call) passed.exchange w.state.meter
-      (writing_charge w.state.meter (writing_price call) turn.reply))
-
-  -- each call
-  call_passes : (call : Call) → HasEffect rules (effect_of w.state call) w turn w' → CallPasses call
-  call_passes (NewMemory ty) step =
-      let passed = memory_made rules w turn w' (question_of w.state (NewMemory ty))
-      (ap (λ (v : World S). v.state.tables) step.after) step.free.0 Owned ty refl (rw step.after step.effect) in
-      (passed, passed.charged)
-  call_passes (NewLentMemory ty) step =
-      let passed = lent_made rules w turn w' (ap (λ (v : World S). v.state.tables) step.after) step.free.0 ty
-      (rw step.after step.effect) in
-      (passed, passed.charged)
-  call_passes (GrowMemory k pages) step =
-      let passed = memory_grows rules w turn w' (ap (λ (v : World S). v.state.tables) step.after) k pages step.meter
-      (rw step.after step.effect) in
-      (passed, passed.charged)
-  call_passes (NewTable ty init) step =
-      let passed = table_made rules w turn w' (ap (λ (v : World S). v.state.memories) step.after) step.free.0 ty init
-      (rw step.after step.effect) in
-      (passed, passed.charged)
-  call_passes (GrowTable k n init) step =
-      let passed = table_grows rules w turn w' (ap (λ (v : World S). v.state.memories) step.after) k n init step.meter
-      (rw step.after step.effect) in
-      (passed, passed.charged)
+  -- what passes in a turn by each call
+  call_passes : (call : Call) → HasEffect rules (effect_of w.state call) w (outcome_of turn) w'
+      → Passed rules (meeting_by rules w turn w' call) (place_of call)
+  call_passes (NewMemory ty) step = memory_made rules w turn w' (NewMemory ty)
+      (ap (λ (v : World S). v.state.tables) step.after) step.free.0 Owned ty refl (rw step.after step.effect)
+  call_passes (NewLentMemory ty) step = lent_made rules w turn w'
+      (ap (λ (v : World S). v.state.tables) step.after) step.free.0 ty (rw step.after step.effect)
+  call_passes (GrowMemory k pages) step = memory_grows rules w turn w'
+      (ap (λ (v : World S). v.state.tables) step.after) k pages step.meter (rw step.after step.effect)
+  call_passes (NewTable ty init) step = table_made rules w turn w'
+      (ap (λ (v : World S). v.state.memories) step.after) step.free.0 ty init (rw step.after step.effect)
+  call_passes (GrowTable k n init) step = table_grows rules w turn w'
+      (ap (λ (v : World S). v.state.memories) step.after) k n init step.meter (rw step.after step.effect)
   call_passes call step = effect_idles (effect_of w.state call) tt step
 
--- each step
+-- a step asks, grows and is charged as its call says
 pub growths_are_permitted : {S : Type 0} (rules : Rules S) (w : World S) (turn : Turn) (w' : World S)
     → Step rules w turn w' → Exchanges rules w turn w'
 growths_are_permitted rules w turn w' step =
-    let (passed, charged) = call_passes rules w turn w' turn.call step in
+    let passed = call_passes rules w turn w' turn.call step in
     record {
       exchange = passed.exchange;
       asks = passed.asks;
       passes = passed.passes;
       replies = passed.replies;
       grows = passed.grows;
-      charged = charged;
+      charged = passed.charged;
       meter = step_meter rules w turn w' step;
     }
 
--- each turn of a run asks, grows and is charged as a step does
+-- every turn of a run asks, grows and is charged as a step does
 pub run_growths_are_permitted : {S : Type 0} (rules : Rules S) → RunsGrowAsPermitted rules
 run_growths_are_permitted rules = each_turn rules _ (growths_are_permitted rules)

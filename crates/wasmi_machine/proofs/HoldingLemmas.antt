@@ -1,24 +1,13 @@
--- What a limiter keeps in a run: the caps of a quota, and the totals that it holds.
+-- What a limiter keeps in a run: the totals that it holds, states in which it does what another one may do, and the caps
+-- of a quota.
 use Rattle.std.proofs.Common.{◌≡◌, ◌≢◌, ℕ, ◌+◌, ◌-◌, Option, Some, None, Result, Ok, Err, true, List, [], ◌∷◌, sum, refl, sym, ap, ◌∙◌, arith, subst, IfOk, OnErr}
-use Rattle.wasmi_machine.proofs.Common.{same_Some, Kind, Bytes, Elements, HoldsTheSame, Reserves, GivesBack, with_more, SameCaps, IsWithinCaps, Capped, capped_rules, capped_quota, quota_rules, Question, Answer, IsDenial, Failure, kind_of, NoticeAnswer, Rules, AskedIf, NoticedIf, optional_rules, Call, Reply, State, World, Turn, world, sizes, HoldsTotals, Run, IsRunOf, Step, Exchange, Nothing, Denial, Permission, Notice, Place, Nowhere, New, At, place_of, Passes, NothingGrows, GrowsAsAsked, GrowsBy}
+use Rattle.wasmi_machine.proofs.Common.{same_Some, Kind, Bytes, Elements, HoldsTheSame, Reserves, GivesBack, with_more, SameCaps, IsWithinCaps, Capped, capped_rules, capped_quota, quota_rules, Question, Answer, Failure, kind_of, NoticeAnswer, Rules, AskedIf, NoticedIf, optional_rules, Call, Reply, State, World, Turn, world, sizes, HoldsTotals, Run, IsRunOf, Step, Exchange, Nothing, Denial, Permission, Notice, Place, Nowhere, New, At, place_of, Passes, NothingGrows, GrowsAsAsked, GrowsBy, option_and_then}
 use Rattle.wasmi_meter.specs.declared.quota.Holdings.{Holdings}
 use Rattle.wasmi_machine.proofs.TotalLemmas.{sum_set, sum_push}
 use Rattle.wasmi_machine.proofs.ExchangeLemmas.{growths_are_permitted}
 use Rattle.wasmi_meter.specs.declared.quota.Quota.{Quota}
 use Rattle.wasmi_meter.specs.Capped.{IsWithin}
-use Rattle.wasmi_meter.proofs.CappedLemmas.{KeepsCaps, caps_kept, others_kept, asked_is_within, noticed_is_within, quota_keeps}
-
--- a denial keeps the holdings
-pub denial_keeps : (q : Question) (answer : Answer) (h h' : Holdings) → IsDenial answer → Reserves q answer h h'
-    → HoldsTheSame h h'
-denial_keeps q (Ok true) h h' denial reserves = absurd denial
-denial_keeps q answer h h' denial reserves = reserves
-
--- a difference that was added and taken back
-given_back : (kind : Kind) (n : ℕ) (h p h' : Holdings) → p ≡ with_more h kind n → GivesBack kind p h'
-    → HoldsTheSame h h'
-given_back Bytes n h p h' more gives = rw (gives, more) (record { bytes = omega arith; elements = refl })
-given_back Elements n h p h' more gives = rw (gives, more) (record { bytes = refl; elements = omega arith })
+use Rattle.wasmi_meter.proofs.CappedLemmas.{denial_keeps, given_back, KeepsCaps, caps_kept, others_kept, asked_is_within, noticed_is_within, quota_keeps}
 
 -- the sum after a growth
 grown_sum : (place : Place) (q : Question) (xs ys : List ℕ) → GrowsAsAsked place q xs ys
@@ -115,34 +104,37 @@ module _ {L : Type 0} (rules : Rules L) (holdings : L → Holdings) (keeps : Kee
       subst (λ k. HoldsTotals (holdings k) w'.state) (sym (same_Some w'.limiter after.0 after.1)) after.2
   run_holds items w w' calls held (Err error) ran same = rw (same.0, same.1) held
 
--- a limiter in one of these states stays in them
-pub record StaysIn {S : Type 0} (rules : Rules S) (Kept : S → Type 0) : Type 0 where
-  pub asked : (l : S) (question : Question) (answer : Answer) (l' : S) → Kept l → rules.asked l question answer l'
-      → Kept l'
-  pub noticed : (l : S) (failure : Failure) (notice_answer : NoticeAnswer) (l' : S) → Kept l
-      → rules.noticed l failure notice_answer l' → Kept l'
+-- a limiter in these states stays in them, and there does what another one may do in the image of its state
+pub record Carries {S T : Type 0} (within : S → Type 0) (image : S → T) (rules : Rules S) (rules' : Rules T)
+    : Type 0 where
+  pub asked : (l : S) (question : Question) (answer : Answer) (l' : S) → within l → rules.asked l question answer l'
+      → within l' × rules'.asked (image l) question answer (image l')
+  pub noticed : (l : S) (failure : Failure) (notice_answer : NoticeAnswer) (l' : S) → within l
+      → rules.noticed l failure notice_answer l' → within l' × rules'.noticed (image l) failure notice_answer (image l')
 
-module _ {S : Type 0} (rules : Rules S) (Kept : S → Type 0) (stays : StaysIn rules Kept) where
-  -- an exchange leaves the limiter in them
-  exchange_stays : (l l' : S) (exchange : Exchange) → Kept l → Passes rules l exchange l' → Kept l'
-  exchange_stays l l' Nothing kept passes = subst Kept (sym passes) kept
-  exchange_stays l l' (Denial question answer) kept (denial, asks) = stays.asked l question answer l' kept asks
-  exchange_stays l l' (Permission question) kept asks = stays.asked l question (Ok true) l' kept asks
-  exchange_stays l l' (Notice question failure notice_answer) kept (kind, permitted, asks, notices) =
-      stays.noticed permitted failure notice_answer l' (stays.asked l question (Ok true) permitted kept asks) notices
+module _ {S T : Type 0} {within : S → Type 0} {image : S → T} {rules : Rules S} {rules' : Rules T}
+    (carries : Carries within image rules rules') where
+  -- an exchange leaves the limiter in these states
+  exchange_stays : (l l' : S) (exchange : Exchange) → within l → Passes rules l exchange l' → within l'
+  exchange_stays l l' Nothing here passes = subst within (sym passes) here
+  exchange_stays l l' (Denial question answer) here (denial, asks) = (carries.asked l question answer l' here asks).0
+  exchange_stays l l' (Permission question) here asks = (carries.asked l question (Ok true) l' here asks).0
+  exchange_stays l l' (Notice question failure notice_answer) here (kind, permitted, asks, notices) =
+      let asked = carries.asked l question (Ok true) permitted here asks in
+      (carries.noticed permitted failure notice_answer l' asked.0 notices).0
 
-  -- a step leaves it in them
-  pub step_stays : (w : World S) (turn : Turn) (w' : World S) → Kept w.limiter → Step rules w turn w'
-      → Kept w'.limiter
-  step_stays w turn w' kept step =
+  -- a step leaves the limiter in these states
+  pub step_stays : (w : World S) (turn : Turn) (w' : World S) → within w.limiter → Step rules w turn w'
+      → within w'.limiter
+  step_stays w turn w' here step =
       let passed = growths_are_permitted rules w turn w' step in
-      exchange_stays w.limiter w'.limiter passed.exchange kept passed.passes
+      exchange_stays w.limiter w'.limiter passed.exchange here passed.passes
 
-  -- a run leaves it in them
-  pub run_stays : (w : World S) (turns : List Turn) (w' : World S) → Kept w.limiter → Run rules w turns w'
-      → Kept w'.limiter
-  run_stays w [] w' kept ran = subst (λ (v : World S). Kept v.limiter) (sym ran) kept
-  run_stays w (turn ∷ turns) w' kept (v, step, ran) = run_stays v turns w' (step_stays w turn v kept step) ran
+  -- a run leaves the limiter in these states
+  pub run_stays : (w : World S) (turns : List Turn) (w' : World S) → within w.limiter → Run rules w turns w'
+      → within w'.limiter
+  run_stays w [] w' here ran = subst (λ (v : World S). within v.limiter) (sym ran) here
+  run_stays w (turn ∷ turns) w' here (v, step, ran) = run_stays v turns w' (step_stays w turn v here step) ran
 
 -- what leads a limiter that may be absent from one state to another does something else too, where it does where there
 -- is one, and where there is none, and where it neither comes nor goes
@@ -166,16 +158,21 @@ there : {L : Type 0} (Kept : L → Type 0) (limiter : Option L) → IsThere Kept
 there Kept (Some l) kept = (l, refl, kept)
 there Kept None kept = absurd kept
 
--- a limiter that may be absent stays there
-pub stays_there : {L : Type 0} (rules : Rules L) (Kept : L → Type 0) → StaysIn rules Kept
-    → StaysIn (optional_rules rules) (IsThere Kept)
-stays_there rules Kept stays = record {
-  asked = λ l question answer l' kept asks. if_there (λ l l'. AskedIf rules l question answer l')
-      (λ l l'. IsThere Kept l → IsThere Kept l') (λ l l' asks kept. stays.asked l question answer l' kept asks)
-      (λ permits none. none) (λ l. (λ h. h, λ h. h)) l l' asks kept;
-  noticed = λ l failure answer l' kept notices. if_there (λ l l'. NoticedIf rules l failure answer l')
-      (λ l l'. IsThere Kept l → IsThere Kept l') (λ l l' notices kept. stays.noticed l failure answer l' kept notices)
-      (λ accepts none. none) (λ l. (λ h. h, λ h. h)) l l' notices kept;
+-- a limiter that may be absent does what another one, or none, may do in the image of its state, where it is there
+pub optional_carries : {L T : Type 0} {Kept : L → Type 0} {image : L → Option T} {rules : Rules L} {rules' : Rules T}
+    → Carries Kept image rules (optional_rules rules')
+    → Carries (IsThere Kept) (option_and_then image) (optional_rules rules) (optional_rules rules')
+optional_carries {Kept = Kept} {image = image} {rules = rules} {rules' = rules'} carries = record {
+  asked = λ l question answer l' here asks. if_there (λ l l'. AskedIf rules l question answer l')
+      (λ l l'. IsThere Kept l → IsThere Kept l'
+      × AskedIf rules' (option_and_then image l) question answer (option_and_then image l'))
+      (λ l l' asks here. carries.asked l question answer l' here asks) (λ permits none. absurd none)
+      (λ l. (λ h. h, λ h. h)) l l' asks here;
+  noticed = λ l failure answer l' here notices. if_there (λ l l'. NoticedIf rules l failure answer l')
+      (λ l l'. IsThere Kept l → IsThere Kept l'
+      × NoticedIf rules' (option_and_then image l) failure answer (option_and_then image l'))
+      (λ l l' notices here. carries.noticed l failure answer l' here notices) (λ accepts none. absurd none)
+      (λ l. (λ h. h, λ h. h)) l l' notices here;
 }
 
 -- a limiter with caps that became of another one: within its caps, which are the other's, beside as much of others
@@ -198,14 +195,18 @@ module _ {L : Type 0} (c : Capped L) (keeps : KeepsCaps c) (first : L) where
   pub run_is_later : IsWithin c first → (s : State) (turns : List Turn) (w' : World (Option L))
       → Run (optional_rules (capped_rules c)) (world s (Some first)) turns w' → IsThere (IsLater c first) w'.limiter
   run_is_later within s turns w' ran =
-      let stays : StaysIn (capped_rules c) (IsLater c first) = record {
-        asked = λ l question answer l' later (taken, answered, more). still_later l l' later more.rest
-            (asked_is_within c keeps l l' later.within question answer (taken, answered, more));
-        noticed = λ l failure answer l' later noticed. still_later l l' later noticed.rest
-            (noticed_is_within c keeps l l' later.within failure answer noticed);
+      let carries : Carries (IsLater c first) Some (capped_rules c) (optional_rules (capped_rules c)) = record {
+        asked = λ l question answer l' later (taken, answered, more). (
+          still_later l l' later more.rest
+              (asked_is_within c keeps l l' later.within question answer (taken, answered, more)),
+          (taken, answered, more),
+        );
+        noticed = λ l failure answer l' later noticed. (
+          still_later l l' later noticed.rest (noticed_is_within c keeps l l' later.within failure answer noticed),
+          noticed,
+        );
       } in
-      run_stays (optional_rules (capped_rules c)) (IsThere (IsLater c first))
-      (stays_there (capped_rules c) (IsLater c first) stays) (world s (Some first)) turns w'
+      run_stays (optional_carries {rules' = capped_rules c} carries) (world s (Some first)) turns w'
       (record { within = within; caps = λ kind. refl; others = λ kind. refl }) ran
 
 -- a run keeps a quota within its caps

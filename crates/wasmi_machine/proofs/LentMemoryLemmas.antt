@@ -1,6 +1,6 @@
 -- What holds of memories in lent regions as of memories of their own.
 use Rattle.std.proofs.Common.{Err, List, None, Ok, Option, Result, Some, [], ap, arith, inl, inr, length, map, refl, subst, sym, true, ℕ, ◌*◌, ◌+◌, ◌∙◌, ◌∷◌, ◌≡◌, ◌≤◌, ◌⊎◌}
-use Rattle.wasmi_machine.proofs.Common.{cond-false, cond-true, nat_tests, length-map, map-set, map_push, none-some, same_Some, slice_get-map, option_and_then, option_map, MatchOption, slice_get, slice_set, ByteSource, OfBytes, StoresMemoryAt, WritesMemoryAt, byte_write_of, bytes_appended, bytes_in, load_reply, StoresVectorAt, lane_loaded, vector_at, vector_loaded, ActsAt, AddsEntry, ChangesAt, Creates, DropsAt, IfNoRoom, IsNoSuch, MeteredSlots, OnLive, WritesAt, WritesRangeAt, reply_of, Run, BytesRead, BytesStored, BytesWritten, Change, Changed, Effect, FuelSet, LacksSlot, LentMemoryMade, MemoryDropped, MemoryGrown, MemoryMade, RangeWritten, RegisterSet, Step, TableGrown, MemoryWritten, TableWritten, TableMade, HasChange, HasEffect, Told, effect_of, State, live_at, live_value, byte_count, Turn, World, Call, CopyMemory, Load, LoadLane, NewLentMemory, NewMemory, VectorLoad, Reply, Slot, Gone, Live, AttemptOutcome, Met, MeteredValue, optional_due, answer_of, covers, with_value, Rules, Meter, meter_after, MemoryError, on_test_too, IsDenied, metered, metered_value, LacksMemory, Lent, Owned, Room, fits_room, GrowsMemory, GrowsMemoryCharging, MakesMemory, MemoryValue, MemoryWrite, WritesMemory, bytes_write, new_memory, pages_of, MemoryTypeValue, in_bounds, minimum_bytes, page_bytes}
+use Rattle.wasmi_machine.proofs.Common.{cond-false, cond-true, nat_tests, length-map, map-set, map_push, none-some, same_Some, slice_get-map, option_and_then, option_map, MatchOption, slice_get, slice_set, ByteSource, OfBytes, StoresMemoryAt, WritesMemoryAt, byte_write_of, bytes_appended, bytes_in, load_reply, StoresVectorAt, lane_loaded, vector_at, vector_loaded, ActsAt, AddsEntry, ChangesAt, Creates, DropsAt, IfNoRoom, IsNoSuch, MeteredSlots, OnLive, WritesAt, WritesRangeAt, reply_of, Run, BytesRead, BytesStored, BytesWritten, Change, Changed, Effect, FuelSet, LacksSlot, LentMemoryMade, MemoryDropped, MemoryGrown, MemoryMade, RangeWritten, RegisterSet, Step, TableGrown, MemoryWritten, TableWritten, TableMade, HasChange, HasEffect, Told, effect_of, State, live_at, live_value, byte_count, Turn, World, Call, CopyMemory, Load, LoadLane, NewLentMemory, NewMemory, VectorLoad, Reply, Slot, Gone, Live, AttemptOutcome, Met, MeteredValue, optional_due, answer_of, covers, with_value, Rules, Meter, meter_after, MemoryError, on_test_too, grows_too, memory_growth, IsDenied, metered, metered_value, LacksMemory, Lent, Owned, Room, fits_room, GrowsMemory, GrowsMemoryCharging, MakesMemory, MemoryValue, MemoryWrite, WritesMemory, bytes_write, new_memory, pages_of, MemoryTypeValue, in_bounds, minimum_bytes, page_bytes, outcome_of}
 use Rattle.std.specs.Result.{result_map_both}
 use Rattle.wasmi_machine.proofs.EffectLemmas.{both_live, no_room_too, on_live_too}
 use Rattle.wasmi_machine.proofs.MemoryEffectsLemmas.{lacks_owned}
@@ -40,20 +40,13 @@ grows_owned : {S : Type 0} (rules : Rules S) (pages : ℕ) (s : MeteredValue Mem
     → GrowsMemoryCharging rules pages s result charge s'
     → GrowsMemoryCharging rules pages (with_value s (owned_memory s.value)) result charge
     (with_value s' (owned_memory s'.value))
-grows_owned {S} rules pages s result charge s' fits (inl none) = inl (record {
-  none = none.none;
-  answered = none.answered;
-  uncharged = none.uncharged;
-  same = ap (λ (t : MeteredValue MemoryValue S). with_value t (owned_memory t.value)) none.same;
-})
-grows_owned rules pages s result charge s' fits (inr some) =
-    let e = memory.growth_of s.value pages in inr (record {
-      some = some.some;
-      outcome = some.outcome;
-      attempt = attempts e None (LacksMemory Owned) (lacks_owned s.value.room) owned_memory rules s s' some.outcome charge
-          (fits_easy pages s.value fits) some.attempt;
-      answered = some.answered ∙ answered_eased some.outcome;
-    })
+grows_owned {S} rules pages s result charge s' fits =
+    grows_too (memory_growth pages s.value) (memory.growth_of (owned_memory s.value) pages)
+    (ap (λ (t : MeteredValue MemoryValue S). with_value t (owned_memory t.value))) (λ outcome answered a. (
+      answered ∙ answered_eased outcome,
+      attempts (memory.growth_of s.value pages) None (LacksMemory Owned) (lacks_owned s.value.room) owned_memory rules s
+          s' outcome charge (fits_easy pages s.value fits) a,
+    ))
   where
     answered_eased : (outcome : AttemptOutcome MemoryError)
         → answer_of (memory.growth_of s.value pages) (pages_of s.value) outcome ≡ answer_of
@@ -192,7 +185,7 @@ module _ (len : ℕ) (write : MemoryValue → MemoryWrite) (w : WritesBytes len 
       ∙ sym (ap (λ (v : MemoryWrite). optional_due m v.price) (w.is (owned_memory x)))
   charge_owned (Err error) = refl
 
-  -- it writes the same
+  -- a write does the same to an owned memory
   writing_owned : (x' : MemoryValue) (m' : Option Meter) → Writes (write x) (metered x m) result (metered x' m')
       → Writes (write (owned_memory x)) (metered (owned_memory x) m) result (metered (owned_memory x') m')
   writing_owned x' m' writes =
@@ -303,9 +296,9 @@ slots_used : (s : State) (reply : Reply) → IfNoRoom reply (LacksSlot s.reserve
 slots_used s reply = no_room_too reply _ _ (λ used. omega (arith, length-map s.memories owned_slot))
 
 module _ {S : Type 0} (rules : Rules S) (w : World S) (turn : Turn) (w' : World S) where
-  -- each effect that fits
-  effect_owned : (effect : Effect) → EffectFits w.state effect → HasEffect rules effect w turn w'
-      → HasEffect rules effect (owned_world w) turn (owned_world w')
+  -- an effect that fits does the same where the memories are owned
+  effect_owned : (effect : Effect) → EffectFits w.state effect → HasEffect rules effect w (outcome_of turn) w'
+      → HasEffect rules effect (owned_world w) (outcome_of turn) (owned_world w')
   effect_owned (Told told) fits step =
       record { free = step.free; effect = step.effect; after = ap owned_world step.after }
   effect_owned (BytesRead k offset len) fits step = record {
@@ -342,7 +335,7 @@ module _ {S : Type 0} (rules : Rules S) (w : World S) (turn : Turn) (w' : World 
 pub run_is_owned : {S : Type 0} (rules : Rules S) (w : World S) (turns : List Turn) (w' : World S)
     → RunInRegions rules w turns w' → Run rules (owned_world w) turns (owned_world w')
 run_is_owned rules w [] w' ran = ap owned_world ran
-run_is_owned rules w (turn ∷ turns) w' (v, fits, step, ran) =
+run_is_owned rules w (turn ∷ turns) w' (v, (fits, step), ran) =
     let taken = effect_owned rules w turn v (effect_of w.state turn.call) (effect_fits w.state turn.call fits) step in
     (owned_world v, rw (effect_kept w.state turn.call) at taken, run_is_owned rules v turns w' ran)
 
@@ -358,8 +351,8 @@ pub creation_is_owned : {S : Type 0} (rules : Rules S) (w : World S) (turn : Tur
     → minimum_bytes ty ≤ length region
     → Step rules w turn w' → Step rules (unlent_world w) (record turn { call = NewMemory ty }) (unlent_world w')
 creation_is_owned rules w turn w' ty region called spare fits step =
-    let lent : HasEffect rules (LentMemoryMade ty) w turn w' = subst
-    (λ c. HasEffect rules (effect_of w.state c) w turn w') called step in
+    let lent : HasEffect rules (LentMemoryMade ty) w (outcome_of turn) w' = subst
+    (λ c. HasEffect rules (effect_of w.state c) w (outcome_of turn) w') called step in
     let creates = on_spare _ _ w.state.spare region spare lent.effect in
     record {
       free = lent.free;

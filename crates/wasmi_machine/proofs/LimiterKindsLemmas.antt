@@ -1,37 +1,20 @@
 -- A run under a limiter of one of three kinds is one by the rules of its kind.
 use Rattle.std.proofs.Common.{◌≡◌, ◌∙◌, Option, Some, None, List, [], ◌∷◌, refl, sym, ap, subst}
-use Rattle.wasmi_machine.proofs.Common.{option_and_then, Question, Answer, Failure, NoticeAnswer, Rules, AskedIf, NoticedIf, optional_rules, quota_rules, RelatesByKind, RepliesKeepKind, RunsKeepKind, RunsOfCallsKeepKind, IsRunOf, Run, RepliesWith, Step, State, World, Turn, world}
+use Rattle.wasmi_machine.proofs.Common.{Question, Answer, Failure, NoticeAnswer, Rules, optional_rules, quota_rules, RelatesByKind, RepliesKeepKind, RunsKeepKind, RunsOfCallsKeepKind, IsRunOf, Run, RepliesWith, Step, State, World, Turn, world}
 use Rattle.wasmi_meter.specs.declared.any_limiter.AnyLimiter.{AnyLimiter}
 use Rattle.wasmi_meter.specs.declared.any_limiter.AnyLimiter.TheVariants as limiter
 use Rattle.wasmi_meter.specs.AnswerList.{AnswersAhead, answer_list_rules}
 use Rattle.wasmi_meter.specs.AnyLimiter.{any_limiter_rules, quota_of}
-use Rattle.wasmi_machine.proofs.HoldingLemmas.{IsThere, if_there}
-use Rattle.wasmi_machine.proofs.RevealingLemmas.{Carries, run_carried}
+use Rattle.wasmi_machine.proofs.HoldingLemmas.{Carries, optional_carries}
+use Rattle.wasmi_machine.proofs.RevealingLemmas.{run_carried}
 
-module _ {L T : Type 0} (IsIn : L → Type 0) (image : L → Option T) (rules : Rules L) (rules' : Rules T)
-    (carries : Carries IsIn image rules (optional_rules rules')) where
-  -- a limiter that may be absent does what another one, or none, may do in the image of its state, where it is there
-  optional_carries : Carries (IsThere IsIn) (option_and_then image) (optional_rules rules) (optional_rules rules')
-  optional_carries = record {
-    asked = λ l q answer l' here asks. if_there (λ l l'. AskedIf rules l q answer l')
-        (λ l l'. IsThere IsIn l
-        → IsThere IsIn l' × AskedIf rules' (option_and_then image l) q answer (option_and_then image l'))
-        (λ l l' asks here. carries.asked l q answer l' here asks) (λ permits none. absurd none)
-        (λ l. (λ h. h, λ h. h)) l l' asks here;
-    noticed = λ l failure answer l' here notices. if_there (λ l l'. NoticedIf rules l failure answer l')
-        (λ l l'. IsThere IsIn l
-        → IsThere IsIn l' × NoticedIf rules' (option_and_then image l) failure answer (option_and_then image l'))
-        (λ l l' notices here. carries.noticed l failure answer l' here notices) (λ accepts none. absurd none)
-        (λ l. (λ h. h, λ h. h)) l l' notices here;
-  }
-
-  -- a run under the first from these states on leaves it in them, and is one under the second
-  pub run_within : (s : State) (l : L) (turns : List Turn) (s' : State) (l' : L) → IsIn l
-      → Run (optional_rules rules) (world s (Some l)) turns (world s' (Some l'))
-      → IsIn l' × Run (optional_rules rules') (world s (image l)) turns (world s' (image l'))
-  run_within s l turns s' l' here ran =
-      run_carried (IsThere IsIn) (option_and_then image) (optional_rules rules) (optional_rules rules')
-      optional_carries (world s (Some l)) turns (world s' (Some l')) here ran
+-- a run under a limiter in these states leaves it in them, and is one under its image, which may be none
+run_within : {L T : Type 0} {IsIn : L → Type 0} {image : L → Option T} {rules : Rules L} {rules' : Rules T}
+    → Carries IsIn image rules (optional_rules rules') → (s : State) (l : L) (turns : List Turn) (s' : State) (l' : L)
+    → IsIn l → Run (optional_rules rules) (world s (Some l)) turns (world s' (Some l'))
+    → IsIn l' × Run (optional_rules rules') (world s (image l)) turns (world s' (image l'))
+run_within {rules' = rules'} carries s l turns s' l' here ran =
+    run_carried (optional_carries {rules' = rules'} carries) (world s (Some l)) turns (world s' (Some l')) here ran
 
 -- the limiter permits everything
 abbrev IsUnlimited : AnyLimiter → Type 0
@@ -56,9 +39,8 @@ unlimited_carries {T} rules = record {
 pub unlimited_run : {T : Type 0} (rules : Rules T) (s : State) (turns : List Turn) (s' : State) (l' : AnyLimiter)
     → Run (optional_rules any_limiter_rules) (world s (Some limiter.Unlimited)) turns (world s' (Some l'))
     → (l' ≡ limiter.Unlimited) × Run (optional_rules rules) (world s None) turns (world s' None)
-unlimited_run {T} rules s turns s' l' ran =
-    run_within IsUnlimited (λ l. let none : Option T = None in none) any_limiter_rules rules (unlimited_carries rules) s
-    limiter.Unlimited turns s' l' refl ran
+unlimited_run rules s turns s' l' ran =
+    run_within {rules' = rules} (unlimited_carries rules) s limiter.Unlimited turns s' l' refl ran
 
 -- a kind of limiters: how one of them is held, which one is held, if it is of the kind, and what such limiters do
 record HeldKind (T : Type 0) : Type 1 where
@@ -95,8 +77,7 @@ module _ {T : Type 0} (kind : HeldKind T) where
       → (own' : T) × (l' ≡ kind.hold own')
       × Run (optional_rules kind.rules) (world s (Some own)) turns (world s' (Some own'))
   kind_run turns s own s' l' ran =
-      let within = run_within IsOfKind kind.held any_limiter_rules kind.rules kind_carries s (kind.hold own) turns s' l'
-      (own, refl) ran in
+      let within = run_within {rules' = kind.rules} kind_carries s (kind.hold own) turns s' l' (own, refl) ran in
       let last : kind.held l' ≡ Some within.0.0 = ap kind.held within.0.1 ∙ kind.is_held within.0.0 in (
         within.0.0,
         within.0.1,

@@ -1,10 +1,10 @@
 -- What holds of each write over a range of one part of the state: it is refused, and nothing has changed, or it is paid for.
 use Rattle.std.proofs.Common.{List, None, Option, Result, Some, ap, inl, inr, refl, replicate, subst, sym, true, false, Bool, ℕ, arith, ◌∙◌, ◌≡◌, ◌≤◌, ◌⊎◌, length, ◌≢◌}
-use Rattle.wasmi_machine.proofs.Common.{nat_tests, none-some, same_Some, set-set, option_and_then, option_map, nat_eq, nat_le, slice_set, if◌then◌else◌, at, overwrite, MemoryError, TableError, CustomFuelCosts, MeteredValue, covers, optional_due, with_value, Meter, amount_left, cut_product, meter_after, metered, IsValidMemory, MemoryTypeValue, MemoryValue, MemoryWrite, bytes_write, IsValidTable, TableValue, element_price, elements_write, size_of, with_elements, Reply, Slot, Live, Gone, IsNotOutOfMemory, ActsMeteredUnasked, MeteredSlots, OnLive, WritesAt, WritesFrom, WritesRangeAt, item_bytes, reply_of, NothingGrows, writing_charge, IsValid, State, Turn, World, byte_count, live_at, sizes, with_memories, with_tables, live_value, HasRangeWrite, MemoryWritten, RangeWrite, TableWritten, ByteSource, OfByte, OfBytes, WritesMemoryFrom, byte_write_of, bytes_in, memory_copy_of, OfReference, OfSegment, OfTable, Source, write_of}
+use Rattle.wasmi_machine.proofs.Common.{nat_tests, none-some, same_Some, set-set, option_and_then, option_map, nat_eq, nat_le, slice_set, if◌then◌else◌, at, overwrite, MemoryError, TableError, CustomFuelCosts, MeteredValue, optional_due, Meter, amount_left, cut_product, meter_after, metered, IsValidMemory, MemoryTypeValue, MemoryValue, MemoryWrite, bytes_write, IsValidTable, TableValue, element_price, elements_write, size_of, with_elements, Reply, Slot, Live, Gone, IsNotOutOfMemory, ActsMeteredUnasked, IsNoSuch, MeteredSlots, OnLive, WritesAt, WritesFrom, WritesRangeAt, item_bytes, reply_of, NothingGrows, writing_charge, IsValid, State, Turn, World, byte_count, live_at, sizes, with_memories, with_tables, live_value, HasRangeWrite, MemoryWritten, RangeWrite, TableWritten, ByteSource, OfByte, OfBytes, WritesMemoryFrom, byte_write_of, bytes_in, memory_copy_of, OfReference, OfSegment, OfTable, Source, write_of, outcome_of}
 use Rattle.wasmi_meter.specs.declared.error.MemoryError.TheVariants as memory_error
 use Rattle.wasmi_meter.specs.declared.error.TableError.TheVariants.{OutOfFuel}
 use Rattle.wasmi_store.specs.Write.{MeteredWrite, WritesCharging, copied, filled, item_price}
-use Rattle.wasmi_store.proofs.WriteLemmas.{PaidWrite, RefusedWrite, write_ends, writes_once}
+use Rattle.wasmi_store.proofs.WriteLemmas.{PaidWrite, write_ends, writes_once}
 use Rattle.wasmi_machine.specs.State.{IsRefusal}
 use Rattle.wasmi_machine.proofs.EffectLemmas.{HasOneEnding, acts_same, on_both, on_live, on_live_too, put_back, slot_kept}
 use Rattle.wasmi_machine.proofs.MemoryEffectsLemmas.{memory_as_long, overwrite_length, with_bytes}
@@ -15,66 +15,6 @@ use Rattle.wasmi_machine.proofs.TotalLemmas.{each_kind}
 use Rattle.wasmi_machine.specs.declared.calls.Reply.TheVariants as replied
 
 -- ---- a write in a slot
-
--- a write over a range that is refused
-pub record IsIdle {A : Type 0} (s : MeteredValue A (Unit {0})) (reply : Reply) (charge : ℕ)
-    (s' : MeteredValue A (Unit {0})) : Type 0 where
-  pub refused : IsRefusal reply
-  pub uncharged : charge ≡ 0
-  pub same : s' ≡ s
-
--- a write over a range of the value of an index that is paid for
-pub record IsPaid {X E : Type 0} (k : ℕ) (write : X → MeteredWrite X E) (s : MeteredSlots X) (reply : Reply)
-    (charge : ℕ) (s' : MeteredSlots X) : Type 0 where
-  pub old : X
-  pub found : live_at s.value k ≡ Some old
-  pub new : X
-  pub written : (write old).written ≡ Some new
-  pub done : reply ≡ replied.Done
-  pub enough : covers s.meter (optional_due s.meter (write old).price) ≡ true
-  pub charged : charge ≡ optional_due s.meter (write old).price
-  pub after : s' ≡ metered (slice_set s.value k (Live new)) (option_map (λ m. meter_after m charge) s.meter)
-
-module _ {X E : Type 0} (refusal : E → Reply) (refuses : (error : E) → IsRefusal (refusal error)) (k : ℕ)
-    (write : X → MeteredWrite X E) (s : MeteredSlots X) (reply : Reply) (charge : ℕ) (s' : MeteredSlots X) where
-  module _ (x : X) (found : live_at s.value k ≡ Some x) (x' : X) (result : Result (Unit {0}) E)
-      (replies : reply ≡ reply_of (λ _. replied.Done) refusal result) (put : s'.value ≡ slice_set s.value k (Live x'))
-    where
-      -- a refused write leaves the slots and the meter
-      slot_idle : RefusedWrite (with_value s x) result charge (with_value s' x') → IsIdle s reply charge s'
-      slot_idle r =
-          let value = put ∙ put_back s.value k x x' found (ap (λ (t : MeteredValue X (Unit {0})). t.value) r.same) in
-          let meter = ap (λ (t : MeteredValue X (Unit {0})). t.meter) r.same in
-          record {
-            refused = rw (replies, r.is) (refuses r.cause);
-            uncharged = r.uncharged;
-            same = λ i. record { value = value i; meter = meter i; limiter = tt };
-          }
-
-      -- a write that is paid for is in the slots
-      slot_paid : PaidWrite (write x) (with_value s x) result charge (with_value s' x') → IsPaid k write s reply charge s'
-      slot_paid p =
-          let value = put ∙ ap (λ (t : MeteredValue X (Unit {0})). slice_set s.value k (Live t.value)) p.after in
-          let meter = ap (λ (t : MeteredValue X (Unit {0})). t.meter) p.after in
-          record {
-            old = x;
-            found = found;
-            new = p.value;
-            written = p.written;
-            done = replies ∙ ap (reply_of (λ _. replied.Done) refusal) p.is;
-            enough = p.enough;
-            charged = p.charged;
-            after = λ i. record { value = value i; meter = meter i; limiter = tt };
-          }
-
-  -- a write at an index is refused, or it is paid for
-  slot_ends : WritesAt refusal k write s reply charge s' → IsIdle s reply charge s' ⊎ IsPaid k write s reply charge s'
-  slot_ends writes = on_live (live_at s.value k) _ _ writes
-      (λ missing. inl (record { refused = rw missing.0 tt; uncharged = missing.1; same = missing.2 }))
-      (λ x found h. elim (write_ends write (with_value s x) h.0 charge (with_value s' h.1) h.2) [
-        | inl r ↦ inl (slot_idle x found h.1 h.0 h.3 h.4 r)
-        | inr p ↦ inr (slot_paid x found h.1 h.0 h.3 h.4 p)
-      ])
 
 -- two writes at an index, which may be missing, are one
 pub range_once : {X E : Type 0} (refusal : E → Reply) (k : ℕ) (write : Option (X → MeteredWrite X E))
@@ -112,13 +52,13 @@ module _ {X E : Type 0} (refusal : E → Reply) (write : X → X → MeteredWrit
   put : (x' : X) → slice_set taken into (Live x') ≡ slice_set slots into (Live x')
   put x' = ap (λ l. slice_set l into (Live x')) is ∙ set-set slots into (Gone 0) (Live x')
 
-  -- it is put back as it was, where there is no source
+  -- what was taken out is put back as it was, where there is no source
   pub put_without : None ≡ live_at taken from → WritesFrom refusal (live_at slots from) into write (metered slots m)
       replied.NoSuch 0 (metered (slice_set taken into (Live x)) m)
   put_without none =
       rw (beside ∙ sym none) (refl, refl, ap (λ l. metered l m) (put x ∙ put_back slots into x x (sym found) refl))
 
-  -- it is put back with what was copied
+  -- what was taken out is put back with what was copied
   pub put_copied : (y : X) → Some y ≡ live_at taken from → (x' : X) (result : Result (Unit {0}) E) (charge : ℕ)
       (m' : Option Meter) → WritesCharging (write y) (metered x m) result charge (metered x' m')
       → WritesFrom refusal (live_at slots from) into write (metered slots m) (reply_of (λ _. replied.Done) refusal result)
@@ -147,10 +87,10 @@ value_kept {X = X} Keeps write keeps same s result charge s' writes =
           (keeps s.value p.value p.written)
     ]
 
--- so many bytes are written, each of which is paid for
-pub record IsPriced (price : Option (CustomFuelCosts → ℕ)) (written : ℕ) : Type 0 where
-  pub bytes : (written ≡ 0) ⊎ ((n : ℕ) × (size : ℕ) × (price ≡ Some (item_price size n))
-      × (written ≡ cut_product n size))
+-- a number of bytes is written, each of which is paid for
+abbrev pub IsPriced : Option (CustomFuelCosts → ℕ) → ℕ → Type 0
+IsPriced price written = (written ≡ 0)
+    ⊎ ((n : ℕ) × (size : ℕ) × (price ≡ Some (item_price size n)) × (written ≡ cut_product n size))
 
 -- a turn whose write is refused
 pub record IsIdleTurn {S : Type 0} (w : World S) (turn : Turn) (w' : World S) : Type 0 where
@@ -168,6 +108,16 @@ pub record IsPaidTurn {S : Type 0} (price : Option (CustomFuelCosts → ℕ)) (w
   pub meter : w'.state.meter ≡ meter_after w.state.meter turn.charge
   pub limiter : w'.limiter ≡ w.limiter
   pub priced : IsPriced price turn.written
+  pub still : NothingGrows (sizes w.state) (sizes w'.state)
+  pub valid : IsValid w.state → IsValid w'.state
+
+-- What holds of a write over a range, whether it is refused or paid for: a refusal leaves the world, it is charged for
+-- what it writes, the limiter isn't reached, nothing grows, and a valid state stays valid.
+pub record RangeFacts {S : Type 0} (price : Option (CustomFuelCosts → ℕ)) (w : World S) (turn : Turn)
+    (w' : World S) : Type 0 where
+  pub back : IsRefusal turn.reply → w' ≡ w
+  pub charged : turn.charge ≡ writing_charge w.state.meter price turn.reply
+  pub unasked : w'.limiter ≡ w.limiter
   pub still : NothingGrows (sizes w.state) (sizes w'.state)
   pub valid : IsValid w.state → IsValid w'.state
 
@@ -211,75 +161,83 @@ module _ {S X E : Type 0} (w : World S) (r : RangeOf w.state X E) (price : Optio
     (size n : ℕ) (paid : (price ≡ Some (item_price size n)) ⊎ (n ≡ 0)) (turn : Turn) (w' : World S) where
   -- what has become of the part, and of the meter
   abbrev Becomes : (k : ℕ) → Option (X → MeteredWrite X E) → Type 0
-  Becomes k write = ActsMeteredUnasked w turn w' r.slots r.with_part (WritesRangeAt r.refusal k write)
+  Becomes k write = ActsMeteredUnasked w (outcome_of turn) w' r.slots r.with_part (WritesRangeAt r.refusal k write)
       (item_bytes size n)
 
-  -- a write that is refused leaves the world
-  range_idle : (k : ℕ) (write : Option (X → MeteredWrite X E)) (step : Becomes k write)
-      → IsIdle (metered r.slots (Some w.state.meter)) turn.reply turn.charge (metered step.part (Some step.meter))
-      → IsIdleTurn w turn w'
-  range_idle k write step idle =
-      let part = ap (λ (s : MeteredSlots X). s.value) idle.same in
-      let meter = same_Some step.meter w.state.meter (ap (λ (s : MeteredSlots X). s.meter) idle.same) in
-      let whole = ap r.with_part part ∙ r.part.whole in
-      record {
-        refused = idle.refused;
-        uncharged = idle.uncharged;
-        unwritten = step.wrote ∙ refused_bytes size n turn.reply idle.refused;
-        same = step.after
-            ∙ (λ i. record w { state = record (whole i) { meter = meter i } });
-      }
+  module _ (k : ℕ) (write : Option (X → MeteredWrite X E)) (step : Becomes k write) where
+    -- a write that is refused leaves the world
+    range_idle : IsRefusal turn.reply → turn.charge ≡ 0 → step.part ≡ r.slots → Some step.meter ≡ Some w.state.meter
+        → IsIdleTurn w turn w'
+    range_idle refused uncharged part meter =
+        let whole = ap r.with_part part ∙ r.part.whole in
+        let meters = same_Some step.meter w.state.meter meter in
+        record {
+          refused = refused;
+          uncharged = uncharged;
+          unwritten = step.wrote ∙ refused_bytes size n turn.reply refused;
+          same = step.after
+              ∙ (λ i. record w { state = record (whole i) { meter = meters i } });
+        }
 
-  -- a write that is paid for
-  range_paid : (k : ℕ) (write : Option (X → MeteredWrite X E)) (step : Becomes k write) (v : X → MeteredWrite X E)
-      → IsRange r.KeepsValue price r.unpaid v
-      → IsPaid k v (metered r.slots (Some w.state.meter)) turn.reply turn.charge (metered step.part (Some step.meter))
-      → IsPaidTurn price w turn w'
-  range_paid k write step v is p =
-      let m = w.state.meter in
-      let due = ap (optional_due (Some m)) (is.priced p.old) in
-      let charged : turn.charge ≡ optional_due (Some m) price = p.charged ∙ due in
-      let part : step.part ≡ slice_set r.slots k (Live p.new) = ap (λ (s : MeteredSlots X). s.value) p.after in
-      let meter = same_Some step.meter (meter_after m turn.charge) (ap (λ (s : MeteredSlots X). s.meter) p.after) in
-      let keeps : r.KeepsPart step.part =
-      subst r.KeepsPart (sym part) (r.kept k p.old p.new p.found (is.keeps p.old p.new p.written)) in
-      let within : nat_le (optional_due (Some m) (v p.old).price) (amount_left m) ≡ true = p.enough in
-      record {
-        done = p.done;
-        charged = charged;
-        enough = grind (arith, nat_tests, within, p.charged);
-        meter = ap (λ (x : World S). x.state.meter) step.after ∙ meter;
-        limiter = ap (λ (x : World S). x.limiter) step.after;
-        priced = record { bytes = written_by paid };
-        still = λ kind. ap (λ (x : World S). sizes x.state kind) step.after
-            ∙ each_kind (λ kind. sizes (record (r.with_part step.part) { meter = step.meter }) kind
-            ≡ sizes (r.with_part step.part) kind) refl refl kind
-            ∙ r.part.still step.part keeps kind;
-        valid = λ valid. subst (λ (x : World S). IsValid x.state) (sym step.after)
-            (metered_valid (r.with_part step.part) step.meter (r.part.valid step.part keeps valid));
-      }
-    where
-      written_by : (price ≡ Some (item_price size n)) ⊎ (n ≡ 0) → (turn.written ≡ 0)
-          ⊎ ((n : ℕ) × (size : ℕ) × (price ≡ Some (item_price size n)) × (turn.written ≡ cut_product n size))
-      written_by (inl priced) = inr (n, size, priced, step.wrote ∙ ap (item_bytes size n) p.done)
-      written_by (inr none) = inl (step.wrote ∙ no_item size n turn.reply none)
+    -- a write for which an index or a source names nothing leaves the world
+    range_missing : IsNoSuch (metered r.slots (Some w.state.meter)) turn.reply turn.charge
+        (metered step.part (Some step.meter)) → IsIdleTurn w turn w'
+    range_missing none = range_idle (rw none.0 tt) none.1 (ap (λ (s : MeteredSlots X). s.value) none.2)
+        (ap (λ (s : MeteredSlots X). s.meter) none.2)
+
+    module _ (v : X → MeteredWrite X E) (is : IsRange r.KeepsValue price r.unpaid v) where
+      -- a write to the value of an index that is paid for
+      range_paid : (x x' : X) (result : Result (Unit {0}) E) → live_at r.slots k ≡ Some x
+          → turn.reply ≡ reply_of (λ _. replied.Done) r.refusal result → step.part ≡ slice_set r.slots k (Live x')
+          → PaidWrite (v x) (metered x (Some w.state.meter)) result turn.charge (metered x' (Some step.meter))
+          → IsPaidTurn price w turn w'
+      range_paid x x' result found replies put p =
+          let m = w.state.meter in
+          let done = replies ∙ ap (reply_of (λ _. replied.Done) r.refusal) p.is in
+          let part : step.part ≡ slice_set r.slots k (Live p.value) = put
+          ∙ ap (λ (t : MeteredValue X (Unit {0})). slice_set r.slots k (Live t.value)) p.after in
+          let keeps : r.KeepsPart step.part =
+          subst r.KeepsPart (sym part) (r.kept k x p.value found (is.keeps x p.value p.written)) in
+          let within : nat_le (optional_due (Some m) (v x).price) (amount_left m) ≡ true = p.enough in
+          record {
+            done = done;
+            charged = p.charged ∙ ap (optional_due (Some m)) (is.priced x);
+            enough = grind (arith, nat_tests, within, p.charged);
+            meter = ap (λ (y : World S). y.state.meter) step.after ∙ same_Some step.meter (meter_after m turn.charge)
+                (ap (λ (t : MeteredValue X (Unit {0})). t.meter) p.after);
+            limiter = ap (λ (y : World S). y.limiter) step.after;
+            priced = written_by done paid;
+            still = λ kind. ap (λ (y : World S). sizes y.state kind) step.after
+                ∙ each_kind (λ kind. sizes (record (r.with_part step.part) { meter = step.meter }) kind
+                ≡ sizes (r.with_part step.part) kind) refl refl kind
+                ∙ r.part.still step.part keeps kind;
+            valid = λ valid. subst (λ (y : World S). IsValid y.state) (sym step.after)
+                (metered_valid (r.with_part step.part) step.meter (r.part.valid step.part keeps valid));
+          }
+        where
+          written_by : turn.reply ≡ replied.Done → (price ≡ Some (item_price size n)) ⊎ (n ≡ 0)
+              → IsPriced price turn.written
+          written_by done (inl priced) = inr (n, size, priced, step.wrote ∙ ap (item_bytes size n) done)
+          written_by done (inr none) = inl (step.wrote ∙ no_item size n turn.reply none)
+
+      -- a write at an index is refused, or it is paid for
+      range_written : WritesAt r.refusal k v (metered r.slots (Some w.state.meter)) turn.reply turn.charge
+          (metered step.part (Some step.meter)) → IsIdleTurn w turn w' ⊎ IsPaidTurn price w turn w'
+      range_written writes = on_live (live_at r.slots k) _ _ writes (λ missing. inl (range_missing missing))
+          (λ x found h. elim (write_ends v (metered x (Some w.state.meter)) h.0 turn.charge
+          (metered h.1 (Some step.meter)) h.2) [
+            | inl f ↦ inl (range_idle (rw (h.3, f.is) (r.refuses f.cause)) f.uncharged
+                (h.4 ∙ put_back r.slots k x h.1 found (ap (λ (t : MeteredValue X (Unit {0})). t.value) f.same))
+                (ap (λ (t : MeteredValue X (Unit {0})). t.meter) f.same))
+            | inr p ↦ inr (range_paid x h.1 h.0 found h.3 h.4 p)
+          ])
 
   -- a turn that writes over a range is refused, or it is paid for
   range_ends : (k : ℕ) (write : Option (X → MeteredWrite X E))
       → OnLive write (Unit {0}) (IsRange r.KeepsValue price r.unpaid) → Becomes k write
       → IsIdleTurn w turn w' ⊎ IsPaidTurn price w turn w'
-  range_ends k write is step = by_source write is step.effect
-    where
-      by_source : (source : Option (X → MeteredWrite X E)) → OnLive source (Unit {0}) (IsRange r.KeepsValue price r.unpaid)
-          → WritesRangeAt r.refusal k source (metered r.slots (Some w.state.meter)) turn.reply turn.charge
-          (metered step.part (Some step.meter)) → IsIdleTurn w turn w' ⊎ IsPaidTurn price w turn w'
-      by_source None is missing = inl (range_idle k write step
-          (record { refused = rw missing.0 tt; uncharged = missing.1; same = missing.2 }))
-      by_source (Some v) is writes = elim (slot_ends r.refusal r.refuses k v (metered r.slots (Some w.state.meter))
-          turn.reply turn.charge (metered step.part (Some step.meter)) writes) [
-            | inl idle ↦ inl (range_idle k write step idle)
-            | inr p ↦ inr (range_paid k write step v is p)
-          ]
+  range_ends k write is step = on_both write _ _ _ _ is step.effect
+      (λ none missing. inl (range_missing k write step missing)) (range_written k write step)
 
 -- ---- each write over a range
 
@@ -312,7 +270,7 @@ init_pays : (len : ℕ) (none : Bool) → nat_eq len 0 ≡ none → ((if none th
 init_pays len true is = inr (grind (arith, nat_tests, is))
 init_pays len false is = inl refl
 
--- each source pays for its elements, if there are some
+-- a source pays for its elements, if there are some
 source_pays : (source : Source) (len : ℕ)
     → (option_map element_price (paid_from source len) ≡ Some (item_price 4 len)) ⊎ (len ≡ 0)
 source_pays (OfReference value) len = inl refl
@@ -376,8 +334,8 @@ memory_range s = record {
       slot_kept byte_count IsValidMemory s.memories k x x' found keeps.1 (memory_as_long x x' keeps.0 keeps.1);
 }
 
--- A write over so many bytes: what stands before it depends on the type of the memory, and isn't want of memory; what
--- it writes depends on the bytes, and is as long.
+-- A write over so many bytes: what stands before it depends on the type of the memory, and isn't want of memory;
+-- what it writes depends on the bytes, and is as long.
 pub record WritesBytes (len : ℕ) (write : MemoryValue → MemoryWrite) : Type 0 where
   pub early : MemoryTypeValue → Option MemoryError
   pub written : List ℕ → Option (List ℕ)
@@ -428,11 +386,12 @@ range_price (TableWritten k source dst len) = option_map element_price (paid_fro
 range_price (MemoryWritten k source dst len) = Some (item_price 1 len)
 
 module _ {S : Type 0} (w : World S) (write : RangeWrite) (turn : Turn) (w' : World S) where
-  -- each write over a range is refused, or it is paid for
-  pub range_facts : HasRangeWrite write w turn w' → IsIdleTurn w turn w' ⊎ IsPaidTurn (range_price write) w turn w'
+  -- a write over a range is refused, or it is paid for
+  pub range_facts : HasRangeWrite write w (outcome_of turn) w'
+      → IsIdleTurn w turn w' ⊎ IsPaidTurn (range_price write) w turn w'
   range_facts = by_kind write
     where
-      by_kind : (write : RangeWrite) → HasRangeWrite write w turn w'
+      by_kind : (write : RangeWrite) → HasRangeWrite write w (outcome_of turn) w'
           → IsIdleTurn w turn w' ⊎ IsPaidTurn (range_price write) w turn w'
       by_kind (TableWritten k source dst len) step =
           range_ends w (table_range w.state) (option_map element_price (paid_from source len)) 4 len
@@ -441,39 +400,21 @@ module _ {S : Type 0} (w : World S) (write : RangeWrite) (turn : Turn) (w' : Wor
           range_ends w (memory_range w.state) (Some (item_price 1 len)) 1 len (inl refl) turn w' k
           (byte_write_of source dst len) (byte_range source dst len) step
 
-  module _ (step : HasRangeWrite write w turn w') where
-    -- a refused one leaves the world
-    pub range_back : IsRefusal turn.reply → w' ≡ w
-    range_back refused = elim (range_facts step) [
-      | inl idle ↦ idle.same
-      | inr paid ↦ absurd (rw paid.done at refused)
-    ]
-
-    -- it is charged for what it writes
-    pub range_charge : turn.charge ≡ writing_charge w.state.meter (range_price write) turn.reply
-    range_charge = elim (range_facts step) [
-      | inl idle ↦ idle.uncharged
-          ∙ sym (refused_writing w.state.meter (range_price write) turn.reply idle.refused)
-      | inr paid ↦ paid.charged ∙ ap (writing_charge w.state.meter (range_price write)) (sym paid.done)
-    ]
-
-    -- the limiter isn't reached
-    pub range_unasked : w'.limiter ≡ w.limiter
-    range_unasked = elim (range_facts step) [
-      | inl idle ↦ ap (λ (v : World S). v.limiter) idle.same
-      | inr paid ↦ paid.limiter
-    ]
-
-    -- nothing grows
-    pub range_still : NothingGrows (sizes w.state) (sizes w'.state)
-    range_still = elim (range_facts step) [
-      | inl idle ↦ λ kind. ap (λ (v : World S). sizes v.state kind) idle.same
-      | inr paid ↦ paid.still
-    ]
-
-    -- a valid state stays valid
-    pub range_valid : IsValid w.state → IsValid w'.state
-    range_valid valid = elim (range_facts step) [
-      | inl idle ↦ rw idle.same valid
-      | inr paid ↦ paid.valid valid
-    ]
+  -- what holds of a write over a range holds of this one
+  pub range_holds : HasRangeWrite write w (outcome_of turn) w' → RangeFacts (range_price write) w turn w'
+  range_holds step = elim (range_facts step) [
+    | inl idle ↦ record {
+      back = λ refused. idle.same;
+      charged = idle.uncharged ∙ sym (refused_writing w.state.meter (range_price write) turn.reply idle.refused);
+      unasked = ap (λ (v : World S). v.limiter) idle.same;
+      still = λ kind. ap (λ (v : World S). sizes v.state kind) idle.same;
+      valid = λ valid. rw idle.same valid;
+    }
+    | inr paid ↦ record {
+      back = λ refused. absurd (rw paid.done at refused);
+      charged = paid.charged ∙ ap (writing_charge w.state.meter (range_price write)) (sym paid.done);
+      unasked = paid.limiter;
+      still = paid.still;
+      valid = paid.valid;
+    }
+  ]

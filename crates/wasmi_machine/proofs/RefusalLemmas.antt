@@ -1,11 +1,11 @@
 -- What a refused turn leaves.
 use Rattle.std.proofs.Common.{List, None, Option, Some, [], ap, inl, inr, map, refl, subst, sym, ℕ, ◌∙◌, ◌∷◌, ◌≡◌}
-use Rattle.wasmi_machine.proofs.Common.{All-head, All-tail, same_Some, All, if◌then◌else◌, is_some, memory_growth, table_growth, ChangesMeter, AsksFor, At, Exchange, Exchanges, New, Notice, Nowhere, Passes, Permission, Place, RepliesTo, charge_at, writing_price, growth_charge, growth_due, place_of, question_of, writing_charge, Keeps, KeepsMeter, KeepsSpare, RefusalsInRunsKeepContents, SameContents, reply_of, spare_after, Run, Changed, Effect, FuelSet, LentMemoryMade, MemoryGrown, MemoryMade, RangeWritten, Step, TableGrown, TableMade, HasEffect, effect_of, State, memory_part, with_memories, with_tables, Turn, World, Call, NewLentMemory, SetFuel, Reply, MeteredValue, Rules, Meter, meter_after, meter_set, PaysCharge, CustomFuelCosts, on_test, Owned, GrowsMemoryCharging, MakesMemory, GrowsTableCharging, MakesTable, TableValue, same_type, metered_value}
+use Rattle.wasmi_machine.proofs.Common.{All-head, All-tail, same_Some, All, if◌then◌else◌, is_some, memory_growth, table_growth, ChangesMeter, AsksFor, At, Exchange, Exchanges, New, Notice, Nowhere, Passes, Permission, Place, RepliesTo, charge_at, writing_price, growth_charge, growth_due, place_of, question_of, writing_charge, Keeps, KeepsMeter, KeepsSpare, RefusalsInRunsKeepContents, SameContents, reply_of, spare_after, Run, Changed, Effect, FuelSet, LentMemoryMade, MemoryGrown, MemoryMade, RangeWritten, Step, TableGrown, TableMade, HasEffect, effect_of, State, memory_part, with_memories, with_tables, Turn, outcome_of, World, Call, NewLentMemory, SetFuel, Reply, MeteredValue, Rules, Meter, meter_after, meter_set, PaysCharge, CustomFuelCosts, on_test, Owned, GrowsMemoryCharging, MakesMemory, GrowsTableCharging, MakesTable, TableValue, same_type, metered_value}
 use Rattle.wasmi_machine.proofs.MemoryEffectsLemmas.{lent_back, lent_spare}
 use Rattle.wasmi_machine.proofs.EffectLemmas.{acts_back, creates_back, grows_back}
 use Rattle.wasmi_machine.proofs.ExchangeLemmas.{growths_are_permitted, out_of_memory_or_free}
 use Rattle.wasmi_machine.proofs.StepsLemmas.{change_facts}
-use Rattle.wasmi_machine.proofs.RangeLemmas.{range_back, refused_writing}
+use Rattle.wasmi_machine.proofs.RangeLemmas.{range_holds, refused_writing}
 use Rattle.wasmi_machine.proofs.StoreLemmas.{each_turn}
 use Rattle.wasmi_machine.specs.State.{IsRefusal}
 use Rattle.wasmi_meter.proofs.AttemptLemmas.{meter_after_nothing}
@@ -51,8 +51,8 @@ module _ {S : Type 0} (w w' : World S) where
 
 module _ {S : Type 0} (rules : Rules S) (w : World S) (turn : Turn) (w' : World S)
     (refused : IsRefusal turn.reply) where
-  -- each effect
-  effect_back : (effect : Effect) → HasEffect rules effect w turn w'
+  -- a refused effect keeps the contents, and leaves the spare region as its kind says
+  effect_back : (effect : Effect) → HasEffect rules effect w (outcome_of turn) w'
       → SameContents w.state w'.state × LeavesSpare effect turn.reply w.state w'.state
   effect_back (FuelSet fuel) step = paid w w' _ step.after step.effect.1
   effect_back (Changed change) step =
@@ -84,7 +84,7 @@ module _ {S : Type 0} (rules : Rules S) (w : World S) (turn : Turn) (w' : World 
       (λ other. ap (λ (t : MeteredValue TableValue S). t.value) other.2))
       (metered_value w.state.tables (Some w.state.meter) w.limiter)
       (metered_value step.part (Some step.meter) step.limiter) turn.reply turn.charge refused step.effect))
-  effect_back (RangeWritten write) step = kept w w' (range_back w write turn w' step refused) refl
+  effect_back (RangeWritten write) step = kept w w' ((range_holds w write turn w' step).back refused) refl
   effect_back effect step = kept w w' step.after refl
 
 -- a meter of which nothing was taken
@@ -132,7 +132,7 @@ module _ {S : Type 0} (rules : Rules S) (w : World S) (turn : Turn) (w' : World 
   growth_meter at exchange asks passes replies charged takes = stays takes charged
 
   module _ (x : Exchanges rules w turn w') (takes : PaysCharge w.state.meter turn.charge w'.state.meter) where
-    -- by its place
+    -- a refused call in this place keeps the meter
     place_meter : (place : Place) → place_of turn.call ≡ place
         → turn.charge ≡ charge_at place x.exchange w.state.meter (writing_charge w.state.meter
         (writing_price turn.call) turn.reply) → KeepsMeter rules w turn w'
@@ -144,18 +144,18 @@ module _ {S : Type 0} (rules : Rules S) (w : World S) (turn : Turn) (w' : World 
   -- where the fuel was to be set, metering is off
   set_meter : (fuel : ℕ) → turn.call ≡ SetFuel fuel → Step rules w turn w' → w'.state.meter ≡ w.state.meter
   set_meter fuel is step =
-      let sets : HasEffect rules (FuelSet fuel) w turn w' =
-      subst (λ call. HasEffect rules (effect_of w.state call) w turn w') is step in
+      let sets : HasEffect rules (FuelSet fuel) w (outcome_of turn) w' =
+      subst (λ call. HasEffect rules (effect_of w.state call) w (outcome_of turn) w') is step in
       ap (λ (v : World S). v.state.meter) sets.after ∙ (ap (λ (s : State). s.meter) sets.effect.1
       ∙ unset w.state.meter.left w.state.meter.costs fuel turn.reply refused sets.effect.0)
 
-  -- each call
+  -- a refused call keeps the meter
   call_meter : Exchanges rules w turn w' → Step rules w turn w' → (call : Call) → turn.call ≡ call
       → ChangesMeter call w.state.meter turn.charge w'.state.meter → KeepsMeter rules w turn w'
   call_meter x step (SetFuel fuel) is changes = inl (set_meter fuel is step)
   call_meter x step call is changes = place_meter x changes (place_of turn.call) refl x.charged
 
--- each step
+-- a refused step keeps what a refused turn keeps
 pub refusals_keep_contents : {S : Type 0} (rules : Rules S) (w : World S) (turn : Turn) (w' : World S)
     → Step rules w turn w' → IsRefusal turn.reply → Keeps rules w turn w'
 refusals_keep_contents rules w turn w' step refused =
@@ -168,7 +168,7 @@ refusals_keep_contents rules w turn w' step refused =
       meter = call_meter rules w turn w' refused exchanged step turn.call refl exchanged.meter;
     }
 
--- each refused turn of a run keeps what a refused turn keeps
+-- every refused turn of a run keeps what a refused turn keeps
 pub run_refusals_keep_contents : {S : Type 0} (rules : Rules S) → RefusalsInRunsKeepContents rules
 run_refusals_keep_contents rules = each_turn rules _ (refusals_keep_contents rules)
 

@@ -1,9 +1,9 @@
 -- What the replies of a run reveal of its limiter: a run is one under another limiter too, where its replies show it and
 -- the limiter is in states of which this holds.
 use Rattle.std.proofs.Common.{Err, List, Result, Some, [], ap, inl, inr, map, refl, subst, sym, true, ℕ, ◌∙◌, ◌∷◌, ◌≡◌, Ok}
-use Rattle.wasmi_machine.proofs.Common.{All-head, All-tail, All, on_test_too, ActsAt, AddsEntry, Creates, reply_of, Run, BytesRead, Effect, LentMemoryMade, MemoryGrown, MemoryMade, MemoryWritten, RangeWritten, TableGrown, TableMade, TableWritten, HasEffect, Told, effect_of, Step, live_at, Turn, World, Reply, Slot, Live, Attempt, Denied, Request, Failed, AttemptOutcome, Follows, Met, MeteredValue, Unasked, alone, answer_of, error_of_answer, error_of_failure, with_value, Answer, Failure, NoticeAnswer, Question, Rules, TableError, Lent, Owned, Room, Grows, Growth, Makes, metered_value, GrowsMemoryCharging, MemoryValue, new_memory, MemoryTypeValue, GrowsTableCharging, TableValue, new_table, TableTypeValue, same_type, TypedRawRef, RefType, permitting, TellsNoDenial, memory_growth, table_growth}
+use Rattle.wasmi_machine.proofs.Common.{All-head, All-tail, All, on_test_too, grows_too, ActsAt, AddsEntry, Creates, reply_of, Run, BytesRead, Effect, LentMemoryMade, MemoryGrown, MemoryMade, MemoryWritten, RangeWritten, TableGrown, TableMade, TableWritten, HasEffect, Told, effect_of, Step, live_at, Turn, World, Reply, Slot, Live, Attempt, Denied, Request, Failed, AttemptOutcome, Follows, Met, MeteredValue, Unasked, alone, answer_of, error_of_answer, error_of_failure, with_value, Rules, TableError, Lent, Owned, Room, Grows, Growth, Makes, metered_value, GrowsMemoryCharging, MemoryValue, new_memory, MemoryTypeValue, GrowsTableCharging, TableValue, new_table, TableTypeValue, same_type, TypedRawRef, RefType, permitting, TellsNoDenial, memory_growth, table_growth, outcome_of}
 use Rattle.wasmi_machine.proofs.EffectLemmas.{Creation, on_live_too}
-use Rattle.wasmi_machine.proofs.HoldingLemmas.{StaysIn, step_stays, run_stays}
+use Rattle.wasmi_machine.proofs.HoldingLemmas.{Carries, step_stays, run_stays}
 use Rattle.wasmi_machine.proofs.StoreLemmas.{acts_too, asks_too, changes_too, unasked_too}
 use Rattle.wasmi_store.specs.Memory as memory
 use Rattle.wasmi_machine.specs.declared.calls.Reply.TheVariants as replied
@@ -19,13 +19,11 @@ IsErrorOf e (Failed cause notice_answer) c = c ≡ error_of_failure e.refusal ca
 -- the error of an attempt is what is answered
 answered_error : {V E T : Type 0} (e : Request V E) (value : T) (outcome : AttemptOutcome E) (c : E)
     → IsErrorOf e outcome c → answer_of e value outcome ≡ Err c
-answered_error e value (Unasked cause) c is = ap Err (sym is)
-answered_error e value (Denied answer) c is = ap Err (sym is)
 answered_error e value Met c is = absurd is
-answered_error e value (Failed cause notice_answer) c is = ap Err (sym is)
+answered_error e value outcome c is = ap Err (sym is)
 
--- the rules of a limiter and narrower ones, of another limiter in the image of its state, with the replies that show that
--- it keeps to the narrower ones, and the states of the limiter in which they do
+-- the rules of a limiter and narrower ones, of another limiter in the image of its state, with the replies that show
+-- that it keeps to the narrower ones, and the states of the limiter in which they do
 pub record Narrowing (S T : Type 0) : Type 1 where
   pub rules : Rules S
   pub image : S → T
@@ -98,22 +96,13 @@ module _ {S T : Type 0} (n : Narrowing S T) where
       → (s s' : MeteredValue V S) (result : Result ℕ E) (charge : ℕ) → n.within s.limiter
       → n.shown (reply_of replied.Number refusal result) → Grows n.rules g s result charge s'
       → Grows n.narrower g (moved s) result charge (moved s')
-  grows_revealed g refusal reveals s s' result charge within shows (inl none) = inl (record {
-    none = none.none;
-    answered = none.answered;
-    uncharged = none.uncharged;
-    same = ap moved none.same;
-  })
-  grows_revealed g refusal reveals s s' result charge within shows (inr some) =
-      let shown : (c : _) → IsErrorOf g.request some.outcome c → n.shown (refusal c) =
-      λ c error. subst n.shown (ap (reply_of replied.Number refusal)
-      (some.answered ∙ answered_error g.request g.size some.outcome c error)) shows in
-      inr (record {
-        some = some.some;
-        outcome = some.outcome;
-        attempt = attempt_revealed refusal g.request reveals s s' some.outcome charge within shown some.attempt;
-        answered = some.answered;
-      })
+  grows_revealed g refusal reveals s s' result charge within shows =
+      grows_too g g.request (ap moved) (λ outcome answered a. (
+        answered,
+        attempt_revealed refusal g.request reveals s s' outcome charge within
+            (λ c error. subst n.shown (ap (reply_of replied.Number refusal)
+            (answered ∙ answered_error g.request g.size outcome c error)) shows) a,
+      ))
 
   -- the replies to the errors of each attempt show it
   pub record EachReveals : Type 0 where
@@ -137,8 +126,8 @@ module _ {S T : Type 0} (n : Narrowing S T) where
     -- an effect of any call
     module _ (w : World S) (turn : Turn) (w' : World S) (within : n.within w.limiter) (shows : n.shown turn.reply) where
       -- where its reply shows it, an effect under the one rules is one under the others
-      effect_revealed : (effect : Effect) → HasEffect n.rules effect w turn w'
-          → HasEffect n.narrower effect (carried w) turn (carried w')
+      effect_revealed : (effect : Effect) → HasEffect n.rules effect w (outcome_of turn) w'
+          → HasEffect n.narrower effect (carried w) (outcome_of turn) (carried w')
       effect_revealed (MemoryMade ty) step = asks_too step step.part (n.image step.limiter)
           (creates_revealed replied.Memory (memory.creation_of Owned ty) (each.memory_made Owned ty)
           (new_memory Owned ty) w.state.memories w.limiter
@@ -193,15 +182,7 @@ module _ {S T : Type 0} (n : Narrowing S T) where
           (All-tail n.shown turn.reply (map Turn.reply turns) shown) ran,
     )
 
--- a limiter in these states stays in them, and there does what another one may do in the image of its state
-pub record Carries {S T : Type 0} (within : S → Type 0) (image : S → T) (rules : Rules S) (rules' : Rules T)
-    : Type 0 where
-  pub asked : (l : S) (question : Question) (answer : Answer) (l' : S) → within l → rules.asked l question answer l'
-      → within l' × rules'.asked (image l) question answer (image l')
-  pub noticed : (l : S) (failure : Failure) (notice_answer : NoticeAnswer) (l' : S) → within l
-      → rules.noticed l failure notice_answer l' → within l' × rules'.noticed (image l) failure notice_answer (image l')
-
-module _ {S T : Type 0} (within : S → Type 0) (image : S → T) (rules : Rules S) (rules' : Rules T)
+module _ {S T : Type 0} {within : S → Type 0} {image : S → T} {rules : Rules S} {rules' : Rules T}
     (carries : Carries within image rules rules') where
   -- whatever is replied, the first does so in these states
   abbrev carrying : Narrowing S T
@@ -220,19 +201,15 @@ module _ {S T : Type 0} (within : S → Type 0) (image : S → T) (rules : Rules
   -- a run under the first from these states on leaves it in them, and is one under the second
   pub run_carried : (w : World S) (turns : List Turn) (w' : World S) → within w.limiter → Run rules w turns w'
       → within w'.limiter × Run rules' (carried carrying w) turns (carried carrying w')
-  run_carried w turns w' here ran =
-      let stays : StaysIn rules within = record {
-        asked = λ l question answer l' here asks. (carries.asked l question answer l' here asks).0;
-        noticed = λ l failure answer l' here notices. (carries.noticed l failure answer l' here notices).0;
-      } in (
-        run_stays rules within stays w turns w' here ran,
-        run_revealed carrying (record {
-          memory_made = λ room ty. carries_revealed replied.Memory (memory.creation_of room ty);
-          memory_grown = λ x pages. carries_revealed replied.Memory (memory.growth_of x pages);
-          table_made = λ ty init. carries_revealed replied.Table (table.creation_of ty init);
-          table_grown = λ x n reference. carries_revealed replied.Table (table.growth_of x n reference);
-        }) (step_stays rules within stays) w turns w' here (λ k d inside. tt) ran,
-      )
+  run_carried w turns w' here ran = (
+    run_stays carries w turns w' here ran,
+    run_revealed carrying (record {
+      memory_made = λ room ty. carries_revealed replied.Memory (memory.creation_of room ty);
+      memory_grown = λ x pages. carries_revealed replied.Memory (memory.growth_of x pages);
+      table_made = λ ty init. carries_revealed replied.Table (table.creation_of ty init);
+      table_grown = λ x n reference. carries_revealed replied.Table (table.growth_of x n reference);
+    }) (step_stays carries) w turns w' here (λ k d inside. tt) ran,
+  )
 
 module _ {S : Type 0} (rules : Rules S) where
   -- the replies that tell of no denial, in any state of the limiter

@@ -166,7 +166,7 @@ contents_facts without k items Keeps keeps kept = found_facts (set_read items k)
     (λ x reply reply' x' x'' c c'. (c.0 ∙ sym c'.0, c.1 ∙ sym c'.1)) keeps
     (λ x found reply x' c. subst (λ y. Keeps (slice_set items k y)) (sym c.1) (kept x))
 
--- each change of one part
+-- the facts of a change of one part
 pub change_facts : (s : State) (change : Change) → ChangeFacts s (HasChange change s)
 change_facts s (BytesWritten k offset bytes) = change_of (the_memories s) (write_facts k offset bytes s.memories)
 change_facts s (BytesStored k a stored) = change_of (the_memories s) (vector_store_facts k a stored s.memories)

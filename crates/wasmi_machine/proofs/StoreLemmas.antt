@@ -1,35 +1,35 @@
 -- A turn by what its call leaves, and turns one after another.
 use Rattle.std.proofs.Common.{Some, refl, ℕ, ◌∙◌, ◌≡◌, ◌+◌, ◌<◌, List, [], ◌∷◌, ◌++◌, length, take, get_or, map, sym, ap, subst}
-use Rattle.wasmi_machine.proofs.Common.{ActsMetered, ActsMeteredUnasked, Asks, Changes, ChangesPart, IfNoRoom, OnlyReplies, State, Turn, World, world, metered, metered_value, WithCharge, Call, Reply, MeteredValue, Meter, take_more, map-append, Rules, Step, RepliesWith, Sequence, Run, IsRunOf}
+use Rattle.wasmi_machine.proofs.Common.{ActsMetered, ActsMeteredUnasked, Asks, Changes, ChangesPart, IfNoRoom, OnlyReplies, State, Turn, TurnOutcome, World, world, metered, metered_value, WithCharge, Call, Reply, MeteredValue, Meter, take_more, map-append, Rules, Step, RepliesWith, Sequence, Run, IsRunOf}
 
--- a free turn by this call with this reply
-abbrev pub free_turn : Call → Reply → Turn
-free_turn call reply = record { call = call; reply = reply; charge = 0; written = 0 }
+-- a free turn with this reply
+abbrev pub free_outcome : Reply → TurnOutcome
+free_outcome reply = record { reply = reply; charge = 0; written = 0 }
 
 -- a call is answered by a reply: it takes a turn with some charge and some bytes written
-abbrev pub IsAnswered : Call → Reply → (Turn → Type 0) → Type 0
-IsAnswered call reply Takes = (charge : ℕ) × (written : ℕ)
-    × Takes (record { call = call; reply = reply; charge = charge; written = written })
+abbrev pub IsAnswered : Reply → (TurnOutcome → Type 0) → Type 0
+IsAnswered reply Takes =
+    (charge : ℕ) × (written : ℕ) × Takes (record { reply = reply; charge = charge; written = written })
 
-module _ {S : Type 0} {w : World S} {call : Call} {reply : Reply} where
+module _ {S : Type 0} {w : World S} {reply : Reply} where
   -- a turn of a call that only replies
-  pub only_replies : {Relation : Reply → Type 0} → Relation reply → OnlyReplies w (free_turn call reply) w Relation
+  pub only_replies : {Relation : Reply → Type 0} → Relation reply → OnlyReplies w (free_outcome reply) w Relation
   only_replies effect = record { free = (refl, refl); effect = effect; after = refl }
 
   -- a call that only replies is answered
   pub replies : {Relation : Reply → Type 0} → Relation reply
-      → IsAnswered call reply (λ turn. OnlyReplies w turn w Relation)
+      → IsAnswered reply (λ outcome. OnlyReplies w outcome w Relation)
   replies effect = (0, 0, only_replies effect)
 
   -- a call that changes the state is answered
   pub changes : {Relation : Reply → State → Type 0} {s : State} → Relation reply s
-      → IsAnswered call reply (λ turn. Changes w turn (record w { state = s }) Relation)
+      → IsAnswered reply (λ outcome. Changes w outcome (record w { state = s }) Relation)
   changes effect = (0, 0, record { free = (refl, refl); machine = _; effect = effect; after = refl })
 
   module _ {A : Type 0} {with_part : A → State} (part : A) where
     -- a turn of a call that changes one part of the state
     pub changes_part : {Relation : Reply → A → Type 0} → Relation reply part
-        → Changes w (free_turn call reply) (record w { state = with_part part }) (ChangesPart with_part Relation)
+        → Changes w (free_outcome reply) (record w { state = with_part part }) (ChangesPart with_part Relation)
     changes_part effect = record {
       free = (refl, refl);
       machine = _;
@@ -38,23 +38,22 @@ module _ {S : Type 0} {w : World S} {call : Call} {reply : Reply} where
     }
 
     -- a call that changes one part of the state is answered
-    pub alters : {Relation : Reply → A → Type 0} → Relation reply part → IsAnswered call reply
-        (λ turn. Changes w turn (record w { state = with_part part }) (ChangesPart with_part Relation))
+    pub alters : {Relation : Reply → A → Type 0} → Relation reply part → IsAnswered reply
+        (λ outcome. Changes w outcome (record w { state = with_part part }) (ChangesPart with_part Relation))
     alters effect = (0, 0, changes_part effect)
 
     -- a call that makes something under the limiter is answered
     pub asks : {Lacks : Type 0} {Relation : S → Reply → A → S → Type 0} {l : S} → Relation w.limiter reply part l
         → IfNoRoom reply Lacks
-        → IsAnswered call reply (λ turn. Asks w turn (world (with_part part) l) Lacks with_part Relation)
+        → IsAnswered reply (λ outcome. Asks w outcome (world (with_part part) l) Lacks with_part Relation)
     asks effect room =
         (0, 0, record { free = (refl, refl); part = part; limiter = _; effect = effect; room = room; after = refl })
 
-  -- it acts on one part of the state, with some charge
   module _ {A : Type 0} {old : A} {with_part : A → State} {bytes : Reply → ℕ} (part : A) {meter : Meter} where
     -- a call that acts on one part of the state, with some charge, is answered
     pub acts : {Relation : MeteredValue A S → Reply → ℕ → MeteredValue A S → Type 0} {l : S}
         → WithCharge Relation (metered_value old (Some w.state.meter) w.limiter) reply
-        (metered_value part (Some meter) l) → IsAnswered call reply (λ turn. ActsMetered w turn
+        (metered_value part (Some meter) l) → IsAnswered reply (λ outcome. ActsMetered w outcome
         (world (record (with_part part) { meter = meter }) l) old with_part Relation bytes)
     acts (charge, effect) = (
       charge,
@@ -65,24 +64,24 @@ module _ {S : Type 0} {w : World S} {call : Call} {reply : Reply} where
     -- a call that acts on one part, with some charge and without the limiter, is answered
     pub acts_unasked : {Relation : MeteredValue A (Unit {0}) → Reply → ℕ → MeteredValue A (Unit {0}) → Type 0}
         → WithCharge Relation (metered old (Some w.state.meter)) reply (metered part (Some meter))
-        → IsAnswered call reply (λ turn. ActsMeteredUnasked w turn
+        → IsAnswered reply (λ outcome. ActsMeteredUnasked w outcome
         (record w { state = record (with_part part) { meter = meter } }) old with_part Relation bytes)
     acts_unasked (charge, effect) =
         (charge, bytes reply, record { part = part; meter = meter; effect = effect; wrote = refl; after = refl })
 
 -- a turn is one from another world too, also with another limiter, by what it does to that world
-module _ {S T : Type 0} {v v' : World S} {w w' : World T} {turn : Turn} where
+module _ {S T : Type 0} {v v' : World S} {w w' : World T} {outcome : TurnOutcome} where
   -- a turn that changes the state
-  pub changes_too : {Relation Relation' : Reply → State → Type 0} (step : Changes v turn v' Relation) (machine : State)
-      → Relation' turn.reply machine → w' ≡ record w { state = machine } → Changes w turn w' Relation'
+  pub changes_too : {Relation Relation' : Reply → State → Type 0} (step : Changes v outcome v' Relation)
+      (machine : State) → Relation' outcome.reply machine → w' ≡ record w { state = machine } → Changes w outcome w' Relation'
   changes_too step machine effect after = record { free = step.free; machine = machine; effect = effect; after = after }
 
   module _ {A : Type 0} {with_part with_part' : A → State} where
     -- a turn that makes something under the limiter
     pub asks_too : {Lacks Lacks' : Type 0} {Relation : S → Reply → A → S → Type 0}
-        {Relation' : T → Reply → A → T → Type 0} (step : Asks v turn v' Lacks with_part Relation) (part : A) (limiter : T)
-        → Relation' w.limiter turn.reply part limiter → IfNoRoom turn.reply Lacks'
-        → w' ≡ world (with_part' part) limiter → Asks w turn w' Lacks' with_part' Relation'
+        {Relation' : T → Reply → A → T → Type 0} (step : Asks v outcome v' Lacks with_part Relation) (part : A)
+        (limiter : T) → Relation' w.limiter outcome.reply part limiter → IfNoRoom outcome.reply Lacks'
+        → w' ≡ world (with_part' part) limiter → Asks w outcome w' Lacks' with_part' Relation'
     asks_too step part limiter effect room after = record {
       free = step.free;
       part = part;
@@ -95,11 +94,11 @@ module _ {S T : Type 0} {v v' : World S} {w w' : World T} {turn : Turn} where
     -- a turn that acts on one part of the state, with a charge
     pub acts_too : {old old' : A} {Relation : MeteredValue A S → Reply → ℕ → MeteredValue A S → Type 0}
         {Relation' : MeteredValue A T → Reply → ℕ → MeteredValue A T → Type 0} {bytes bytes' : Reply → ℕ}
-        (step : ActsMetered v turn v' old with_part Relation bytes) (part : A) (meter : Meter) (limiter : T)
-        → Relation' (metered_value old' (Some w.state.meter) w.limiter) turn.reply turn.charge
-        (metered_value part (Some meter) limiter) → bytes turn.reply ≡ bytes' turn.reply
+        (step : ActsMetered v outcome v' old with_part Relation bytes) (part : A) (meter : Meter) (limiter : T)
+        → Relation' (metered_value old' (Some w.state.meter) w.limiter) outcome.reply outcome.charge
+        (metered_value part (Some meter) limiter) → bytes outcome.reply ≡ bytes' outcome.reply
         → w' ≡ world (record (with_part' part) { meter = meter }) limiter
-        → ActsMetered w turn w' old' with_part' Relation' bytes'
+        → ActsMetered w outcome w' old' with_part' Relation' bytes'
     acts_too step part meter limiter effect same after = record {
       part = part;
       meter = meter;
@@ -112,10 +111,10 @@ module _ {S T : Type 0} {v v' : World S} {w w' : World T} {turn : Turn} where
     -- a turn that acts on one part of the state, with a charge and without the limiter
     pub unasked_too : {old old' : A}
         {Relation Relation' : MeteredValue A (Unit {0}) → Reply → ℕ → MeteredValue A (Unit {0}) → Type 0}
-        {bytes : Reply → ℕ} (step : ActsMeteredUnasked v turn v' old with_part Relation bytes) (part : A) (meter : Meter)
-        → Relation' (metered old' (Some w.state.meter)) turn.reply turn.charge (metered part (Some meter))
+        {bytes : Reply → ℕ} (step : ActsMeteredUnasked v outcome v' old with_part Relation bytes) (part : A)
+        (meter : Meter) → Relation' (metered old' (Some w.state.meter)) outcome.reply outcome.charge (metered part (Some meter))
         → w' ≡ record w { state = record (with_part' part) { meter = meter } }
-        → ActsMeteredUnasked w turn w' old' with_part' Relation' bytes
+        → ActsMeteredUnasked w outcome w' old' with_part' Relation' bytes
     unasked_too step part meter effect after =
         record { part = part; meter = meter; effect = effect; wrote = step.wrote; after = after }
 

@@ -26,7 +26,7 @@ module _ (index : ℕ) (value : TypedRawRef) (x : TableValue) where
   abbrev set_error : Bool → TableError
   set_error typed = if typed then SetOutOfBounds else ElementTypeMismatch
 
-  -- by whether the types are the same
+  -- an element is put or refused by whether the types are the same
   set_puts : (result : Result (Unit {0}) TableError) (x' : TableValue) (typed : Bool)
       → MatchBool typed (SetsTableRaw index value.raw x result x') ((result ≡ Err ElementTypeMismatch) × (x' ≡ x))
       → PutsOr (elements_set typed) (with_elements x) (set_error typed) x result x'

@@ -1,13 +1,13 @@
 -- Where each notice is accepted, the replies show whether anybody is told of want of memory.
-use Rattle.std.proofs.Common.{◌≡◌, ◌∙◌, Option, Some, None, Ok, true, List, [], ◌∷◌, map, refl, sym, ap, subst}
-use Rattle.wasmi_machine.proofs.Common.{All-nil, All-cons, All-head, All-tail, All, MemoryError, TableError, MemoryFailure, TableFailure, Rules, AskedIf, NoticedIf, unlimited_rules, optional_rules, quota_rules, Request, Failed, error_of_failure, Call, Reply, World, Turn, Run, IsRunOf, AcceptsNotices, StaysAccepting, IsIn, IsOtherFailure, IsDeterministic, never_out_of_memory, IsNotOutOfMemory, AreNotOutOfMemory}
+use Rattle.std.proofs.Common.{◌≡◌, ◌∙◌, Option, Some, None, Ok, true, List, map, refl, sym, ap, subst}
+use Rattle.wasmi_machine.proofs.Common.{All, MemoryError, TableError, MemoryFailure, TableFailure, Rules, AskedIf, NoticedIf, unlimited_rules, optional_rules, quota_rules, Request, Failed, error_of_failure, Call, Reply, World, Turn, Run, IsRunOf, AcceptsNotices, StaysAccepting, IsIn, IsOtherFailure, IsDeterministic, never_out_of_memory, IsNotOutOfMemory, AreNotOutOfMemory}
 use Rattle.wasmi_meter.specs.declared.error.MemoryError.TheVariants as memerr
 use Rattle.wasmi_meter.specs.declared.error.TableError.TheVariants as taberr
 use Rattle.wasmi_store.specs.Memory as memory
 use Rattle.wasmi_store.specs.Table as table
 use Rattle.wasmi_machine.specs.declared.calls.Reply.TheVariants as replied
 use Rattle.wasmi_machine.proofs.DeterminismLemmas as determinism
-use Rattle.wasmi_machine.proofs.HoldingLemmas.{if_there, step_stays}
+use Rattle.wasmi_machine.proofs.HoldingLemmas.{Carries, if_there, step_stays}
 use Rattle.wasmi_machine.proofs.RevealingLemmas.{Narrowing, Reveals, run_revealed}
 
 -- an error of which a reply that has memory tells is no want of it
@@ -46,6 +46,13 @@ module _ {S : Type 0} (rules : Rules S) (IsAccepting : S → Type 0) (stays : St
       )
   want_revealed refusal e nowant outcome l l' within shown f = f
 
+  -- the limiter stays in these states
+  accepting : Carries IsAccepting (λ l. l) rules rules
+  accepting = record {
+    asked = λ l question answer l' within asks. (stays.asked l question answer l' within asks, asks);
+    noticed = λ l failure answer l' within notices. ((stays.noticed l failure answer l' within notices).1, notices);
+  }
+
   -- a run whose replies have memory is one under these rules
   pub told_run : (w : World S) (turns : List Turn) (w' : World S) → IsAccepting w.limiter
       → All IsNotOutOfMemory (map Turn.reply turns) → Run rules w turns w' → Run (never_out_of_memory rules) w turns w'
@@ -55,29 +62,12 @@ module _ {S : Type 0} (rules : Rules S) (IsAccepting : S → Type 0) (stays : St
         memory_grown = λ x pages. want_revealed replied.Memory (memory.growth_of x pages) no_memory;
         table_made = λ ty init. want_revealed replied.Table (table.creation_of ty init) no_table;
         table_grown = λ x n reference. want_revealed replied.Table (table.growth_of x n reference) no_table;
-      }) (step_stays rules IsAccepting (record {
-        asked = stays.asked;
-        noticed = λ l failure answer l' within notices. (stays.noticed l failure answer l' within notices).1;
-      }))
+      }) (step_stays accepting)
 
--- turns whose replies have memory, and their replies
-all_shown : (turns : List Turn) → AreNotOutOfMemory turns → All IsNotOutOfMemory (map Turn.reply turns)
-all_shown [] have = All-nil IsNotOutOfMemory
-all_shown (turn ∷ turns) have =
-    All-cons IsNotOutOfMemory turn.reply (map Turn.reply turns) have.0 (all_shown turns have.1)
-
--- and the other way round
-all_have : (turns : List Turn) → All IsNotOutOfMemory (map Turn.reply turns) → AreNotOutOfMemory turns
-all_have [] has = tt
-all_have (turn ∷ turns) has = (
-  All-head IsNotOutOfMemory turn.reply (map Turn.reply turns) has,
-  all_have turns (All-tail IsNotOutOfMemory turn.reply (map Turn.reply turns) has),
-)
-
--- turns whose replies do not say out of memory do not either
+-- no reply of turns says out of memory, where the replies are these and none of them does
 pub replies_have : (turns : List Turn) (replies : List Reply) → map Turn.reply turns ≡ replies
     → All IsNotOutOfMemory replies → AreNotOutOfMemory turns
-replies_have turns replies is has = all_have turns (subst (All IsNotOutOfMemory) (sym is) has)
+replies_have turns replies is = subst (All IsNotOutOfMemory) (sym is)
 
 -- a limiter that accepts each notice does so in any state
 pub accepts_always : {S : Type 0} (rules : Rules S) → AcceptsNotices rules → StaysAccepting rules (λ l. Unit {0})
@@ -86,27 +76,12 @@ accepts_always rules accepts = record {
   noticed = λ l failure notice_answer l' within notices. (accepts l failure notice_answer l' notices, tt);
 }
 
--- a limiter that may be absent stays in the states in which the limiter stays
-module _ {L : Type 0} (rules : Rules L) (IsAccepting : L → Type 0) (stays : StaysAccepting rules IsAccepting) where
-  -- by each question, and by each notice
-  optional_stays : StaysAccepting (optional_rules rules) (IsIn IsAccepting)
-  optional_stays = record {
-    asked = λ l question answer l' within asks. if_there (λ l l'. AskedIf rules l question answer l')
-        (λ l l'. IsIn IsAccepting l → IsIn IsAccepting l')
-        (λ l l' asks within. stays.asked l question answer l' within asks) (λ permits within. within)
-        (λ l. (λ h. h, λ h. h)) l l' asks within;
-    noticed = λ l failure notice_answer l' within notices. if_there (λ l l'. NoticedIf rules l failure notice_answer l')
-        (λ l l'. IsIn IsAccepting l → (notice_answer ≡ Ok tt) × IsIn IsAccepting l')
-        (λ l l' notices within. stays.noticed l failure notice_answer l' within notices)
-        (λ accepts within. (accepts, within)) (λ l. (λ h. h, λ h. h)) l l' notices within;
-  }
-
 -- a limiter that may be absent accepts each notice if the limiter does
 pub optional_accepts : {L : Type 0} (rules : Rules L) → AcceptsNotices rules → AcceptsNotices (optional_rules rules)
-optional_accepts rules accepts l failure notice_answer l' notices =
-    if_there (λ l l'. NoticedIf rules l failure notice_answer l') (λ l l'. notice_answer ≡ Ok tt)
-    (λ l l' notices. accepts l failure notice_answer l' notices) (λ accepts. accepts) (λ l. (λ h. h, λ h. h)) l l'
-    notices
+optional_accepts rules accepts (Some l) failure notice_answer (Some l') notices =
+    accepts l failure notice_answer l' notices
+optional_accepts rules accepts None failure notice_answer None notices = notices
+optional_accepts rules accepts l failure notice_answer l' notices = absurd notices
 
 -- the limiter that permits everything
 pub unlimited_accepts : {S : Type 0} → AcceptsNotices (unlimited_rules {S = S})
@@ -124,13 +99,18 @@ pub record SeenRun {S : Type 0} (rules : Rules S) (calls : List Call) (w : World
   pub ran : IsRunOf rules calls w replies after
 
 module _ {L : Type 0} (rules : Rules L) (IsAccepting : L → Type 0) (stays : StaysAccepting rules IsAccepting) where
-  -- a run under a limiter that may be absent has no notice that says out of memory
-  accepted_runs : (w : World (Option L)) (turns : List Turn) (w' : World (Option L)) → IsIn IsAccepting w.limiter
-      → AreNotOutOfMemory turns → Run (optional_rules rules) w turns w'
-      → Run (never_out_of_memory (optional_rules rules)) w turns w'
-  accepted_runs w turns w' within have =
-      told_run (optional_rules rules) (IsIn IsAccepting) (optional_stays rules IsAccepting stays) w turns w' within
-      (all_shown turns have)
+  -- a limiter that may be absent stays in the states in which the limiter stays
+  optional_stays : StaysAccepting (optional_rules rules) (IsIn IsAccepting)
+  optional_stays = record {
+    asked = λ l question answer l' within asks. if_there (λ l l'. AskedIf rules l question answer l')
+        (λ l l'. IsIn IsAccepting l → IsIn IsAccepting l')
+        (λ l l' asks within. stays.asked l question answer l' within asks) (λ permits within. within)
+        (λ l. (λ h. h, λ h. h)) l l' asks within;
+    noticed = λ l failure notice_answer l' within notices. if_there (λ l l'. NoticedIf rules l failure notice_answer l')
+        (λ l l'. IsIn IsAccepting l → (notice_answer ≡ Ok tt) × IsIn IsAccepting l')
+        (λ l l' notices within. stays.noticed l failure notice_answer l' within notices)
+        (λ accepts within. (accepts, within)) (λ l. (λ h. h, λ h. h)) l l' notices within;
+  }
 
   -- two runs of the same calls, as a host sees them
   pub accepted_replies_are_one : IsDeterministic rules → (calls : List Call) (w : World (Option L))
@@ -141,10 +121,11 @@ module _ {L : Type 0} (rules : Rules L) (IsAccepting : L → Type 0) (stays : St
       let (turns', made', told', ran') = b.ran in
       let have = replies_have turns a.replies told a.has in
       let have' = replies_have turns' b.replies told' b.has in
+      let never = told_run (optional_rules rules) (IsIn IsAccepting) optional_stays in
       let one =
       determinism.runs_are_one (optional_rules rules) (determinism.optional_unique rules once) w turns turns' a.after
-      b.after (made ∙ sym made') have have' (accepted_runs w turns a.after within have ran)
-      (accepted_runs w turns' b.after within have' ran') in
+      b.after (made ∙ sym made') have have' (never w turns a.after within have ran)
+      (never w turns' b.after within have' ran') in
       (sym told ∙ ap (map Turn.reply) one.0 ∙ told', one.1)
 
 -- any limiter is in a state of which nothing is said
@@ -156,8 +137,8 @@ module _ {L : Type 0} (rules : Rules L) (accepts : AcceptsNotices rules) where
   -- a run whose replies have memory, under a limiter that accepts each notice
   pub told_runs : (w : World (Option L)) (turns : List Turn) (w' : World (Option L)) → AreNotOutOfMemory turns
       → Run (optional_rules rules) w turns w' → Run (never_out_of_memory (optional_rules rules)) w turns w'
-  told_runs w turns w' =
-      accepted_runs rules (λ l. Unit {0}) (accepts_always rules accepts) w turns w' (any_state w.limiter)
+  told_runs w turns w' = told_run (optional_rules rules) (IsIn (λ l. Unit {0}))
+      (optional_stays rules (λ l. Unit {0}) (accepts_always rules accepts)) w turns w' (any_state w.limiter)
 
   -- two runs of the same calls under such a limiter
   pub replies_are_one : IsDeterministic rules → (calls : List Call) (w : World (Option L))

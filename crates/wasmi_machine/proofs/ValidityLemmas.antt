@@ -1,8 +1,8 @@
 -- What each turn does to a valid state: it stays valid.
-use Rattle.std.proofs.Common.{List, Option, [], ap, map, subst, sym, ℕ, ◌∷◌, ◌≡◌}
-use Rattle.wasmi_machine.proofs.Common.{All-head, All-tail, All, reply_of, Run, RepliesWith, Changed, Effect, FuelSet, LentMemoryMade, MemoryGrown, MemoryMade, RangeWritten, TableGrown, TableMade, HasEffect, effect_of, MemoryPart, State, IsValid, IsValidCall, Turn, World, Call, NewMemory, Reply, Slot, Rules, Meter, Lent, Owned, GrowsMemoryCharging, IsValidMemory, MakesMemory, MemoryValue, GrowsTableCharging, IsValidTable, MakesTable, TableValue}
+use Rattle.std.proofs.Common.{List, Option, [], ap, map, subst, sym, ℕ, ◌∙◌, ◌∷◌, ◌≡◌}
+use Rattle.wasmi_machine.proofs.Common.{All-head, All-tail, All, reply_of, Run, RepliesWith, Changed, Effect, FuelSet, LentMemoryMade, MemoryGrown, MemoryMade, RangeWritten, TableGrown, TableMade, HasEffect, effect_of, MemoryPart, State, IsValid, IsValidCall, Turn, outcome_of, World, Call, NewMemory, Reply, Slot, Rules, Meter, Lent, Owned, GrowsMemoryCharging, IsValidMemory, MakesMemory, MemoryValue, GrowsTableCharging, IsValidTable, MakesTable, TableValue}
 use Rattle.wasmi_machine.proofs.EffectLemmas.{AllValid, acts_valid, creates_valid, on_live}
-use Rattle.wasmi_machine.proofs.RangeLemmas.{range_valid}
+use Rattle.wasmi_machine.proofs.RangeLemmas.{range_holds}
 use Rattle.wasmi_machine.proofs.StepsLemmas.{change_facts}
 use Rattle.wasmi_store.specs.Memory as memory_type
 use Rattle.wasmi_machine.specs.declared.calls.Reply.TheVariants as replied
@@ -23,7 +23,7 @@ names_valid s call valid = valid
 
 -- the state with other memories or tables, and another meter
 module _ (s : State) (valid : IsValid s) (meter : Meter) where
-  -- with other memories that are valid, it is valid
+  -- with other memories that are valid, a state is valid
   memories_valid : (memories : List (Slot MemoryValue)) (spare : Option (List ℕ)) → AllValid IsValidMemory memories
       → (s' : State) → s' ≡ record s { memories = memories; meter = meter; spare = spare } → IsValid s'
   memories_valid memories spare h s' is =
@@ -44,15 +44,11 @@ module _ {S : Type 0} (rules : Rules S) (w : World S) (turn : Turn) (w' : World 
   abbrev now : World S → State
   now v = v.state
 
-  -- each effect
-  effect_valid : (effect : Effect) → IsValidEffect effect → HasEffect rules effect w turn w' → IsValid w'.state
-  effect_valid (FuelSet fuel) typed step = rw (ap now step.after, step.effect.1)
-      (record {
-        memories = valid.memories;
-        tables = valid.tables;
-        segments = valid.segments;
-        registers = valid.registers;
-      })
+  -- an effect leads to a valid state, where the type that it names is valid
+  effect_valid : (effect : Effect) → IsValidEffect effect → HasEffect rules effect w (outcome_of turn) w'
+      → IsValid w'.state
+  effect_valid (FuelSet fuel) typed step =
+      tables_valid w.state valid _ w.state.tables valid.tables w'.state (ap now step.after ∙ step.effect.1)
   effect_valid (Changed change) typed step =
       rw (ap now step.after) ((change_facts w.state change).valid turn.reply step.machine valid step.effect)
   effect_valid (MemoryMade ty) typed step = memories_valid w.state valid m step.part w.state.spare
@@ -77,7 +73,7 @@ module _ {S : Type 0} (rules : Rules S) (w : World S) (turn : Turn) (w' : World 
       (acts_valid IsValidTable k (reply_of replied.Number replied.Table) (GrowsTableCharging rules n init)
       (λ s s' result charge h grows. store.grown_table_is_valid rules n init s result charge s' h grows)
       _ _ turn.reply turn.charge step.effect valid.tables) w'.state (ap now step.after)
-  effect_valid (RangeWritten write) typed step = range_valid w write turn w' step valid
+  effect_valid (RangeWritten write) typed step = (range_holds w write turn w' step).valid valid
   effect_valid effect typed step = rw (ap now step.after) valid
 
 -- a call that is answered leads from a valid state to a valid one, where the type that it names is valid

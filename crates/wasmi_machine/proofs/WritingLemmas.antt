@@ -1,8 +1,8 @@
--- What each turn writes, and what it is charged for that.
-use Rattle.std.proofs.Common.{Bool, Err, List, None, Ok, Option, Result, Some, [], ap, arith, false, inl, inr, refl, subst, true, ℕ, ◌*◌, ◌+◌, ◌-◌, ◌/◌, ◌<◌, ◌^◌, ◌∙◌, ◌∷◌, ◌≡◌, ◌≤◌}
+-- What each turn writes, what it is charged for that, and what calls that don't set the fuel were charged.
+use Rattle.std.proofs.Common.{Bool, Err, List, None, Ok, Option, Result, Some, [], ap, arith, false, inl, inr, map, refl, subst, true, ℕ, ◌*◌, ◌+◌, ◌-◌, ◌/◌, ◌<◌, ◌^◌, ◌∙◌, ◌∷◌, ◌≡◌, ◌≤◌}
 use Rattle.std.proofs.Math.Nat.{add-mul, lt-div-mul-add, mul-add, mul-le-mul_left, mul_comm}
-use Rattle.wasmi_machine.proofs.Common.{ChangesMeter, and_parts, nat_tests, sum_by-cons, option_map, option_map_or, cond, if◌then◌else◌, is_some, nat_eq, nat_le, nat_lt, ◌&&◌, bytes_appended, IsBounded, amount_set, amounts_set, bytes_written, charges_for_writing, has_written, is_accepted, writing_turns, ActsAt, reply_of, Run, Effect, MemoryGrown, HasRangeWrite, RangeWrite, RangeWritten, TableGrown, HasEffect, effect_of, is_charged, State, live_at, Turn, World, element_bytes, Grows, Growth, Call, SetFuel, Reply, Slot, Denied, Failed, AttemptOutcome, MayEnd, Met, Unasked, optional_due, answer_of, outcome_charge, copy_cost, cut_product, Meter, due, Rules, MemoryError, TableError, CustomFuelCosts, on_test, GrowsMemoryCharging, MemoryValue, pages_of, greatest_pages, in_bounds, page_bytes, GrowsTableCharging, TableValue, same_type, TypedRawRef, memory_growth, table_growth}
-use Rattle.wasmi_machine.proofs.AccountLemmas.{Growing, after, before, growing, charged_value, rest_left, costs_kept, step_meter}
+use Rattle.wasmi_machine.proofs.Common.{All, All-head, All-tail, Account, ChangesMeter, IsSpent, SetsNoFuel, account_after, and_parts, charged_by, charges, opened, nat_tests, sum_by-cons, option_map, option_map_or, cond, if◌then◌else◌, is_some, nat_eq, nat_le, nat_lt, ◌&&◌, bytes_appended, IsBounded, amount_set, amounts_set, bytes_written, charges_for_writing, has_written, is_accepted, writing_turns, ActsAt, reply_of, Run, Effect, MemoryGrown, HasRangeWrite, RangeWrite, RangeWritten, TableGrown, HasEffect, effect_of, is_charged, State, live_at, Turn, World, element_bytes, Grows, Growth, Call, SetFuel, Reply, Slot, AttemptOutcome, MayEnd, Met, optional_due, answer_of, outcome_charge, copy_cost, cut_product, Meter, Rules, MemoryError, TableError, CustomFuelCosts, on_test, GrowsMemoryCharging, MemoryValue, pages_of, greatest_pages, in_bounds, page_bytes, GrowsTableCharging, TableValue, same_type, TypedRawRef, memory_growth, table_growth, outcome_of, MeteredValue, with_value}
+use Rattle.wasmi_machine.proofs.AccountLemmas.{fuel_balances, rest_left, costs_kept, step_meter}
 use Rattle.wasmi_machine.proofs.EffectLemmas.{on_live}
 use Rattle.wasmi_machine.proofs.RangeLemmas.{IsPriced, range_facts, range_price}
 use Rattle.wasmi_machine.specs.declared.calls.Reply.TheVariants as replied
@@ -15,17 +15,18 @@ rate m = m.costs.bytes_copied_per_fuel
 abbrev counted : Bool → ℕ → ℕ
 counted wrote n = if wrote then n else 0
 
--- a charge pays for what was written, and one that counts as a charge for writing for less than a fuel's worth beyond it
-abbrev PaysFor : Meter → ℕ → ℕ → Bool → Type 0
-PaysFor m charge written wrote = (left : ℕ) → m.left ≡ Some left → 0 < rate m
+-- where there is a meter that is on, a charge pays for what was written, and one that counts as a charge for writing for
+-- less than a fuel's worth beyond it
+abbrev PaysFor : Option Meter → ℕ → ℕ → Bool → Type 0
+PaysFor optional charge written wrote = (m : Meter) → optional ≡ Some m → (left : ℕ) → m.left ≡ Some left → 0 < rate m
     → written ≤ rate m * counted wrote charge + counted wrote (rate m - 1)
 
 -- any charge pays for nothing
-unwritten : (m : Meter) (charge written : ℕ) (wrote : Bool) → written ≡ 0 → PaysFor m charge written wrote
-unwritten m charge written wrote none left on rated = omega (arith, none)
+unwritten : (m : Option Meter) (charge written : ℕ) (wrote : Bool) → written ≡ 0 → PaysFor m charge written wrote
+unwritten optional charge written wrote none m is left on rated = omega (arith, none)
 
 -- a part of a number
-pub part_of : (counts : Bool) (n : ℕ) → counted counts n ≤ n
+part_of : (counts : Bool) (n : ℕ) → counted counts n ≤ n
 part_of true n = omega arith
 part_of false n = omega arith
 
@@ -49,33 +50,34 @@ price_pays rate n cost false free rated is =
     omega (arith, over, turned, rated)
 
 -- what is due for so many bytes pays for them
-due_pays : (m : Meter) (values size charge : ℕ) → charge ≡ due m (λ costs. copy_cost costs values size)
+due_pays : (m : Option Meter) (values size charge : ℕ)
+    → charge ≡ optional_due m (Some (λ costs. copy_cost costs values size))
     → PaysFor m charge (cut_product values size) true
-due_pays m values size charge is left on rated = price_pays (rate m) (cut_product values size) charge _ refl rated
-    (is ∙ ap (λ (o : Option ℕ). if is_some o then copy_cost m.costs values size else 0) on)
+due_pays optional values size charge charged m is left on rated =
+    price_pays (rate m) (cut_product values size) charge _ refl rated
+    (charged ∙ ap (λ m. optional_due m (Some (λ costs. copy_cost costs values size))) is
+    ∙ ap (λ (o : Option ℕ). if is_some o then copy_cost m.costs values size else 0) on)
 
-module _ {V E S : Type 0} (rules : Rules S) (g : Growth V E) (t : Growing V S) where
+module _ {V E S : Type 0} (rules : Rules S) (g : Growth V E) (s s' : MeteredValue V S) (charge : ℕ) where
   -- a growth with this result
   abbrev Grown : Result ℕ E → Type 0
-  Grown result = Grows rules g (before t) result t.charge (after t)
+  Grown result = Grows rules g s result charge s'
 
   -- an accepted growth, whose charge pays for so many bytes where nothing stood in its way
   module _ (bytes : ℕ) (none : g.amount ≡ 0 → bytes ≡ 0)
-      (bound : g.request.early ≡ None → t.charge ≡ optional_due (Some t.first.meter) g.request.price
-      → PaysFor t.first.meter t.charge bytes true) where
+      (bound : g.request.early ≡ None → charge ≡ optional_due s.meter g.request.price
+      → PaysFor s.meter charge bytes true) where
     -- the charge pays for the bytes
-    met_bound : (size : ℕ) → Grown (Ok size) → PaysFor t.first.meter t.charge bytes true
-    met_bound size (inl grows) = unwritten t.first.meter t.charge bytes true (none grows.none)
+    met_bound : (size : ℕ) → Grown (Ok size) → PaysFor s.meter charge bytes true
+    met_bound size (inl grows) = unwritten s.meter charge bytes true (none grows.none)
     met_bound size (inr grows) =
         by_outcome grows.outcome grows.attempt.may_end grows.attempt.charged grows.answered
       where
-        by_outcome : (outcome : AttemptOutcome E) → MayEnd g.request (Some t.first.meter) outcome
-            → t.charge ≡ outcome_charge g.request (Some t.first.meter) outcome
-            → Ok size ≡ answer_of g.request g.size outcome → PaysFor t.first.meter t.charge bytes true
-        by_outcome (Unasked cause) may charged answered = absurd cc
-        by_outcome (Denied answer) may charged answered = absurd cc
+        by_outcome : (outcome : AttemptOutcome E) → MayEnd g.request s.meter outcome
+            → charge ≡ outcome_charge g.request s.meter outcome
+            → Ok size ≡ answer_of g.request g.size outcome → PaysFor s.meter charge bytes true
         by_outcome Met may charged answered = bound may.0 charged
-        by_outcome (Failed cause notice_answer) may charged answered = absurd cc
+        by_outcome outcome may charged answered = absurd cc
 
 -- a growth of a memory
 added_fits : (b c : Bool) (x : MemoryValue) (pages : ℕ)
@@ -96,35 +98,31 @@ pub early_none : {E : Type 0} (test : Bool) (cause : E) → (if test then None e
 early_none true cause is = refl
 early_none false cause is = absurd cc
 
-module _ {S : Type 0} (rules : Rules S) (pages : ℕ) (t : Growing MemoryValue S) where
+module _ {S : Type 0} (rules : Rules S) (pages : ℕ) (s s' : MeteredValue MemoryValue S) (charge : ℕ) where
   -- the growth
   abbrev growth : Growth MemoryValue MemoryError
-  growth = memory_growth pages t.first.value
+  growth = memory_growth pages s.value
 
   -- its charge pays for its bytes
-  memory_bound : growth.request.early ≡ None → t.charge ≡ optional_due (Some t.first.meter) growth.request.price
-      → PaysFor t.first.meter t.charge (pages * page_bytes t.first.value.ty.page) true
-  memory_bound early charged left on rated =
-      let x = t.first.value in
+  memory_bound : growth.request.early ≡ None → charge ≡ optional_due s.meter growth.request.price
+      → PaysFor s.meter charge (pages * page_bytes s.value.ty.page) true
+  memory_bound early charged m is left on rated =
+      let x = s.value in
       let fits = added_fits (nat_le (pages_of x + pages) (greatest_pages x.ty))
       (option_map_or (λ maximum. nat_le (pages_of x + pages) maximum) x.ty.maximum true) x pages
       (early_none (in_bounds x.ty (pages_of x + pages)) MemoryError.OutOfBoundsGrowth early) in
       let bytes = pages * page_bytes x.ty.page in
-      let paid : cut_product bytes 1 ≤ rate t.first.meter * t.charge + (rate t.first.meter - 1) =
-      due_pays t.first.meter bytes 1 t.charge charged left on rated in
+      let paid : cut_product bytes 1 ≤ rate m * charge + (rate m - 1) =
+      due_pays s.meter bytes 1 charge charged m is left on rated in
       omega (arith, fits, paid)
 
   -- its charge pays for what it has written, by its result
-  memory_result : (result : Result ℕ MemoryError) → Grown rules growth t result → PaysFor t.first.meter t.charge
-      (bytes_appended (Some t.first.value) pages (reply_of replied.Number replied.Memory result))
+  memory_result : (result : Result ℕ MemoryError) → Grown rules growth s s' charge result → PaysFor s.meter charge
+      (bytes_appended (Some s.value) pages (reply_of replied.Number replied.Memory result))
       (is_accepted (reply_of replied.Number replied.Memory result))
-  memory_result (Ok size) grows = met_bound rules growth t (pages * page_bytes t.first.value.ty.page)
-      (λ none. ap (λ n. n * page_bytes t.first.value.ty.page) none ∙ omega arith) memory_bound size grows
-  memory_result (Err error) grows = unwritten t.first.meter t.charge 0 false refl
-
--- the growth of one value among others, by the same charge
-abbrev grown_to : {V W S : Type 0} → Growing W S → V → V → Growing V S
-grown_to t x x' = record { first = charged_value t.first x; charge = t.charge; last = charged_value t.last x' }
+  memory_result (Ok size) grows = met_bound rules growth s s' charge (pages * page_bytes s.value.ty.page)
+      (λ none. ap (λ n. n * page_bytes s.value.ty.page) none ∙ omega arith) memory_bound size grows
+  memory_result (Err error) grows = unwritten s.meter charge 0 false refl
 
 -- nothing is appended where there is no memory
 nothing_appended : (o : Option MemoryValue) (pages : ℕ) → bytes_appended o pages replied.NoSuch ≡ 0
@@ -132,50 +130,51 @@ nothing_appended None pages = refl
 nothing_appended (Some x) pages = refl
 
 -- a growth of the memory of an index
-memory_growth_writes : {S : Type 0} (rules : Rules S) (k pages : ℕ) (t : Growing (List (Slot MemoryValue)) S)
-    (reply : Reply)
-    → ActsAt k (reply_of replied.Number replied.Memory) (GrowsMemoryCharging rules pages) (before t) reply t.charge
-    (after t) → PaysFor t.first.meter t.charge (bytes_appended (live_at t.first.value k) pages reply) (is_accepted reply)
-memory_growth_writes rules k pages t reply acts = on_live (live_at t.first.value k) _ _ acts
-    (λ missing. rw missing.0 (unwritten t.first.meter t.charge (bytes_appended (live_at t.first.value k) pages replied.NoSuch)
-    false (nothing_appended (live_at t.first.value k) pages)))
-    (λ x found a. rw (found, a.3) (memory_result rules pages (grown_to t x a.1) a.0 a.2))
+memory_growth_writes : {S : Type 0} (rules : Rules S) (k pages : ℕ)
+    (s s' : MeteredValue (List (Slot MemoryValue)) S) (reply : Reply) (charge : ℕ)
+    → ActsAt k (reply_of replied.Number replied.Memory) (GrowsMemoryCharging rules pages) s reply charge s'
+    → PaysFor s.meter charge (bytes_appended (live_at s.value k) pages reply) (is_accepted reply)
+memory_growth_writes rules k pages s s' reply charge acts = on_live (live_at s.value k) _ _ acts
+    (λ missing. rw missing.0 (unwritten s.meter charge (bytes_appended (live_at s.value k) pages replied.NoSuch)
+    false (nothing_appended (live_at s.value k) pages)))
+    (λ x found a. rw (found, a.3) (memory_result rules pages (with_value s x) (with_value s' a.1) charge a.0 a.2))
 
 -- a growth of a table
-module _ {S : Type 0} (rules : Rules S) (n reference : ℕ) (t : Growing TableValue S) where
+module _ {S : Type 0} (rules : Rules S) (n reference : ℕ) (s s' : MeteredValue TableValue S) (charge : ℕ) where
   -- its charge pays for what it has written, by its result
-  table_result : (result : Result ℕ TableError) → Grown rules (table_growth n reference t.first.value) t result
-      → PaysFor t.first.meter t.charge (element_bytes n (reply_of replied.Number replied.Table result))
+  table_result : (result : Result ℕ TableError) → Grown rules (table_growth n reference s.value) s s' charge result
+      → PaysFor s.meter charge (element_bytes n (reply_of replied.Number replied.Table result))
       (is_accepted (reply_of replied.Number replied.Table result))
-  table_result (Ok size) grows = met_bound rules (table_growth n reference t.first.value) t (cut_product n 4)
+  table_result (Ok size) grows = met_bound rules (table_growth n reference s.value) s s' charge (cut_product n 4)
       (λ none. ap (λ k. cut_product k 4) none ∙ omega arith)
-      (λ early charged. due_pays t.first.meter n 4 t.charge charged) size grows
-  table_result (Err error) grows = unwritten t.first.meter t.charge 0 false refl
+      (λ early charged. due_pays s.meter n 4 charge charged) size grows
+  table_result (Err error) grows = unwritten s.meter charge 0 false refl
 
 -- a growth of the table of an index
 table_growth_writes : {S : Type 0} (rules : Rules S) (k n : ℕ) (init : TypedRawRef)
-    (t : Growing (List (Slot TableValue)) S) (reply : Reply)
-    → ActsAt k (reply_of replied.Number replied.Table) (GrowsTableCharging rules n init) (before t) reply t.charge
-    (after t) → PaysFor t.first.meter t.charge (element_bytes n reply) (is_accepted reply)
-table_growth_writes rules k n init t reply acts = on_live (live_at t.first.value k) _ _ acts
-    (λ missing. rw missing.0 (unwritten t.first.meter t.charge 0 false refl))
+    (s s' : MeteredValue (List (Slot TableValue)) S) (reply : Reply) (charge : ℕ)
+    → ActsAt k (reply_of replied.Number replied.Table) (GrowsTableCharging rules n init) s reply charge s'
+    → PaysFor s.meter charge (element_bytes n reply) (is_accepted reply)
+table_growth_writes rules k n init s s' reply charge acts = on_live (live_at s.value k) _ _ acts
+    (λ missing. rw missing.0 (unwritten s.meter charge 0 false refl))
     (λ x found a. rw a.3 (on_test (same_type x.ty.element init.ty) _ _ a.2
-    (λ h. table_result rules n init.raw (grown_to t x a.1) a.0 h)
-    (λ h. rw h.0 (unwritten t.first.meter t.charge 0 false refl))))
+    (table_result rules n init.raw (with_value s x) (with_value s' a.1) charge a.0)
+    (λ h. rw h.0 (unwritten s.meter charge 0 false refl))))
 
 -- what is due for what was written pays for it
 range_pays : (m : Meter) (price : Option (CustomFuelCosts → ℕ)) (charge written : ℕ) → IsPriced price written
-    → charge ≡ optional_due (Some m) price → PaysFor m charge written true
-range_pays m price charge written priced charged = elim priced.bytes [
-  | inl none ↦ unwritten m charge written true none
-  | inr (n, size, is, wrote) ↦ rw wrote (due_pays m n size charge (charged ∙ ap (optional_due (Some m)) is))
+    → charge ≡ optional_due (Some m) price → PaysFor (Some m) charge written true
+range_pays m price charge written priced charged = elim priced [
+  | inl none ↦ unwritten (Some m) charge written true none
+  | inr (n, size, is, wrote) ↦ rw wrote (due_pays (Some m) n size charge (charged ∙ ap (optional_due (Some m)) is))
 ]
 
 -- a write over a range
 range_writes : {S : Type 0} (w : World S) (write : RangeWrite) (turn : Turn) (w' : World S)
-    → HasRangeWrite write w turn w' → PaysFor w.state.meter turn.charge turn.written (is_accepted turn.reply)
+    → HasRangeWrite write w (outcome_of turn) w'
+    → PaysFor (Some w.state.meter) turn.charge turn.written (is_accepted turn.reply)
 range_writes w write turn w' step = elim (range_facts w write turn w' step) [
-  | inl idle ↦ unwritten w.state.meter turn.charge turn.written (is_accepted turn.reply) idle.unwritten
+  | inl idle ↦ unwritten (Some w.state.meter) turn.charge turn.written (is_accepted turn.reply) idle.unwritten
   | inr paid ↦ rw paid.done
       (range_pays w.state.meter (range_price write) turn.charge turn.written paid.priced paid.charged)
 ]
@@ -193,15 +192,15 @@ same_charges s (SetFuel fuel) = refl
 same_charges s call = refl
 
 module _ {S : Type 0} (rules : Rules S) (w : World S) (turn : Turn) (w' : World S) where
-  -- each effect
-  effect_writes : (effect : Effect) → HasEffect rules effect w turn w'
-      → PaysFor w.state.meter turn.charge turn.written (is_charged_effect effect && is_accepted turn.reply)
-  effect_writes (MemoryGrown k pages) step = rw step.wrote (memory_growth_writes rules k pages
-      (growing w w.state.memories turn.charge step.part step.meter step.limiter) turn.reply step.effect)
-  effect_writes (TableGrown k n init) step = rw step.wrote (table_growth_writes rules k n init
-      (growing w w.state.tables turn.charge step.part step.meter step.limiter) turn.reply step.effect)
+  -- the charge of an effect pays for what it has written
+  effect_writes : (effect : Effect) → HasEffect rules effect w (outcome_of turn) w'
+      → PaysFor (Some w.state.meter) turn.charge turn.written (is_charged_effect effect && is_accepted turn.reply)
+  effect_writes (MemoryGrown k pages) step =
+      rw step.wrote (memory_growth_writes rules k pages _ _ turn.reply turn.charge step.effect)
+  effect_writes (TableGrown k n init) step =
+      rw step.wrote (table_growth_writes rules k n init _ _ turn.reply turn.charge step.effect)
   effect_writes (RangeWritten write) step = range_writes w write turn w' step
-  effect_writes effect step = unwritten w.state.meter turn.charge turn.written false step.free.1
+  effect_writes effect step = unwritten (Some w.state.meter) turn.charge turn.written false step.free.1
 
 -- a run, by what is left at its start
 module _ {S : Type 0} (rules : Rules S) where
@@ -226,7 +225,7 @@ module _ {S : Type 0} (rules : Rules S) where
       let r = rate w.state.meter in
       let wrote = has_written turn.call turn.reply in
       let changes = step_meter rules w turn v step in
-      let pays : PaysFor w.state.meter turn.charge turn.written wrote = rw (← same_charges w.state turn.call)
+      let pays : PaysFor (Some w.state.meter) turn.charge turn.written wrote = rw (← same_charges w.state turn.call)
       (effect_writes rules w turn v (effect_of w.state turn.call) step) in
       let after = spends turn.call turn.reply w.state.meter turn.charge v.state.meter changes left on in
       let same : rate v.state.meter ≡ r = ap (λ (costs : CustomFuelCosts). costs.bytes_copied_per_fuel)
@@ -247,7 +246,7 @@ module _ {S : Type 0} (rules : Rules S) where
       let excess : writing_turns (turn ∷ turns) * (r - 1) ≡ counted wrote (r - 1) + writing_turns turns * (r - 1) = ap
       (λ n. n * (r - 1)) number ∙ one_more wrote (writing_turns turns) r in
       record {
-        paid = omega (arith, written, product, excess, pays left on rated, rest.paid);
+        paid = omega (arith, written, product, excess, pays w.state.meter refl left on rated, rest.paid);
         spent = (rest.spent.0, rest.spent.1, omega (arith, charges, amounts, after.2, rest.spent.2));
       }
 
@@ -259,3 +258,54 @@ module _ {S : Type 0} (rules : Rules S) where
       let all : rate w.state.meter * charges_for_writing turns ≤ rate w.state.meter * (left + amounts_set turns) =
       mul-le-mul_left (rate w.state.meter) (omega (arith, bounds.spent.2)) in
       record { by_charges = bounds.paid; by_fuel = omega (arith, bounds.paid, all) }
+
+-- a call that doesn't set the fuel goes on with the account
+goes_on : (account : Account) (call : Call) (charge : ℕ) → SetsNoFuel call
+    → charged_by account call charge ≡ record { granted = account.granted; charged = account.charged + charge }
+goes_on account (SetFuel fuel) charge none = absurd none
+goes_on account call charge none = refl
+
+-- an account after turns that don't set the fuel has their charges
+charges_added : (account : Account) (turns : List Turn) → All SetsNoFuel (map Turn.call turns)
+    → ((account_after account turns).charged ≡ account.charged + charges
+    turns) × ((account_after account turns).granted ≡ account.granted)
+charges_added account [] none = (omega arith, refl)
+charges_added account (turn ∷ turns) none =
+    let more : charges (turn ∷ turns) ≡ turn.charge + charges turns = sum_by-cons (λ (t : Turn). t.charge) turn turns in
+    let next = goes_on account turn.call turn.charge (All-head SetsNoFuel turn.call (map Turn.call turns) none) in
+    let rest = charges_added (charged_by account turn.call turn.charge) turns
+    (All-tail SetsNoFuel turn.call (map Turn.call turns) none) in (
+      rest.0 ∙ ap (λ (a : Account). a.charged + charges turns) next ∙ omega (arith, more),
+      rest.1
+          ∙ ap (λ (a : Account). a.granted) next,
+    )
+
+-- the charges for writing are charges
+writing_within : (turns : List Turn) → charges_for_writing turns ≤ charges turns
+writing_within [] = omega arith
+writing_within (turn ∷ turns) =
+    let all : charges (turn ∷ turns) ≡ turn.charge + charges turns = sum_by-cons (λ (t : Turn). t.charge) turn turns in
+    let some : charges_for_writing (turn ∷ turns) ≡ (if has_written turn.call turn.reply then turn.charge else
+    0) + charges_for_writing turns =
+    sum_by-cons (λ (t : Turn). if has_written t.call t.reply then t.charge else 0) turn turns in
+    omega (arith, all, some, part_of (has_written turn.call turn.reply) turn.charge, writing_within turns)
+
+module _ {S : Type 0} (rules : Rules S) where
+  -- what is left and the charges are what was left; they pay for what is written
+  pub charges_are_spent : (w : World S) (left : ℕ) → w.state.meter.left ≡ Some left
+      → (turns : List Turn) (w' : World S) → Run rules w turns w' → All SetsNoFuel (map Turn.call turns)
+      → (left' : ℕ) × (w'.state.meter.left ≡ Some left') × IsSpent (rate w.state.meter) left left' turns
+  charges_are_spent w left on turns w' ran none =
+      let balance = fuel_balances rules w left on turns w' ran in
+      let added = charges_added (opened left) turns none in
+      let r = rate w.state.meter in
+      let spent : balance.0 + charges turns ≡ left = omega (arith, balance.2, added.0, added.1) in
+      let most : r * charges_for_writing turns ≤ r * (left - balance.0) = mul-le-mul_left r
+      (omega (arith, writing_within turns, spent)) in (
+        balance.0,
+        balance.1,
+        record {
+          charged = spent;
+          written = λ rated. omega (arith, (writing_is_bounded rules w left on rated turns w' ran).by_charges, most);
+        },
+      )

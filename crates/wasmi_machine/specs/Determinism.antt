@@ -1,5 +1,5 @@
 -- Limiters in runs: deterministic ones, permissions, kinds, and runs in which nothing says out of memory.
-use Rattle.std.specs.Prelude.{◌≡◌, List, [], ◌∷◌, Ok, Option, Some, None, true}
+use Rattle.std.specs.Prelude.{◌≡◌, List, Ok, Option, Some, None, true, All, map}
 use Rattle.wasmi_meter.specs.Limiter.{Question, Answer, Failure, MemoryFailure, TableFailure, NoticeAnswer, Rules, optional_rules}
 use Rattle.wasmi_machine.specs.declared.calls.Reply.{Reply}
 use Rattle.wasmi_machine.specs.declared.calls.Reply.TheVariants.{Memory, Table, Segment, NoRoom}
@@ -16,7 +16,7 @@ use Rattle.wasmi_meter.specs.declared.error.TableError.TheVariants as table
 use Rattle.wasmi_store.specs.declared.table.element.SegmentError.TheVariants as segment
 use Rattle.wasmi_meter.specs.declared.any_limiter.AnyLimiter.TheVariants as limiter
 
--- each question and each notice has one answer, and leaves one state
+-- a limiter has one answer to each question and to each notice, and is in one state after it
 pub record IsDeterministic {S : Type 0} (rules : Rules S) : Type 0 where
   pub asked : (l : S) (question : Question) (answer answer' : Answer) (l' l'' : S) → rules.asked l question answer l'
       → rules.asked l question answer' l'' → (answer ≡ answer') × (l' ≡ l'')
@@ -24,7 +24,7 @@ pub record IsDeterministic {S : Type 0} (rules : Rules S) : Type 0 where
       → rules.noticed l failure notice_answer l' → rules.noticed l failure notice_answer' l''
       → (notice_answer ≡ notice_answer') × (l' ≡ l'')
 
--- each notice is accepted
+-- a limiter accepts each notice
 abbrev pub AcceptsNotices : {S : Type 0} → Rules S → Type 0
 AcceptsNotices {S} rules =
     (l : S) (failure : Failure) (notice_answer : NoticeAnswer) (l' : S) → rules.noticed l failure notice_answer l'
@@ -65,8 +65,7 @@ IsNotOutOfMemory reply = Unit {0}
 
 -- no reply of the turns says out of memory
 abbrev pub AreNotOutOfMemory : List Turn → Type 0
-AreNotOutOfMemory [] = Unit {0}
-AreNotOutOfMemory (turn ∷ turns) = IsNotOutOfMemory turn.reply × AreNotOutOfMemory turns
+AreNotOutOfMemory turns = All IsNotOutOfMemory (map Turn.reply turns)
 
 -- the rules by which each question is permitted
 abbrev pub permitting : {S : Type 0} → Rules S → Rules S

@@ -8,7 +8,7 @@ use Rattle.wasmi_machine.specs.declared.calls.Reply.{Reply}
 use Rattle.wasmi_machine.specs.declared.calls.Reply.TheVariants.{Done, Made, Number, NoSuch, NoRoom}
 use Rattle.wasmi_machine.specs.declared.slots.Slot.{Slot}
 use Rattle.wasmi_machine.specs.declared.slots.Slot.TheVariants.{Live, Gone}
-use Rattle.wasmi_machine.specs.State.{State, live_at, World, world, Turn, IsFree}
+use Rattle.wasmi_machine.specs.State.{State, live_at, World, world, TurnOutcome, IsFree}
 
 -- the reply to a call that returns a value or is refused
 abbrev pub reply_of : {T E : Type 0} → (T → Reply) → (E → Reply) → Result T E → Reply
@@ -115,28 +115,28 @@ pub record ChangesPart {A : Type 0} (with_part : A → State) (Effect : Reply �
   pub effect : Effect reply part
   pub after : s' ≡ with_part part
 
-module _ {S : Type 0} (w : World S) (turn : Turn) (w' : World S) where
+module _ {S : Type 0} (w : World S) (outcome : TurnOutcome) (w' : World S) where
   -- a turn that changes nothing but what its reply tells
   pub record OnlyReplies (Effect : Reply → Type 0) : Type 0 where
-    pub free : IsFree turn
-    pub effect : Effect turn.reply
+    pub free : IsFree outcome
+    pub effect : Effect outcome.reply
     pub after : w' ≡ w
 
   -- a turn that changes the state, without a charge and without the limiter
   pub record Changes (Effect : Reply → State → Type 0) : Type 0 where
-    pub free : IsFree turn
+    pub free : IsFree outcome
     pub machine : State
-    pub effect : Effect turn.reply machine
+    pub effect : Effect outcome.reply machine
     pub after : w' ≡ record w { state = machine }
 
   -- a turn that makes something under the limiter, without a charge; there may be no room for it as a fact says
   pub record Asks {A : Type 0} (Lacks : Type 0) (with_part : A → State) (Effect : S → Reply → A → S → Type 0)
       : Type 0 where
-    pub free : IsFree turn
+    pub free : IsFree outcome
     pub part : A
     pub limiter : S
-    pub effect : Effect w.limiter turn.reply part limiter
-    pub room : IfNoRoom turn.reply Lacks
+    pub effect : Effect w.limiter outcome.reply part limiter
+    pub room : IfNoRoom outcome.reply Lacks
     pub after : w' ≡ world (with_part part) limiter
 
   -- a turn that acts on one part of the state, with a charge, and with the bytes that it has written by its reply
@@ -145,9 +145,9 @@ module _ {S : Type 0} (w : World S) (turn : Turn) (w' : World S) where
     pub part : A
     pub meter : Meter
     pub limiter : S
-    pub effect : Effect (metered_value old (Some w.state.meter) w.limiter) turn.reply turn.charge
+    pub effect : Effect (metered_value old (Some w.state.meter) w.limiter) outcome.reply outcome.charge
         (metered_value part (Some meter) limiter)
-    pub wrote : turn.written ≡ bytes turn.reply
+    pub wrote : outcome.written ≡ bytes outcome.reply
     pub after : w' ≡ world (record (with_part part) { meter = meter }) limiter
 
   -- a turn that acts on one part of the state, with a charge, and with the bytes that it has written by its reply, and
@@ -157,6 +157,6 @@ module _ {S : Type 0} (w : World S) (turn : Turn) (w' : World S) where
       (bytes : Reply → ℕ) : Type 0 where
     pub part : A
     pub meter : Meter
-    pub effect : Effect (metered old (Some w.state.meter)) turn.reply turn.charge (metered part (Some meter))
-    pub wrote : turn.written ≡ bytes turn.reply
+    pub effect : Effect (metered old (Some w.state.meter)) outcome.reply outcome.charge (metered part (Some meter))
+    pub wrote : outcome.written ≡ bytes outcome.reply
     pub after : w' ≡ record w { state = record (with_part part) { meter = meter } }

@@ -1,5 +1,5 @@
 -- Machines with memories in lent regions, beside the same machines with memories of their own.
-use Rattle.std.specs.Prelude.{◌≡◌, ◌⊎◌, ◌+◌, ◌*◌, ℕ, true, false, List, [], ◌∷◌, map, None}
+use Rattle.std.specs.Prelude.{◌≡◌, ◌⊎◌, ◌+◌, ◌*◌, ℕ, true, false, List, map, None}
 use Rattle.wasmi_meter.specs.Limiter.{Rules}
 use Rattle.wasmi_store.specs.Buffer.{Owned, fits_room}
 use Rattle.wasmi_store.specs.Memory.{page_bytes, in_bounds, MemoryValue, pages_of}
@@ -9,7 +9,7 @@ use Rattle.wasmi_machine.specs.declared.slots.Slot.{Slot}
 use Rattle.wasmi_machine.specs.declared.slots.Slot.TheVariants.{Live, Gone}
 use Rattle.wasmi_machine.specs.State.{State, live_at, World, Turn}
 use Rattle.wasmi_machine.specs.Effects.{OnLive}
-use Rattle.wasmi_machine.specs.Steps.{Step}
+use Rattle.wasmi_machine.specs.Steps.{Step, Sequence}
 
 -- a memory that grows into memory of its own, instead of a lent region
 abbrev pub owned_memory : MemoryValue → MemoryValue
@@ -45,6 +45,4 @@ FitsRegions s call = Unit {0}
 
 -- turns by such calls one after another, from one world to another
 abbrev pub RunInRegions : {S : Type 0} → Rules S → World S → List Turn → World S → Type 0
-RunInRegions rules w [] w' = w' ≡ w
-RunInRegions rules w (turn ∷ turns) w' =
-    (v : World _) × FitsRegions w.state turn.call × Step rules w turn v × RunInRegions rules v turns w'
+RunInRegions rules = Sequence (λ w turn w'. FitsRegions w.state turn.call × Step rules w turn w')

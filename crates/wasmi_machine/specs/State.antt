@@ -143,9 +143,19 @@ pub record Turn : Type 0 where
   pub charge : ℕ
   pub written : ℕ
 
--- a turn that is charged nothing, and that has written nothing by a growth or over a part of a table
-abbrev pub IsFree : Turn → Type 0
-IsFree turn = (turn.charge ≡ 0) × (turn.written ≡ 0)
+-- what a turn has besides its call
+pub record TurnOutcome : Type 0 where
+  pub reply : Reply
+  pub charge : ℕ
+  pub written : ℕ
+
+-- the outcome of a turn
+abbrev pub outcome_of : Turn → TurnOutcome
+outcome_of turn = record { reply = turn.reply; charge = turn.charge; written = turn.written }
+
+-- a turn is charged nothing, and has written nothing by a growth or over a part of a table
+abbrev pub IsFree : TurnOutcome → Type 0
+IsFree outcome = (outcome.charge ≡ 0) × (outcome.written ≡ 0)
 
 -- a reply that tells why nothing was done
 abbrev pub IsRefusal : Reply → Type 0

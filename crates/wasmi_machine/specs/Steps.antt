@@ -18,7 +18,7 @@ use Rattle.wasmi_store.specs.Memory.{MemoryTypeValue, MakesMemory, GrowsMemoryCh
 use Rattle.wasmi_store.specs.Table.{TableTypeValue, size_of, MakesTable, GrowsTableCharging}
 use Rattle.wasmi_machine.specs.declared.calls.Call.{Call}
 use Rattle.wasmi_machine.specs.declared.calls.Reply.{Reply}
-use Rattle.wasmi_machine.specs.State.{World, Turn, world, State, live_at, with_memories, memory_part, with_memory_part, with_tables, with_segments, with_data_segments, with_globals, with_registers, byte_count}
+use Rattle.wasmi_machine.specs.State.{World, Turn, TurnOutcome, outcome_of, world, State, live_at, with_memories, memory_part, with_memory_part, with_tables, with_segments, with_data_segments, with_globals, with_registers, byte_count}
 use Rattle.wasmi_machine.specs.Effects.{reply_of, AddsItem, Creates, DropsAt, ActsAt, ChangesPart, OnlyReplies, Changes, Asks, ActsMetered, ActsMeteredUnasked, WritesRangeAt, item_bytes}
 use Rattle.wasmi_ops.specs.LoadStoreOps.{stored_bytes}
 use Rattle.wasmi_machine.specs.ValueEffects.{SetsFuel, get_fuel_reply, CreatesSegment, DropsItemsAt, DropsDataAt, SetsGlobalAt, global_reply}
@@ -235,39 +235,40 @@ HasChange (GlobalMade global) s = ChangesPart (with_globals s)
 HasChange (GlobalSet k value) s = ChangesPart (with_globals s) (SetsGlobalAt k value s.globals)
 
 -- a range of one part of the state is written over: a line for each kind
-abbrev pub HasRangeWrite : {S : Type 0} → RangeWrite → World S → Turn → World S → Type 0
-HasRangeWrite (TableWritten k source dst len) w turn w' =
-    ActsMeteredUnasked w turn w' w.state.tables (with_tables w.state)
+abbrev pub HasRangeWrite : {S : Type 0} → RangeWrite → World S → TurnOutcome → World S → Type 0
+HasRangeWrite (TableWritten k source dst len) w outcome w' =
+    ActsMeteredUnasked w outcome w' w.state.tables (with_tables w.state)
     (WritesRangeAt reply.Table k (write_of source dst len)) (element_bytes len)
-HasRangeWrite (MemoryWritten k source dst len) w turn w' =
-    ActsMeteredUnasked w turn w' w.state.memories (with_memories w.state)
+HasRangeWrite (MemoryWritten k source dst len) w outcome w' =
+    ActsMeteredUnasked w outcome w' w.state.memories (with_memories w.state)
     (WritesRangeAt reply.Memory k (byte_write_of source dst len)) (item_bytes 1 len)
 
 -- an effect takes place from one world to the next: a line for each kind
-abbrev pub HasEffect : {S : Type 0} → Rules S → Effect → World S → Turn → World S → Type 0
-HasEffect rules (Told told) w turn w' = OnlyReplies w turn w' (λ answer. answer ≡ told)
-HasEffect rules (BytesRead k offset len) w turn w' = OnlyReplies w turn w' (ReadsMemoryAt k offset len w.state.memories)
-HasEffect rules (FuelSet fuel) w turn w' = Changes w turn w' (SetsFuel fuel w.state)
-HasEffect rules (Changed change) w turn w' = Changes w turn w' (HasChange change w.state)
-HasEffect rules (MemoryMade ty) w turn w' =
-    Asks w turn w' (LacksSlot w.state.reserved.memories w.state.memories) (with_memories w.state)
+abbrev pub HasEffect : {S : Type 0} → Rules S → Effect → World S → TurnOutcome → World S → Type 0
+HasEffect rules (Told told) w outcome w' = OnlyReplies w outcome w' (λ answer. answer ≡ told)
+HasEffect rules (BytesRead k offset len) w outcome w' =
+    OnlyReplies w outcome w' (ReadsMemoryAt k offset len w.state.memories)
+HasEffect rules (FuelSet fuel) w outcome w' = Changes w outcome w' (SetsFuel fuel w.state)
+HasEffect rules (Changed change) w outcome w' = Changes w outcome w' (HasChange change w.state)
+HasEffect rules (MemoryMade ty) w outcome w' =
+    Asks w outcome w' (LacksSlot w.state.reserved.memories w.state.memories) (with_memories w.state)
     (Creates reply.Memory (MakesMemory rules Owned ty) w.state.memories)
-HasEffect rules (LentMemoryMade ty) w turn w' =
-    Asks w turn w' (LacksSlot w.state.reserved.memories w.state.memories) (with_memory_part w.state)
+HasEffect rules (LentMemoryMade ty) w outcome w' =
+    Asks w outcome w' (LacksSlot w.state.reserved.memories w.state.memories) (with_memory_part w.state)
     (CreatesLent rules ty (memory_part w.state))
-HasEffect rules (MemoryGrown k pages) w turn w' = ActsMetered w turn w' w.state.memories (with_memories w.state)
+HasEffect rules (MemoryGrown k pages) w outcome w' = ActsMetered w outcome w' w.state.memories (with_memories w.state)
     (ActsAt k (reply_of reply.Number reply.Memory) (GrowsMemoryCharging rules pages))
     (bytes_appended (live_at w.state.memories k) pages)
-HasEffect rules (TableMade ty init) w turn w' =
-    Asks w turn w' (LacksSlot w.state.reserved.tables w.state.tables) (with_tables w.state)
+HasEffect rules (TableMade ty init) w outcome w' =
+    Asks w outcome w' (LacksSlot w.state.reserved.tables w.state.tables) (with_tables w.state)
     (Creates reply.Table (MakesTable rules ty init) w.state.tables)
-HasEffect rules (TableGrown k n init) w turn w' = ActsMetered w turn w' w.state.tables (with_tables w.state)
+HasEffect rules (TableGrown k n init) w outcome w' = ActsMetered w outcome w' w.state.tables (with_tables w.state)
     (ActsAt k (reply_of reply.Number reply.Table) (GrowsTableCharging rules n init)) (element_bytes n)
-HasEffect rules (RangeWritten write) w turn w' = HasRangeWrite write w turn w'
+HasEffect rules (RangeWritten write) w outcome w' = HasRangeWrite write w outcome w'
 
 -- a step from one world to the next: the effect of the turn's call takes place
 abbrev pub Step : {S : Type 0} → Rules S → World S → Turn → World S → Type 0
-Step rules w turn w' = HasEffect rules (effect_of w.state turn.call) w turn w'
+Step rules w turn w' = HasEffect rules (effect_of w.state turn.call) w (outcome_of turn) w'
 
 -- a call is answered by a reply: there is a step by it, with some charge and some bytes written
 abbrev pub RepliesWith : {S : Type 0} → Rules S → Call → World S → Reply → World S → Type 0

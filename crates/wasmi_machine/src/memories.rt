@@ -84,10 +84,7 @@ impl<'r> Slots<Memory<'r>> {
         ensures reserved { self.new.slots.reserved ≡ self.old.slots.reserved }
     {
         let memory = self.live_mut(index)?;
-        match memory.write(offset, bytes) {
-            Ok(()) => Some(Reply::Done),
-            Err(error) => Some(Reply::Memory(error)),
-        }
+        Some(memory_reply(memory.write(offset, bytes)))
     }
 
     /// Fills a range of a memory.

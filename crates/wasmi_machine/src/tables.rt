@@ -59,10 +59,8 @@ impl Slots<Table> {
         ensures reserved { self.new.slots.reserved ≡ self.old.slots.reserved }
     {
         let table = self.live_mut(index)?;
-        match table.grow_metered(delta, init, fuel, limiter) {
-            Ok(size) => Some(Reply::Number(size)),
-            Err(error) => Some(Reply::Table(error)),
-        }
+        let grown = table.grow_metered(delta, init, fuel, limiter);
+        Some(grown.map_or_else(Reply::Table, Reply::Number))
     }
 
     /// Reserves memory for so many elements of a table in all.

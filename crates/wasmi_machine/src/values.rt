@@ -114,10 +114,9 @@ pub(crate) fn set_global(
     let Some(global) = globals.get_mut(index) else {
         return Reply::NoSuch;
     };
-    match global.set(value) {
-        Ok(()) => Reply::Done,
-        Err(error) => Reply::Global(error),
-    }
+    global
+        .set(value)
+        .map_or_else(Reply::Global, |()| Reply::Done)
 }
 
 /// The value of a global.

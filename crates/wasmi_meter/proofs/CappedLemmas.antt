@@ -1,11 +1,11 @@
 -- Limiters with caps leave no choice, and stay within their caps; so do quotas.
-use Rattle.std.proofs.Common.{◌≡◌, ℕ, ◌+◌, ◌-◌, ◌≤◌, Bool, Option, Some, None, Ok, inl, inr, sym, ap, ◌∙◌, arith, refl}
+use Rattle.std.proofs.Common.{◌≡◌, ℕ, ◌+◌, ◌-◌, ◌≤◌, Bool, true, Option, Some, None, Ok, inl, inr, sym, ap, ◌∙◌, arith, refl}
 use Rattle.std.proofs.lemmas.Bool.{cases_lt}
 use Rattle.wasmi_meter.specs.declared.quota.Holdings.{Holdings}
 use Rattle.wasmi_meter.specs.declared.limiter.Kind.{Kind}
 use Rattle.wasmi_meter.specs.declared.limiter.Kind.TheVariants.{Bytes, Elements}
-use Rattle.wasmi_meter.specs.Capped.{Capped, amount_of, held_together, IsWithin, Asked, Noticed, amount_held, with_more, with_less, without_last_of, Takes, Releases, capped_quota, holdings, IsWithinCaps}
-use Rattle.wasmi_meter.specs.Limiter.{Question, Answer, Failure, NoticeAnswer, kind_of}
+use Rattle.wasmi_meter.specs.Capped.{Capped, amount_of, held_together, IsWithin, Asked, Noticed, amount_held, with_more, with_less, without_last_of, HoldsTheSame, Reserves, GivesBack, Takes, Releases, capped_quota, holdings, IsWithinCaps}
+use Rattle.wasmi_meter.specs.Limiter.{Question, Answer, IsDenial, Failure, NoticeAnswer, kind_of}
 use Rattle.wasmi_meter.specs.declared.quota.Amounts.{Amounts}
 use Rattle.wasmi_meter.specs.declared.quota.Quota.{Quota}
 
@@ -35,6 +35,18 @@ less_held : (back : Kind) (h : Holdings) (last : Option (Kind × ℕ)) (kind : K
 less_held Bytes h (Some (Bytes, n)) Bytes = omega arith
 less_held Elements h (Some (Elements, n)) Elements = omega arith
 less_held back h last kind = omega arith
+
+-- a denial keeps the holdings
+pub denial_keeps : (q : Question) (answer : Answer) (h h' : Holdings) → IsDenial answer → Reserves q answer h h'
+    → HoldsTheSame h h'
+denial_keeps q (Ok true) h h' denial reserves = absurd denial
+denial_keeps q answer h h' denial reserves = reserves
+
+-- what is held is the same after a difference was added and taken back
+pub given_back : (kind : Kind) (n : ℕ) (h p h' : Holdings) → p ≡ with_more h kind n → GivesBack kind p h'
+    → HoldsTheSame h h'
+given_back Bytes n h p h' more gives = rw (gives, more) (record { bytes = omega arith; elements = refl })
+given_back Elements n h p h' more gives = rw (gives, more) (record { bytes = refl; elements = omega arith })
 
 -- the caps, and what others hold, are the same with other holdings
 pub record KeepsCaps {L : Type 0} (c : Capped L) : Type 0 where
@@ -117,7 +129,7 @@ less_left Bytes h n Elements = omega arith
 less_left Elements h n Bytes = omega arith
 less_left Elements h n Elements = omega arith
 
--- nor where that was tried
+-- no more of a kind is held once it was tried to give some of one up
 released_less : (back : Kind) (h h' : Holdings) (n : ℕ) (released : Bool) → Releases h back n released h'
     → (kind : Kind) → amount_held h' kind ≤ amount_held h kind
 released_less back h h' n released releases kind =

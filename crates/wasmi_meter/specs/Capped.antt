@@ -45,7 +45,7 @@ without_last_of kind h last = h
 abbrev pub without_last : Kind → Holdings → Holdings
 without_last kind h = without_last_of kind h h.last
 
--- so many more of a kind are taken exactly where they stay, with what is held and what others hold, within the cap, and
+-- n more of a kind are taken exactly where they stay, with what is held and what others hold, within the cap, and
 -- nothing changes otherwise
 pub record Takes (others cap : ℕ) (h : Holdings) (kind : Kind) (n : ℕ) (taken : Bool) (h' : Holdings) : Type 0 where
   pub within : others + amount_held h kind + n ≤ cap → (taken ≡ true) × (h' ≡ with_more h kind n)
@@ -55,7 +55,7 @@ pub record Takes (others cap : ℕ) (h : Holdings) (kind : Kind) (n : ℕ) (take
 abbrev pub with_less : Holdings → Kind → ℕ → Holdings
 with_less h kind n = record { held = with_amount h.held kind (amount_held h kind - n); last = None }
 
--- so many of a kind are given up exactly where so many are held, and nothing changes otherwise
+-- n of a kind are given up exactly where as many are held, and nothing changes otherwise
 pub record Releases (h : Holdings) (kind : Kind) (n : ℕ) (released : Bool) (h' : Holdings) : Type 0 where
   pub held : n ≤ amount_held h kind → (released ≡ true) × (h' ≡ with_less h kind n)
   pub short : amount_held h kind < n → (released ≡ false) × (h' ≡ h)
@@ -91,7 +91,7 @@ module _ {L : Type 0} (c : Capped L) where
   abbrev pub IsWithin : L → Type 0
   IsWithin l = (kind : Kind) → held_together l kind ≤ c.cap l kind
 
-  -- so many more of a kind are taken, or not, and all but the holdings stays
+  -- n more of a kind are taken, or not, and all but the holdings stays
   pub record HoldsMore (l : L) (kind : Kind) (n : ℕ) (taken : Bool) (l' : L) : Type 0 where
     pub takes : Takes (c.others l kind) (c.cap l kind) (c.holdings l) kind n taken (c.holdings l')
     pub rest : l' ≡ c.with_holdings l (c.holdings l')

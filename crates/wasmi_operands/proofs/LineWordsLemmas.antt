@@ -1,6 +1,5 @@
 -- What words write one after the other, the digits of a word, and what is accepted, in other words.
-use Rattle.std.proofs.Common.{ℕ, zero, suc, ◌≡◌, ◌<◌, ◌+◌, ◌∷◌, ◌++◌, Err, List, [], add-one, false, get_or, length, map, take, refl, sym, ap, subst, arith, rules, tests, Option, Some, None, true, bytes_eq, codes, cond, Result, Ok, OnErr, IfErr}
-use Rattle.std.specs.Borrow.{Bor}
+use Rattle.std.proofs.Common.{ℕ, zero, suc, ◌≡◌, ◌<◌, ◌+◌, ◌∷◌, ◌++◌, Err, List, [], add-one, false, get_or, length, map, take, refl, sym, ap, subst, arith, rules, tests, Option, Some, None, true, bytes_eq, codes, cond, Result, Ok, OnErr, IfErr, Bor}
 use Rattle.std.specs.List.{AllZip}
 use Rattle.wasmi_operands.specs.declared.error.LineError.{LineError}
 use Rattle.wasmi_operands.specs.declared.error.LineError.TheVariants.{BadCommand, OutOfMemory}

@@ -1,7 +1,6 @@
 -- Names of what has one each: a word names one variant of an enum, a list has each under its name, and two words name
 -- one reference or one instruction on a lane at most.
-use Rattle.std.proofs.Common.{ℕ, ◌≡◌, ◌∙◌, List, [], ◌∷◌, inl, inr, Option, None, Some, Result, Err, Bool, true, false, bytes_eq, cond, ok_or, refl, sym, ap, subst, rules, tests}
-use Rattle.std.specs.Option.{option_and_then, option_map}
+use Rattle.std.proofs.Common.{ℕ, ◌≡◌, ◌∙◌, List, [], ◌∷◌, inl, inr, Option, None, Some, Result, Err, Bool, true, false, bytes_eq, cond, ok_or, refl, sym, ap, subst, rules, tests, option_and_then, option_map}
 use denote.Struct.Field.{Field}
 use denote.Enum.Bare.{Bare, sameb, same_true}
 use denote.Enum.Declared.{Record, Choice, declared}

@@ -32,11 +32,11 @@ tells : (N : Record) (bare : Bare N.parts) (name_of : N.D → List ℕ) (list : 
     → has_each N bare name_of (map (λ entry. (entry.0.now, entry.1)) list) ≡ true → Tells list name_of
 tells N bare name_of list = tells_names N bare name_of (map (λ entry. (entry.0.now, entry.1)) list)
 
--- each list of names of loads and stores of numbers tells what they mean
+-- the lists of names of loads and stores of numbers tell what the names mean
 pub access_names : Tells LOADS load_name × Tells STORES store_name
 access_names = (tells load.enum tt load_name LOADS refl refl, tells store.enum tt store_name STORES refl refl)
 
--- each list of names of vector instructions on whole vectors tells what they mean
+-- the lists of names of vector instructions on whole vectors tell what the names mean
 pub vector_names : Tells MAKES make_name × Tells UNARIES unary_name × Tells BINARIES binary_name
     × Tells TERNARIES ternary_name × Tells SHIFTS shift_name × Tells TESTS test_name
     × Tells VECTOR_LOADS vector_load_name
@@ -50,7 +50,7 @@ vector_names = (
   tells vector_load.enum tt vector_load_name VECTOR_LOADS refl refl,
 )
 
--- each list of names of vector instructions on one lane tells what they mean
+-- the lists of names of vector instructions on one lane tell what the names mean
 pub lane_names : Tells EXTRACTIONS extract_name × Tells REPLACEMENTS replace_name × Tells LANE_LOADS load_lane_name
     × Tells LANE_STORES store_lane_name
 lane_names = (

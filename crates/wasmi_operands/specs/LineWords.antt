@@ -18,7 +18,7 @@ word_at words k = slice_index_or (map (λ word. word.now) words) k []
 unfoldable pub words_in : List ℕ → List (List ℕ)
 words_in line = filter (λ word. nat_lt 0 (length word)) (slice_split (λ byte. byte == 32) line)
 
--- each word writes one of these, in order
+-- the words write these, one each, in order
 abbrev pub WritesEach : {A : Type 0} → (List ℕ → A → Type 0) → LineWords → List A → Type 0
 WritesEach Writes words items = AllZip Writes (map (λ word. word.now) words) items
 

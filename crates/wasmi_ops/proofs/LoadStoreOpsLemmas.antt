@@ -1,9 +1,7 @@
 -- Scalar loads from the front of the bytes at an address, and past the end.
-use Rattle.std.proofs.Common.{◌≡◌, ℕ, ◌≤◌, ◌<◌, ◌^◌, List, length, drop, ap, arith}
-use Rattle.std.specs.Prelude.{Err, pos}
+use Rattle.std.proofs.Common.{◌≡◌, ℕ, ◌≤◌, ◌<◌, ◌^◌, List, length, drop, ap, arith, Err, pos, length-drop}
 use Rattle.std.specs.Int.{w8, w16, w32, w64, cast_signed}
 use Rattle.std.proofs.lemmas.Grind.{common_steps}
-use Rattle.std.proofs.lemmas.List.{length-drop}
 use Rattle.wasmi_types.specs.declared.trap.TrapCode.TheVariants.{MemoryOutOfBounds}
 use Rattle.wasmi_raw.specs.declared.raw.RawVal.{RawVal}
 use Rattle.wasmi_raw.specs.RawVal.{raw_of}
@@ -12,7 +10,7 @@ use Rattle.wasmi_ops.specs.LoadStoreOps.{as_raw, signed_raw, RawLoad, loaded_raw
 use Rattle.wasmi_ops.specs.declared.load_store.LoadOp.{LoadOp}
 use Rattle.wasmi_ops.specs.declared.load_store.LoadOp.TheVariants as load
 
--- each load has what the load of any number of bytes has, whatever value they stand for
+-- a load has what the load of any number of bytes has, whatever value they stand for
 each_load : (P : RawLoad → Type 0)
     → ((V : Type 0) (n : ℕ) (value : ℕ → V) (raw : V → RawVal) → P (λ bytes a. as_raw raw (loaded n value bytes a)))
     → (op : LoadOp) → P (loaded_raw op)

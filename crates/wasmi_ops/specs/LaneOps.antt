@@ -42,7 +42,7 @@ replaced_vector (replace.I64x2ReplaceLane index) a raw = vector.replace_lane w64
 abbrev pub on_lane : {Op : Type 0} → ℕ → (ℕ → Op) → ℕ → Option Op
 on_lane count op lane = if nat_lt lane count then Some (op lane) else None
 
--- each extraction of a lane: its name, and the instruction on the lane of an index
+-- the row of an extraction of a lane: its name, and the instruction on the lane of an index
 abbrev pub extract_row : ExtractKind → List ℕ × (ℕ → Option ExtractOp)
 extract_row extract_kind.I8x16ExtractLaneS = (codes "i8x16_extract_lane_s", on_lane 16 extract.I8x16ExtractLaneS)
 extract_row extract_kind.I8x16ExtractLaneU = (codes "i8x16_extract_lane_u", on_lane 16 extract.I8x16ExtractLaneU)
@@ -51,21 +51,21 @@ extract_row extract_kind.I16x8ExtractLaneU = (codes "i16x8_extract_lane_u", on_l
 extract_row extract_kind.I32x4ExtractLane = (codes "i32x4_extract_lane", on_lane 4 extract.I32x4ExtractLane)
 extract_row extract_kind.I64x2ExtractLane = (codes "i64x2_extract_lane", on_lane 2 extract.I64x2ExtractLane)
 
--- each replacement of a lane: its name, and the instruction on the lane of an index
+-- the row of a replacement of a lane: its name, and the instruction on the lane of an index
 abbrev pub replace_row : ReplaceKind → List ℕ × (ℕ → Option ReplaceOp)
 replace_row replace_kind.I8x16ReplaceLane = (codes "i8x16_replace_lane", on_lane 16 replace.I8x16ReplaceLane)
 replace_row replace_kind.I16x8ReplaceLane = (codes "i16x8_replace_lane", on_lane 8 replace.I16x8ReplaceLane)
 replace_row replace_kind.I32x4ReplaceLane = (codes "i32x4_replace_lane", on_lane 4 replace.I32x4ReplaceLane)
 replace_row replace_kind.I64x2ReplaceLane = (codes "i64x2_replace_lane", on_lane 2 replace.I64x2ReplaceLane)
 
--- each load of a lane: its name, and the instruction on the lane of an index
+-- the row of a load of a lane: its name, and the instruction on the lane of an index
 abbrev pub load_lane_row : LoadLaneKind → List ℕ × (ℕ → Option LoadLaneOp)
 load_lane_row load_lane_kind.V128Load8Lane = (codes "v128_load8_lane", on_lane 16 load_lane.V128Load8Lane)
 load_lane_row load_lane_kind.V128Load16Lane = (codes "v128_load16_lane", on_lane 8 load_lane.V128Load16Lane)
 load_lane_row load_lane_kind.V128Load32Lane = (codes "v128_load32_lane", on_lane 4 load_lane.V128Load32Lane)
 load_lane_row load_lane_kind.V128Load64Lane = (codes "v128_load64_lane", on_lane 2 load_lane.V128Load64Lane)
 
--- each store of a lane: its name, and the instruction on the lane of an index
+-- the row of a store of a lane: its name, and the instruction on the lane of an index
 abbrev pub store_lane_row : StoreLaneKind → List ℕ × (ℕ → Option StoreLaneOp)
 store_lane_row store_lane_kind.V128Store8Lane = (codes "v128_store8_lane", on_lane 16 store_lane.V128Store8Lane)
 store_lane_row store_lane_kind.V128Store16Lane = (codes "v128_store16_lane", on_lane 8 store_lane.V128Store16Lane)

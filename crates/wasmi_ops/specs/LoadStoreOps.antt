@@ -37,7 +37,7 @@ zero_extended w narrow bytes a = as_raw (signed_raw w) (loaded (bits narrow / 8)
 abbrev pub unextended : Width → RawLoad
 unextended w bytes a = as_raw raw_of (loaded (bits w / 8) (λ number. number) bytes a)
 
--- each load: its name, and the load
+-- the row of a load: its name, and the load
 abbrev pub load_row : LoadOp → List ℕ × RawLoad
 load_row load.I32Load8S = (codes "i32_load8_s", sign_extended w32 w8)
 load_row load.I32Load8U = (codes "i32_load8_u", zero_extended w32 w8)
@@ -60,7 +60,7 @@ loaded_raw op = (load_row op).1
 abbrev pub load_name : LoadOp → List ℕ
 load_name op = (load_row op).0
 
--- each store: its name, and the bytes that it writes, the low ones of the value
+-- the row of a store: its name, and the bytes that it writes, the low ones of the value
 abbrev pub store_row : StoreOp → List ℕ × (RawVal → List ℕ)
 store_row store.I32Store8 = (codes "i32_store8", λ value. le_bytes 1 (value.lo % 2 ^ 8))
 store_row store.I32Store16 = (codes "i32_store16", λ value. le_bytes 2 (value.lo % 2 ^ 16))

@@ -28,7 +28,7 @@ use Rattle.wasmi_ops.specs.declared.vector.VectorLoadOp.TheVariants as load
 use Rattle.wasmi_ops.specs.declared.vector.LoadLaneOp.TheVariants as load_lane
 use Rattle.wasmi_ops.specs.declared.vector.StoreLaneOp.TheVariants as store_lane
 
--- each instruction of one vector: its name, and what it gives
+-- the row of an instruction of one vector: its name, and what it gives
 abbrev pub unary_row : UnaryOp → List ℕ × (ℕ → ℕ)
 unary_row unary.V128Not = (codes "v128_not", vector.v128_not)
 unary_row unary.I8x16Neg = (codes "i8x16_neg", vector.neg w8)
@@ -65,7 +65,7 @@ unary_vector op = (unary_row op).1
 abbrev pub unary_name : UnaryOp → List ℕ
 unary_name op = (unary_row op).0
 
--- each instruction of two vectors: its name, and what it gives
+-- the row of an instruction of two vectors: its name, and what it gives
 abbrev pub binary_row : BinaryOp → List ℕ × (ℕ → ℕ → ℕ)
 binary_row binary.I8x16Add = (codes "i8x16_add", vector.add w8)
 binary_row binary.I16x8Add = (codes "i16x8_add", vector.add w16)
@@ -172,7 +172,7 @@ binary_vector op = (binary_row op).1
 abbrev pub binary_name : BinaryOp → List ℕ
 binary_name op = (binary_row op).0
 
--- each instruction of three vectors: its name, and what it gives
+-- the row of an instruction of three vectors: its name, and what it gives
 abbrev pub ternary_row : TernaryOp → List ℕ × (ℕ → ℕ → ℕ → ℕ)
 ternary_row ternary.V128Bitselect = (codes "v128_bitselect", vector.v128_bitselect)
 ternary_row ternary.I8x16RelaxedLaneselect = (codes "i8x16_relaxed_laneselect", widening.relaxed_laneselect)
@@ -190,7 +190,7 @@ ternary_vector op = (ternary_row op).1
 abbrev pub ternary_name : TernaryOp → List ℕ
 ternary_name op = (ternary_row op).0
 
--- each shift: its name, and what it gives for a vector and an amount
+-- the row of a shift: its name, and what it gives for a vector and an amount
 abbrev pub shift_row : ShiftOp → List ℕ × (ℕ → ℕ → ℕ)
 shift_row shift.I8x16Shl = (codes "i8x16_shl", vector.shl w8)
 shift_row shift.I8x16ShrS = (codes "i8x16_shr_s", vector.shr_s w8)
@@ -213,7 +213,7 @@ shifted_vector op = (shift_row op).1
 abbrev pub shift_name : ShiftOp → List ℕ
 shift_name op = (shift_row op).0
 
--- each test: its name, and the Boolean or the mask that it gives, as a raw value
+-- the row of a test: its name, and the Boolean or the mask that it gives, as a raw value
 abbrev pub test_row : TestOp → List ℕ × (ℕ → RawVal)
 test_row test.I8x16AllTrue = (codes "i8x16_all_true", λ a. raw_of (from_bool (widening.all_true w8 a)))
 test_row test.I16x8AllTrue = (codes "i16x8_all_true", λ a. raw_of (from_bool (widening.all_true w16 a)))
@@ -233,7 +233,7 @@ tested_raw op = (test_row op).1
 abbrev pub test_name : TestOp → List ℕ
 test_name op = (test_row op).0
 
--- each instruction that makes a vector of an item: its name, and the vector for an item in a raw value
+-- the row of an instruction that makes a vector of an item: its name, and the vector for an item in a raw value
 abbrev pub make_row : MakeOp → List ℕ × (RawVal → ℕ)
 make_row make.I8x16Splat = (codes "i8x16_splat", λ raw. vector.splat w8 (signed_in w8 raw))
 make_row make.I16x8Splat = (codes "i16x8_splat", λ raw. vector.splat w16 (signed_in w16 raw))
@@ -256,7 +256,7 @@ made_vector op = (make_row op).1
 abbrev pub make_name : MakeOp → List ℕ
 make_name op = (make_row op).0
 
--- each load of a vector: its name, and the vector that it gives from an address, or the trap
+-- the row of a load of a vector: its name, and the vector that it gives from an address, or the trap
 abbrev pub vector_load_row : VectorLoadOp → List ℕ × (List ℕ → ℕ → Result ℕ TrapCode)
 vector_load_row load.V128Load = (codes "v128_load", loaded 16 (λ n. n))
 vector_load_row load.V128Load8x8S = (codes "v128_load8x8_s", loaded 8 (widening.widen_s w8 w16))

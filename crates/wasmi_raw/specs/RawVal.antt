@@ -8,7 +8,7 @@ use Rattle.wasmi_raw.specs.declared.raw.RawVal.{RawVal}
 abbrev pub vector_of : ℕ → ℕ → ℕ
 vector_of low high = high * 2 ^ 64 + low
 
--- the low word cut to a width: the unsigned integer, and the signed one
+-- the low word cut to a width
 abbrev pub unsigned_in : Width → RawVal → ℕ
 unsigned_in w raw = raw.lo % 2 ^ bits w
 

@@ -6,4 +6,4 @@ pub use Rattle.wasmi_store.proofs.GrowthLemmas.{permitted_by, GrowthAttempt, gro
 pub use Rattle.wasmi_store.proofs.MemoryLemmas.{memory_growth, growth_permitted, makes_short}
 pub use Rattle.wasmi_store.proofs.WriteLemmas.{same_as_itself, charging, writes_elements}
 pub use Rattle.wasmi_store.specs.Table.{creation_of, TableValue, table_of, size_of, element_price, with_added, TableTypeValue, is_indexable, is_within_maximum, copy_of, raw_filling_of, initialization_of, new_table}
-pub use Rattle.wasmi_region.specs.Table.{creation_in, growth_in, table_in, typed_as, region_growth, items_of}
+pub use Rattle.wasmi_region.specs.Table.{creation_in, growth_in, table_in, region_growth, items_of}

@@ -1,8 +1,9 @@
 -- Tables on regions: where they are made and grow, and that they do so as others.
 use Rattle.std.proofs.Common.{None, inl, inr, refl, arith}
-use Rattle.wasmi_region.proofs.Common.{cond-true, Rules, creation_of, same_as_itself, creation_in, growth_in}
+use Rattle.wasmi_region.proofs.Common.{cond-true, Rules, creation_of, same_as_itself, creation_in, growth_in, region_growth}
 use Rattle.wasmi_store.specs.Table.{growth_of}
 use Rattle.wasmi_store.proofs.DenialLemmas.{attempts, met_or_denied}
+use Rattle.wasmi_store.proofs.GrowthLemmas.{grows_too}
 use Rattle.wasmi_region.specs.Laws.{TableCreationsSucceed, TableGrowthsSucceed, CreationsAreTables, GrowthsAreTables}
 
 module _ {S : Type 0} (rules : Rules S) where
@@ -42,19 +43,17 @@ module _ {S : Type 0} (rules : Rules S) where
     makes.2,
   )
 
-  -- and grow as others
+  -- tables on regions grow as others
   pub growths_are_tables : GrowthsAreTables rules
-  growths_are_tables room n reference s result s' grows = (
-    grows.0,
-    elim grows.1 [
-      | inl g ↦ inl (record { none = g.none; answered = g.answered; uncharged = g.uncharged; same = g.same })
-      | inr g ↦
-          let e = growth_of s.value n reference in
-          let a = attempts (growth_in room s.value n reference) e.late e.refuses (λ cause is. is.0) (λ x. x) rules s s' _ _
-          (λ early. refl) g.attempt in
-          inr (record { some = g.some; outcome = g.outcome; attempt = a; answered = g.answered })
-    ],
-  )
+  growths_are_tables room n reference s result s' grows =
+      let e = growth_of s.value n reference in (
+        grows.0,
+        grows_too (region_growth room n reference s.value) e (λ same. same) (λ outcome answered a. (
+          answered,
+          attempts (growth_in room s.value n reference) e.late e.refuses (λ cause is. is.0) (λ x. x) rules s s' outcome _
+              (λ early. refl) a,
+        )) grows.1,
+      )
 
 -- what tables on regions do as others
 pub ruleset tables = (creations_are_tables, growths_are_tables)

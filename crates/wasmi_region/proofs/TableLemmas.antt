@@ -1,25 +1,15 @@
 -- Tables whose elements are the first of a region.
 use Rattle.std.proofs.Common.{Option, ◌≡◌, ℕ, ◌+◌, ◌-◌, ◌≤◌, ◌<◌, List, ◌++◌, true, Ok, length, take, drop, replicate, refl, sym, ap, ◌∙◌, arith}
 use Rattle.std.proofs.lemmas.List.{length-take-le}
-use Rattle.wasmi_typed.specs.declared.typed_ref.TypedRawRef.{TypedRawRef}
 use Rattle.wasmi_meter.specs.Attempt.{Request}
-use Rattle.wasmi_region.proofs.Common.{Question, Answer, Rules, TableValue, table_of, size_of, element_price, with_added, TableTypeValue, is_indexable, is_within_maximum, table_in, typed_as, creation_in, growth_in, region_growth, permitted_by, GrowthAttempt, growing, PermitsGrowth, same_as_itself}
+use Rattle.wasmi_region.proofs.Common.{Question, Answer, Rules, TableValue, table_of, size_of, element_price, with_added, TableTypeValue, is_indexable, is_within_maximum, table_in, growth_in, region_growth, permitted_by, GrowthAttempt, growing, PermitsGrowth}
 use Rattle.wasmi_meter.specs.Meter.{Meter, due}
 use Rattle.wasmi_meter.specs.declared.error.TableError.{TableError}
 use Rattle.wasmi_meter.specs.declared.error.TableError.TheVariants.{GrowOutOfBounds, OutOfSystemMemory}
 use Rattle.wasmi_meter.specs.declared.limiter.Kind.TheVariants.{Elements}
 use Rattle.wasmi_store.specs.Growth.{IsAsked}
-use Rattle.wasmi_store.proofs.TableLemmas.{making_asked, growth_asked}
+use Rattle.wasmi_store.proofs.TableLemmas.{growth_asked}
 use Rattle.wasmi_region.proofs.MemoryLemmas.{filled_part}
-
--- the making of a table on a region asks for its sizes
-pub making_asked_in : (ty : TableTypeValue) (room size : ℕ) → size ≡ ty.minimum → (maximum : Option ℕ)
-    → maximum ≡ ty.maximum
-    → IsAsked (creation_in ty room) (record { kind = Elements; current = 0; desired = size; maximum = maximum })
-making_asked_in ty room size sized maximum most =
-    let init : TypedRawRef = typed_as ty 0 in
-    let asked = making_asked ty init (same_as_itself ty.element) size sized maximum most in
-    record { early = asked.early; question_is = asked.question_is }
 
 -- a growth of a table on a region by 1 or more, with what it begins with
 pub record RegionGrowth (S : Type 0) : Type 1 where
@@ -55,9 +45,7 @@ module _ {S : Type 0} (t : RegionGrowth S) where
   pub asked_in : {desired : ℕ} {maximum : Option ℕ}
       → (is_indexable t.ty (t.size + t.delta) ≡ true) × (desired ≡ t.size + t.delta) → maximum ≡ t.ty.maximum
       → IsAsked request (question desired maximum)
-  asked_in found most =
-      let asked = growth_asked x t.delta t.reference sized found most in
-      record { early = asked.early; question_is = asked.question_is }
+  asked_in found most = growth_asked x t.delta t.reference sized found most
 
   -- the growth is permitted where it was asked for the sizes, and the limiter said yes
   pub permits : {desired : ℕ} {maximum : Option ℕ} {answer : Answer} {p : S}

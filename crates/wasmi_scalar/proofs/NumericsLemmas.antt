@@ -1,13 +1,11 @@
 -- Results that may be traps, numbers in two words, shifts and rotations.
-use Rattle.std.proofs.Common.{◌≡◌, sym, arith, ℕ, zero, suc, ◌+◌, ◌-◌, ◌*◌, ◌/◌, ◌%◌, ◌^◌, ◌<◌, ◌≤◌, ◌∙◌, refl, ap, add-mul, mul_comm, mul-one, add-zero, zero-add, div-one, mod-eq_of_lt, subst}
-use Rattle.std.specs.Prelude.{Result, Ok, Err, ℤ, pos, negsuc, ◌+ℤ◌, ◌*ℤ◌, neg_ℤ, bit_or}
+use Rattle.std.proofs.Common.{◌≡◌, sym, arith, ℕ, zero, suc, ◌+◌, ◌-◌, ◌*◌, ◌/◌, ◌%◌, ◌^◌, ◌<◌, ◌≤◌, ◌∙◌, refl, ap, add-mul, mul_comm, mul-one, add-zero, zero-add, div-one, mod-eq_of_lt, subst, Result, Ok, Err, ℤ, pos, negsuc, ◌+ℤ◌, ◌*ℤ◌, neg_ℤ, bit_or, unsigned_abs}
 use Rattle.wasmi_types.specs.declared.trap.TrapCode.{TrapCode}
 use Rattle.wasmi_scalar.specs.Numerics.{GivesNumber, amount_modulo, ishl, rotated_left, irotl, irotr, unsigned_of, signed_of}
 use Rattle.std.specs.Int.{w64, w128, cast_unsigned, Width, cast_signed, int_wrap, int_shl, int_rem_euclid, rotate_left, rotate_right}
 use Rattle.std.proofs.lemmas.Int.{ints, to_z-of_z, int_rem_euclid_is, wrapping_add_is, wrapping_sub_is}
 use mir.Val.{SFits, bits, hbits}
 use mir.ValLaws.{of_z_fits}
-use Rattle.std.specs.Int.RustNames.{unsigned_abs}
 use Rattle.std.proofs.lemmas.Nat.{mod_below, or_shifted, or_comm, mod-pow-add, shl-shr, shr_below, pow_pos}
 use Rattle.std.proofs.Math.Nat.{mul-mod_left, sub-zero, mod_self, div-eq_of_lt}
 use lib.Bits.{or_self}
@@ -104,7 +102,7 @@ pub amount_is : (w : Width) (y : ℤ) (k : ℕ) → SFits w y → k ≡ cast_uns
     → k % bits w ≡ amount_modulo w y
 amount_is w y k f e = ap (λ m. m % bits w) (e ∙ ap (cast_unsigned w) (to_z-of_z w y f))
 
--- so is the amount itself, which is below the width
+-- an amount that was taken modulo the width before is the one of the table too
 pub cut_amount_is : (w : Width) (y : ℤ) (k : ℕ) → 0 < bits w → SFits w y
     → k ≡ amount_modulo w (cast_signed w (cast_unsigned w y)) → k % bits w ≡ amount_modulo w y
 cut_amount_is w y k p f e =

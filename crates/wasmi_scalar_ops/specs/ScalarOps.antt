@@ -15,7 +15,7 @@ pub use Rattle.wasmi_ops.specs.LoadStoreOps.{signed_raw, as_raw, RawLoad, sign_e
 abbrev pub bool_raw : Bool → RawVal
 bool_raw flag = raw_of (from_bool flag)
 
--- each instruction of one raw value: its name, and what it gives
+-- the row of an instruction of one raw value: its name, and what it gives
 abbrev pub scalar_unary_row : ScalarUnaryOp → List ℕ × (RawVal → RawVal)
 scalar_unary_row unary.I32Clz = (codes "i32_clz", λ raw. signed_raw w32 (iclz w32 (signed_in w32 raw)))
 scalar_unary_row unary.I32Ctz = (codes "i32_ctz", λ raw. signed_raw w32 (ictz w32 (signed_in w32 raw)))
@@ -74,7 +74,7 @@ unsigned_comparison w relation lhs rhs = Ok (bool_raw (relation (unsigned_in w l
 abbrev pub wide_operation : (ℕ → ℕ → ℕ) → RawOperation
 wide_operation operator lhs rhs = Ok (raw_of_vector (operator (vector_in lhs) (vector_in rhs)))
 
--- each instruction of two raw values: its name, and its operation
+-- the row of an instruction of two raw values: its name, and its operation
 abbrev pub scalar_binary_row : ScalarBinaryOp → List ℕ × RawOperation
 scalar_binary_row binary.I32Add = (codes "i32_add", signed_operation w32 iadd)
 scalar_binary_row binary.I32Sub = (codes "i32_sub", signed_operation w32 isub)

@@ -4,13 +4,12 @@ use Rattle.wasmi_script.proofs.Common.{decimal, option_map, option_map_or, drop_
 use Rattle.std.specs.List.{flat_map}
 use Rattle.std.proofs.lemmas.List.Elements.{All-drop, All-take}
 use Rattle.wasmi_meter.specs.declared.quota.Quota as quotas
-use Rattle.wasmi_meter.specs.Attempt.{MeteredValue}
 use Rattle.wasmi_meter.specs.Limiter.{Rules, unlimited_rules, optional_rules}
 use Rattle.wasmi_meter.specs.Capped.{holdings, quota_rules}
 use Rattle.wasmi_machine.specs.declared.calls.Call.TheVariants.{Write, NewData, NewSegment}
 use Rattle.wasmi_machine.specs.declared.calls.Reply.TheVariants.{Made}
-use Rattle.wasmi_machine.specs.Effects.{ActsMetered, Asks}
-use Rattle.wasmi_machine.specs.Steps.{Effect, FuelSet, Changed, MemoryMade, LentMemoryMade, MemoryGrown, TableMade, TableGrown, RangeWritten, MemoryWritten, TableWritten, effect_of, HasEffect, Step, Run, IsRunOf}
+use Rattle.wasmi_machine.specs.State.{outcome_of}
+use Rattle.wasmi_machine.specs.Steps.{effect_of, HasEffect, Step, Run, IsRunOf}
 use Rattle.wasmi_machine.specs.Determinism.{IsDeterministic, IsNotOutOfMemory}
 use Rattle.wasmi_machine.proofs.DeterminismLemmas.{unlimited_unique, quota_unique}
 use Rattle.wasmi_machine.proofs.ToldLemmas.{replies_are_one, unlimited_accepts, quota_accepts}
@@ -36,14 +35,14 @@ HasMeaning (SegmentMeaning ty items) call = (v : Vec ℕ _) × (call ≡ NewSegm
 HasMeaning (DataMeaning bytes) call = (v : Vec ℕ _) × (call ≡ NewData v) × (v.items ≡ bytes)
 HasMeaning (OtherCall other) call = call ≡ other
 
--- each call is one of what it says
+-- a call is one of what it says
 says : (call : Call) → HasMeaning (call_meaning call) call
 says (Write memory offset bytes) = (bytes, refl, refl)
 says (NewSegment ty items) = (items, refl, refl)
 says (NewData bytes) = (bytes, refl, refl)
 says call = refl
 
--- calls that say the same have the same effect, and make the same kind of thing
+-- calls that say the same have the same effect
 same_effect : (s : State) (call call' : Call) → HasMeaning (call_meaning call) call' → effect_of s call' ≡ effect_of s call
 same_effect s (Write memory offset bytes) call' (v, is, items) = ap (effect_of s) is ∙ rw items refl
 same_effect s (NewSegment ty items) call' (v, is, same) = ap (effect_of s) is ∙ rw same refl
@@ -88,55 +87,10 @@ replies_same (call ∷ calls) (call' ∷ calls') (reply ∷ replies) same =
     λ i. line (sym (reply_same call call' reply kind) i) ++ replies_same calls calls' replies later i
 replies_same calls calls' replies same = absurd cc
 
--- a turn by a call that says the same
 module _ {S : Type 0} (rules : Rules S) where
+  -- a turn with another call
   abbrev by_call : Turn → Call → Turn
-  by_call turn other = record { call = other; reply = turn.reply; charge = turn.charge; written = turn.written }
-
-  -- a turn that acts on one part of the state under the limiter, with a charge, does so by any other call too
-  acts_again : {A : Type 0} {old : A} {with_part : A → State}
-      {Acts : MeteredValue A S → Reply → ℕ → MeteredValue A S → Type 0} {bytes : Reply → ℕ}
-      (w : World S) (turn : Turn) (w' : World S) (other : Call) → ActsMetered w turn w' old with_part Acts bytes
-      → ActsMetered w (by_call turn other) w' old with_part Acts bytes
-  acts_again w turn w' other a = record {
-    part = a.part;
-    meter = a.meter;
-    limiter = a.limiter;
-    effect = a.effect;
-    wrote = a.wrote;
-    after = a.after;
-  }
-
-  -- a turn that makes something under the limiter does so by any other call too
-  asks_again : {Lacks A : Type 0} {with_part : A → State} {Relation : S → Reply → A → S → Type 0} (w : World S)
-      (turn : Turn) (w' : World S) (other : Call) → Asks w turn w' Lacks with_part Relation
-      → Asks w (by_call turn other) w' Lacks with_part Relation
-  asks_again w turn w' other a = record {
-    free = a.free;
-    part = a.part;
-    limiter = a.limiter;
-    effect = a.effect;
-    room = a.room;
-    after = a.after;
-  }
-
-  -- a turn that takes an effect takes it by any other call too
-  retold_effect : (w : World S) (turn : Turn) (w' : World S) (other : Call) (effect : Effect)
-      → HasEffect rules effect w turn w' → HasEffect rules effect w (by_call turn other) w'
-  retold_effect w turn w' other (FuelSet fuel) step =
-      record { free = step.free; machine = step.machine; effect = step.effect; after = step.after }
-  retold_effect w turn w' other (Changed change) step =
-      record { free = step.free; machine = step.machine; effect = step.effect; after = step.after }
-  retold_effect w turn w' other (MemoryMade ty) step = asks_again w turn w' other step
-  retold_effect w turn w' other (LentMemoryMade ty) step = asks_again w turn w' other step
-  retold_effect w turn w' other (TableMade ty init) step = asks_again w turn w' other step
-  retold_effect w turn w' other (MemoryGrown k pages) step = acts_again w turn w' other step
-  retold_effect w turn w' other (TableGrown k n init) step = acts_again w turn w' other step
-  retold_effect w turn w' other (RangeWritten (TableWritten k source dst len)) step =
-      record { part = step.part; meter = step.meter; effect = step.effect; wrote = step.wrote; after = step.after }
-  retold_effect w turn w' other (RangeWritten (MemoryWritten k source dst len)) step =
-      record { part = step.part; meter = step.meter; effect = step.effect; wrote = step.wrote; after = step.after }
-  retold_effect w turn w' other effect step = record { free = step.free; effect = step.effect; after = step.after }
+  by_call turn other = record turn { call = other }
 
   -- a step by a call is one by another call that says the same
   retold_step : (w : World S) (turn : Turn) (w' : World S) (other : Call) → call_meaning other ≡ call_meaning turn.call
@@ -144,8 +98,7 @@ module _ {S : Type 0} (rules : Rules S) where
   retold_step w turn w' other same step =
       let effect = same_effect w.state other turn.call
       (subst (λ said. HasMeaning said turn.call) (sym same) (says turn.call)) in
-      subst (λ e. HasEffect rules e w (by_call turn other) w') effect
-      (retold_effect w turn w' other (effect_of w.state turn.call) step)
+      subst (λ e. HasEffect rules e w (outcome_of turn) w') effect step
 
   -- turns that are a run are one by other calls that say the same, with the same replies
   retold_run : (turns : List Turn) (calls : List Call) (w w' : World S)

@@ -1,6 +1,7 @@
 -- The highest bits of the lanes of a word, brought together by a product or a shift.
-use Rattle.std.proofs.Common.{◌≡◌, ℕ, zero, suc, ◌+◌, ◌*◌, ◌/◌, ◌%◌, ◌^◌, ◌<◌, ◌≤◌, refl, sym, ap, ap₂, subst, ◌∙◌, arith, inl, inr, Bool, true, false, leb, add-mul, zero-mul, suc-mul, mul_comm, mod-lt, mod-eq_of_lt, bit_and, pow-suc, if◌then◌else◌, replicate}
+use Rattle.std.proofs.Common.{◌≡◌, ℕ, zero, suc, ◌+◌, ◌*◌, ◌/◌, ◌%◌, ◌^◌, ◌<◌, ◌≤◌, refl, sym, ap, ap₂, subst, ◌∙◌, arith, inl, inr, Bool, leb, add-mul, zero-mul, suc-mul, mul_comm, mod-lt, mod-eq_of_lt, bit_and, pow-suc, if◌then◌else◌, replicate}
 use Rattle.wasmi_simd.proofs.Common.{div-eq_of_lt, pow_pos, and_le_l, and_mask, shr_below, div-add-mod', and_pow, cases_lt, le-leb, lt-leb, number_l, field, field_and, field_lt, first_lane, next_lane, repeated_lane, first_bits}
+use Rattle.wasmi_simd.proofs.ReductionLemmas.{bit_at_most}
 
 -- the number whose n digits in base p are g 0, g 1 ..
 abbrev spelled : ℕ → ℕ → (ℕ → ℕ) → ℕ
@@ -34,11 +35,6 @@ word_spelled w (suc n) v fits =
 abbrev one_if : Bool → ℕ
 one_if t = if t then 1 else 0
 
--- the number that is 1 where a test holds, else 0, is at most 1
-pub at_most_one : (t : Bool) → one_if t ≤ 1
-at_most_one true = omega arith
-at_most_one false = omega arith
-
 -- bits that are 1 where a test holds
 pub spelled_bits : (n : ℕ) (test : ℕ → Bool) → spelled 2 n (λ i. one_if (test i)) ≡ first_bits n test
 unfolding first_bits
@@ -63,7 +59,7 @@ highest_bit h x fits =
 highest_alone : (h x : ℕ) → x < 2 ^ suc h → bit_and x (2 ^ h) ≡ one_if (leb (2 ^ h) x) * 2 ^ h
 highest_alone h x fits =
     and_pow x h ∙ ap (λ n. n % 2 * 2 ^ h) (highest_bit h x fits)
-    ∙ ap (λ n. n * 2 ^ h) (mod-eq_of_lt (omega (arith, at_most_one (leb (2 ^ h) x))))
+    ∙ ap (λ n. n * 2 ^ h) (mod-eq_of_lt (omega (arith, bit_at_most (leb (2 ^ h) x))))
 
 -- those of the n lanes of h + 1 bits of v
 pub tops_spelled : (h n v tops : ℕ) → n * suc h ≡ 64 → v < 2 ^ 64 → tops ≡ number_l (2 ^ suc h) (replicate n (2 ^ h))
@@ -90,19 +86,19 @@ one_top v fits =
 
 -- ---- digits of 0 or 1, brought together
 
--- by a product, to the highest byte: those of 8 lanes
+-- a product brings those of 8 lanes to the highest byte
 pub gathered_8 : (d : ℕ → ℕ) → ((i : ℕ) → d i ≤ 1)
     → spelled (2 ^ 8) 8 (λ i. d i * 2 ^ 7) * 0x0002_0408_1020_4081 % 2 ^ 64 / 2 ^ 56 ≡ spelled 2 8 d
 gathered_8 d small = omega (arith, small 0, small 1, small 2, small 3, small 4, small 5, small 6, small 7)
 
--- those of 4 lanes of a low word, moved down by 4 bits, and of 4 lanes of a high word
+-- a product does so with those of 4 lanes of a low word, moved down by 4 bits, and of 4 lanes of a high word
 pub gathered_16 : (l h : ℕ → ℕ) → ((i : ℕ) → l i ≤ 1) → ((i : ℕ) → h i ≤ 1)
     → (spelled (2 ^ 16) 4 (λ i. l i * 2 ^ 15) / 2 ^ 4 + spelled (2 ^ 16) 4 (λ i. h i * 2 ^ 15)) * 0x0000_2000_4000_8001
     % 2 ^ 64 / 2 ^ 56 ≡ spelled 2 4 l + 2 ^ 4 * spelled 2 4 h
 gathered_16 l h small_l small_h =
     omega (arith, small_l 0, small_l 1, small_l 2, small_l 3, small_h 0, small_h 1, small_h 2, small_h 3)
 
--- by a shift, to the lowest bits: those of 2 lanes of a low word and of 2 lanes of a high word
+-- a shift brings those of 2 lanes of a low word and of 2 lanes of a high word to the lowest bits
 pub gathered_32 : (l h : ℕ → ℕ) → ((i : ℕ) → l i ≤ 1) → ((i : ℕ) → h i ≤ 1) → (x : ℕ)
     → x ≡ spelled (2 ^ 32) 2 (λ i. l i * 2 ^ 31) / 2 ^ 31 + spelled (2 ^ 32) 2 (λ i. h i * 2 ^ 31) / 2 ^ 29
     → bit_and (x + x / 2 ^ 31) 0xf ≡ spelled 2 2 l + 2 ^ 2 * spelled 2 2 h

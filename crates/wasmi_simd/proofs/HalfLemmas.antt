@@ -1,7 +1,6 @@
 -- The lanes of half a vector, as std::simd takes, extends and multiplies them.
-use Rattle.std.proofs.Common.{ℕ, suc, ℤ, pos, negsuc, ◌*ℤ◌, Bool, true, false, ltb, bit_xor, replicate, ◌+◌, ◌-◌, ◌*◌, ◌%◌, ◌^◌, ◌<◌, ◌≤◌, ◌≡◌, ◌⊎◌, inl, inr, List, ◌++◌, length, get_or, map, refl, sym, subst, ◌∙◌, ap, ap₂, arith, FitsSigned}
+use Rattle.std.proofs.Common.{ℕ, suc, ℤ, pos, negsuc, ◌*ℤ◌, Bool, true, false, ltb, bit_xor, replicate, ◌+◌, ◌-◌, ◌*◌, ◌%◌, ◌^◌, ◌<◌, ◌≤◌, ◌≡◌, ◌⊎◌, inl, inr, List, ◌++◌, length, get_or, map, refl, sym, subst, ◌∙◌, ap, ap₂, arith, FitsSigned, mod-eq_of_lt, T}
 use Rattle.wasmi_simd.proofs.Common.{pick_l_left, pick_l-range_with_len, get_or-chunk, cases_lt, ltb-true, ltb-false, get_or_past, length-map, pow_pos, cast_unsigned, cast_signed, digits_l, number_l, zip2, Width, w8, w16, bits, signed, wrap, lane, unsigned, digit_at, written_at, lane_below, lanes_make_vector, IsWidening, half_unary, half_binary, sel}
-use Rattle.std.proofs.Math.Nat.{mod-eq_of_lt}
 use Rattle.std.specs.List.{range_with_len}
 use Rattle.std.proofs.lemmas.Int.{of_z-to_z}
 use Rattle.std.proofs.lemmas.List.FromFn.{length-range_with_len}
@@ -9,7 +8,6 @@ use Rattle.wasmi_lanes.proofs.ItemLemmas.{AreItems, items, repeated, mapped, zip
 use Rattle.wasmi_lanes.proofs.TopLemmas.{xor_top}
 use Rattle.wasmi_types.proofs.NumbersLemmas.{wrap_signed}
 use Rattle.wasmi_simd.proofs.WideningLemmas.{extended_fits, product_of_bits, product_below}
-use lib.Dec.{T}
 use lib.Lanes.{pick_l, all_below}
 use mir.ValLaws.{of_z_fits}
 

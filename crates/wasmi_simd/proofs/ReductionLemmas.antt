@@ -226,7 +226,7 @@ module _ (h n v ones tops : ℕ) (given : IsZeroTest h n v ones tops) where
       ∙ no_zero_marked (field (suc h * i) (suc h) v) (each_holds n is_some all i inside)
       ∙ sym (field_of_zero (suc h * i) (suc h)))))
 
--- so with lanes of b bits: there is no mark where no lane is 0, and only there
+-- of lanes of b bits, there is no mark where none is 0, and only there
 no_mark_at : (b n v ones tops : ℕ) → 0 < b → n * b ≡ 64 → v < 2 ^ 64 → ones < 2 ^ 64 → tops < 2 ^ 64
     → ((i : ℕ) → i < n → field (b * i) b ones ≡ 1) → ((i : ℕ) → i < n → field (b * i) b tops ≡ 2 ^ (b - 1))
     → eqb (bit_and (bit_and ((v + (2 ^ 64 - ones)) % 2 ^ 64) (2 ^ 64 - 1 - v)) tops) 0

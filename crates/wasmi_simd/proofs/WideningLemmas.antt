@@ -1,12 +1,10 @@
 -- Vectors made of lanes of another width, what the lanes of one vector make together, and the lanes of these.
-use Rattle.std.proofs.Common.{ℕ, zero, suc, ◌+◌, ◌-◌, ◌*◌, ◌/◌, ◌%◌, ◌^◌, ◌<◌, ◌≤◌, ◌≡◌, sym, ◌∙◌, ap, ap₂, arith, inl, inr, ℤ, pos, negsuc, unsigned_abs, leb, nat_lt, if◌then◌else◌, ◌==◌, div-one, mul-zero, mul-suc, refl, subst, le_refl, pow-suc, ◌+ℤ◌, ◌*ℤ◌, FitsSigned, ◌↔◌, Bool, true}
+use Rattle.std.proofs.Common.{ℕ, zero, suc, ◌+◌, ◌-◌, ◌*◌, ◌/◌, ◌%◌, ◌^◌, ◌<◌, ◌≤◌, ◌≡◌, sym, ◌∙◌, ap, ap₂, arith, inl, inr, ℤ, pos, negsuc, unsigned_abs, leb, nat_lt, if◌then◌else◌, ◌==◌, div-one, mul-zero, mul-suc, refl, subst, le_refl, pow-suc, ◌+ℤ◌, ◌*ℤ◌, FitsSigned, ◌↔◌, Bool, true, mod-eq_of_lt, mod-lt, T}
 use Rattle.wasmi_simd.proofs.Common.{pow_pos, mul-le, shl_below, cast_unsigned, int_wrap, bit_at, div-eq_of_lt, zero-div, pow_mono, cases_lt, lt-ltb, le-ltb, le-leb, Width, w8, w16, w32, w64, bits, wrap, signed, lane, lane_count, signed_fits, unsigned, with_lane, lane_below, lanes_make_vector, lane_of_from, some_bits, IsWidening, hbits, bit_at_lowest, bit_at-suc, half_unary, half_binary, pairwise_unary, pairwise_binary, from_low_high, first_bits, lane_bits, every_lane, holds_below}
 use Rattle.std.proofs.lemmas.Int.{of_z-to_z, wrapping_add_is, wrapping_mul_is, fits_signed_mul, to_z-of_z}
 use Rattle.std.proofs.Math.Facts.{sfits_widen}
-use Rattle.std.proofs.Math.Nat.{mod-eq_of_lt, mod-lt}
 use Rattle.std.proofs.Math.Dec.{eqb-suc-zero}
 use Rattle.wasmi_types.proofs.NumbersLemmas.{wrap_below, wrap_signed}
-use lib.Dec.{T}
 use Rattle.std.proofs.lemmas.Float.{T_from_true}
 use mir.Syntax.{w128}
 use Rattle.wasmi_simd.proofs.ReductionLemmas.{bit_at_most, bits_below, holds_of_each, each_holds}
@@ -147,8 +145,6 @@ module _ {A : Type 0} (narrow wide : Width) (read : ℕ → A) (i : ℕ) (inside
 pub signed_of_wrapped : (w : Width) (z : ℤ) → FitsSigned w z → signed w (wrap w z) ≡ z
 signed_of_wrapped w z fits = ap (signed w) (wrap_signed w z fits) ∙ to_z-of_z w z fits
 
-pub ruleset wrapped = (signed_of_wrapped, wrap_below)
-
 -- a type of at least as many bits has at least as many below its sign
 wider_half : (narrow wide : Width) → bits narrow ≤ bits wide → T (leb (hbits narrow) (hbits wide))
 wider_half narrow wide wider =
@@ -256,4 +252,21 @@ pub test_of_numbers : (n : ℕ) (test : ℕ → Bool)
     → (holds_below n test ≡ true) ↔ ((i : ℕ) → i < n → test i ≡ true)
 test_of_numbers n test = (each_holds n test, holds_of_each n test)
 
-pub ruleset tests_of_lanes = (test_of_numbers, test_of_each, each_of_test)
+-- for the laws on lanes
+pub ruleset laws = (
+  lane_of_half,
+  lane_of_halves,
+  lane_of_pair,
+  lane_of_pairs,
+  signed_of_wrapped,
+  wrap_below,
+  lane_of_low,
+  lane_of_high,
+  bit_of_first,
+  bits_below,
+  bit_of_lane,
+  bits_of_lanes_below,
+  test_of_each,
+  each_of_test,
+  test_of_numbers,
+)

@@ -138,7 +138,7 @@ bitmask w = lane_bits w unsigned (λ x. nat_le (2 ^ (bits w - 1)) x)
 abbrev pub relaxed_swizzle : ℕ → ℕ → ℕ
 relaxed_swizzle a s = swizzle a s
 
--- each bit of the first vector where the mask has a one, else of the second
+-- the bits of the first vector where the mask has ones, those of the second where it has zeros
 abbrev pub relaxed_laneselect : ℕ → ℕ → ℕ → ℕ
 relaxed_laneselect a b c = v128_bitselect a b c
 

@@ -1,5 +1,6 @@
 //! Laws on lanes that are made of lanes of another width, on tests of lanes and on the bits that
 //! they give.
+#![tactic(auto, using(crate::proofs::WideningLemmas::laws))]
 
 ghost use Rattle.std.specs.Prelude.{◌≡◌, ◌↔◌, ℕ, ℤ, FitsSigned, ◌+◌, ◌*◌, ◌%◌, ◌^◌, ◌<◌, ◌≤◌, Bool, IsTrue, if◌then◌else◌};
 ghost use Rattle.std.specs.Int.{bit_at};
@@ -39,7 +40,6 @@ pub fn extended_lanes()
 
 /// A number that is wrapped to a width is below 2 to the power of the width, and one in the signed
 /// range is read as itself.
-#[tactic(auto, using(crate::proofs::WideningLemmas::wrapped))]
 pub fn wrapped_numbers()
     ensures below { (w : Width) (z : ℤ) → wrap w z < 2 ^ bits w }
     ensures signed { (w : Width) (z : ℤ) → FitsSigned w z → signed w (wrap w z) ≡ z }
@@ -88,7 +88,6 @@ pub fn bits_of_lanes<A>()
 
 /// A test of every lane holds exactly where it holds of each. `A` is the integer as which a lane is
 /// read.
-#[tactic(auto, using(crate::proofs::WideningLemmas::tests_of_lanes))]
 pub fn tests_of_lanes<A>()
     ensures lanes { (w : Width) (read : ℕ → A) (test : A → Bool) (v : ℕ)
         → IsTrue (every_lane w read test v)

@@ -17,6 +17,24 @@ pub on_test_too : (test : Bool) (Holds Holds' Fails Fails' : Type 0) → (Holds 
 on_test_too true Holds Holds' Fails Fails' holds fails h = holds h
 on_test_too false Holds Holds' Fails Fails' holds fails h = fails h
 
+-- a growth is one of another request or under other rules too, where nothing changes if nothing has changed, and its
+-- attempt is one there with the same answer
+pub grows_too : {V E S T : Type 0} {rules : Rules S} {rules' : Rules T} (g : Growth V E) (e : Request V E)
+    {s s' : MeteredValue V S} {t t' : MeteredValue V T} {result : Result ℕ E} {charge : ℕ} → (s' ≡ s → t' ≡ t)
+    → ((outcome : AttemptOutcome E) → result ≡ answer_of g.request g.size outcome
+    → Attempt rules g.request s outcome charge s'
+    → (result ≡ answer_of e g.size outcome) × Attempt rules' e t outcome charge t')
+    → Grows rules g s result charge s' → Grows rules' (record g { request = e }) t result charge t'
+grows_too g e still attempts (inl none) = inl (record {
+  none = none.none;
+  answered = none.answered;
+  uncharged = none.uncharged;
+  same = still none.same;
+})
+grows_too g e still attempts (inr some) =
+    let there = attempts some.outcome some.answered some.attempt in
+    inr (record { some = some.some; outcome = some.outcome; attempt = there.1; answered = there.0 })
+
 -- what holds of a loan's states holds of the limiter that was lent
 pub of_loan : {L : Type 0} (Holds : Option L → Option L → Type 0) (s s' : Option L) (l l' : L) → s ≡ Some l
     → s' ≡ Some l' → Holds s s' → Holds (Some l) (Some l')
@@ -192,20 +210,13 @@ module _ {V E S : Type 0} (rules : Rules S) (amount size : ℕ) (e : Request V E
   -- a growth that has a price, with a meter that is off, is one without a meter
   pub grows_unmetered : {result : Result ℕ E} {charge : ℕ} → Grows rules priced off result charge s'
       → Grows rules priced (metered_value x None l) result charge (metered_value s'.value None s'.limiter)
-  grows_unmetered (inl g) = inl (record {
-    none = g.none;
-    answered = g.answered;
-    uncharged = g.uncharged;
-    same = ap (λ (s : MeteredValue V S). metered_value s.value None s.limiter) g.same;
-  })
-  grows_unmetered (inr g) = let a = g.attempt in inr (record {
-    some = g.some;
-    outcome = g.outcome;
-    attempt = record { may_end = a.may_end; follows = a.follows; charged = a.charged; meter = refl; value = a.value };
-    answered = g.answered;
-  })
+  grows_unmetered grows = grows_too priced priced.request
+      (ap (λ (s : MeteredValue V S). metered_value s.value None s.limiter)) (λ outcome answered a. (
+        answered,
+        record { may_end = a.may_end; follows = a.follows; charged = a.charged; meter = refl; value = a.value },
+      )) grows
 
-  -- so is one with some charge
+  -- a growth that has a price and some charge, with a meter that is off, is one without a meter
   pub charged_unmetered : {result : Result ℕ E} → (charge : ℕ) × Grows rules priced off result charge s'
       → (charge : ℕ) × Grows rules priced (metered_value x None l) result charge (metered_value s'.value None s'.limiter)
   charged_unmetered (charge, grows) = (charge, grows_unmetered grows)

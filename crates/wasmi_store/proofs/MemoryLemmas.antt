@@ -53,14 +53,6 @@ sized_grown ty xs pages sized bounds =
       within = subst (λ k. in_bounds ty k ≡ true) (sym added.1) bounds;
     })
 
--- so does a buffer that has grown up to the size of so many pages more
-pub sized_buffer : (ty : MemoryTypeValue) (b b' : BufferValue) (pages size : ℕ) → IsSized ty (length b.bytes)
-    → (in_bounds ty (length b.bytes / page_bytes ty.page + pages) ≡ true)
-    × (size ≡ length b.bytes + pages * page_bytes ty.page) → b' ≡ with_zeros b (size - length b.bytes)
-    → IsSized ty (length b'.bytes)
-sized_buffer ty b b' pages size sized found grown =
-    rw (zeros_added b b' _ found.1 grown) (sized_grown ty b.bytes pages sized found.0)
-
 -- what is written over a memory's bytes is written over the memory
 pub writes_memory : (x : MemoryValue) (offset : ℕ) (source : List ℕ) (result : Result (Unit {0}) MemoryError)
     (ws : List ℕ) → OnOk result (overwrite x.bytes offset source ≡ Some ws)
@@ -102,12 +94,6 @@ module _ {S : Type 0} (rules : Rules S) (ty : MemoryTypeValue) (l : S) where
     minimum_denied answer l' asks error denies room =
         any.makes_denied rules (creation_of room ty) (new_memory room ty) l _
         (record { early = cond-true _ _ _ below; question_is = rw (sized, cut) refl }) answer l' asks error denies
-
-    -- where the limiter permits the minimum, its size is answered
-    pub minimum_permitted : (p : S)
-        → rules.asked l (record { kind = Bytes; current = 0; desired = size; maximum = maximum }) (Ok true) p
-        → PermitsMinimum rules ty l (Ok size) p
-    minimum_permitted p asks = (sized, below, rw (sized, cut) at asks)
 
 module _ {S : Type 0} (rules : Rules S) (room : Room) (ty : MemoryTypeValue) (l p : S) (size : ℕ)
     (permitted : PermitsMinimum rules ty l (Ok size) p) where

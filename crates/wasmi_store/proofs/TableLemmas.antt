@@ -1,6 +1,7 @@
 -- The making and the growth of a table, by what was tested on the way; an element segment in the midst of being read.
 use Rattle.std.proofs.Common.{◌≡◌, ℕ, ◌+◌, ◌-◌, true, false, Option, Some, None, Result, Ok, Err, List, ◌++◌, length, take, replicate, refl, ap, ◌∙◌, arith, ◌<◌, [], ◌∷◌, sym, subst, length-append}
 use Rattle.wasmi_store.proofs.Common.{cond-true, cond-false, take_all, length-replicate, OnErr, is_err, CustomFuelCosts, TableError, GrowOutOfBounds, ElementTypeMismatch, Question, Answer, Rules, Meter, due, TableTypeValue, is_indexable, is_within_maximum, same_type, TableValue, size_of, new_table, element_price, MakesTable, GrowsTableCharging, IsAsked, Growth, metered_value}
+use Rattle.wasmi_types.specs.declared.value.RefType.{RefType}
 use Rattle.wasmi_typed.specs.declared.typed_ref.TypedRawRef.{TypedRawRef}
 use Rattle.wasmi_meter.specs.declared.limiter.Kind.TheVariants.{Elements}
 use Rattle.wasmi_store.specs.Table.{IsSized, creation_of, growth_of}
@@ -40,9 +41,10 @@ pub makes_mismatched : {S : Type 0} (rules : Rules S) (ty : TableTypeValue) (ini
 makes_mismatched rules ty init l other =
     any.makes_unasked rules (creation_of ty init.ty) (new_table ty init.raw) l ElementTypeMismatch (cond-false _ _ _ other)
 
--- the making of a table of the type of its elements asks for its sizes
-pub making_asked : (ty : TableTypeValue) (init : TypedRawRef) → same_type ty.element init.ty ≡ true → (size : ℕ)
-    → size ≡ ty.minimum → (maximum : Option ℕ) → maximum ≡ ty.maximum → IsAsked (creation_of ty init.ty)
+-- the making of a table of the type of its elements asks for its sizes, whatever may refuse it
+pub making_asked : (ty : TableTypeValue) (init : RefType) {refuses : TableError → Type 0}
+    → same_type ty.element init ≡ true → (size : ℕ) → size ≡ ty.minimum → (maximum : Option ℕ) → maximum ≡ ty.maximum
+    → IsAsked (record (creation_of ty init) { refuses = refuses })
     (record { kind = Elements; current = 0; desired = size; maximum = maximum })
 making_asked ty init same size sized maximum most =
     record { early = cond-true _ _ _ same; question_is = rw (sized, most) refl }
@@ -58,8 +60,9 @@ module _ (x : TableValue) (n reference : ℕ) {size desired : ℕ} {maximum : Op
   abbrev question : Question
   question = record { kind = Elements; current = size; desired = desired; maximum = maximum }
 
-  -- a growth up to what can be indexed asks for its sizes
-  pub growth_asked : IsAsked (growth_of x n reference) question
+  -- a growth up to what can be indexed asks for its sizes, whatever may refuse it
+  pub growth_asked : {refuses : TableError → Type 0}
+      → IsAsked (record (growth_of x n reference) { refuses = refuses }) question
   growth_asked =
       record { early = cond-true _ _ _ (rw sized at found.0); question_is = rw (rw sized at found.1, sized, most) refl }
 

@@ -111,7 +111,7 @@ buffer_of x = record { bytes = x.bytes; room = x.room }
 abbrev pub new_memory : Room → MemoryTypeValue → MemoryValue
 new_memory room ty = memory_of ty (zeros_in room (minimum_bytes ty))
 
--- so many bytes are whole pages, as many as the type allows
+-- a size in bytes is whole pages, as many as the type allows
 pub record IsSized (ty : MemoryTypeValue) (size : ℕ) : Type 0 where
   pub whole : size % page_bytes ty.page ≡ 0
   pub minimum : ty.minimum ≤ size / page_bytes ty.page
@@ -206,11 +206,11 @@ bytes_write x early written paid = record {
   unpaid = OutOfFuel;
 }
 
--- so many bytes from dst on are filled with a value
+-- len bytes from dst on are filled with a value
 abbrev pub byte_filling_of : ℕ → ℕ → ℕ → MemoryValue → MemoryWrite
 byte_filling_of dst value len x = bytes_write x None (filled x.bytes dst value len) len
 
--- so many bytes of a source from src on, perhaps those of the memory itself, are copied over the bytes from dst on
+-- len bytes of a source from src on, perhaps those of the memory itself, are copied over the bytes from dst on
 abbrev pub byte_copy_of : ℕ → ℕ → ℕ → List ℕ → MemoryValue → MemoryWrite
 byte_copy_of dst src len source x = bytes_write x None (copied x.bytes dst source src len) len
 

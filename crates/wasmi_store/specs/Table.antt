@@ -75,7 +75,7 @@ with_elements_reserved x n = record x { reserved = max x.reserved n }
 abbrev pub size_of : TableValue → ℕ
 size_of x = length x.elements
 
--- so many elements are as many as the type allows
+-- a size in elements is one that the type allows
 pub record IsSized (ty : TableTypeValue) (size : ℕ) : Type 0 where
   pub minimum : ty.minimum ≤ size
   pub indexable : is_indexable ty size ≡ true
@@ -194,22 +194,22 @@ elements_write x typed written outside paid = record {
   unpaid = OutOfFuel;
 }
 
--- so many elements from dst on are filled with a reference, whose type isn't tested
+-- len elements from dst on are filled with a reference, whose type isn't tested
 abbrev pub raw_filling_of : ℕ → ℕ → ℕ → TableValue → TableWrite
 raw_filling_of dst reference len x =
     elements_write x true (filled x.elements dst reference len) FillOutOfBounds (Some len)
 
--- so many elements from dst on are filled with a reference, whose type is tested
+-- len elements from dst on are filled with a reference, whose type is tested
 abbrev pub filling_of : ℕ → TypedRawRef → ℕ → TableValue → TableWrite
 filling_of dst value len x = elements_write x (same_type x.ty.element value.ty)
     (filled x.elements dst value.raw len) FillOutOfBounds (Some len)
 
--- so many elements from src on of a table, perhaps the same one, are copied over those from dst on
+-- len elements from src on of a table, perhaps the same one, are copied over those from dst on
 abbrev pub copy_of : ℕ → ℕ → ℕ → TableValue → TableValue → TableWrite
 copy_of dst src len source x = elements_write x (same_type x.ty.element source.ty.element)
     (copied x.elements dst source.elements src len) CopyOutOfBounds (Some len)
 
--- so many items from src on of an element segment are copied over the elements from dst on; no item is free
+-- len items from src on of an element segment are copied over the elements from dst on; where len is 0, that is free
 abbrev pub initialization_of : ℕ → ℕ → ℕ → SegmentValue → TableValue → TableWrite
 initialization_of dst src len segment x = elements_write x (same_type x.ty.element segment.ty)
     (copied x.elements dst segment.items src len) InitOutOfBounds (if nat_eq len 0 then None else Some len)

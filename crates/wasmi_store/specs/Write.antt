@@ -43,11 +43,11 @@ module _ {V E : Type 0} (w : MeteredWrite V E) (s : MeteredValue V (Unit {0})) w
   write_charge (Err error) = 0
 
   module _ (result : Result (Unit {0}) E) (s' : MeteredValue V (Unit {0})) where
-    -- it is refused for a cause: nothing is written or taken
+    -- the write is refused for a cause: nothing is written or taken
     abbrev pub IsRefusedFor : E → Type 0
     IsRefusedFor cause = (result ≡ Err cause) × (s' ≡ s)
 
-    -- it ends in so much: what is due is taken, or isn't left
+    -- the write ends in a value: what is due is taken, or isn't left
     abbrev pub IsPaidFor : V → Type 0
     IsPaidFor value = MatchBool (covers s.meter write_due)
         ((result ≡ Ok tt) × (s' ≡ metered value (option_map (λ m. meter_after m write_due) s.meter)))

@@ -1,11 +1,14 @@
 -- Global variables.
 use Rattle.std.specs.Prelude.{◌≡◌, ◌≢◌, Result, Ok, Err, ℕ, List, codes}
+use Rattle.std.specs.Borrow.{Lends, MutBor, Fml}
 use Rattle.wasmi_raw.specs.declared.raw.RawVal.{RawVal}
+use Rattle.wasmi_raw.specs.contracts.raw.RawVal as raw
 use Rattle.wasmi_typed.specs.declared.typed.TypedRawVal.{TypedRawVal}
 use Rattle.wasmi_typed.specs.declared.global.Global.{Global}
 use Rattle.wasmi_typed.specs.declared.global.GlobalError.{GlobalError}
 use Rattle.wasmi_typed.specs.declared.global.GlobalError.TheVariants.{ImmutableWrite, TypeMismatch}
 use Rattle.wasmi_typed.specs.declared.global.Mutability.TheVariants.{Const, Var}
+use Rattle.wasmi_typed.specs.contracts.global.Global.{the_row}
 
 -- a global variable: its present value and its type
 abbrev pub GlobalInstance : Type 0
@@ -22,6 +25,10 @@ SetsGlobal global value (Ok _) global' =
 SetsGlobal global value (Err ImmutableWrite) global' = (global.ty.mutability ≡ Const) × (global' ≡ global)
 SetsGlobal global value (Err TypeMismatch) global' =
     (global.ty.mutability ≡ Var) × (global.ty.content ≢ value.ty) × (global' ≡ global)
+
+-- the global variable ends with the last value behind r
+abbrev pub LendsValue : MutBor GlobalInstance → MutBor RawVal → Fml
+LendsValue global r = Lends the_row raw.the_row global r (with_value global.now)
 
 -- the text of an error of a global variable
 abbrev pub global_error_text : GlobalError → List ℕ

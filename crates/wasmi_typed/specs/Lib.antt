@@ -1,3 +1,2 @@
 pub mod Global
-pub mod Lending
 pub mod Typed

@@ -2,8 +2,7 @@
 
 ghost use Rattle.std.specs.Prelude.{◌≡◌, ◌↔◌, IsTrue, Some};
 ghost use Rattle.std.specs.Borrow.{sem};
-ghost use Rattle.wasmi_typed.specs.Global.{SetsGlobal, global_error_text};
-ghost use Rattle.wasmi_typed.specs.Lending.{LendsValue};
+ghost use Rattle.wasmi_typed.specs.Global.{SetsGlobal, LendsValue, global_error_text};
 
 use crate::typed::TypedRawVal;
 use std::fmt;

@@ -19,11 +19,11 @@ pub wrap_below : (w : Width) (z : ℤ) → wrap w z < 2 ^ bits w
 wrap_below w (pos n) = mod_below n (2 ^ bits w) (pow_pos (bits w))
 wrap_below w (negsuc n) = omega (arith, pow_pos (bits w))
 
--- of a number that is below it
+-- a number below 2 to the power of a width is cut to itself
 pub wrap_unsigned : (w : Width) (n : ℕ) → n < 2 ^ bits w → wrap w (pos n) ≡ n
 wrap_unsigned w n h = mod-eq_of_lt h
 
--- of a signed number of the width
+-- a signed number of a width is cut to the unsigned number with its bits
 pub wrap_signed : (w : Width) (z : ℤ) → SFits w z → wrap w z ≡ cast_unsigned w z
 wrap_signed w (pos n) f = mod-eq_of_lt (omega (arith, half_below w, f.sfits))
 wrap_signed w (negsuc n) f =

@@ -65,7 +65,7 @@ abbrev pub IsStored : ℕ → Kept → Type 0
 IsStored count (Inline types) = (count ≤ 21) × (length types ≡ 21)
 IsStored count (Big types) = (21 < count) × (length (rc_slice_items types) ≡ count)
 
--- so many entries of at most 1,000 parameters and 1,000 results are kept
+-- the entries of so many parameters and so many results, at most 1,000 of each, are kept
 abbrev pub IsKept : ℕ → ℕ → Kept → Type 0
 IsKept params results kept =
     (params ≤ 1000) × (results ≤ 1000) × (params + results ≤ length (kept_types kept))

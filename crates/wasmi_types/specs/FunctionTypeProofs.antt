@@ -74,7 +74,7 @@ module _ {E : ValType → ValType → Bool} (decides : (x y : ValType) → Decid
         λ i. p i && r i,
   )
 
-  -- it answers as the order does
+  -- the test of both lists answers as the order does
   pub same_lists_by_cmp : (a b : FunctionType) → same_lists E a b ≡ eq_by_cmp function_type_cmp a b
   same_lists_by_cmp a b =
       let keys = bytes_decides (order_key a) (order_key b) in

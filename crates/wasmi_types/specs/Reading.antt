@@ -7,7 +7,7 @@ use Rattle.wasmi_types.specs.declared.func_type.FuncTypeError.{FuncTypeError}
 use Rattle.wasmi_types.specs.declared.func_type.FuncTypeError.TheVariants.{TooManyFunctionParams, TooManyFunctionResults, OutOfMemory}
 use Rattle.wasmi_types.specs.FunctionType.{FunctionType}
 
--- each iterator that a value becomes has a fact
+-- every iterator that a value becomes has a fact
 abbrev pub EachBecomes : {X I : Type 0} → (X → I → Type 0) → X → (I → Type 0) → Type 0
 EachBecomes {X} {I} becomes x Fact = (it : I) → becomes x it → Fact it
 

@@ -1059,11 +1059,12 @@ mod script {
         /// # Contract
         ///
         /// ```text
-        /// ensures ok: OnOk result (AddsMeter self.old line self.new)
-        /// ensures refused: OnErr result ((new : Script) → ¬ (AddsMeter self.old line new))
+        /// ensures ok: OnOk result (AddsLine self.old (Line.Meter line) self.new)
+        /// ensures refused: OnErr result
+        ///     ((new : Script) → ¬ (AddsLine self.old (Line.Meter line) new))
         /// ```
         ///
-        /// Definitions: [`AddsMeter`](crate::specs::grammar::LinesSpecs#AddsMeter).
+        /// Definitions: [`AddsLine`](crate::specs::grammar::LinesSpecs#AddsLine).
         #[inline]
         fn take_meter(&mut self, line: MeterLine) -> Result<(), LineError> {
             if !self.parts.is_empty() || self.header.meter.is_some() {
@@ -1078,11 +1079,12 @@ mod script {
         /// # Contract
         ///
         /// ```text
-        /// ensures ok: OnOk result (AddsLimiter self.old line self.new)
-        /// ensures refused: OnErr result ((new : Script) → ¬ (AddsLimiter self.old line new))
+        /// ensures ok: OnOk result (AddsLine self.old (Line.Limiter line) self.new)
+        /// ensures refused: OnErr result
+        ///     ((new : Script) → ¬ (AddsLine self.old (Line.Limiter line) new))
         /// ```
         ///
-        /// Definitions: [`AddsLimiter`](crate::specs::grammar::LinesSpecs#AddsLimiter).
+        /// Definitions: [`AddsLine`](crate::specs::grammar::LinesSpecs#AddsLine).
         #[inline]
         fn take_limiter(&mut self, line: LimiterLine) -> Result<(), LineError> {
             if !self.parts.is_empty() || self.header.limiter_line.is_some() {
@@ -1100,11 +1102,12 @@ mod script {
         /// # Contract
         ///
         /// ```text
-        /// ensures ok: OnOk result (AddsRegion self.old line self.new)
-        /// ensures refused: OnErr result ((new : Script) → ¬ (AddsRegion self.old line new))
+        /// ensures ok: OnOk result (AddsLine self.old (Line.Region line) self.new)
+        /// ensures refused: OnErr result
+        ///     ((new : Script) → ¬ (AddsLine self.old (Line.Region line) new))
         /// ```
         ///
-        /// Definitions: [`AddsRegion`](crate::specs::grammar::LinesSpecs#AddsRegion).
+        /// Definitions: [`AddsLine`](crate::specs::grammar::LinesSpecs#AddsLine).
         #[inline]
         fn take_region(&mut self, line: RegionLine) -> Result<(), LineError> {
             if !self.parts.is_empty()
@@ -1122,11 +1125,12 @@ mod script {
         /// # Contract
         ///
         /// ```text
-        /// ensures ok: OnOk result (AddsReserve self.old slots self.new)
-        /// ensures refused: OnErr result ((new : Script) → ¬ (AddsReserve self.old slots new))
+        /// ensures ok: OnOk result (AddsLine self.old (Line.Reserve slots) self.new)
+        /// ensures refused: OnErr result
+        ///     ((new : Script) → ¬ (AddsLine self.old (Line.Reserve slots) new))
         /// ```
         ///
-        /// Definitions: [`AddsReserve`](crate::specs::grammar::LinesSpecs#AddsReserve).
+        /// Definitions: [`AddsLine`](crate::specs::grammar::LinesSpecs#AddsLine).
         #[inline]
         fn take_reserve(&mut self, slots: SlotCounts) -> Result<(), LineError> {
             if !self.parts.is_empty() || self.header.reserve.is_some() {

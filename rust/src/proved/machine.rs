@@ -1296,10 +1296,7 @@ mod memories {
         #[inline(always)]
         pub(crate) fn write(&mut self, index: usize, offset: usize, bytes: &[u8]) -> Option<Reply> {
             let memory = self.live_mut(index)?;
-            match memory.write(offset, bytes) {
-                Ok(()) => Some(Reply::Done),
-                Err(error) => Some(Reply::Memory(error)),
-            }
+            Some(memory_reply(memory.write(offset, bytes)))
         }
 
         /// Fills a range of a memory.
@@ -3029,10 +3026,8 @@ mod tables {
             limiter: &mut ResourceLimiterRef<L>,
         ) -> Option<Reply> {
             let table = self.live_mut(index)?;
-            match table.grow_metered(delta, init, fuel, limiter) {
-                Ok(size) => Some(Reply::Number(size)),
-                Err(error) => Some(Reply::Table(error)),
-            }
+            let grown = table.grow_metered(delta, init, fuel, limiter);
+            Some(grown.map_or_else(Reply::Table, Reply::Number))
         }
 
         /// Reserves memory for so many elements of a table in all.
@@ -3363,10 +3358,9 @@ mod values {
         let Some(global) = globals.get_mut(index) else {
             return Reply::NoSuch;
         };
-        match global.set(value) {
-            Ok(()) => Reply::Done,
-            Err(error) => Reply::Global(error),
-        }
+        global
+            .set(value)
+            .map_or_else(Reply::Global, |()| Reply::Done)
     }
 
     /// The value of a global.

@@ -85,7 +85,7 @@ abbrev pub <b id="IsStored">IsStored</b> : ℕ → Kept → Type 0
 <a href="../../types/FunctionTypeSpecs/index.html#IsStored">IsStored</a> count (Inline types) = (count ≤ 21) × (length types ≡ 21)
 <a href="../../types/FunctionTypeSpecs/index.html#IsStored">IsStored</a> count (Big types) = (21 &lt; count) × (length (rc_slice_items types) ≡ count)
 
--- so many entries of at most 1,000 parameters and 1,000 results are kept
+-- the entries of so many parameters and so many results, at most 1,000 of each, are kept
 abbrev pub <b id="IsKept">IsKept</b> : ℕ → ℕ → Kept → Type 0
 <a href="../../types/FunctionTypeSpecs/index.html#IsKept">IsKept</a> <a href="../../types/FunctionTypeSpecs/index.html#params">params</a> <a href="../../types/FunctionTypeSpecs/index.html#results">results</a> kept =
     (<a href="../../types/FunctionTypeSpecs/index.html#params">params</a> ≤ 1000) × (<a href="../../types/FunctionTypeSpecs/index.html#results">results</a> ≤ 1000) × (<a href="../../types/FunctionTypeSpecs/index.html#params">params</a> + <a href="../../types/FunctionTypeSpecs/index.html#results">results</a> ≤ length (<a href="../../types/FunctionTypeSpecs/index.html#kept_types">kept_types</a> kept))
@@ -182,7 +182,7 @@ module _ {E : ValType → ValType → Bool} (decides : (x y : ValType) → Decid
         λ i. p i &amp;&amp; r i,
   )
 
-  -- it answers as the order does
+  -- the test of both lists answers as the order does
   pub <b id="same_lists_by_cmp">same_lists_by_cmp</b> : (a b : <a href="../../types/FunctionTypeSpecs/index.html#FunctionType">FunctionType</a>) → <a href="../../types/FunctionTypeSpecs/index.html#same_lists">same_lists</a> E a b ≡ eq_by_cmp <a href="../../types/FunctionTypeSpecs/index.html#function_type_cmp">function_type_cmp</a> a b
   <a href="../../types/FunctionTypeProofsSpecs/index.html#same_lists_by_cmp">same_lists_by_cmp</a> a b =
       let keys = bytes_decides (<a href="../../types/FunctionTypeSpecs/index.html#order_key">order_key</a> a) (<a href="../../types/FunctionTypeSpecs/index.html#order_key">order_key</a> b) in
@@ -238,7 +238,7 @@ use Rattle.wasmi_types.specs.declared.func_type.FuncTypeError.{FuncTypeError}
 use Rattle.wasmi_types.specs.declared.func_type.FuncTypeError.TheVariants.{TooManyFunctionParams, TooManyFunctionResults, OutOfMemory}
 use Rattle.wasmi_types.specs.FunctionType.{<a href="../../types/FunctionTypeSpecs/index.html#FunctionType">FunctionType</a>}
 
--- each iterator that a value becomes has a fact
+-- every iterator that a value becomes has a fact
 abbrev pub <b id="EachBecomes">EachBecomes</b> : {X I : Type 0} → (X → I → Type 0) → X → (I → Type 0) → Type 0
 <a href="../../types/ReadingSpecs/index.html#EachBecomes">EachBecomes</a> {X} {I} becomes x Fact = (it : I) → becomes x it → Fact it
 
@@ -526,7 +526,7 @@ use Rattle.wasmi_raw.specs.declared.raw.RawVal.{RawVal}
 abbrev pub <b id="vector_of">vector_of</b> : ℕ → ℕ → ℕ
 <a href="../../raw/RawValSpecs/index.html#vector_of">vector_of</a> low high = high * 2 ^ 64 + low
 
--- the low word cut to a width: the unsigned integer, and the signed one
+-- the low word cut to a width
 abbrev pub <b id="unsigned_in">unsigned_in</b> : Width → RawVal → ℕ
 <a href="../../raw/RawValSpecs/index.html#unsigned_in">unsigned_in</a> w raw = raw.lo % 2 ^ bits w
 
@@ -562,12 +562,15 @@ pub mod typed {
     #[doc = r####"Global variables.
 
 <pre><code>use Rattle.std.specs.Prelude.{◌≡◌, ◌≢◌, Result, Ok, Err, ℕ, List, codes}
+use Rattle.std.specs.Borrow.{Lends, MutBor, Fml}
 use Rattle.wasmi_raw.specs.declared.raw.RawVal.{RawVal}
+use Rattle.wasmi_raw.specs.contracts.raw.RawVal as raw
 use Rattle.wasmi_typed.specs.declared.typed.TypedRawVal.{TypedRawVal}
 use Rattle.wasmi_typed.specs.declared.global.Global.{Global}
 use Rattle.wasmi_typed.specs.declared.global.GlobalError.{GlobalError}
 use Rattle.wasmi_typed.specs.declared.global.GlobalError.TheVariants.{ImmutableWrite, TypeMismatch}
 use Rattle.wasmi_typed.specs.declared.global.Mutability.TheVariants.{Const, Var}
+use Rattle.wasmi_typed.specs.contracts.global.Global.{the_row}
 
 -- a global variable: its present value and its type
 abbrev pub <b id="GlobalInstance">GlobalInstance</b> : Type 0
@@ -585,6 +588,10 @@ abbrev pub <b id="SetsGlobal">SetsGlobal</b> : <a href="../../typed/GlobalSpecs/
 <a href="../../typed/GlobalSpecs/index.html#SetsGlobal">SetsGlobal</a> global value (Err TypeMismatch) global&#x27; =
     (global.ty.mutability ≡ Var) × (global.ty.content ≢ value.ty) × (global&#x27; ≡ global)
 
+-- the global variable ends with the last value behind r
+abbrev pub <b id="LendsValue">LendsValue</b> : MutBor <a href="../../typed/GlobalSpecs/index.html#GlobalInstance">GlobalInstance</a> → MutBor RawVal → Fml
+<a href="../../typed/GlobalSpecs/index.html#LendsValue">LendsValue</a> global r = Lends the_row raw.the_row global r (<a href="../../typed/GlobalSpecs/index.html#with_value">with_value</a> global.now)
+
 -- the text of an error of a global variable
 abbrev pub <b id="global_error_text">global_error_text</b> : GlobalError → List ℕ
 <a href="../../typed/GlobalSpecs/index.html#global_error_text">global_error_text</a> ImmutableWrite = codes "tried to write to immutable global variable"
@@ -592,20 +599,6 @@ abbrev pub <b id="global_error_text">global_error_text</b> : GlobalError → Lis
 </code></pre>
 "####]
     pub mod GlobalSpecs {}
-    #[doc = r####"The loan of a global variable's value.
-
-<pre><code>use Rattle.std.specs.Borrow.{Lends, MutBor, Fml}
-use Rattle.wasmi_raw.specs.declared.raw.RawVal.{RawVal}
-use Rattle.wasmi_raw.specs.contracts.raw.RawVal as raw
-use Rattle.wasmi_typed.specs.Global.{<a href="../../typed/GlobalSpecs/index.html#GlobalInstance">GlobalInstance</a>, <a href="../../typed/GlobalSpecs/index.html#with_value">with_value</a>}
-use Rattle.wasmi_typed.specs.contracts.global.Global.{the_row}
-
--- the global variable ends with the last value behind r
-abbrev pub <b id="LendsValue">LendsValue</b> : MutBor <a href="../../typed/GlobalSpecs/index.html#GlobalInstance">GlobalInstance</a> → MutBor RawVal → Fml
-<a href="../../typed/LendingSpecs/index.html#LendsValue">LendsValue</a> global r = Lends the_row raw.the_row global r (<a href="../../typed/GlobalSpecs/index.html#with_value">with_value</a> global.now)
-</code></pre>
-"####]
-    pub mod LendingSpecs {}
     #[doc = r####"References with their types, and the amounts of shifts.
 
 <pre><code>use Rattle.std.specs.Prelude.{◌≡◌, Some, None, Result, Ok, Err, ℕ, List, codes, ℤ, pos, ◌==◌, Option, unsigned_abs, if◌then◌else◌}
@@ -1042,7 +1035,7 @@ pub record <b id="IsWordLane">IsWordLane</b> (width : Width) (lane_bits tops one
   pub <b id="highest">highest</b> : tops ≡ <a href="../../lanes/WordsSpecs/index.html#in_each_lane">in_each_lane</a> width (2 ^ (bits width - 1))
   pub <b id="lowest">lowest</b> : ones ≡ <a href="../../lanes/WordsSpecs/index.html#in_each_lane">in_each_lane</a> width 1
 
--- each lane of w bits of a word is 0 or its highest bit alone
+-- every lane of w bits of a word is 0 or its highest bit alone
 abbrev pub <b id="AreMarks">AreMarks</b> : Width → ℕ → Type 0
 <a href="../../lanes/WordsSpecs/index.html#AreMarks">AreMarks</a> w marks =
     (i : ℕ) → i &lt; <a href="../../lanes/WordsSpecs/index.html#lanes_in_word">lanes_in_word</a> w
@@ -1069,7 +1062,7 @@ use Rattle.wasmi_lanes.specs.Vector.{<a href="../../lanes/VectorSpecs/index.html
 
 -- ---- making and taking lanes
 
--- each lane is the number modulo 2 to the width
+-- the number modulo 2 to the width, in all lanes
 abbrev pub <b id="splat">splat</b> : Width → ℤ → ℕ
 <a href="../../lanewise/VectorTableSpecs/index.html#splat">splat</a> w x = <a href="../../lanes/VectorSpecs/index.html#splat_of">splat_of</a> w (<a href="../../types/NumbersSpecs/index.html#wrap">wrap</a> w x)
 
@@ -1159,23 +1152,23 @@ abbrev pub <b id="avgr_u">avgr_u</b> : Width → ℕ → ℕ → ℕ
 
 -- ---- bit by bit, on the whole number
 
--- each bit is inverted
+-- all bits inverted
 abbrev pub <b id="v128_not">v128_not</b> : ℕ → ℕ
 <a href="../../lanewise/VectorTableSpecs/index.html#v128_not">v128_not</a> a = 2 ^ 128 - 1 - a
 
--- each bit is set where it is set in both
+-- the bits that are set in both
 abbrev pub <b id="v128_and">v128_and</b> : ℕ → ℕ → ℕ
 <a href="../../lanewise/VectorTableSpecs/index.html#v128_and">v128_and</a> a b = bit_and a b
 
--- each bit is set where it is set in one or both
+-- the bits that are set in one or both
 abbrev pub <b id="v128_or">v128_or</b> : ℕ → ℕ → ℕ
 <a href="../../lanewise/VectorTableSpecs/index.html#v128_or">v128_or</a> a b = bit_or a b
 
--- each bit is set where it is set in exactly one
+-- the bits that are set in exactly one
 abbrev pub <b id="v128_xor">v128_xor</b> : ℕ → ℕ → ℕ
 <a href="../../lanewise/VectorTableSpecs/index.html#v128_xor">v128_xor</a> a b = bit_xor a b
 
--- each bit is set where it is set in the first and not in the second
+-- the bits that are set in the first and not in the second
 abbrev pub <b id="v128_andnot">v128_andnot</b> : ℕ → ℕ → ℕ
 <a href="../../lanewise/VectorTableSpecs/index.html#v128_andnot">v128_andnot</a> a b = bit_and a (<a href="../../lanewise/VectorTableSpecs/index.html#v128_not">v128_not</a> b)
 
@@ -1199,15 +1192,15 @@ abbrev pub <b id="popcnt">popcnt</b> : Width → ℕ → ℕ
 
 -- ---- shifts, by an amount modulo the width
 
--- each lane shifted to the left by the amount modulo the width
+-- the lanes shifted to the left by the amount modulo the width
 abbrev pub <b id="shl">shl</b> : Width → ℕ → ℕ → ℕ
 <a href="../../lanewise/VectorTableSpecs/index.html#shl">shl</a> w v amount = <a href="../../lanes/VectorSpecs/index.html#unary_of_lanes">unary_of_lanes</a> w <a href="../../lanes/VectorSpecs/index.html#unsigned">unsigned</a> (λ x. (x * 2 ^ (amount % bits w)) % 2 ^ bits w) v
 
--- each lane shifted to the right by the amount modulo the width, with its sign from above
+-- the lanes shifted to the right by the amount modulo the width, with their signs from above
 abbrev pub <b id="shr_s">shr_s</b> : Width → ℕ → ℕ → ℕ
 <a href="../../lanewise/VectorTableSpecs/index.html#shr_s">shr_s</a> w v amount = <a href="../../lanes/VectorSpecs/index.html#unary_of_lanes">unary_of_lanes</a> w (signed w) (λ x. <a href="../../types/NumbersSpecs/index.html#wrap">wrap</a> w (int_shr x (amount % bits w))) v
 
--- each lane shifted to the right by the amount modulo the width, with zeros from above
+-- the lanes shifted to the right by the amount modulo the width, with zeros from above
 abbrev pub <b id="shr_u">shr_u</b> : Width → ℕ → ℕ → ℕ
 <a href="../../lanewise/VectorTableSpecs/index.html#shr_u">shr_u</a> w v amount = <a href="../../lanes/VectorSpecs/index.html#unary_of_lanes">unary_of_lanes</a> w <a href="../../lanes/VectorSpecs/index.html#unsigned">unsigned</a> (λ x. x / 2 ^ (amount % bits w)) v
 
@@ -1428,7 +1421,7 @@ abbrev pub <b id="bitmask">bitmask</b> : Width → ℕ → ℕ
 abbrev pub <b id="relaxed_swizzle">relaxed_swizzle</b> : ℕ → ℕ → ℕ
 <a href="../../widening/WideningTableSpecs/index.html#relaxed_swizzle">relaxed_swizzle</a> a s = <a href="../../lanewise/VectorTableSpecs/index.html#swizzle">swizzle</a> a s
 
--- each bit of the first vector where the mask has a one, else of the second
+-- the bits of the first vector where the mask has ones, those of the second where it has zeros
 abbrev pub <b id="relaxed_laneselect">relaxed_laneselect</b> : ℕ → ℕ → ℕ → ℕ
 <a href="../../widening/WideningTableSpecs/index.html#relaxed_laneselect">relaxed_laneselect</a> a b c = <a href="../../lanewise/VectorTableSpecs/index.html#v128_bitselect">v128_bitselect</a> a b c
 
@@ -1494,7 +1487,7 @@ abbrev pub <b id="replaced_vector">replaced_vector</b> : ReplaceOp → ℕ → R
 abbrev pub <b id="on_lane">on_lane</b> : {Op : Type 0} → ℕ → (ℕ → Op) → ℕ → Option Op
 <a href="../../ops/LaneOpsSpecs/index.html#on_lane">on_lane</a> count op lane = if nat_lt lane count then Some (op lane) else None
 
--- each extraction of a lane: its name, and the instruction on the lane of an index
+-- the row of an extraction of a lane: its name, and the instruction on the lane of an index
 abbrev pub <b id="extract_row">extract_row</b> : ExtractKind → List ℕ × (ℕ → Option ExtractOp)
 <a href="../../ops/LaneOpsSpecs/index.html#extract_row">extract_row</a> extract_kind.I8x16ExtractLaneS = (codes "i8x16_extract_lane_s", <a href="../../ops/LaneOpsSpecs/index.html#on_lane">on_lane</a> 16 extract.I8x16ExtractLaneS)
 <a href="../../ops/LaneOpsSpecs/index.html#extract_row">extract_row</a> extract_kind.I8x16ExtractLaneU = (codes "i8x16_extract_lane_u", <a href="../../ops/LaneOpsSpecs/index.html#on_lane">on_lane</a> 16 extract.I8x16ExtractLaneU)
@@ -1503,21 +1496,21 @@ abbrev pub <b id="extract_row">extract_row</b> : ExtractKind → List ℕ × (�
 <a href="../../ops/LaneOpsSpecs/index.html#extract_row">extract_row</a> extract_kind.I32x4ExtractLane = (codes "i32x4_extract_lane", <a href="../../ops/LaneOpsSpecs/index.html#on_lane">on_lane</a> 4 extract.I32x4ExtractLane)
 <a href="../../ops/LaneOpsSpecs/index.html#extract_row">extract_row</a> extract_kind.I64x2ExtractLane = (codes "i64x2_extract_lane", <a href="../../ops/LaneOpsSpecs/index.html#on_lane">on_lane</a> 2 extract.I64x2ExtractLane)
 
--- each replacement of a lane: its name, and the instruction on the lane of an index
+-- the row of a replacement of a lane: its name, and the instruction on the lane of an index
 abbrev pub <b id="replace_row">replace_row</b> : ReplaceKind → List ℕ × (ℕ → Option ReplaceOp)
 <a href="../../ops/LaneOpsSpecs/index.html#replace_row">replace_row</a> replace_kind.I8x16ReplaceLane = (codes "i8x16_replace_lane", <a href="../../ops/LaneOpsSpecs/index.html#on_lane">on_lane</a> 16 replace.I8x16ReplaceLane)
 <a href="../../ops/LaneOpsSpecs/index.html#replace_row">replace_row</a> replace_kind.I16x8ReplaceLane = (codes "i16x8_replace_lane", <a href="../../ops/LaneOpsSpecs/index.html#on_lane">on_lane</a> 8 replace.I16x8ReplaceLane)
 <a href="../../ops/LaneOpsSpecs/index.html#replace_row">replace_row</a> replace_kind.I32x4ReplaceLane = (codes "i32x4_replace_lane", <a href="../../ops/LaneOpsSpecs/index.html#on_lane">on_lane</a> 4 replace.I32x4ReplaceLane)
 <a href="../../ops/LaneOpsSpecs/index.html#replace_row">replace_row</a> replace_kind.I64x2ReplaceLane = (codes "i64x2_replace_lane", <a href="../../ops/LaneOpsSpecs/index.html#on_lane">on_lane</a> 2 replace.I64x2ReplaceLane)
 
--- each load of a lane: its name, and the instruction on the lane of an index
+-- the row of a load of a lane: its name, and the instruction on the lane of an index
 abbrev pub <b id="load_lane_row">load_lane_row</b> : LoadLaneKind → List ℕ × (ℕ → Option LoadLaneOp)
 <a href="../../ops/LaneOpsSpecs/index.html#load_lane_row">load_lane_row</a> load_lane_kind.V128Load8Lane = (codes "v128_load8_lane", <a href="../../ops/LaneOpsSpecs/index.html#on_lane">on_lane</a> 16 load_lane.V128Load8Lane)
 <a href="../../ops/LaneOpsSpecs/index.html#load_lane_row">load_lane_row</a> load_lane_kind.V128Load16Lane = (codes "v128_load16_lane", <a href="../../ops/LaneOpsSpecs/index.html#on_lane">on_lane</a> 8 load_lane.V128Load16Lane)
 <a href="../../ops/LaneOpsSpecs/index.html#load_lane_row">load_lane_row</a> load_lane_kind.V128Load32Lane = (codes "v128_load32_lane", <a href="../../ops/LaneOpsSpecs/index.html#on_lane">on_lane</a> 4 load_lane.V128Load32Lane)
 <a href="../../ops/LaneOpsSpecs/index.html#load_lane_row">load_lane_row</a> load_lane_kind.V128Load64Lane = (codes "v128_load64_lane", <a href="../../ops/LaneOpsSpecs/index.html#on_lane">on_lane</a> 2 load_lane.V128Load64Lane)
 
--- each store of a lane: its name, and the instruction on the lane of an index
+-- the row of a store of a lane: its name, and the instruction on the lane of an index
 abbrev pub <b id="store_lane_row">store_lane_row</b> : StoreLaneKind → List ℕ × (ℕ → Option StoreLaneOp)
 <a href="../../ops/LaneOpsSpecs/index.html#store_lane_row">store_lane_row</a> store_lane_kind.V128Store8Lane = (codes "v128_store8_lane", <a href="../../ops/LaneOpsSpecs/index.html#on_lane">on_lane</a> 16 store_lane.V128Store8Lane)
 <a href="../../ops/LaneOpsSpecs/index.html#store_lane_row">store_lane_row</a> store_lane_kind.V128Store16Lane = (codes "v128_store16_lane", <a href="../../ops/LaneOpsSpecs/index.html#on_lane">on_lane</a> 8 store_lane.V128Store16Lane)
@@ -1598,7 +1591,7 @@ abbrev pub <b id="zero_extended">zero_extended</b> : Width → Width → <a href
 abbrev pub <b id="unextended">unextended</b> : Width → <a href="../../ops/LoadStoreOpsSpecs/index.html#RawLoad">RawLoad</a>
 <a href="../../ops/LoadStoreOpsSpecs/index.html#unextended">unextended</a> w bytes a = <a href="../../ops/LoadStoreOpsSpecs/index.html#as_raw">as_raw</a> <a href="../../raw/RawValSpecs/index.html#raw_of">raw_of</a> (<a href="../../accesses/LoadStoreSpecs/index.html#loaded">loaded</a> (bits w / 8) (λ number. number) bytes a)
 
--- each load: its name, and the load
+-- the row of a load: its name, and the load
 abbrev pub <b id="load_row">load_row</b> : LoadOp → List ℕ × <a href="../../ops/LoadStoreOpsSpecs/index.html#RawLoad">RawLoad</a>
 <a href="../../ops/LoadStoreOpsSpecs/index.html#load_row">load_row</a> load.I32Load8S = (codes "i32_load8_s", <a href="../../ops/LoadStoreOpsSpecs/index.html#sign_extended">sign_extended</a> w32 w8)
 <a href="../../ops/LoadStoreOpsSpecs/index.html#load_row">load_row</a> load.I32Load8U = (codes "i32_load8_u", <a href="../../ops/LoadStoreOpsSpecs/index.html#zero_extended">zero_extended</a> w32 w8)
@@ -1621,7 +1614,7 @@ abbrev pub <b id="loaded_raw">loaded_raw</b> : LoadOp → <a href="../../ops/Loa
 abbrev pub <b id="load_name">load_name</b> : LoadOp → List ℕ
 <a href="../../ops/LoadStoreOpsSpecs/index.html#load_name">load_name</a> op = (<a href="../../ops/LoadStoreOpsSpecs/index.html#load_row">load_row</a> op).0
 
--- each store: its name, and the bytes that it writes, the low ones of the value
+-- the row of a store: its name, and the bytes that it writes, the low ones of the value
 abbrev pub <b id="store_row">store_row</b> : StoreOp → List ℕ × (RawVal → List ℕ)
 <a href="../../ops/LoadStoreOpsSpecs/index.html#store_row">store_row</a> store.I32Store8 = (codes "i32_store8", λ value. <a href="../../types/NumbersSpecs/index.html#le_bytes">le_bytes</a> 1 (value.lo % 2 ^ 8))
 <a href="../../ops/LoadStoreOpsSpecs/index.html#store_row">store_row</a> store.I32Store16 = (codes "i32_store16", λ value. <a href="../../types/NumbersSpecs/index.html#le_bytes">le_bytes</a> 2 (value.lo % 2 ^ 16))
@@ -1672,7 +1665,7 @@ use Rattle.wasmi_ops.specs.declared.vector.VectorLoadOp.TheVariants as load
 use Rattle.wasmi_ops.specs.declared.vector.LoadLaneOp.TheVariants as load_lane
 use Rattle.wasmi_ops.specs.declared.vector.StoreLaneOp.TheVariants as store_lane
 
--- each instruction of one vector: its name, and what it gives
+-- the row of an instruction of one vector: its name, and what it gives
 abbrev pub <b id="unary_row">unary_row</b> : UnaryOp → List ℕ × (ℕ → ℕ)
 <a href="../../ops/VectorOpsSpecs/index.html#unary_row">unary_row</a> unary.V128Not = (codes "v128_not", <a href="../../lanewise/VectorTableSpecs/index.html#v128_not">vector.v128_not</a>)
 <a href="../../ops/VectorOpsSpecs/index.html#unary_row">unary_row</a> unary.I8x16Neg = (codes "i8x16_neg", <a href="../../lanewise/VectorTableSpecs/index.html#neg">vector.neg</a> w8)
@@ -1709,7 +1702,7 @@ abbrev pub <b id="unary_vector">unary_vector</b> : UnaryOp → ℕ → ℕ
 abbrev pub <b id="unary_name">unary_name</b> : UnaryOp → List ℕ
 <a href="../../ops/VectorOpsSpecs/index.html#unary_name">unary_name</a> op = (<a href="../../ops/VectorOpsSpecs/index.html#unary_row">unary_row</a> op).0
 
--- each instruction of two vectors: its name, and what it gives
+-- the row of an instruction of two vectors: its name, and what it gives
 abbrev pub <b id="binary_row">binary_row</b> : BinaryOp → List ℕ × (ℕ → ℕ → ℕ)
 <a href="../../ops/VectorOpsSpecs/index.html#binary_row">binary_row</a> binary.I8x16Add = (codes "i8x16_add", <a href="../../lanewise/VectorTableSpecs/index.html#add">vector.add</a> w8)
 <a href="../../ops/VectorOpsSpecs/index.html#binary_row">binary_row</a> binary.I16x8Add = (codes "i16x8_add", <a href="../../lanewise/VectorTableSpecs/index.html#add">vector.add</a> w16)
@@ -1816,7 +1809,7 @@ abbrev pub <b id="binary_vector">binary_vector</b> : BinaryOp → ℕ → ℕ �
 abbrev pub <b id="binary_name">binary_name</b> : BinaryOp → List ℕ
 <a href="../../ops/VectorOpsSpecs/index.html#binary_name">binary_name</a> op = (<a href="../../ops/VectorOpsSpecs/index.html#binary_row">binary_row</a> op).0
 
--- each instruction of three vectors: its name, and what it gives
+-- the row of an instruction of three vectors: its name, and what it gives
 abbrev pub <b id="ternary_row">ternary_row</b> : TernaryOp → List ℕ × (ℕ → ℕ → ℕ → ℕ)
 <a href="../../ops/VectorOpsSpecs/index.html#ternary_row">ternary_row</a> ternary.V128Bitselect = (codes "v128_bitselect", <a href="../../lanewise/VectorTableSpecs/index.html#v128_bitselect">vector.v128_bitselect</a>)
 <a href="../../ops/VectorOpsSpecs/index.html#ternary_row">ternary_row</a> ternary.I8x16RelaxedLaneselect = (codes "i8x16_relaxed_laneselect", <a href="../../widening/WideningTableSpecs/index.html#relaxed_laneselect">widening.relaxed_laneselect</a>)
@@ -1834,7 +1827,7 @@ abbrev pub <b id="ternary_vector">ternary_vector</b> : TernaryOp → ℕ → ℕ
 abbrev pub <b id="ternary_name">ternary_name</b> : TernaryOp → List ℕ
 <a href="../../ops/VectorOpsSpecs/index.html#ternary_name">ternary_name</a> op = (<a href="../../ops/VectorOpsSpecs/index.html#ternary_row">ternary_row</a> op).0
 
--- each shift: its name, and what it gives for a vector and an amount
+-- the row of a shift: its name, and what it gives for a vector and an amount
 abbrev pub <b id="shift_row">shift_row</b> : ShiftOp → List ℕ × (ℕ → ℕ → ℕ)
 <a href="../../ops/VectorOpsSpecs/index.html#shift_row">shift_row</a> shift.I8x16Shl = (codes "i8x16_shl", <a href="../../lanewise/VectorTableSpecs/index.html#shl">vector.shl</a> w8)
 <a href="../../ops/VectorOpsSpecs/index.html#shift_row">shift_row</a> shift.I8x16ShrS = (codes "i8x16_shr_s", <a href="../../lanewise/VectorTableSpecs/index.html#shr_s">vector.shr_s</a> w8)
@@ -1857,7 +1850,7 @@ abbrev pub <b id="shifted_vector">shifted_vector</b> : ShiftOp → ℕ → ℕ �
 abbrev pub <b id="shift_name">shift_name</b> : ShiftOp → List ℕ
 <a href="../../ops/VectorOpsSpecs/index.html#shift_name">shift_name</a> op = (<a href="../../ops/VectorOpsSpecs/index.html#shift_row">shift_row</a> op).0
 
--- each test: its name, and the Boolean or the mask that it gives, as a raw value
+-- the row of a test: its name, and the Boolean or the mask that it gives, as a raw value
 abbrev pub <b id="test_row">test_row</b> : TestOp → List ℕ × (ℕ → RawVal)
 <a href="../../ops/VectorOpsSpecs/index.html#test_row">test_row</a> test.I8x16AllTrue = (codes "i8x16_all_true", λ a. <a href="../../raw/RawValSpecs/index.html#raw_of">raw_of</a> (from_bool (<a href="../../widening/WideningTableSpecs/index.html#all_true">widening.all_true</a> w8 a)))
 <a href="../../ops/VectorOpsSpecs/index.html#test_row">test_row</a> test.I16x8AllTrue = (codes "i16x8_all_true", λ a. <a href="../../raw/RawValSpecs/index.html#raw_of">raw_of</a> (from_bool (<a href="../../widening/WideningTableSpecs/index.html#all_true">widening.all_true</a> w16 a)))
@@ -1877,7 +1870,7 @@ abbrev pub <b id="tested_raw">tested_raw</b> : TestOp → ℕ → RawVal
 abbrev pub <b id="test_name">test_name</b> : TestOp → List ℕ
 <a href="../../ops/VectorOpsSpecs/index.html#test_name">test_name</a> op = (<a href="../../ops/VectorOpsSpecs/index.html#test_row">test_row</a> op).0
 
--- each instruction that makes a vector of an item: its name, and the vector for an item in a raw value
+-- the row of an instruction that makes a vector of an item: its name, and the vector for an item in a raw value
 abbrev pub <b id="make_row">make_row</b> : MakeOp → List ℕ × (RawVal → ℕ)
 <a href="../../ops/VectorOpsSpecs/index.html#make_row">make_row</a> make.I8x16Splat = (codes "i8x16_splat", λ raw. <a href="../../lanewise/VectorTableSpecs/index.html#splat">vector.splat</a> w8 (<a href="../../raw/RawValSpecs/index.html#signed_in">signed_in</a> w8 raw))
 <a href="../../ops/VectorOpsSpecs/index.html#make_row">make_row</a> make.I16x8Splat = (codes "i16x8_splat", λ raw. <a href="../../lanewise/VectorTableSpecs/index.html#splat">vector.splat</a> w16 (<a href="../../raw/RawValSpecs/index.html#signed_in">signed_in</a> w16 raw))
@@ -1900,7 +1893,7 @@ abbrev pub <b id="made_vector">made_vector</b> : MakeOp → RawVal → ℕ
 abbrev pub <b id="make_name">make_name</b> : MakeOp → List ℕ
 <a href="../../ops/VectorOpsSpecs/index.html#make_name">make_name</a> op = (<a href="../../ops/VectorOpsSpecs/index.html#make_row">make_row</a> op).0
 
--- each load of a vector: its name, and the vector that it gives from an address, or the trap
+-- the row of a load of a vector: its name, and the vector that it gives from an address, or the trap
 abbrev pub <b id="vector_load_row">vector_load_row</b> : VectorLoadOp → List ℕ × (List ℕ → ℕ → Result ℕ TrapCode)
 <a href="../../ops/VectorOpsSpecs/index.html#vector_load_row">vector_load_row</a> load.V128Load = (codes "v128_load", <a href="../../accesses/LoadStoreSpecs/index.html#loaded">loaded</a> 16 (λ n. n))
 <a href="../../ops/VectorOpsSpecs/index.html#vector_load_row">vector_load_row</a> load.V128Load8x8S = (codes "v128_load8x8_s", <a href="../../accesses/LoadStoreSpecs/index.html#loaded">loaded</a> 8 (<a href="../../widening/WideningTableSpecs/index.html#widen_s">widening.widen_s</a> w8 w16))
@@ -1961,7 +1954,7 @@ pub <b id="use">use</b> Rattle.wasmi_ops.specs.LoadStoreOps.{<a href="../../ops/
 abbrev pub <b id="bool_raw">bool_raw</b> : Bool → RawVal
 <a href="../../scalar_ops/ScalarOpsSpecs/index.html#bool_raw">bool_raw</a> flag = <a href="../../raw/RawValSpecs/index.html#raw_of">raw_of</a> (from_bool flag)
 
--- each instruction of one raw value: its name, and what it gives
+-- the row of an instruction of one raw value: its name, and what it gives
 abbrev pub <b id="scalar_unary_row">scalar_unary_row</b> : ScalarUnaryOp → List ℕ × (RawVal → RawVal)
 <a href="../../scalar_ops/ScalarOpsSpecs/index.html#scalar_unary_row">scalar_unary_row</a> unary.I32Clz = (codes "i32_clz", λ raw. <a href="../../ops/LoadStoreOpsSpecs/index.html#signed_raw">signed_raw</a> w32 (<a href="../../scalar/NumericsSpecs/index.html#iclz">iclz</a> w32 (<a href="../../raw/RawValSpecs/index.html#signed_in">signed_in</a> w32 raw)))
 <a href="../../scalar_ops/ScalarOpsSpecs/index.html#scalar_unary_row">scalar_unary_row</a> unary.I32Ctz = (codes "i32_ctz", λ raw. <a href="../../ops/LoadStoreOpsSpecs/index.html#signed_raw">signed_raw</a> w32 (<a href="../../scalar/NumericsSpecs/index.html#ictz">ictz</a> w32 (<a href="../../raw/RawValSpecs/index.html#signed_in">signed_in</a> w32 raw)))
@@ -2020,7 +2013,7 @@ abbrev pub <b id="unsigned_comparison">unsigned_comparison</b> : Width → (ℕ 
 abbrev pub <b id="wide_operation">wide_operation</b> : (ℕ → ℕ → ℕ) → <a href="../../scalar_ops/ScalarOpsSpecs/index.html#RawOperation">RawOperation</a>
 <a href="../../scalar_ops/ScalarOpsSpecs/index.html#wide_operation">wide_operation</a> operator lhs rhs = Ok (<a href="../../raw/RawValSpecs/index.html#raw_of_vector">raw_of_vector</a> (operator (<a href="../../raw/RawValSpecs/index.html#vector_in">vector_in</a> lhs) (<a href="../../raw/RawValSpecs/index.html#vector_in">vector_in</a> rhs)))
 
--- each instruction of two raw values: its name, and its operation
+-- the row of an instruction of two raw values: its name, and its operation
 abbrev pub <b id="scalar_binary_row">scalar_binary_row</b> : ScalarBinaryOp → List ℕ × <a href="../../scalar_ops/ScalarOpsSpecs/index.html#RawOperation">RawOperation</a>
 <a href="../../scalar_ops/ScalarOpsSpecs/index.html#scalar_binary_row">scalar_binary_row</a> binary.I32Add = (codes "i32_add", <a href="../../scalar_ops/ScalarOpsSpecs/index.html#signed_operation">signed_operation</a> w32 <a href="../../scalar/NumericsSpecs/index.html#iadd">iadd</a>)
 <a href="../../scalar_ops/ScalarOpsSpecs/index.html#scalar_binary_row">scalar_binary_row</a> binary.I32Sub = (codes "i32_sub", <a href="../../scalar_ops/ScalarOpsSpecs/index.html#signed_operation">signed_operation</a> w32 <a href="../../scalar/NumericsSpecs/index.html#isub">isub</a>)
@@ -2358,7 +2351,7 @@ abbrev pub <b id="without_last_of">without_last_of</b> : Kind → Holdings → O
 abbrev pub <b id="without_last">without_last</b> : Kind → Holdings → Holdings
 <a href="../../meter/CappedSpecs/index.html#without_last">without_last</a> kind h = <a href="../../meter/CappedSpecs/index.html#without_last_of">without_last_of</a> kind h h.last
 
--- so many more of a kind are taken exactly where they stay, with what is held and what others hold, within the cap, and
+-- n more of a kind are taken exactly where they stay, with what is held and what others hold, within the cap, and
 -- nothing changes otherwise
 pub record <b id="Takes">Takes</b> (<a href="../../meter/CappedSpecs/index.html#others">others</a> <a href="../../meter/CappedSpecs/index.html#cap">cap</a> : ℕ) (h : Holdings) (kind : Kind) (n : ℕ) (taken : Bool) (h&#x27; : Holdings) : Type 0 where
   pub <b id="within">within</b> : <a href="../../meter/CappedSpecs/index.html#others">others</a> + <a href="../../meter/CappedSpecs/index.html#amount_held">amount_held</a> h kind + n ≤ <a href="../../meter/CappedSpecs/index.html#cap">cap</a> → (taken ≡ true) × (h&#x27; ≡ <a href="../../meter/CappedSpecs/index.html#with_more">with_more</a> h kind n)
@@ -2368,7 +2361,7 @@ pub record <b id="Takes">Takes</b> (<a href="../../meter/CappedSpecs/index.html#
 abbrev pub <b id="with_less">with_less</b> : Holdings → Kind → ℕ → Holdings
 <a href="../../meter/CappedSpecs/index.html#with_less">with_less</a> h kind n = record { <a href="../../meter/CappedSpecs/index.html#held">held</a> = <a href="../../meter/CappedSpecs/index.html#with_amount">with_amount</a> h.held kind (<a href="../../meter/CappedSpecs/index.html#amount_held">amount_held</a> h kind - n); last = None }
 
--- so many of a kind are given up exactly where so many are held, and nothing changes otherwise
+-- n of a kind are given up exactly where as many are held, and nothing changes otherwise
 pub record <b id="Releases">Releases</b> (h : Holdings) (kind : Kind) (n : ℕ) (released : Bool) (h&#x27; : Holdings) : Type 0 where
   pub <b id="held">held</b> : n ≤ <a href="../../meter/CappedSpecs/index.html#amount_held">amount_held</a> h kind → (released ≡ true) × (h&#x27; ≡ <a href="../../meter/CappedSpecs/index.html#with_less">with_less</a> h kind n)
   pub <b id="short">short</b> : <a href="../../meter/CappedSpecs/index.html#amount_held">amount_held</a> h kind &lt; n → (released ≡ false) × (h&#x27; ≡ h)
@@ -2404,7 +2397,7 @@ module _ {L : Type 0} (c : <a href="../../meter/CappedSpecs/index.html#Capped">C
   abbrev pub <b id="IsWithin">IsWithin</b> : L → Type 0
   <a href="../../meter/CappedSpecs/index.html#IsWithin">IsWithin</a> l = (kind : Kind) → <a href="../../meter/CappedSpecs/index.html#held_together">held_together</a> l kind ≤ c.cap l kind
 
-  -- so many more of a kind are taken, or not, and all but the holdings stays
+  -- n more of a kind are taken, or not, and all but the holdings stays
   pub record <b id="HoldsMore">HoldsMore</b> (l : L) (kind : Kind) (n : ℕ) (taken : Bool) (l&#x27; : L) : Type 0 where
     pub <b id="takes">takes</b> : <a href="../../meter/CappedSpecs/index.html#Takes">Takes</a> (c.others l kind) (c.cap l kind) (c.holdings l) kind n taken (c.holdings l&#x27;)
     pub <b id="rest">rest</b> : l&#x27; ≡ c.with_holdings l (c.holdings l&#x27;)
@@ -3011,7 +3004,7 @@ abbrev pub <b id="buffer_of">buffer_of</b> : <a href="../../store/MemorySpecs/in
 abbrev pub <b id="new_memory">new_memory</b> : <a href="../../store/BufferSpecs/index.html#Room">Room</a> → <a href="../../store/MemorySpecs/index.html#MemoryTypeValue">MemoryTypeValue</a> → <a href="../../store/MemorySpecs/index.html#MemoryValue">MemoryValue</a>
 <a href="../../store/MemorySpecs/index.html#new_memory">new_memory</a> <a href="../../store/MemorySpecs/index.html#room">room</a> <a href="../../store/MemorySpecs/index.html#ty">ty</a> = <a href="../../store/MemorySpecs/index.html#memory_of">memory_of</a> <a href="../../store/MemorySpecs/index.html#ty">ty</a> (<a href="../../store/BufferSpecs/index.html#zeros_in">zeros_in</a> <a href="../../store/MemorySpecs/index.html#room">room</a> (<a href="../../store/MemorySpecs/index.html#minimum_bytes">minimum_bytes</a> <a href="../../store/MemorySpecs/index.html#ty">ty</a>))
 
--- so many bytes are whole pages, as many as the type allows
+-- a size in bytes is whole pages, as many as the type allows
 pub record <b id="IsSized">IsSized</b> (<a href="../../store/MemorySpecs/index.html#ty">ty</a> : <a href="../../store/MemorySpecs/index.html#MemoryTypeValue">MemoryTypeValue</a>) (size : ℕ) : Type 0 where
   pub <b id="whole">whole</b> : size % <a href="../../store/MemorySpecs/index.html#page_bytes">page_bytes</a> ty.page ≡ 0
   pub <b id="minimum">minimum</b> : ty.minimum ≤ size / <a href="../../store/MemorySpecs/index.html#page_bytes">page_bytes</a> ty.page
@@ -3106,11 +3099,11 @@ abbrev pub <b id="bytes_write">bytes_write</b> : <a href="../../store/MemorySpec
   unpaid = OutOfFuel;
 }
 
--- so many bytes from dst on are filled with a value
+-- len bytes from dst on are filled with a value
 abbrev pub <b id="byte_filling_of">byte_filling_of</b> : ℕ → ℕ → ℕ → <a href="../../store/MemorySpecs/index.html#MemoryValue">MemoryValue</a> → <a href="../../store/MemorySpecs/index.html#MemoryWrite">MemoryWrite</a>
 <a href="../../store/MemorySpecs/index.html#byte_filling_of">byte_filling_of</a> dst value len x = <a href="../../store/MemorySpecs/index.html#bytes_write">bytes_write</a> x None (<a href="../../store/WriteSpecs/index.html#filled">filled</a> x.bytes dst value len) len
 
--- so many bytes of a source from src on, perhaps those of the memory itself, are copied over the bytes from dst on
+-- len bytes of a source from src on, perhaps those of the memory itself, are copied over the bytes from dst on
 abbrev pub <b id="byte_copy_of">byte_copy_of</b> : ℕ → ℕ → ℕ → List ℕ → <a href="../../store/MemorySpecs/index.html#MemoryValue">MemoryValue</a> → <a href="../../store/MemorySpecs/index.html#MemoryWrite">MemoryWrite</a>
 <a href="../../store/MemorySpecs/index.html#byte_copy_of">byte_copy_of</a> dst src len source x = <a href="../../store/MemorySpecs/index.html#bytes_write">bytes_write</a> x None (<a href="../../store/WriteSpecs/index.html#copied">copied</a> x.bytes dst source src len) len
 
@@ -3264,7 +3257,7 @@ abbrev pub <b id="with_elements_reserved">with_elements_reserved</b> : <a href="
 abbrev pub <b id="size_of">size_of</b> : <a href="../../store/TableSpecs/index.html#TableValue">TableValue</a> → ℕ
 <a href="../../store/TableSpecs/index.html#size_of">size_of</a> x = length x.elements
 
--- so many elements are as many as the type allows
+-- a size in elements is one that the type allows
 pub record <b id="IsSized">IsSized</b> (<a href="../../store/TableSpecs/index.html#ty">ty</a> : <a href="../../store/TableSpecs/index.html#TableTypeValue">TableTypeValue</a>) (size : ℕ) : Type 0 where
   pub <b id="minimum">minimum</b> : ty.minimum ≤ size
   pub <b id="indexable">indexable</b> : <a href="../../store/TableSpecs/index.html#is_indexable">is_indexable</a> <a href="../../store/TableSpecs/index.html#ty">ty</a> size ≡ true
@@ -3383,22 +3376,22 @@ abbrev pub <b id="elements_write">elements_write</b> : <a href="../../store/Tabl
   unpaid = OutOfFuel;
 }
 
--- so many elements from dst on are filled with a reference, whose type isn&#x27;t tested
+-- len elements from dst on are filled with a reference, whose type isn&#x27;t tested
 abbrev pub <b id="raw_filling_of">raw_filling_of</b> : ℕ → ℕ → ℕ → <a href="../../store/TableSpecs/index.html#TableValue">TableValue</a> → <a href="../../store/TableSpecs/index.html#TableWrite">TableWrite</a>
 <a href="../../store/TableSpecs/index.html#raw_filling_of">raw_filling_of</a> dst reference len x =
     <a href="../../store/TableSpecs/index.html#elements_write">elements_write</a> x true (<a href="../../store/WriteSpecs/index.html#filled">filled</a> x.elements dst reference len) FillOutOfBounds (Some len)
 
--- so many elements from dst on are filled with a reference, whose type is tested
+-- len elements from dst on are filled with a reference, whose type is tested
 abbrev pub <b id="filling_of">filling_of</b> : ℕ → TypedRawRef → ℕ → <a href="../../store/TableSpecs/index.html#TableValue">TableValue</a> → <a href="../../store/TableSpecs/index.html#TableWrite">TableWrite</a>
 <a href="../../store/TableSpecs/index.html#filling_of">filling_of</a> dst value len x = <a href="../../store/TableSpecs/index.html#elements_write">elements_write</a> x (<a href="../../store/TableSpecs/index.html#same_type">same_type</a> x.ty.<a href="../../store/TableSpecs/index.html#element">element</a> value.ty)
     (<a href="../../store/WriteSpecs/index.html#filled">filled</a> x.elements dst value.raw len) FillOutOfBounds (Some len)
 
--- so many elements from src on of a table, perhaps the same one, are copied over those from dst on
+-- len elements from src on of a table, perhaps the same one, are copied over those from dst on
 abbrev pub <b id="copy_of">copy_of</b> : ℕ → ℕ → ℕ → <a href="../../store/TableSpecs/index.html#TableValue">TableValue</a> → <a href="../../store/TableSpecs/index.html#TableValue">TableValue</a> → <a href="../../store/TableSpecs/index.html#TableWrite">TableWrite</a>
 <a href="../../store/TableSpecs/index.html#copy_of">copy_of</a> dst src len source x = <a href="../../store/TableSpecs/index.html#elements_write">elements_write</a> x (<a href="../../store/TableSpecs/index.html#same_type">same_type</a> x.ty.<a href="../../store/TableSpecs/index.html#element">element</a> source.ty.<a href="../../store/TableSpecs/index.html#element">element</a>)
     (<a href="../../store/WriteSpecs/index.html#copied">copied</a> x.elements dst source.elements src len) CopyOutOfBounds (Some len)
 
--- so many items from src on of an element segment are copied over the elements from dst on; no item is free
+-- len items from src on of an element segment are copied over the elements from dst on; where len is 0, that is free
 abbrev pub <b id="initialization_of">initialization_of</b> : ℕ → ℕ → ℕ → <a href="../../store/SegmentSpecs/index.html#SegmentValue">SegmentValue</a> → <a href="../../store/TableSpecs/index.html#TableValue">TableValue</a> → <a href="../../store/TableSpecs/index.html#TableWrite">TableWrite</a>
 <a href="../../store/TableSpecs/index.html#initialization_of">initialization_of</a> dst src len segment x = <a href="../../store/TableSpecs/index.html#elements_write">elements_write</a> x (<a href="../../store/TableSpecs/index.html#same_type">same_type</a> x.ty.<a href="../../store/TableSpecs/index.html#element">element</a> segment.ty)
     (<a href="../../store/WriteSpecs/index.html#copied">copied</a> x.elements dst segment.items src len) InitOutOfBounds (if nat_eq len 0 then None else Some len)
@@ -3456,11 +3449,11 @@ module _ {V E : Type 0} (w : <a href="../../store/WriteSpecs/index.html#MeteredW
   <a href="../../store/WriteSpecs/index.html#write_charge">write_charge</a> (Err error) = 0
 
   module _ (result : Result (Unit {0}) E) (s&#x27; : <a href="../../meter/AttemptSpecs/index.html#MeteredValue">MeteredValue</a> V (Unit {0})) where
-    -- it is refused for a cause: nothing is written or taken
+    -- the write is refused for a cause: nothing is written or taken
     abbrev pub <b id="IsRefusedFor">IsRefusedFor</b> : E → Type 0
     <a href="../../store/WriteSpecs/index.html#IsRefusedFor">IsRefusedFor</a> cause = (result ≡ Err cause) × (s&#x27; ≡ s)
 
-    -- it ends in so much: what is due is taken, or isn&#x27;t left
+    -- the write ends in a value: what is due is taken, or isn&#x27;t left
     abbrev pub <b id="IsPaidFor">IsPaidFor</b> : V → Type 0
     <a href="../../store/WriteSpecs/index.html#IsPaidFor">IsPaidFor</a> value = MatchBool (<a href="../../meter/AttemptSpecs/index.html#covers">covers</a> s.meter <a href="../../store/WriteSpecs/index.html#write_due">write_due</a>)
         ((result ≡ Ok tt) × (s&#x27; ≡ <a href="../../store/GrowthSpecs/index.html#metered">metered</a> value (option_map (λ m. <a href="../../meter/MeterSpecs/index.html#meter_after">meter_after</a> m <a href="../../store/WriteSpecs/index.html#write_due">write_due</a>) s.meter)))
@@ -3598,7 +3591,7 @@ pub record <b id="IsSpent">IsSpent</b> (rate before after : ℕ) (turns : List <
     pub mod AccountSpecs {}
     #[doc = r####"Limiters in runs: deterministic ones, permissions, kinds, and runs in which nothing says out of memory.
 
-<pre><code>use Rattle.std.specs.Prelude.{◌≡◌, List, [], ◌∷◌, Ok, Option, Some, None, true}
+<pre><code>use Rattle.std.specs.Prelude.{◌≡◌, List, Ok, Option, Some, None, true, All, map}
 use Rattle.wasmi_meter.specs.Limiter.{<a href="../../meter/LimiterSpecs/index.html#Question">Question</a>, <a href="../../meter/LimiterSpecs/index.html#Answer">Answer</a>, <a href="../../meter/LimiterSpecs/index.html#Failure">Failure</a>, <a href="../../meter/LimiterSpecs/index.html#MemoryFailure">MemoryFailure</a>, <a href="../../meter/LimiterSpecs/index.html#TableFailure">TableFailure</a>, <a href="../../meter/LimiterSpecs/index.html#NoticeAnswer">NoticeAnswer</a>, <a href="../../meter/LimiterSpecs/index.html#Rules">Rules</a>, <a href="../../meter/LimiterSpecs/index.html#optional_rules">optional_rules</a>}
 use Rattle.wasmi_machine.specs.declared.calls.Reply.{Reply}
 use Rattle.wasmi_machine.specs.declared.calls.Reply.TheVariants.{Memory, Table, Segment, NoRoom}
@@ -3615,7 +3608,7 @@ use Rattle.wasmi_meter.specs.declared.error.TableError.TheVariants as table
 use Rattle.wasmi_store.specs.declared.<a href="../../store/TableSpecs/index.html#element">table.element</a>.SegmentError.TheVariants as segment
 use Rattle.wasmi_meter.specs.declared.any_limiter.AnyLimiter.TheVariants as limiter
 
--- each question and each notice has one answer, and leaves one state
+-- a limiter has one answer to each question and to each notice, and is in one state after it
 pub record <b id="IsDeterministic">IsDeterministic</b> {S : Type 0} (rules : <a href="../../meter/LimiterSpecs/index.html#Rules">Rules</a> S) : Type 0 where
   pub <b id="asked">asked</b> : (l : S) (question : <a href="../../meter/LimiterSpecs/index.html#Question">Question</a>) (answer answer&#x27; : <a href="../../meter/LimiterSpecs/index.html#Answer">Answer</a>) (l&#x27; l&#x27;&#x27; : S) → rules.asked l question answer l&#x27;
       → rules.asked l question answer&#x27; l&#x27;&#x27; → (answer ≡ answer&#x27;) × (l&#x27; ≡ l&#x27;&#x27;)
@@ -3623,7 +3616,7 @@ pub record <b id="IsDeterministic">IsDeterministic</b> {S : Type 0} (rules : <a 
       → rules.noticed l failure notice_answer l&#x27; → rules.noticed l failure notice_answer&#x27; l&#x27;&#x27;
       → (notice_answer ≡ notice_answer&#x27;) × (l&#x27; ≡ l&#x27;&#x27;)
 
--- each notice is accepted
+-- a limiter accepts each notice
 abbrev pub <b id="AcceptsNotices">AcceptsNotices</b> : {S : Type 0} → <a href="../../meter/LimiterSpecs/index.html#Rules">Rules</a> S → Type 0
 <a href="../../machine/DeterminismSpecs/index.html#AcceptsNotices">AcceptsNotices</a> {S} rules =
     (l : S) (failure : <a href="../../meter/LimiterSpecs/index.html#Failure">Failure</a>) (notice_answer : <a href="../../meter/LimiterSpecs/index.html#NoticeAnswer">NoticeAnswer</a>) (l&#x27; : S) → rules.noticed l failure notice_answer l&#x27;
@@ -3664,8 +3657,7 @@ abbrev pub <b id="IsNotOutOfMemory">IsNotOutOfMemory</b> : Reply → Type 0
 
 -- no reply of the turns says out of memory
 abbrev pub <b id="AreNotOutOfMemory">AreNotOutOfMemory</b> : List <a href="../../machine/StateSpecs/index.html#Turn">Turn</a> → Type 0
-<a href="../../machine/DeterminismSpecs/index.html#AreNotOutOfMemory">AreNotOutOfMemory</a> [] = Unit {0}
-<a href="../../machine/DeterminismSpecs/index.html#AreNotOutOfMemory">AreNotOutOfMemory</a> (turn ∷ turns) = <a href="../../machine/DeterminismSpecs/index.html#IsNotOutOfMemory">IsNotOutOfMemory</a> turn.reply × <a href="../../machine/DeterminismSpecs/index.html#AreNotOutOfMemory">AreNotOutOfMemory</a> turns
+<a href="../../machine/DeterminismSpecs/index.html#AreNotOutOfMemory">AreNotOutOfMemory</a> turns = All <a href="../../machine/DeterminismSpecs/index.html#IsNotOutOfMemory">IsNotOutOfMemory</a> (map Turn.reply turns)
 
 -- the rules by which each question is permitted
 abbrev pub <b id="permitting">permitting</b> : {S : Type 0} → <a href="../../meter/LimiterSpecs/index.html#Rules">Rules</a> S → <a href="../../meter/LimiterSpecs/index.html#Rules">Rules</a> S
@@ -3725,7 +3717,7 @@ use Rattle.wasmi_machine.specs.declared.calls.Reply.{Reply}
 use Rattle.wasmi_machine.specs.declared.calls.Reply.TheVariants.{Done, Made, Number, NoSuch, NoRoom}
 use Rattle.wasmi_machine.specs.declared.slots.Slot.{Slot}
 use Rattle.wasmi_machine.specs.declared.slots.Slot.TheVariants.{Live, Gone}
-use Rattle.wasmi_machine.specs.State.{<a href="../../machine/StateSpecs/index.html#State">State</a>, <a href="../../machine/StateSpecs/index.html#live_at">live_at</a>, <a href="../../machine/StateSpecs/index.html#World">World</a>, <a href="../../machine/StateSpecs/index.html#world">world</a>, <a href="../../machine/StateSpecs/index.html#Turn">Turn</a>, <a href="../../machine/StateSpecs/index.html#IsFree">IsFree</a>}
+use Rattle.wasmi_machine.specs.State.{<a href="../../machine/StateSpecs/index.html#State">State</a>, <a href="../../machine/StateSpecs/index.html#live_at">live_at</a>, <a href="../../machine/StateSpecs/index.html#World">World</a>, <a href="../../machine/StateSpecs/index.html#world">world</a>, <a href="../../machine/StateSpecs/index.html#TurnOutcome">TurnOutcome</a>, <a href="../../machine/StateSpecs/index.html#IsFree">IsFree</a>}
 
 -- the reply to a call that returns a value or is refused
 abbrev pub <b id="reply_of">reply_of</b> : {T E : Type 0} → (T → Reply) → (E → Reply) → Result T E → Reply
@@ -3832,28 +3824,28 @@ pub record <b id="ChangesPart">ChangesPart</b> {A : Type 0} (with_part : A → <
   pub <b id="effect">effect</b> : Effect reply <a href="../../machine/EffectsSpecs/index.html#part">part</a>
   pub <b id="after">after</b> : s&#x27; ≡ with_part <a href="../../machine/EffectsSpecs/index.html#part">part</a>
 
-module _ {S : Type 0} (w : <a href="../../machine/StateSpecs/index.html#World">World</a> S) (turn : <a href="../../machine/StateSpecs/index.html#Turn">Turn</a>) (w&#x27; : <a href="../../machine/StateSpecs/index.html#World">World</a> S) where
+module _ {S : Type 0} (w : <a href="../../machine/StateSpecs/index.html#World">World</a> S) (outcome : <a href="../../machine/StateSpecs/index.html#TurnOutcome">TurnOutcome</a>) (w&#x27; : <a href="../../machine/StateSpecs/index.html#World">World</a> S) where
   -- a turn that changes nothing but what its reply tells
   pub record <b id="OnlyReplies">OnlyReplies</b> (Effect : Reply → Type 0) : Type 0 where
-    pub <b id="free">free</b> : <a href="../../machine/StateSpecs/index.html#IsFree">IsFree</a> turn
-    pub <b id="effect">effect</b> : Effect turn.reply
+    pub <b id="free">free</b> : <a href="../../machine/StateSpecs/index.html#IsFree">IsFree</a> outcome
+    pub <b id="effect">effect</b> : Effect outcome.reply
     pub <b id="after">after</b> : w&#x27; ≡ w
 
   -- a turn that changes the state, without a charge and without the limiter
   pub record <b id="Changes">Changes</b> (Effect : Reply → <a href="../../machine/StateSpecs/index.html#State">State</a> → Type 0) : Type 0 where
-    pub <b id="free">free</b> : <a href="../../machine/StateSpecs/index.html#IsFree">IsFree</a> turn
+    pub <b id="free">free</b> : <a href="../../machine/StateSpecs/index.html#IsFree">IsFree</a> outcome
     pub <b id="machine">machine</b> : <a href="../../machine/StateSpecs/index.html#State">State</a>
-    pub <b id="effect">effect</b> : Effect turn.reply <a href="../../machine/EffectsSpecs/index.html#machine">machine</a>
+    pub <b id="effect">effect</b> : Effect outcome.reply <a href="../../machine/EffectsSpecs/index.html#machine">machine</a>
     pub <b id="after">after</b> : w&#x27; ≡ record w { state = <a href="../../machine/EffectsSpecs/index.html#machine">machine</a> }
 
   -- a turn that makes something under the limiter, without a charge; there may be no room for it as a fact says
   pub record <b id="Asks">Asks</b> {A : Type 0} (Lacks : Type 0) (with_part : A → <a href="../../machine/StateSpecs/index.html#State">State</a>) (Effect : S → Reply → A → S → Type 0)
       : Type 0 where
-    pub <b id="free">free</b> : <a href="../../machine/StateSpecs/index.html#IsFree">IsFree</a> turn
+    pub <b id="free">free</b> : <a href="../../machine/StateSpecs/index.html#IsFree">IsFree</a> outcome
     pub <b id="part">part</b> : A
     pub <b id="limiter">limiter</b> : S
-    pub <b id="effect">effect</b> : Effect w.limiter turn.reply <a href="../../machine/EffectsSpecs/index.html#part">part</a> <a href="../../machine/EffectsSpecs/index.html#limiter">limiter</a>
-    pub <b id="room">room</b> : <a href="../../machine/EffectsSpecs/index.html#IfNoRoom">IfNoRoom</a> turn.reply Lacks
+    pub <b id="effect">effect</b> : Effect w.limiter outcome.reply <a href="../../machine/EffectsSpecs/index.html#part">part</a> <a href="../../machine/EffectsSpecs/index.html#limiter">limiter</a>
+    pub <b id="room">room</b> : <a href="../../machine/EffectsSpecs/index.html#IfNoRoom">IfNoRoom</a> outcome.reply Lacks
     pub <b id="after">after</b> : w&#x27; ≡ <a href="../../machine/StateSpecs/index.html#world">world</a> (with_part <a href="../../machine/EffectsSpecs/index.html#part">part</a>) <a href="../../machine/EffectsSpecs/index.html#limiter">limiter</a>
 
   -- a turn that acts on one part of the state, with a charge, and with the bytes that it has written by its reply
@@ -3862,9 +3854,9 @@ module _ {S : Type 0} (w : <a href="../../machine/StateSpecs/index.html#World">W
     pub <b id="part">part</b> : A
     pub <b id="meter">meter</b> : <a href="../../meter/MeterSpecs/index.html#Meter">Meter</a>
     pub <b id="limiter">limiter</b> : S
-    pub <b id="effect">effect</b> : Effect (<a href="../../store/GrowthSpecs/index.html#metered_value">metered_value</a> old (Some w.state.<a href="../../machine/EffectsSpecs/index.html#meter">meter</a>) w.limiter) turn.reply turn.charge
+    pub <b id="effect">effect</b> : Effect (<a href="../../store/GrowthSpecs/index.html#metered_value">metered_value</a> old (Some w.state.<a href="../../machine/EffectsSpecs/index.html#meter">meter</a>) w.limiter) outcome.reply outcome.charge
         (<a href="../../store/GrowthSpecs/index.html#metered_value">metered_value</a> <a href="../../machine/EffectsSpecs/index.html#part">part</a> (Some <a href="../../machine/EffectsSpecs/index.html#meter">meter</a>) <a href="../../machine/EffectsSpecs/index.html#limiter">limiter</a>)
-    pub <b id="wrote">wrote</b> : turn.written ≡ bytes turn.reply
+    pub <b id="wrote">wrote</b> : outcome.written ≡ bytes outcome.reply
     pub <b id="after">after</b> : w&#x27; ≡ <a href="../../machine/StateSpecs/index.html#world">world</a> (record (with_part <a href="../../machine/EffectsSpecs/index.html#part">part</a>) { <a href="../../machine/EffectsSpecs/index.html#meter">meter</a> = <a href="../../machine/EffectsSpecs/index.html#meter">meter</a> }) <a href="../../machine/EffectsSpecs/index.html#limiter">limiter</a>
 
   -- a turn that acts on one part of the state, with a charge, and with the bytes that it has written by its reply, and
@@ -3874,8 +3866,8 @@ module _ {S : Type 0} (w : <a href="../../machine/StateSpecs/index.html#World">W
       (bytes : Reply → ℕ) : Type 0 where
     pub <b id="part">part</b> : A
     pub <b id="meter">meter</b> : <a href="../../meter/MeterSpecs/index.html#Meter">Meter</a>
-    pub <b id="effect">effect</b> : Effect (<a href="../../store/GrowthSpecs/index.html#metered">metered</a> old (Some w.state.<a href="../../machine/EffectsSpecs/index.html#meter">meter</a>)) turn.reply turn.charge (<a href="../../store/GrowthSpecs/index.html#metered">metered</a> <a href="../../machine/EffectsSpecs/index.html#part">part</a> (Some <a href="../../machine/EffectsSpecs/index.html#meter">meter</a>))
-    pub <b id="wrote">wrote</b> : turn.written ≡ bytes turn.reply
+    pub <b id="effect">effect</b> : Effect (<a href="../../store/GrowthSpecs/index.html#metered">metered</a> old (Some w.state.<a href="../../machine/EffectsSpecs/index.html#meter">meter</a>)) outcome.reply outcome.charge (<a href="../../store/GrowthSpecs/index.html#metered">metered</a> <a href="../../machine/EffectsSpecs/index.html#part">part</a> (Some <a href="../../machine/EffectsSpecs/index.html#meter">meter</a>))
+    pub <b id="wrote">wrote</b> : outcome.written ≡ bytes outcome.reply
     pub <b id="after">after</b> : w&#x27; ≡ record w { state = record (with_part <a href="../../machine/EffectsSpecs/index.html#part">part</a>) { <a href="../../machine/EffectsSpecs/index.html#meter">meter</a> = <a href="../../machine/EffectsSpecs/index.html#meter">meter</a> } }
 </code></pre>
 "####]
@@ -4274,7 +4266,7 @@ abbrev pub <b id="QuotasStayWithin">QuotasStayWithin</b> : Type 0
     pub mod LawsSpecs {}
     #[doc = r####"Machines with memories in lent regions, beside the same machines with memories of their own.
 
-<pre><code>use Rattle.std.specs.Prelude.{◌≡◌, ◌⊎◌, ◌+◌, ◌*◌, ℕ, true, false, List, [], ◌∷◌, map, None}
+<pre><code>use Rattle.std.specs.Prelude.{◌≡◌, ◌⊎◌, ◌+◌, ◌*◌, ℕ, true, false, List, map, None}
 use Rattle.wasmi_meter.specs.Limiter.{<a href="../../meter/LimiterSpecs/index.html#Rules">Rules</a>}
 use Rattle.wasmi_store.specs.Buffer.{<a href="../../store/BufferSpecs/index.html#Owned">Owned</a>, <a href="../../store/BufferSpecs/index.html#fits_room">fits_room</a>}
 use Rattle.wasmi_store.specs.Memory.{<a href="../../store/MemorySpecs/index.html#page_bytes">page_bytes</a>, <a href="../../store/MemorySpecs/index.html#in_bounds">in_bounds</a>, <a href="../../store/MemorySpecs/index.html#MemoryValue">MemoryValue</a>, <a href="../../store/MemorySpecs/index.html#pages_of">pages_of</a>}
@@ -4284,7 +4276,7 @@ use Rattle.wasmi_machine.specs.declared.slots.Slot.{Slot}
 use Rattle.wasmi_machine.specs.declared.slots.Slot.TheVariants.{Live, Gone}
 use Rattle.wasmi_machine.specs.State.{<a href="../../machine/StateSpecs/index.html#State">State</a>, <a href="../../machine/StateSpecs/index.html#live_at">live_at</a>, <a href="../../machine/StateSpecs/index.html#World">World</a>, <a href="../../machine/StateSpecs/index.html#Turn">Turn</a>}
 use Rattle.wasmi_machine.specs.Effects.{<a href="../../machine/EffectsSpecs/index.html#OnLive">OnLive</a>}
-use Rattle.wasmi_machine.specs.Steps.{<a href="../../machine/StepsSpecs/index.html#Step">Step</a>}
+use Rattle.wasmi_machine.specs.Steps.{<a href="../../machine/StepsSpecs/index.html#Step">Step</a>, <a href="../../machine/StepsSpecs/index.html#Sequence">Sequence</a>}
 
 -- a memory that grows into memory of its own, instead of a lent region
 abbrev pub <b id="owned_memory">owned_memory</b> : <a href="../../store/MemorySpecs/index.html#MemoryValue">MemoryValue</a> → <a href="../../store/MemorySpecs/index.html#MemoryValue">MemoryValue</a>
@@ -4320,9 +4312,7 @@ abbrev pub <b id="FitsRegions">FitsRegions</b> : <a href="../../machine/StateSpe
 
 -- turns by such calls one after another, from one world to another
 abbrev pub <b id="RunInRegions">RunInRegions</b> : {S : Type 0} → <a href="../../meter/LimiterSpecs/index.html#Rules">Rules</a> S → <a href="../../machine/StateSpecs/index.html#World">World</a> S → List <a href="../../machine/StateSpecs/index.html#Turn">Turn</a> → <a href="../../machine/StateSpecs/index.html#World">World</a> S → Type 0
-<a href="../../machine/LentMemorySpecs/index.html#RunInRegions">RunInRegions</a> rules w [] w&#x27; = w&#x27; ≡ w
-<a href="../../machine/LentMemorySpecs/index.html#RunInRegions">RunInRegions</a> rules w (turn ∷ turns) w&#x27; =
-    (v : <a href="../../machine/StateSpecs/index.html#World">World</a> _) × <a href="../../machine/LentMemorySpecs/index.html#FitsRegions">FitsRegions</a> w.state turn.call × <a href="../../machine/StepsSpecs/index.html#Step">Step</a> rules w turn v × <a href="../../machine/LentMemorySpecs/index.html#RunInRegions">RunInRegions</a> rules v turns w&#x27;
+<a href="../../machine/LentMemorySpecs/index.html#RunInRegions">RunInRegions</a> rules = <a href="../../machine/StepsSpecs/index.html#Sequence">Sequence</a> (λ w turn w&#x27;. <a href="../../machine/LentMemorySpecs/index.html#FitsRegions">FitsRegions</a> w.state turn.call × <a href="../../machine/StepsSpecs/index.html#Step">Step</a> rules w turn w&#x27;)
 </code></pre>
 "####]
     pub mod LentMemorySpecs {}
@@ -4683,9 +4673,19 @@ pub record <b id="Turn">Turn</b> : Type 0 where
   pub <b id="charge">charge</b> : ℕ
   pub <b id="written">written</b> : ℕ
 
--- a turn that is charged nothing, and that has written nothing by a growth or over a part of a table
-abbrev pub <b id="IsFree">IsFree</b> : <a href="../../machine/StateSpecs/index.html#Turn">Turn</a> → Type 0
-<a href="../../machine/StateSpecs/index.html#IsFree">IsFree</a> turn = (turn.charge ≡ 0) × (turn.written ≡ 0)
+-- what a turn has besides its call
+pub record <b id="TurnOutcome">TurnOutcome</b> : Type 0 where
+  pub <b id="reply">reply</b> : Reply
+  pub <b id="charge">charge</b> : ℕ
+  pub <b id="written">written</b> : ℕ
+
+-- the outcome of a turn
+abbrev pub <b id="outcome_of">outcome_of</b> : <a href="../../machine/StateSpecs/index.html#Turn">Turn</a> → <a href="../../machine/StateSpecs/index.html#TurnOutcome">TurnOutcome</a>
+<a href="../../machine/StateSpecs/index.html#outcome_of">outcome_of</a> turn = record { <a href="../../machine/StateSpecs/index.html#reply">reply</a> = turn.reply; <a href="../../machine/StateSpecs/index.html#charge">charge</a> = turn.charge; <a href="../../machine/StateSpecs/index.html#written">written</a> = turn.written }
+
+-- a turn is charged nothing, and has written nothing by a growth or over a part of a table
+abbrev pub <b id="IsFree">IsFree</b> : <a href="../../machine/StateSpecs/index.html#TurnOutcome">TurnOutcome</a> → Type 0
+<a href="../../machine/StateSpecs/index.html#IsFree">IsFree</a> outcome = (outcome.charge ≡ 0) × (outcome.written ≡ 0)
 
 -- a reply that tells why nothing was done
 abbrev pub <b id="IsRefusal">IsRefusal</b> : Reply → Type 0
@@ -4767,7 +4767,7 @@ use Rattle.wasmi_store.specs.Memory.{<a href="../../store/MemorySpecs/index.html
 use Rattle.wasmi_store.specs.Table.{<a href="../../store/TableSpecs/index.html#TableTypeValue">TableTypeValue</a>, <a href="../../store/TableSpecs/index.html#size_of">size_of</a>, <a href="../../store/TableSpecs/index.html#MakesTable">MakesTable</a>, <a href="../../store/TableSpecs/index.html#GrowsTableCharging">GrowsTableCharging</a>}
 use Rattle.wasmi_machine.specs.declared.calls.Call.{Call}
 use Rattle.wasmi_machine.specs.declared.calls.Reply.{Reply}
-use Rattle.wasmi_machine.specs.State.{<a href="../../machine/StateSpecs/index.html#World">World</a>, <a href="../../machine/StateSpecs/index.html#Turn">Turn</a>, <a href="../../machine/StateSpecs/index.html#world">world</a>, <a href="../../machine/StateSpecs/index.html#State">State</a>, <a href="../../machine/StateSpecs/index.html#live_at">live_at</a>, <a href="../../machine/StateSpecs/index.html#with_memories">with_memories</a>, <a href="../../machine/StateSpecs/index.html#memory_part">memory_part</a>, <a href="../../machine/StateSpecs/index.html#with_memory_part">with_memory_part</a>, <a href="../../machine/StateSpecs/index.html#with_tables">with_tables</a>, <a href="../../machine/StateSpecs/index.html#with_segments">with_segments</a>, <a href="../../machine/StateSpecs/index.html#with_data_segments">with_data_segments</a>, <a href="../../machine/StateSpecs/index.html#with_globals">with_globals</a>, <a href="../../machine/StateSpecs/index.html#with_registers">with_registers</a>, <a href="../../machine/StateSpecs/index.html#byte_count">byte_count</a>}
+use Rattle.wasmi_machine.specs.State.{<a href="../../machine/StateSpecs/index.html#World">World</a>, <a href="../../machine/StateSpecs/index.html#Turn">Turn</a>, <a href="../../machine/StateSpecs/index.html#TurnOutcome">TurnOutcome</a>, <a href="../../machine/StateSpecs/index.html#outcome_of">outcome_of</a>, <a href="../../machine/StateSpecs/index.html#world">world</a>, <a href="../../machine/StateSpecs/index.html#State">State</a>, <a href="../../machine/StateSpecs/index.html#live_at">live_at</a>, <a href="../../machine/StateSpecs/index.html#with_memories">with_memories</a>, <a href="../../machine/StateSpecs/index.html#memory_part">memory_part</a>, <a href="../../machine/StateSpecs/index.html#with_memory_part">with_memory_part</a>, <a href="../../machine/StateSpecs/index.html#with_tables">with_tables</a>, <a href="../../machine/StateSpecs/index.html#with_segments">with_segments</a>, <a href="../../machine/StateSpecs/index.html#with_data_segments">with_data_segments</a>, <a href="../../machine/StateSpecs/index.html#with_globals">with_globals</a>, <a href="../../machine/StateSpecs/index.html#with_registers">with_registers</a>, <a href="../../machine/StateSpecs/index.html#byte_count">byte_count</a>}
 use Rattle.wasmi_machine.specs.Effects.{<a href="../../machine/EffectsSpecs/index.html#reply_of">reply_of</a>, <a href="../../machine/EffectsSpecs/index.html#AddsItem">AddsItem</a>, <a href="../../machine/EffectsSpecs/index.html#Creates">Creates</a>, <a href="../../machine/EffectsSpecs/index.html#DropsAt">DropsAt</a>, <a href="../../machine/EffectsSpecs/index.html#ActsAt">ActsAt</a>, <a href="../../machine/EffectsSpecs/index.html#ChangesPart">ChangesPart</a>, <a href="../../machine/EffectsSpecs/index.html#OnlyReplies">OnlyReplies</a>, <a href="../../machine/EffectsSpecs/index.html#Changes">Changes</a>, <a href="../../machine/EffectsSpecs/index.html#Asks">Asks</a>, <a href="../../machine/EffectsSpecs/index.html#ActsMetered">ActsMetered</a>, <a href="../../machine/EffectsSpecs/index.html#ActsMeteredUnasked">ActsMeteredUnasked</a>, <a href="../../machine/EffectsSpecs/index.html#WritesRangeAt">WritesRangeAt</a>, <a href="../../machine/EffectsSpecs/index.html#item_bytes">item_bytes</a>}
 use Rattle.wasmi_ops.specs.LoadStoreOps.{<a href="../../ops/LoadStoreOpsSpecs/index.html#stored_bytes">stored_bytes</a>}
 use Rattle.wasmi_machine.specs.ValueEffects.{<a href="../../machine/ValueEffectsSpecs/index.html#SetsFuel">SetsFuel</a>, <a href="../../machine/ValueEffectsSpecs/index.html#get_fuel_reply">get_fuel_reply</a>, <a href="../../machine/ValueEffectsSpecs/index.html#CreatesSegment">CreatesSegment</a>, <a href="../../machine/ValueEffectsSpecs/index.html#DropsItemsAt">DropsItemsAt</a>, <a href="../../machine/ValueEffectsSpecs/index.html#DropsDataAt">DropsDataAt</a>, <a href="../../machine/ValueEffectsSpecs/index.html#SetsGlobalAt">SetsGlobalAt</a>, <a href="../../machine/ValueEffectsSpecs/index.html#global_reply">global_reply</a>}
@@ -4984,39 +4984,40 @@ abbrev pub <b id="HasChange">HasChange</b> : <a href="../../machine/StepsSpecs/i
 <a href="../../machine/StepsSpecs/index.html#HasChange">HasChange</a> (<a href="../../machine/StepsSpecs/index.html#GlobalSet">GlobalSet</a> k value) s = <a href="../../machine/EffectsSpecs/index.html#ChangesPart">ChangesPart</a> (<a href="../../machine/StateSpecs/index.html#with_globals">with_globals</a> s) (<a href="../../machine/ValueEffectsSpecs/index.html#SetsGlobalAt">SetsGlobalAt</a> k value s.globals)
 
 -- a range of one part of the state is written over: a line for each kind
-abbrev pub <b id="HasRangeWrite">HasRangeWrite</b> : {S : Type 0} → <a href="../../machine/StepsSpecs/index.html#RangeWrite">RangeWrite</a> → <a href="../../machine/StateSpecs/index.html#World">World</a> S → <a href="../../machine/StateSpecs/index.html#Turn">Turn</a> → <a href="../../machine/StateSpecs/index.html#World">World</a> S → Type 0
-<a href="../../machine/StepsSpecs/index.html#HasRangeWrite">HasRangeWrite</a> (<a href="../../machine/StepsSpecs/index.html#TableWritten">TableWritten</a> k source dst len) w turn w&#x27; =
-    <a href="../../machine/EffectsSpecs/index.html#ActsMeteredUnasked">ActsMeteredUnasked</a> w turn w&#x27; w.state.tables (<a href="../../machine/StateSpecs/index.html#with_tables">with_tables</a> w.state)
+abbrev pub <b id="HasRangeWrite">HasRangeWrite</b> : {S : Type 0} → <a href="../../machine/StepsSpecs/index.html#RangeWrite">RangeWrite</a> → <a href="../../machine/StateSpecs/index.html#World">World</a> S → <a href="../../machine/StateSpecs/index.html#TurnOutcome">TurnOutcome</a> → <a href="../../machine/StateSpecs/index.html#World">World</a> S → Type 0
+<a href="../../machine/StepsSpecs/index.html#HasRangeWrite">HasRangeWrite</a> (<a href="../../machine/StepsSpecs/index.html#TableWritten">TableWritten</a> k source dst len) w outcome w&#x27; =
+    <a href="../../machine/EffectsSpecs/index.html#ActsMeteredUnasked">ActsMeteredUnasked</a> w outcome w&#x27; w.state.tables (<a href="../../machine/StateSpecs/index.html#with_tables">with_tables</a> w.state)
     (<a href="../../machine/EffectsSpecs/index.html#WritesRangeAt">WritesRangeAt</a> reply.Table k (<a href="../../machine/TableEffectsSpecs/index.html#write_of">write_of</a> source dst len)) (<a href="../../machine/TableEffectsSpecs/index.html#element_bytes">element_bytes</a> len)
-<a href="../../machine/StepsSpecs/index.html#HasRangeWrite">HasRangeWrite</a> (<a href="../../machine/StepsSpecs/index.html#MemoryWritten">MemoryWritten</a> k source dst len) w turn w&#x27; =
-    <a href="../../machine/EffectsSpecs/index.html#ActsMeteredUnasked">ActsMeteredUnasked</a> w turn w&#x27; w.state.memories (<a href="../../machine/StateSpecs/index.html#with_memories">with_memories</a> w.state)
+<a href="../../machine/StepsSpecs/index.html#HasRangeWrite">HasRangeWrite</a> (<a href="../../machine/StepsSpecs/index.html#MemoryWritten">MemoryWritten</a> k source dst len) w outcome w&#x27; =
+    <a href="../../machine/EffectsSpecs/index.html#ActsMeteredUnasked">ActsMeteredUnasked</a> w outcome w&#x27; w.state.memories (<a href="../../machine/StateSpecs/index.html#with_memories">with_memories</a> w.state)
     (<a href="../../machine/EffectsSpecs/index.html#WritesRangeAt">WritesRangeAt</a> reply.Memory k (<a href="../../machine/MemoryEffectsSpecs/index.html#byte_write_of">byte_write_of</a> source dst len)) (<a href="../../machine/EffectsSpecs/index.html#item_bytes">item_bytes</a> 1 len)
 
 -- an effect takes place from one world to the next: a line for each kind
-abbrev pub <b id="HasEffect">HasEffect</b> : {S : Type 0} → <a href="../../meter/LimiterSpecs/index.html#Rules">Rules</a> S → <a href="../../machine/StepsSpecs/index.html#Effect">Effect</a> → <a href="../../machine/StateSpecs/index.html#World">World</a> S → <a href="../../machine/StateSpecs/index.html#Turn">Turn</a> → <a href="../../machine/StateSpecs/index.html#World">World</a> S → Type 0
-<a href="../../machine/StepsSpecs/index.html#HasEffect">HasEffect</a> rules (<a href="../../machine/StepsSpecs/index.html#Told">Told</a> told) w turn w&#x27; = <a href="../../machine/EffectsSpecs/index.html#OnlyReplies">OnlyReplies</a> w turn w&#x27; (λ answer. answer ≡ told)
-<a href="../../machine/StepsSpecs/index.html#HasEffect">HasEffect</a> rules (<a href="../../machine/StepsSpecs/index.html#BytesRead">BytesRead</a> k offset len) w turn w&#x27; = <a href="../../machine/EffectsSpecs/index.html#OnlyReplies">OnlyReplies</a> w turn w&#x27; (<a href="../../machine/MemoryEffectsSpecs/index.html#ReadsMemoryAt">ReadsMemoryAt</a> k offset len w.state.memories)
-<a href="../../machine/StepsSpecs/index.html#HasEffect">HasEffect</a> rules (<a href="../../machine/StepsSpecs/index.html#FuelSet">FuelSet</a> fuel) w turn w&#x27; = <a href="../../machine/EffectsSpecs/index.html#Changes">Changes</a> w turn w&#x27; (<a href="../../machine/ValueEffectsSpecs/index.html#SetsFuel">SetsFuel</a> fuel w.state)
-<a href="../../machine/StepsSpecs/index.html#HasEffect">HasEffect</a> rules (<a href="../../machine/StepsSpecs/index.html#Changed">Changed</a> change) w turn w&#x27; = <a href="../../machine/EffectsSpecs/index.html#Changes">Changes</a> w turn w&#x27; (<a href="../../machine/StepsSpecs/index.html#HasChange">HasChange</a> change w.state)
-<a href="../../machine/StepsSpecs/index.html#HasEffect">HasEffect</a> rules (<a href="../../machine/StepsSpecs/index.html#MemoryMade">MemoryMade</a> ty) w turn w&#x27; =
-    <a href="../../machine/EffectsSpecs/index.html#Asks">Asks</a> w turn w&#x27; (<a href="../../machine/StepsSpecs/index.html#LacksSlot">LacksSlot</a> w.state.reserved.memories w.state.memories) (<a href="../../machine/StateSpecs/index.html#with_memories">with_memories</a> w.state)
+abbrev pub <b id="HasEffect">HasEffect</b> : {S : Type 0} → <a href="../../meter/LimiterSpecs/index.html#Rules">Rules</a> S → <a href="../../machine/StepsSpecs/index.html#Effect">Effect</a> → <a href="../../machine/StateSpecs/index.html#World">World</a> S → <a href="../../machine/StateSpecs/index.html#TurnOutcome">TurnOutcome</a> → <a href="../../machine/StateSpecs/index.html#World">World</a> S → Type 0
+<a href="../../machine/StepsSpecs/index.html#HasEffect">HasEffect</a> rules (<a href="../../machine/StepsSpecs/index.html#Told">Told</a> told) w outcome w&#x27; = <a href="../../machine/EffectsSpecs/index.html#OnlyReplies">OnlyReplies</a> w outcome w&#x27; (λ answer. answer ≡ told)
+<a href="../../machine/StepsSpecs/index.html#HasEffect">HasEffect</a> rules (<a href="../../machine/StepsSpecs/index.html#BytesRead">BytesRead</a> k offset len) w outcome w&#x27; =
+    <a href="../../machine/EffectsSpecs/index.html#OnlyReplies">OnlyReplies</a> w outcome w&#x27; (<a href="../../machine/MemoryEffectsSpecs/index.html#ReadsMemoryAt">ReadsMemoryAt</a> k offset len w.state.memories)
+<a href="../../machine/StepsSpecs/index.html#HasEffect">HasEffect</a> rules (<a href="../../machine/StepsSpecs/index.html#FuelSet">FuelSet</a> fuel) w outcome w&#x27; = <a href="../../machine/EffectsSpecs/index.html#Changes">Changes</a> w outcome w&#x27; (<a href="../../machine/ValueEffectsSpecs/index.html#SetsFuel">SetsFuel</a> fuel w.state)
+<a href="../../machine/StepsSpecs/index.html#HasEffect">HasEffect</a> rules (<a href="../../machine/StepsSpecs/index.html#Changed">Changed</a> change) w outcome w&#x27; = <a href="../../machine/EffectsSpecs/index.html#Changes">Changes</a> w outcome w&#x27; (<a href="../../machine/StepsSpecs/index.html#HasChange">HasChange</a> change w.state)
+<a href="../../machine/StepsSpecs/index.html#HasEffect">HasEffect</a> rules (<a href="../../machine/StepsSpecs/index.html#MemoryMade">MemoryMade</a> ty) w outcome w&#x27; =
+    <a href="../../machine/EffectsSpecs/index.html#Asks">Asks</a> w outcome w&#x27; (<a href="../../machine/StepsSpecs/index.html#LacksSlot">LacksSlot</a> w.state.reserved.memories w.state.memories) (<a href="../../machine/StateSpecs/index.html#with_memories">with_memories</a> w.state)
     (<a href="../../machine/EffectsSpecs/index.html#Creates">Creates</a> reply.Memory (<a href="../../store/MemorySpecs/index.html#MakesMemory">MakesMemory</a> rules <a href="../../store/BufferSpecs/index.html#Owned">Owned</a> ty) w.state.memories)
-<a href="../../machine/StepsSpecs/index.html#HasEffect">HasEffect</a> rules (<a href="../../machine/StepsSpecs/index.html#LentMemoryMade">LentMemoryMade</a> ty) w turn w&#x27; =
-    <a href="../../machine/EffectsSpecs/index.html#Asks">Asks</a> w turn w&#x27; (<a href="../../machine/StepsSpecs/index.html#LacksSlot">LacksSlot</a> w.state.reserved.memories w.state.memories) (<a href="../../machine/StateSpecs/index.html#with_memory_part">with_memory_part</a> w.state)
+<a href="../../machine/StepsSpecs/index.html#HasEffect">HasEffect</a> rules (<a href="../../machine/StepsSpecs/index.html#LentMemoryMade">LentMemoryMade</a> ty) w outcome w&#x27; =
+    <a href="../../machine/EffectsSpecs/index.html#Asks">Asks</a> w outcome w&#x27; (<a href="../../machine/StepsSpecs/index.html#LacksSlot">LacksSlot</a> w.state.reserved.memories w.state.memories) (<a href="../../machine/StateSpecs/index.html#with_memory_part">with_memory_part</a> w.state)
     (<a href="../../machine/MemoryEffectsSpecs/index.html#CreatesLent">CreatesLent</a> rules ty (<a href="../../machine/StateSpecs/index.html#memory_part">memory_part</a> w.state))
-<a href="../../machine/StepsSpecs/index.html#HasEffect">HasEffect</a> rules (<a href="../../machine/StepsSpecs/index.html#MemoryGrown">MemoryGrown</a> k pages) w turn w&#x27; = <a href="../../machine/EffectsSpecs/index.html#ActsMetered">ActsMetered</a> w turn w&#x27; w.state.memories (<a href="../../machine/StateSpecs/index.html#with_memories">with_memories</a> w.state)
+<a href="../../machine/StepsSpecs/index.html#HasEffect">HasEffect</a> rules (<a href="../../machine/StepsSpecs/index.html#MemoryGrown">MemoryGrown</a> k pages) w outcome w&#x27; = <a href="../../machine/EffectsSpecs/index.html#ActsMetered">ActsMetered</a> w outcome w&#x27; w.state.memories (<a href="../../machine/StateSpecs/index.html#with_memories">with_memories</a> w.state)
     (<a href="../../machine/EffectsSpecs/index.html#ActsAt">ActsAt</a> k (<a href="../../machine/EffectsSpecs/index.html#reply_of">reply_of</a> reply.Number reply.Memory) (<a href="../../store/MemorySpecs/index.html#GrowsMemoryCharging">GrowsMemoryCharging</a> rules pages))
     (<a href="../../machine/MemoryEffectsSpecs/index.html#bytes_appended">bytes_appended</a> (<a href="../../machine/StateSpecs/index.html#live_at">live_at</a> w.state.memories k) pages)
-<a href="../../machine/StepsSpecs/index.html#HasEffect">HasEffect</a> rules (<a href="../../machine/StepsSpecs/index.html#TableMade">TableMade</a> ty init) w turn w&#x27; =
-    <a href="../../machine/EffectsSpecs/index.html#Asks">Asks</a> w turn w&#x27; (<a href="../../machine/StepsSpecs/index.html#LacksSlot">LacksSlot</a> w.state.reserved.tables w.state.tables) (<a href="../../machine/StateSpecs/index.html#with_tables">with_tables</a> w.state)
+<a href="../../machine/StepsSpecs/index.html#HasEffect">HasEffect</a> rules (<a href="../../machine/StepsSpecs/index.html#TableMade">TableMade</a> ty init) w outcome w&#x27; =
+    <a href="../../machine/EffectsSpecs/index.html#Asks">Asks</a> w outcome w&#x27; (<a href="../../machine/StepsSpecs/index.html#LacksSlot">LacksSlot</a> w.state.reserved.tables w.state.tables) (<a href="../../machine/StateSpecs/index.html#with_tables">with_tables</a> w.state)
     (<a href="../../machine/EffectsSpecs/index.html#Creates">Creates</a> reply.Table (<a href="../../store/TableSpecs/index.html#MakesTable">MakesTable</a> rules ty init) w.state.tables)
-<a href="../../machine/StepsSpecs/index.html#HasEffect">HasEffect</a> rules (<a href="../../machine/StepsSpecs/index.html#TableGrown">TableGrown</a> k n init) w turn w&#x27; = <a href="../../machine/EffectsSpecs/index.html#ActsMetered">ActsMetered</a> w turn w&#x27; w.state.tables (<a href="../../machine/StateSpecs/index.html#with_tables">with_tables</a> w.state)
+<a href="../../machine/StepsSpecs/index.html#HasEffect">HasEffect</a> rules (<a href="../../machine/StepsSpecs/index.html#TableGrown">TableGrown</a> k n init) w outcome w&#x27; = <a href="../../machine/EffectsSpecs/index.html#ActsMetered">ActsMetered</a> w outcome w&#x27; w.state.tables (<a href="../../machine/StateSpecs/index.html#with_tables">with_tables</a> w.state)
     (<a href="../../machine/EffectsSpecs/index.html#ActsAt">ActsAt</a> k (<a href="../../machine/EffectsSpecs/index.html#reply_of">reply_of</a> reply.Number reply.Table) (<a href="../../store/TableSpecs/index.html#GrowsTableCharging">GrowsTableCharging</a> rules n init)) (<a href="../../machine/TableEffectsSpecs/index.html#element_bytes">element_bytes</a> n)
-<a href="../../machine/StepsSpecs/index.html#HasEffect">HasEffect</a> rules (<a href="../../machine/StepsSpecs/index.html#RangeWritten">RangeWritten</a> write) w turn w&#x27; = <a href="../../machine/StepsSpecs/index.html#HasRangeWrite">HasRangeWrite</a> write w turn w&#x27;
+<a href="../../machine/StepsSpecs/index.html#HasEffect">HasEffect</a> rules (<a href="../../machine/StepsSpecs/index.html#RangeWritten">RangeWritten</a> write) w outcome w&#x27; = <a href="../../machine/StepsSpecs/index.html#HasRangeWrite">HasRangeWrite</a> write w outcome w&#x27;
 
 -- a step from one world to the next: the effect of the turn&#x27;s call takes place
 abbrev pub <b id="Step">Step</b> : {S : Type 0} → <a href="../../meter/LimiterSpecs/index.html#Rules">Rules</a> S → <a href="../../machine/StateSpecs/index.html#World">World</a> S → <a href="../../machine/StateSpecs/index.html#Turn">Turn</a> → <a href="../../machine/StateSpecs/index.html#World">World</a> S → Type 0
-<a href="../../machine/StepsSpecs/index.html#Step">Step</a> rules w turn w&#x27; = <a href="../../machine/StepsSpecs/index.html#HasEffect">HasEffect</a> rules (<a href="../../machine/StepsSpecs/index.html#effect_of">effect_of</a> w.state turn.call) w turn w&#x27;
+<a href="../../machine/StepsSpecs/index.html#Step">Step</a> rules w turn w&#x27; = <a href="../../machine/StepsSpecs/index.html#HasEffect">HasEffect</a> rules (<a href="../../machine/StepsSpecs/index.html#effect_of">effect_of</a> w.state turn.call) w (<a href="../../machine/StateSpecs/index.html#outcome_of">outcome_of</a> turn) w&#x27;
 
 -- a call is answered by a reply: there is a step by it, with some charge and some bytes written
 abbrev pub <b id="RepliesWith">RepliesWith</b> : {S : Type 0} → <a href="../../meter/LimiterSpecs/index.html#Rules">Rules</a> S → Call → <a href="../../machine/StateSpecs/index.html#World">World</a> S → Reply → <a href="../../machine/StateSpecs/index.html#World">World</a> S → Type 0
@@ -5560,23 +5561,44 @@ abbrev pub <b id="HasElements">HasElements</b> : ℕ → <a href="../../store/Ta
 abbrev pub <b id="HasElementsAt">HasElementsAt</b> : List (Slot <a href="../../store/TableSpecs/index.html#TableValue">TableValue</a>) → ℕ → ℕ → Type 0
 <a href="../../laws/ReservedSpecs/index.html#HasElementsAt">HasElementsAt</a> slots k n = <a href="../../machine/EffectsSpecs/index.html#OnLive">OnLive</a> (<a href="../../machine/StateSpecs/index.html#live_at">live_at</a> slots k) (Unit {0}) (<a href="../../laws/ReservedSpecs/index.html#HasElements">HasElements</a> n)
 
--- memory for one more slot is there, since one that is reserved is free
-abbrev pub <b id="HasSlot">HasSlot</b> : {A : Type 0} → ℕ → List A → Type 0
-<a href="../../laws/ReservedSpecs/index.html#HasSlot">HasSlot</a> reserved list = length list &lt; reserved
+-- a kind of what is made in a slot that can be reserved for it, without memory of its own
+pub data <b id="SlotKind">SlotKind</b> : Type 0 where
+  <b id="Memories">Memories</b> : <a href="../../laws/ReservedSpecs/index.html#SlotKind">SlotKind</a>
+  <b id="Segments">Segments</b> : <a href="../../laws/ReservedSpecs/index.html#SlotKind">SlotKind</a>
+  <b id="DataSegments">DataSegments</b> : <a href="../../laws/ReservedSpecs/index.html#SlotKind">SlotKind</a>
+  <b id="Globals">Globals</b> : <a href="../../laws/ReservedSpecs/index.html#SlotKind">SlotKind</a>
+
+-- how many of a kind were made
+abbrev pub <b id="made_of">made_of</b> : <a href="../../machine/StateSpecs/index.html#State">State</a> → <a href="../../laws/ReservedSpecs/index.html#SlotKind">SlotKind</a> → ℕ
+<a href="../../laws/ReservedSpecs/index.html#made_of">made_of</a> s <a href="../../laws/ReservedSpecs/index.html#Memories">Memories</a> = length s.memories
+<a href="../../laws/ReservedSpecs/index.html#made_of">made_of</a> s <a href="../../laws/ReservedSpecs/index.html#Segments">Segments</a> = length s.segments
+<a href="../../laws/ReservedSpecs/index.html#made_of">made_of</a> s <a href="../../laws/ReservedSpecs/index.html#DataSegments">DataSegments</a> = length s.data_segments
+<a href="../../laws/ReservedSpecs/index.html#made_of">made_of</a> s <a href="../../laws/ReservedSpecs/index.html#Globals">Globals</a> = length s.globals
+
+-- how many slots for a kind there are among those for each
+abbrev pub <b id="slots_for">slots_for</b> : SlotCounts → <a href="../../laws/ReservedSpecs/index.html#SlotKind">SlotKind</a> → ℕ
+<a href="../../laws/ReservedSpecs/index.html#slots_for">slots_for</a> counts <a href="../../laws/ReservedSpecs/index.html#Memories">Memories</a> = counts.memories
+<a href="../../laws/ReservedSpecs/index.html#slots_for">slots_for</a> counts <a href="../../laws/ReservedSpecs/index.html#Segments">Segments</a> = counts.segments
+<a href="../../laws/ReservedSpecs/index.html#slots_for">slots_for</a> counts <a href="../../laws/ReservedSpecs/index.html#DataSegments">DataSegments</a> = counts.data_segments
+<a href="../../laws/ReservedSpecs/index.html#slots_for">slots_for</a> counts <a href="../../laws/ReservedSpecs/index.html#Globals">Globals</a> = counts.globals
+
+-- memory for the slot of one more of a kind is there, since one that is reserved is free
+abbrev pub <b id="HasSlot">HasSlot</b> : <a href="../../machine/StateSpecs/index.html#State">State</a> → <a href="../../laws/ReservedSpecs/index.html#SlotKind">SlotKind</a> → Type 0
+<a href="../../laws/ReservedSpecs/index.html#HasSlot">HasSlot</a> s kind = <a href="../../laws/ReservedSpecs/index.html#made_of">made_of</a> s kind &lt; <a href="../../laws/ReservedSpecs/index.html#slots_for">slots_for</a> s.reserved kind
 
 -- a call on a machine in this state needs no memory: what it makes has a slot that is reserved, and nothing else that
 -- isn&#x27;t in a lent region; the memory that it grows lies in one; the table that it grows has the memory reserved; no byte
 -- is read; and no table is made
 abbrev pub <b id="NeedsNoMemory">NeedsNoMemory</b> : <a href="../../machine/StateSpecs/index.html#State">State</a> → Call → Type 0
 <a href="../../laws/ReservedSpecs/index.html#NeedsNoMemory">NeedsNoMemory</a> s (NewMemory ty) = ⊥
-<a href="../../laws/ReservedSpecs/index.html#NeedsNoMemory">NeedsNoMemory</a> s (NewLentMemory ty) = <a href="../../laws/ReservedSpecs/index.html#HasSlot">HasSlot</a> s.reserved.<a href="../../laws/ReservedSpecs/index.html#memories">memories</a> s.memories
+<a href="../../laws/ReservedSpecs/index.html#NeedsNoMemory">NeedsNoMemory</a> s (NewLentMemory ty) = <a href="../../laws/ReservedSpecs/index.html#HasSlot">HasSlot</a> s <a href="../../laws/ReservedSpecs/index.html#Memories">Memories</a>
 <a href="../../laws/ReservedSpecs/index.html#NeedsNoMemory">NeedsNoMemory</a> s (GrowMemory k pages) = <a href="../../laws/ReservedSpecs/index.html#IsInRegion">IsInRegion</a> s.memories k
 <a href="../../laws/ReservedSpecs/index.html#NeedsNoMemory">NeedsNoMemory</a> s (Read k offset len) = len ≡ 0
 <a href="../../laws/ReservedSpecs/index.html#NeedsNoMemory">NeedsNoMemory</a> s (NewTable ty init) = ⊥
 <a href="../../laws/ReservedSpecs/index.html#NeedsNoMemory">NeedsNoMemory</a> s (GrowTable k n init) = (n ≡ 0) ⊎ <a href="../../laws/ReservedSpecs/index.html#HasElementsAt">HasElementsAt</a> s.tables k n
-<a href="../../laws/ReservedSpecs/index.html#NeedsNoMemory">NeedsNoMemory</a> s (NewSegment ty items) = (items.items ≡ []) × <a href="../../laws/ReservedSpecs/index.html#HasSlot">HasSlot</a> s.reserved.<a href="../../laws/ReservedSpecs/index.html#segments">segments</a> s.segments
-<a href="../../laws/ReservedSpecs/index.html#NeedsNoMemory">NeedsNoMemory</a> s (NewData bytes) = (bytes.items ≡ []) × <a href="../../laws/ReservedSpecs/index.html#HasSlot">HasSlot</a> s.reserved.<a href="../../laws/ReservedSpecs/index.html#data_segments">data_segments</a> s.data_segments
-<a href="../../laws/ReservedSpecs/index.html#NeedsNoMemory">NeedsNoMemory</a> s (NewGlobal value ty) = <a href="../../laws/ReservedSpecs/index.html#HasSlot">HasSlot</a> s.reserved.<a href="../../laws/ReservedSpecs/index.html#globals">globals</a> s.globals
+<a href="../../laws/ReservedSpecs/index.html#NeedsNoMemory">NeedsNoMemory</a> s (NewSegment ty items) = (items.items ≡ []) × <a href="../../laws/ReservedSpecs/index.html#HasSlot">HasSlot</a> s <a href="../../laws/ReservedSpecs/index.html#Segments">Segments</a>
+<a href="../../laws/ReservedSpecs/index.html#NeedsNoMemory">NeedsNoMemory</a> s (NewData bytes) = (bytes.items ≡ []) × <a href="../../laws/ReservedSpecs/index.html#HasSlot">HasSlot</a> s <a href="../../laws/ReservedSpecs/index.html#DataSegments">DataSegments</a>
+<a href="../../laws/ReservedSpecs/index.html#NeedsNoMemory">NeedsNoMemory</a> s (NewGlobal value ty) = <a href="../../laws/ReservedSpecs/index.html#HasSlot">HasSlot</a> s <a href="../../laws/ReservedSpecs/index.html#Globals">Globals</a>
 <a href="../../laws/ReservedSpecs/index.html#NeedsNoMemory">NeedsNoMemory</a> s call = Unit {0}
 
 -- a call needs no memory but for the slot of what it makes, where a memory that it grows and that was there in this
@@ -5591,46 +5613,29 @@ abbrev pub <b id="NeedsOnlySlot">NeedsOnlySlot</b> : <a href="../../machine/Stat
 <a href="../../laws/ReservedSpecs/index.html#NeedsOnlySlot">NeedsOnlySlot</a> s (NewData bytes) = bytes.items ≡ []
 <a href="../../laws/ReservedSpecs/index.html#NeedsOnlySlot">NeedsOnlySlot</a> s call = Unit {0}
 
--- whether a call makes a memory in the spare region
-abbrev pub <b id="makes_lent_memory">makes_lent_memory</b> : Call → Bool
-<a href="../../laws/ReservedSpecs/index.html#makes_lent_memory">makes_lent_memory</a> (NewLentMemory ty) = true
-<a href="../../laws/ReservedSpecs/index.html#makes_lent_memory">makes_lent_memory</a> call = false
+-- whether a call takes a slot of a kind: it makes a memory in the spare region, an element segment, a data segment or a
+-- global
+abbrev pub <b id="takes_slot">takes_slot</b> : <a href="../../laws/ReservedSpecs/index.html#SlotKind">SlotKind</a> → Call → Bool
+<a href="../../laws/ReservedSpecs/index.html#takes_slot">takes_slot</a> <a href="../../laws/ReservedSpecs/index.html#Memories">Memories</a> (NewLentMemory ty) = true
+<a href="../../laws/ReservedSpecs/index.html#takes_slot">takes_slot</a> <a href="../../laws/ReservedSpecs/index.html#Segments">Segments</a> (NewSegment ty items) = true
+<a href="../../laws/ReservedSpecs/index.html#takes_slot">takes_slot</a> <a href="../../laws/ReservedSpecs/index.html#DataSegments">DataSegments</a> (NewData bytes) = true
+<a href="../../laws/ReservedSpecs/index.html#takes_slot">takes_slot</a> <a href="../../laws/ReservedSpecs/index.html#Globals">Globals</a> (NewGlobal value ty) = true
+<a href="../../laws/ReservedSpecs/index.html#takes_slot">takes_slot</a> kind call = false
 
--- whether a call makes an element segment
-abbrev pub <b id="makes_segment">makes_segment</b> : Call → Bool
-<a href="../../laws/ReservedSpecs/index.html#makes_segment">makes_segment</a> (NewSegment ty items) = true
-<a href="../../laws/ReservedSpecs/index.html#makes_segment">makes_segment</a> call = false
-
--- whether a call makes a data segment
-abbrev pub <b id="makes_data">makes_data</b> : Call → Bool
-<a href="../../laws/ReservedSpecs/index.html#makes_data">makes_data</a> (NewData bytes) = true
-<a href="../../laws/ReservedSpecs/index.html#makes_data">makes_data</a> call = false
-
--- whether a call makes a global
-abbrev pub <b id="makes_global">makes_global</b> : Call → Bool
-<a href="../../laws/ReservedSpecs/index.html#makes_global">makes_global</a> (NewGlobal value ty) = true
-<a href="../../laws/ReservedSpecs/index.html#makes_global">makes_global</a> call = false
-
--- as many slots as these calls take are reserved and free
-abbrev pub <b id="HasSlots">HasSlots</b> : {A : Type 0} → ℕ → List A → (Call → Bool) → List Call → Type 0
-<a href="../../laws/ReservedSpecs/index.html#HasSlots">HasSlots</a> reserved list makes calls = length list + count_by makes calls ≤ reserved
+-- as many slots of a kind as these calls take are reserved and free
+abbrev pub <b id="HasSlots">HasSlots</b> : <a href="../../machine/StateSpecs/index.html#State">State</a> → List Call → <a href="../../laws/ReservedSpecs/index.html#SlotKind">SlotKind</a> → Type 0
+<a href="../../laws/ReservedSpecs/index.html#HasSlots">HasSlots</a> s calls kind = <a href="../../laws/ReservedSpecs/index.html#made_of">made_of</a> s kind + count_by (<a href="../../laws/ReservedSpecs/index.html#takes_slot">takes_slot</a> kind) calls ≤ <a href="../../laws/ReservedSpecs/index.html#slots_for">slots_for</a> s.reserved kind
 
 -- a machine has reserved what these calls need: each needs only a slot, and of each kind as many slots as they take are
 -- reserved and free
 pub record <b id="IsReservedFor">IsReservedFor</b> (s : <a href="../../machine/StateSpecs/index.html#State">State</a>) (calls : List Call) : Type 0 where
   pub <b id="needs">needs</b> : All (<a href="../../laws/ReservedSpecs/index.html#NeedsOnlySlot">NeedsOnlySlot</a> s) calls
-  pub <b id="memories">memories</b> : <a href="../../laws/ReservedSpecs/index.html#HasSlots">HasSlots</a> s.reserved.<a href="../../laws/ReservedSpecs/index.html#memories">memories</a> s.memories <a href="../../laws/ReservedSpecs/index.html#makes_lent_memory">makes_lent_memory</a> calls
-  pub <b id="segments">segments</b> : <a href="../../laws/ReservedSpecs/index.html#HasSlots">HasSlots</a> s.reserved.<a href="../../laws/ReservedSpecs/index.html#segments">segments</a> s.segments <a href="../../laws/ReservedSpecs/index.html#makes_segment">makes_segment</a> calls
-  pub <b id="data_segments">data_segments</b> : <a href="../../laws/ReservedSpecs/index.html#HasSlots">HasSlots</a> s.reserved.<a href="../../laws/ReservedSpecs/index.html#data_segments">data_segments</a> s.data_segments <a href="../../laws/ReservedSpecs/index.html#makes_data">makes_data</a> calls
-  pub <b id="globals">globals</b> : <a href="../../laws/ReservedSpecs/index.html#HasSlots">HasSlots</a> s.reserved.<a href="../../laws/ReservedSpecs/index.html#globals">globals</a> s.globals <a href="../../laws/ReservedSpecs/index.html#makes_global">makes_global</a> calls
+  pub <b id="enough">enough</b> : (kind : <a href="../../laws/ReservedSpecs/index.html#SlotKind">SlotKind</a>) → <a href="../../laws/ReservedSpecs/index.html#HasSlots">HasSlots</a> s calls kind
 
--- so many slots are enough for what these calls make, and each of them needs only a slot
+-- these numbers of slots are enough for what these calls make, and each of them needs only a slot
 pub record <b id="FitsSlots">FitsSlots</b> (s : <a href="../../machine/StateSpecs/index.html#State">State</a>) (more : SlotCounts) (calls : List Call) : Type 0 where
   pub <b id="needs">needs</b> : All (<a href="../../laws/ReservedSpecs/index.html#NeedsOnlySlot">NeedsOnlySlot</a> s) calls
-  pub <b id="memories">memories</b> : count_by <a href="../../laws/ReservedSpecs/index.html#makes_lent_memory">makes_lent_memory</a> calls ≤ more.memories
-  pub <b id="segments">segments</b> : count_by <a href="../../laws/ReservedSpecs/index.html#makes_segment">makes_segment</a> calls ≤ more.segments
-  pub <b id="data_segments">data_segments</b> : count_by <a href="../../laws/ReservedSpecs/index.html#makes_data">makes_data</a> calls ≤ more.data_segments
-  pub <b id="globals">globals</b> : count_by <a href="../../laws/ReservedSpecs/index.html#makes_global">makes_global</a> calls ≤ more.globals
+  pub <b id="enough">enough</b> : (kind : <a href="../../laws/ReservedSpecs/index.html#SlotKind">SlotKind</a>) → count_by (<a href="../../laws/ReservedSpecs/index.html#takes_slot">takes_slot</a> kind) calls ≤ <a href="../../laws/ReservedSpecs/index.html#slots_for">slots_for</a> more kind
 
 -- with so many more slots a machine has reserved what such calls need
 abbrev pub <b id="SlotsSuffice">SlotsSuffice</b> : Type 0
@@ -5688,7 +5693,8 @@ abbrev pub <b id="ReservedTenantsSucceed">ReservedTenantsSucceed</b> : Type 0
     → (turns : List <a href="../../budget/LawsSpecs/index.html#PoolTurn">PoolTurn</a>) (pool&#x27; : <a href="../../budget/PoolSpecs/index.html#PoolValue">PoolValue</a>) → <a href="../../laws/ReservedSpecs/index.html#IsReservedFor">IsReservedFor</a> s (<a href="../../laws/ReservedPoolsSpecs/index.html#calls_of">calls_of</a> index turns) → <a href="../../budget/LawsSpecs/index.html#PoolRun">PoolRun</a> pool turns pool&#x27;
     → All <a href="../../machine/DeterminismSpecs/index.html#IsNotOutOfMemory">IsNotOutOfMemory</a> (<a href="../../laws/ReservedPoolsSpecs/index.html#replies_of">replies_of</a> index turns)
 
--- nor does any where so many more slots are reserved on its machine first, which are enough for what the calls make
+-- no reply to the calls of a tenant says out of memory where so many more slots are reserved on its machine first,
+-- which are enough for what the calls make
 abbrev pub <b id="SlotsSufficeForTenants">SlotsSufficeForTenants</b> : Type 0
 <a href="../../laws/ReservedPoolsSpecs/index.html#SlotsSufficeForTenants">SlotsSufficeForTenants</a> = (pool : <a href="../../budget/PoolSpecs/index.html#PoolValue">PoolValue</a>) (index : ℕ) (s : <a href="../../machine/StateSpecs/index.html#State">State</a>) → <a href="../../budget/PoolSpecs/index.html#machine_of">machine_of</a> pool index ≡ Some s
     → (more : SlotCounts) (turns : List <a href="../../budget/LawsSpecs/index.html#PoolTurn">PoolTurn</a>) (pool&#x27; : <a href="../../budget/PoolSpecs/index.html#PoolValue">PoolValue</a>) → <a href="../../laws/ReservedSpecs/index.html#FitsSlots">FitsSlots</a> s more (<a href="../../laws/ReservedPoolsSpecs/index.html#calls_of">calls_of</a> index turns)
@@ -5787,7 +5793,7 @@ module _ {S : Type 0} (rules : <a href="../../meter/LimiterSpecs/index.html#Rule
   <a href="../../laws/RunsSpecs/index.html#RunsOfCallsAreCut">RunsOfCallsAreCut</a> = (calls calls&#x27; : List Call) (u : <a href="../../machine/StateSpecs/index.html#World">World</a> S) (replies : List Reply) (w : <a href="../../machine/StateSpecs/index.html#World">World</a> S)
       → <a href="../../machine/StepsSpecs/index.html#IsRunOf">IsRunOf</a> rules (calls ++ calls&#x27;) u replies w → <a href="../../laws/RunsSpecs/index.html#IsRunInTwo">IsRunInTwo</a> rules calls calls&#x27; u replies w
 
-  -- each size, of a memory in bytes or of a table in elements, stays at its index in a run and doesn&#x27;t shrink
+  -- every size, of a memory in bytes or of a table in elements, stays at its index in a run and doesn&#x27;t shrink
   abbrev pub <b id="SizesNeverShrink">SizesNeverShrink</b> : Type 0
   <a href="../../laws/RunsSpecs/index.html#SizesNeverShrink">SizesNeverShrink</a> = (w : <a href="../../machine/StateSpecs/index.html#World">World</a> S) (turns : List <a href="../../machine/StateSpecs/index.html#Turn">Turn</a>) (w&#x27; : <a href="../../machine/StateSpecs/index.html#World">World</a> S) → <a href="../../machine/StepsSpecs/index.html#Run">Run</a> rules w turns w&#x27;
       → (kind : Kind) (k n : ℕ) → slice_get (<a href="../../machine/StateSpecs/index.html#sizes">sizes</a> w.state kind) k ≡ Some n
@@ -6226,7 +6232,7 @@ abbrev pub <b id="IsPlace">IsPlace</b> : List ℕ → ℕ → Option ℕ → Typ
 <a href="../../budget/TenantsSpecs/index.html#IsPlace">IsPlace</a> indices index (Some place) = (place &lt; length indices) × (slice_index_or indices place 0 ≡ index)
 <a href="../../budget/TenantsSpecs/index.html#IsPlace">IsPlace</a> indices index None = (k : ℕ) → k &lt; length indices → slice_index_or indices k 0 ≢ index
 
--- each index is below those after it
+-- every index is below those after it
 abbrev pub <b id="Rises">Rises</b> : List ℕ → Type 0
 <a href="../../budget/TenantsSpecs/index.html#Rises">Rises</a> indices = AllPairs (λ i j. i &lt; j) indices
 
@@ -6236,7 +6242,7 @@ module _ {X : Type 0} where
   <a href="../../budget/TenantsSpecs/index.html#value_of">value_of</a> (i ∷ indices) (x ∷ values) index = if nat_eq i index then Some x else <a href="../../budget/TenantsSpecs/index.html#value_of">value_of</a> indices values index
   <a href="../../budget/TenantsSpecs/index.html#value_of">value_of</a> indices values index = None
 
-  -- each index up to this one has something
+  -- every index up to this one has something
   abbrev pub <b id="HasAllUpTo">HasAllUpTo</b> : List (Option X) → ℕ → Type 0
   <a href="../../budget/TenantsSpecs/index.html#HasAllUpTo">HasAllUpTo</a> values index = (k : ℕ) → k ≤ index → is_some (slice_index_or values k None) ≡ true
 
@@ -6244,7 +6250,7 @@ module _ {X : Type 0} where
   abbrev pub <b id="by_index">by_index</b> : ℕ → List ℕ → List X → List (Option X)
   <a href="../../budget/TenantsSpecs/index.html#by_index">by_index</a> next indices values = map (<a href="../../budget/TenantsSpecs/index.html#value_of">value_of</a> indices values) (range_with_len 0 next)
 
-  -- each of the indices has a value, and they rise below the next one
+  -- every index has a value, and the indices rise below the next one
   pub record <b id="IsListed">IsListed</b> (next : ℕ) (indices : List ℕ) (values : List X) : Type 0 where
     pub <b id="same">same</b> : length values ≡ length indices
     pub <b id="rises">rises</b> : <a href="../../budget/TenantsSpecs/index.html#Rises">Rises</a> indices
@@ -6461,7 +6467,7 @@ abbrev pub <b id="word_at">word_at</b> : <a href="../../operands/LineWordsSpecs/
 unfoldable pub <b id="words_in">words_in</b> : List ℕ → List (List ℕ)
 <a href="../../operands/LineWordsSpecs/index.html#words_in">words_in</a> line = filter (λ word. nat_lt 0 (length word)) (slice_split (λ byte. byte == 32) line)
 
--- each word writes one of these, in order
+-- the words write these, one each, in order
 abbrev pub <b id="WritesEach">WritesEach</b> : {A : Type 0} → (List ℕ → A → Type 0) → <a href="../../operands/LineWordsSpecs/index.html#LineWords">LineWords</a> → List A → Type 0
 <a href="../../operands/LineWordsSpecs/index.html#WritesEach">WritesEach</a> Writes words items = AllZip Writes (map (λ word. word.now) words) items
 
@@ -6682,7 +6688,7 @@ abbrev pub <b id="command_word">command_word</b> : Call → List ℕ
 <a href="../../grammar/CommandsSpecs/index.html#command_word">command_word</a> (call.VectorStore a memory ptr offset) = codes "vstore"
 <a href="../../grammar/CommandsSpecs/index.html#command_word">command_word</a> (call.StoreLane op a memory ptr offset) = codes "vstorelane"
 
--- so many operands, the k-th of which is the text `word k`, write what the call is given, but for a list at their end
+-- as many operands, the k-th of which is the text `word k`, write what the call is given, but for a list at their end
 abbrev pub <b id="OperandsWrite">OperandsWrite</b> : ℕ → (ℕ → List ℕ) → Call → Type 0
 <a href="../../grammar/CommandsSpecs/index.html#OperandsWrite">OperandsWrite</a> count word (call.SetFuel fuel) = (count ≡ 1) × <a href="../../operands/LineWordsSpecs/index.html#WritesNumber">WritesNumber</a> 64 (word 0) fuel
 <a href="../../grammar/CommandsSpecs/index.html#OperandsWrite">OperandsWrite</a> count word call.GetFuel = count ≡ 0
@@ -6926,10 +6932,7 @@ abbrev pub <b id="start_of">start_of</b> : Header → <a href="../../machine/Sta
 use Rattle.std.specs.List.{slice_split}
 use Rattle.std.specs.Str.{IsUtf8}
 use Rattle.wasmi_machine.specs.declared.calls.Call.{Call}
-use Rattle.wasmi_machine.specs.declared.slots.SlotCounts.{SlotCounts}
-use Rattle.wasmi_grammar.specs.declared.header.LimiterLine.{LimiterLine}
-use Rattle.wasmi_grammar.specs.declared.header.MeterLine.{MeterLine}
-use Rattle.wasmi_grammar.specs.declared.header.RegionLine.{RegionLine}
+use Rattle.wasmi_grammar.specs.declared.header.Header.{Header}
 use Rattle.wasmi_grammar.specs.declared.script.Line.{Line}
 use Rattle.wasmi_grammar.specs.declared.script.Line.TheVariants.{<a href="../../meter/MeterSpecs/index.html#Meter">Meter</a>, Limiter, Region, Reserve, As, Call as Command}
 use Rattle.wasmi_grammar.specs.declared.script.Script.{Script}
@@ -6954,34 +6957,11 @@ pub record <b id="HasNoCommands">HasNoCommands</b> (<a href="../../grammar/Lines
   pub <b id="no_calls">no_calls</b> : script.parts.calls ≡ []
   pub <b id="no_parts">no_parts</b> : script.parts.earlier ≡ []
 
--- a `meter` line, the first one and before all commands
-pub record <b id="AddsMeter">AddsMeter</b> (old : Script) (line : MeterLine) (new : Script) : Type 0 where
+-- a header line, before all commands: the lines before it allow it, and the header has it from then on
+pub record <b id="AddsHeader">AddsHeader</b> (old : Script) (Allowed : Type 0) (header&#x27; : Header) (new : Script) : Type 0 where
   pub <b id="before_commands">before_commands</b> : <a href="../../grammar/LinesSpecs/index.html#HasNoCommands">HasNoCommands</a> old
-  pub <b id="first">first</b> : old.header.meter ≡ None
-  pub <b id="header">header</b> : new.header ≡ record old.header { meter = Some line }
-  pub <b id="parts">parts</b> : new.parts ≡ old.parts
-
--- a limiter line, the first one of any kind and before all commands
-pub record <b id="AddsLimiter">AddsLimiter</b> (old : Script) (line : LimiterLine) (new : Script) : Type 0 where
-  pub <b id="before_commands">before_commands</b> : <a href="../../grammar/LinesSpecs/index.html#HasNoCommands">HasNoCommands</a> old
-  pub <b id="first">first</b> : old.header.limiter_line ≡ None
-  pub <b id="apart">apart</b> : <a href="../../grammar/HeadersSpecs/index.html#AreApart">AreApart</a> (Some line) old.header.region
-  pub <b id="header">header</b> : new.header ≡ record old.header { limiter_line = Some line }
-  pub <b id="parts">parts</b> : new.parts ≡ old.parts
-
--- a `region` line, the first one and before all commands
-pub record <b id="AddsRegion">AddsRegion</b> (old : Script) (line : RegionLine) (new : Script) : Type 0 where
-  pub <b id="before_commands">before_commands</b> : <a href="../../grammar/LinesSpecs/index.html#HasNoCommands">HasNoCommands</a> old
-  pub <b id="first">first</b> : old.header.region ≡ None
-  pub <b id="apart">apart</b> : <a href="../../grammar/HeadersSpecs/index.html#AreApart">AreApart</a> old.header.limiter_line (Some line)
-  pub <b id="header">header</b> : new.header ≡ record old.header { region = Some line }
-  pub <b id="parts">parts</b> : new.parts ≡ old.parts
-
--- a `reserve` line, the first one and before all commands
-pub record <b id="AddsReserve">AddsReserve</b> (old : Script) (slots : SlotCounts) (new : Script) : Type 0 where
-  pub <b id="before_commands">before_commands</b> : <a href="../../grammar/LinesSpecs/index.html#HasNoCommands">HasNoCommands</a> old
-  pub <b id="first">first</b> : old.header.reserve ≡ None
-  pub <b id="header">header</b> : new.header ≡ record old.header { reserve = Some slots }
+  pub <b id="allowed">allowed</b> : Allowed
+  pub <b id="header">header</b> : new.header ≡ header&#x27;
   pub <b id="parts">parts</b> : new.parts ≡ old.parts
 
 -- a command, whose call comes after those of the lines before
@@ -6995,12 +6975,19 @@ pub record <b id="AddsPart">AddsPart</b> (old : Script) (named : ℕ) (new : Scr
   pub <b id="parts">parts</b> : new.parts ≡ record { earlier = <a href="../../grammar/PartsSpecs/index.html#parts_in">parts_in</a> old.parts; tenant = named; calls = [] }
   pub <b id="header">header</b> : new.header ≡ old.header
 
--- what a line says, added to the lines before
+-- what a line says, added to the lines before: there is one `meter`, one `region` and one `reserve` line at most, one
+-- limiter line of any kind, and no region beside a pool
 abbrev pub <b id="AddsLine">AddsLine</b> : Script → Line → Script → Type 0
-<a href="../../grammar/LinesSpecs/index.html#AddsLine">AddsLine</a> old (<a href="../../meter/MeterSpecs/index.html#Meter">Meter</a> line) new = <a href="../../grammar/LinesSpecs/index.html#AddsMeter">AddsMeter</a> old line new
-<a href="../../grammar/LinesSpecs/index.html#AddsLine">AddsLine</a> old (Limiter line) new = <a href="../../grammar/LinesSpecs/index.html#AddsLimiter">AddsLimiter</a> old line new
-<a href="../../grammar/LinesSpecs/index.html#AddsLine">AddsLine</a> old (Region line) new = <a href="../../grammar/LinesSpecs/index.html#AddsRegion">AddsRegion</a> old line new
-<a href="../../grammar/LinesSpecs/index.html#AddsLine">AddsLine</a> old (Reserve slots) new = <a href="../../grammar/LinesSpecs/index.html#AddsReserve">AddsReserve</a> old slots new
+<a href="../../grammar/LinesSpecs/index.html#AddsLine">AddsLine</a> old (<a href="../../meter/MeterSpecs/index.html#Meter">Meter</a> line) new =
+    <a href="../../grammar/LinesSpecs/index.html#AddsHeader">AddsHeader</a> old (old.header.meter ≡ None) (record old.header { meter = Some line }) new
+<a href="../../grammar/LinesSpecs/index.html#AddsLine">AddsLine</a> old (Limiter line) new =
+    <a href="../../grammar/LinesSpecs/index.html#AddsHeader">AddsHeader</a> old ((old.header.limiter_line ≡ None) × <a href="../../grammar/HeadersSpecs/index.html#AreApart">AreApart</a> (Some line) old.header.region)
+    (record old.header { limiter_line = Some line }) new
+<a href="../../grammar/LinesSpecs/index.html#AddsLine">AddsLine</a> old (Region line) new =
+    <a href="../../grammar/LinesSpecs/index.html#AddsHeader">AddsHeader</a> old ((old.header.region ≡ None) × <a href="../../grammar/HeadersSpecs/index.html#AreApart">AreApart</a> old.header.limiter_line (Some line))
+    (record old.header { region = Some line }) new
+<a href="../../grammar/LinesSpecs/index.html#AddsLine">AddsLine</a> old (Reserve slots) new =
+    <a href="../../grammar/LinesSpecs/index.html#AddsHeader">AddsHeader</a> old (old.header.reserve ≡ None) (record old.header { reserve = Some slots }) new
 <a href="../../grammar/LinesSpecs/index.html#AddsLine">AddsLine</a> old (As tenant) new = <a href="../../grammar/LinesSpecs/index.html#AddsPart">AddsPart</a> old tenant new
 <a href="../../grammar/LinesSpecs/index.html#AddsLine">AddsLine</a> old (Command call) new = <a href="../../grammar/LinesSpecs/index.html#AddsCall">AddsCall</a> old call new
 

@@ -265,7 +265,7 @@ mod global {
         /// ensures value: result.now ≡ self.old.value
         /// ```
         ///
-        /// Definitions: [`LendsValue`](crate::specs::typed::LendingSpecs#LendsValue).
+        /// Definitions: [`LendsValue`](crate::specs::typed::GlobalSpecs#LendsValue).
         #[inline]
         pub(crate) fn get_raw_mut(&mut self) -> &mut RawVal {
             assert!(!self.ty.mutability.is_const(), "the variable is a constant");

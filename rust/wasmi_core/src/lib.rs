@@ -8,4 +8,6 @@
 #![no_std]
 #![forbid(unsafe_code)]
 
+// The pages of what is in it are its own, where the links of contracts lead somewhere.
+#[doc(no_inline)]
 pub use wasmi_core_proved::*;

@@ -110,7 +110,7 @@ value_call numbers = if nat_eq numbers.kind 23 then unary_call numbers
     then option_map (λ lanes. call.Shuffle numbers.dst numbers.a numbers.b lanes) (lanes_of numbers.lanes)
     else None
 
--- so one on a table or an element segment
+-- the call on a table or an element segment, else on a global or registers
 unfoldable pub table_call : CallStruct → Option Call
 table_call numbers = if nat_eq numbers.kind 9
     then option_and_then (λ ty. option_map (λ init. call.NewTable ty init) (typed_reference_of numbers))
@@ -131,7 +131,7 @@ table_call numbers = if nat_eq numbers.kind 9
     else if nat_eq numbers.kind 17 then Some (call.DropItems numbers.index)
     else value_call numbers
 
--- so one that writes over a range of a memory or drops a data segment
+-- the call that writes over a range of a memory or drops a data segment, else one of those above
 unfoldable pub range_call : CallStruct → Option Call
 range_call numbers = if nat_eq numbers.kind 29
     then Some (call.FillMemory numbers.index numbers.to (byte_of numbers) numbers.count)

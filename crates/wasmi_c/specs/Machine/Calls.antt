@@ -101,7 +101,7 @@ abbrev pub ReservesIn : {V : Type 0} → V → (State → V) → Room → State 
 ReservesIn holder with_machine room machine status holder' = ((status ≡ NO_ROOM) × (holder' ≡ holder))
     ⊎ ((status ≡ DONE) × (holder' ≡ with_machine (with_reserved machine (slots_of room))))
 
--- so a machine with its limiter
+-- a machine with its limiter gets so many more slots reserved
 abbrev pub Reserves : Room → MachineValue → ℕ → MachineValue → Type 0
 Reserves room machine = ReservesIn machine (λ state. record machine { state = state }) room machine.state
 
@@ -112,7 +112,7 @@ ReservesElementsIn holder with_machine table elements machine status holder' = (
     × ReservesElements machine table elements reply machine' × (status ≡ status_of reply)
     × (holder' ≡ with_machine machine')
 
--- so a machine with its limiter
+-- a machine with its limiter is as such a reservation leaves it
 abbrev pub ReservesElementsByStatus : ℕ → ℕ → MachineValue → ℕ → MachineValue → Type 0
 ReservesElementsByStatus table elements machine =
     ReservesElementsIn machine (λ state. record machine { state = state }) table elements machine.state
@@ -144,7 +144,7 @@ unfoldable pub RepliesToItems
 RepliesToItems call items machine reply machine' =
     SomeCopy items (λ copy. RepliesInStruct (call copy) machine reply machine')
 
--- so to one that takes a copy of it; or memory for that is refused, and the machine is the same
+-- a machine replies to a call that takes a copy of the caller's list; or memory for that is refused, and the machine is the same
 unfoldable pub RepliesToCopy
     : (Vec ℕ Global → Call) → List ℕ → MachineValue → ReplyStruct → MachineValue → Type 0
 RepliesToCopy call items machine reply machine' = ((reply ≡ only NO_ROOM) × (machine' ≡ machine))
@@ -156,7 +156,7 @@ RepliesToSegment ty items machine reply machine' = MatchOption (reference_type_o
     ((reply ≡ only NO_CALL) × (machine' ≡ machine))
     (λ ref. RepliesToCopy (NewSegment ref) items machine reply machine')
 
--- so many bytes and elements, as numbers of 128 bits
+-- the numbers of bytes and elements, in 128 bits each
 abbrev pub totals_in : ℕ → ℕ → ℕ → Totals
 totals_in status bytes elements =
     record { bytes = raw_of_vector bytes; elements = raw_of_vector elements; status = status }
@@ -178,7 +178,7 @@ PaysFuelIn holder with_machine amount machine reply holder' = MatchOption machin
     × (holder' ≡ with_machine (record machine { meter = meter_after machine.meter amount })))
     × (left < amount → (reply ≡ fuel_refusal (OutOfFuel amount)) × (holder' ≡ holder)))
 
--- so from a machine with its limiter
+-- an amount of fuel is taken from a machine with its limiter
 abbrev pub PaysFuel : ℕ → MachineValue → ReplyStruct → MachineValue → Type 0
 PaysFuel amount machine = PaysFuelIn machine (λ state. record machine { state = state }) amount machine.state
 
@@ -270,11 +270,6 @@ pub record RunsScriptBy (Runs : List Call → List Reply → Type 0) (script : S
   pub run : Runs (calls_of script) replies
   pub text : WritesOut (replies_text (calls_of script) replies) old reply new
 
--- a script without header lines is run on a machine
-abbrev pub RunsScript : Script → MachineValue → List ℕ → ReplyStruct → List ℕ → MachineValue → Type 0
-RunsScript script machine old reply new machine' =
-    RunsScriptBy (λ calls replies. MachineRuns calls machine replies machine') script old reply new
-
 -- Lines that aren't run have a first bad line, or are a script with header lines, or memory is refused for their calls
 -- or replies.
 abbrev pub RefusesLines : List ℕ → ReplyStruct → Type 0
@@ -285,7 +280,8 @@ RefusesLines lines reply = ((number : ℕ) × IsFirstBadLine lines number × (re
 -- lines are run on a machine as the script that they write, or they are refused, and nothing has changed
 unfoldable pub RunsLines : List ℕ → MachineValue → List ℕ → ReplyStruct → List ℕ → MachineValue → Type 0
 RunsLines lines machine old reply new machine' = (RefusesLines lines reply × (new ≡ old) × (machine' ≡ machine))
-    ⊎ ((script : Script) × WritesScript lines script × RunsScript script machine old reply new machine')
+    ⊎ ((script : Script) × WritesScript lines script
+    × RunsScriptBy (λ calls replies. MachineRuns calls machine replies machine') script old reply new)
 
 -- in a run a quota goes on to hold what its machine has, within the same caps, and no limiter becomes a quota
 abbrev pub QuotasAreKept : Type 0

@@ -75,14 +75,7 @@ pub fn binary_each(number: u16, a: &[RawVal], b: &[RawVal], results: &mut [Instr
         results.old results.new result }
 {
     op_or_return!(op, binary_numbered(number).ok_or(Refusal::Unknown));
-    each_by_op(op, a, b, results)
-}
-
-// The instruction is looked at once, and not at each element.
-fn each_by_op(op: Binary, a: &[RawVal], b: &[RawVal], results: &mut [InstructionResult]) -> u8
-    ensures { Leaves (each_of_two (binary_outcome op) a.now b.now (length results.old))
-        results.old results.new result }
-{
+    // The instruction is looked at once, and not at each element.
     match op {
         Binary::Scalar(op) => each_scalar(op, a, b, results),
         Binary::Vector(op) => each_vector(op, a, b, results),

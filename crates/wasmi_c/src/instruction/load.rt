@@ -87,20 +87,7 @@ pub fn load_each(
         results.old results.new result }
 {
     op_or_return!(op, load_numbered(number).ok_or(Refusal::Unknown));
-    each_by_op(op, memory, ptrs, offset, results)
-}
-
-// The load is looked at once, and not at each element.
-fn each_by_op(
-    op: Load,
-    memory: &[u8],
-    ptrs: &[u64],
-    offset: u64,
-    results: &mut [InstructionResult],
-) -> u8
-    ensures { Leaves (each_of (load_outcome op memory.now offset) ptrs.now (length results.old))
-        results.old results.new result }
-{
+    // The load is looked at once, and not at each element.
     match op {
         Load::Scalar(op) => {
             load_numbers!(part_once! Scalar [op Load each(memory, ptrs, offset, results)])

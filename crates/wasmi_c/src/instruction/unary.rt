@@ -76,14 +76,7 @@ pub fn unary_each(number: u16, a: &[RawVal], values: &mut [RawVal]) -> u8
     ensures { Leaves (unary_results number a.now (length values.old)) values.old values.new result }
 {
     op_or_return!(op, unary_numbered(number).ok_or(Refusal::Unknown));
-    each_by_op(op, a, values)
-}
-
-// The instruction is looked at once, and not at each element.
-fn each_by_op(op: Unary, a: &[RawVal], values: &mut [RawVal]) -> u8
-    ensures { Leaves (each_of (unary_value op) a.now (length values.old))
-        values.old values.new result }
-{
+    // The instruction is looked at once, and not at each element.
     match op {
         Unary::Scalar(op) => each_scalar(op, a, values),
         Unary::Make(op) => each_make(op, a, values),

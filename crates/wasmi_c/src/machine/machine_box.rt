@@ -28,7 +28,7 @@ unsafe impl Send for MachineBox {}
 impl MachineBox {
     ghost use Rattle.std.specs.Borrow.{sem};
     ghost use Rattle.std.specs.Prelude.{Some};
-    ghost use Rattle.wasmi_c.specs.Machine.Lending.{LendsMachine};
+    ghost use Rattle.wasmi_c.specs.Lending.{LendsMachine};
 
     /// The machine or none, as C has it.
     pub fn from_held(held: HeldBox<LimitedMachine, Global>) -> MachineBox

@@ -28,7 +28,7 @@ unsafe impl Send for PoolBox {}
 impl PoolBox {
     ghost use Rattle.std.specs.Borrow.{sem};
     ghost use Rattle.std.specs.Prelude.{Some};
-    ghost use Rattle.wasmi_c.specs.PoolLending.{LendsPool};
+    ghost use Rattle.wasmi_c.specs.Lending.{LendsPool};
 
     /// The pool or none, as C has it.
     pub fn from_held(held: HeldBox<TenantPool, Global>) -> PoolBox

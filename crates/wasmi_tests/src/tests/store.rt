@@ -108,12 +108,8 @@ fn five_functions(rt: &impl Abort, alloc: Global) -> Table {
     let ty = TableType::new(RefType::Func, 5, None);
     let mut table = table_of(rt, alloc, ty, func(1));
     for index in 1..5u32 {
-        same(
-            rt,
-            "an element",
-            table.set(u64::from(index), func(index + 1)),
-            Ok(()),
-        );
+        let set = table.set(u64::from(index), func(index + 1));
+        same(rt, "an element", set, Ok(()));
     }
     table
 }
@@ -127,55 +123,16 @@ fn same_elements(rt: &impl Abort, what: &str, table: &Table, expected: [u32; 5])
     }
 }
 
-/// Two types by their minimum and maximum, and whether the first is a subtype of the second.
-struct Subtype {
-    what: &'static str,
-    own: (u32, Option<u32>),
-    other: (u32, Option<u32>),
-    expected: bool,
-}
+/// A minimum and a maximum.
+type Limits = (u32, Option<u32>);
 
-static SUBTYPES: [Subtype; 7] = [
-    Subtype {
-        what: "the same maximum",
-        own: (0, Some(1)),
-        other: (0, Some(1)),
-        expected: true,
-    },
-    Subtype {
-        what: "a smaller maximum",
-        own: (0, Some(1)),
-        other: (0, Some(2)),
-        expected: true,
-    },
-    Subtype {
-        what: "a greater maximum",
-        own: (0, Some(2)),
-        other: (0, Some(1)),
-        expected: false,
-    },
-    Subtype {
-        what: "a greater minimum",
-        own: (2, None),
-        other: (1, None),
-        expected: true,
-    },
-    Subtype {
-        what: "the same minimum",
-        own: (0, None),
-        other: (0, None),
-        expected: true,
-    },
-    Subtype {
-        what: "a maximum where the other has none",
-        own: (0, Some(1)),
-        other: (0, None),
-        expected: true,
-    },
-    Subtype {
-        what: "no maximum where the other has one",
-        own: (0, None),
-        other: (0, Some(1)),
-        expected: false,
-    },
+/// Two types by their limits, and whether the first is a subtype of the second.
+static SUBTYPES: [(&str, Limits, Limits, bool); 7] = [
+    ("the same maximum", (0, Some(1)), (0, Some(1)), true),
+    ("a smaller maximum", (0, Some(1)), (0, Some(2)), true),
+    ("a greater maximum", (0, Some(2)), (0, Some(1)), false),
+    ("a greater minimum", (2, None), (1, None), true),
+    ("the same minimum", (0, None), (0, None), true),
+    ("a maximum for none", (0, Some(1)), (0, None), true),
+    ("none for a maximum", (0, None), (0, Some(1)), false),
 ];

@@ -77,12 +77,8 @@ type Reason = (Option<TrapCode>, Option<i32>, Option<Refused>);
 fn check_trap(rt: &impl Abort, alloc: Global, mut trap: Trap<Refused>, text: &str, reason: Reason) {
     same_text(rt, alloc, &trap, text);
     let error = trap.downcast_ref().copied();
-    same(
-        rt,
-        text,
-        (trap.trap_code(), trap.i32_exit_status(), error),
-        reason,
-    );
+    let answer = (trap.trap_code(), trap.i32_exit_status(), error);
+    same(rt, text, answer, reason);
     if let Some(error) = trap.downcast_mut() {
         error.0 = 8;
     }

@@ -117,10 +117,6 @@ fn globals_are_written_in_place(rt: HostRuntime) {
     let before = replace(&mut global, RawVal { lo: 1, hi: 2 });
     same(&rt, "value before", before, RawVal::default());
     global.get_raw_mut().hi = 5;
-    same(
-        &rt,
-        "value written in place",
-        *global.get_raw(),
-        RawVal { lo: 1, hi: 5 },
-    );
+    let written = RawVal { lo: 1, hi: 5 };
+    same(&rt, "value written in place", *global.get_raw(), written);
 }

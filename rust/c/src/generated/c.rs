@@ -13,8 +13,6 @@ pub mod fuel {
     /// ```text
     /// ensures: SetsFuel amount meter.old result meter.new
     /// ```
-    ///
-    /// Definitions: [`SetsFuel`](crate::specs::machine::ValueEffectsSpecs#SetsFuel).
     #[inline]
     pub fn set(meter: &mut MeterNumbers, amount: u64) -> u8 {
         if meter.is_on == 0 {
@@ -69,8 +67,6 @@ pub mod fuel {
     /// ```text
     /// ensures: result ≡ copy_cost (meter_of meter.now).costs bytes 1
     /// ```
-    ///
-    /// Definitions: [`copy_cost`](crate::specs::meter::MeterSpecs#copy_cost), [`meter_of`](crate::specs::grammar::HeadersSpecs#meter_of).
     #[must_use]
     #[inline]
     pub fn copy_cost(meter: &MeterNumbers, bytes: u64) -> u64 {
@@ -85,8 +81,6 @@ pub mod fuel {
     /// ensures: PaysFuel (copy_cost (meter_of meter.old).costs bytes 1) meter.old number.old result
     ///     meter.new number.new
     /// ```
-    ///
-    /// Definitions: [`copy_cost`](crate::specs::meter::MeterSpecs#copy_cost), [`meter_of`](crate::specs::grammar::HeadersSpecs#meter_of).
     #[inline]
     pub fn consume_copy(meter: &mut MeterNumbers, bytes: u64, number: &mut u64) -> u8 {
         let amount = copy_cost(meter, bytes);
@@ -300,23 +294,7 @@ pub mod instruction {
             results: &mut [InstructionResult],
         ) -> u8 {
             op_or_return!(op, binary_numbered(number).ok_or(Refusal::Unknown));
-            each_by_op(op, a, b, results)
-        }
-
-        // The instruction is looked at once, and not at each element.
-        /// # Contract
-        ///
-        /// ```text
-        /// ensures: Leaves (each_of_two (binary_outcome op) a.now b.now (length results.old))
-        ///     results.old results.new result
-        /// ```
-        #[inline]
-        fn each_by_op(
-            op: Binary,
-            a: &[RawVal],
-            b: &[RawVal],
-            results: &mut [InstructionResult],
-        ) -> u8 {
+            // The instruction is looked at once, and not at each element.
             match op {
                 Binary::Scalar(op) => each_scalar(op, a, b, results),
                 Binary::Vector(op) => each_vector(op, a, b, results),
@@ -756,24 +734,7 @@ pub mod instruction {
             results: &mut [InstructionResult],
         ) -> u8 {
             op_or_return!(op, load_numbered(number).ok_or(Refusal::Unknown));
-            each_by_op(op, memory, ptrs, offset, results)
-        }
-
-        // The load is looked at once, and not at each element.
-        /// # Contract
-        ///
-        /// ```text
-        /// ensures: Leaves (each_of (load_outcome op memory.now offset) ptrs.now (length results.old))
-        ///     results.old results.new result
-        /// ```
-        #[inline]
-        fn each_by_op(
-            op: Load,
-            memory: &[u8],
-            ptrs: &[u64],
-            offset: u64,
-            results: &mut [InstructionResult],
-        ) -> u8 {
+            // The load is looked at once, and not at each element.
             match op {
                 Load::Scalar(op) => {
                     load_numbers!(part_once! Scalar [op Load each(memory, ptrs, offset, results)])
@@ -1026,8 +987,6 @@ pub mod instruction {
         /// ```text
         /// ensures: Gives (as_raw raw_of_vector given) value.old value.new result
         /// ```
-        ///
-        /// Definitions: [`as_raw`](crate::specs::ops::LoadStoreOpsSpecs#as_raw), [`raw_of_vector`](crate::specs::raw::RawValSpecs#raw_of_vector).
         #[inline(always)]
         pub fn leave_vector(given: Result<V128, TrapCode>, value: &mut RawVal) -> u8 {
             match given {
@@ -1057,8 +1016,6 @@ pub mod instruction {
         /// ```text
         /// ensures: MatchResult given (λ _. result ≡ DONE) (λ trap. result ≡ code_number trap)
         /// ```
-        ///
-        /// Definitions: [`code_number`](crate::specs::types::TrapSpecs#code_number).
         #[inline(always)]
         #[must_use]
         pub fn status_of(given: Result<(), TrapCode>) -> u8 {
@@ -1208,8 +1165,6 @@ pub mod instruction {
             /// ```text
             /// ensures: IsStore memory.old (ptr + offset) (stored_value self value) memory.new result
             /// ```
-            ///
-            /// Definitions: [`IsStore`](crate::specs::accesses::LoadStoreSpecs#IsStore).
             #[inline]
             fn store(
                 self,
@@ -1448,18 +1403,7 @@ pub mod instruction {
         #[inline]
         pub fn unary_each(number: u16, a: &[RawVal], values: &mut [RawVal]) -> u8 {
             op_or_return!(op, unary_numbered(number).ok_or(Refusal::Unknown));
-            each_by_op(op, a, values)
-        }
-
-        // The instruction is looked at once, and not at each element.
-        /// # Contract
-        ///
-        /// ```text
-        /// ensures: Leaves (each_of (unary_value op) a.now (length values.old))
-        ///     values.old values.new result
-        /// ```
-        #[inline]
-        fn each_by_op(op: Unary, a: &[RawVal], values: &mut [RawVal]) -> u8 {
+            // The instruction is looked at once, and not at each element.
             match op {
                 Unary::Scalar(op) => each_scalar(op, a, values),
                 Unary::Make(op) => each_make(op, a, values),
@@ -1797,8 +1741,6 @@ pub mod machine {
             /// ```text
             /// ensures: result ≡ load_call self.now
             /// ```
-            ///
-            /// Definitions: [`load_call`](crate::specs::laws::PlacesSpecs#load_call).
             #[inline]
             fn load_call(&self) -> Option<Call> {
                 let (memory, ptr, offset) = (self.index, self.ptr, self.offset);
@@ -1826,8 +1768,6 @@ pub mod machine {
             /// ```text
             /// ensures: result ≡ store_call self.now
             /// ```
-            ///
-            /// Definitions: [`store_call`](crate::specs::laws::PlacesSpecs#store_call).
             #[inline]
             fn store_call(&self) -> Option<Call> {
                 let (memory, ptr, offset) = (self.index, self.ptr, self.offset);
@@ -2230,8 +2170,6 @@ pub mod machine {
         /// view = λ limited. record { state = limited.machine; limiter = limited.limiter }
         /// invariant = λ limited. Keeps limited.machine limited.limiter
         /// ```
-        ///
-        /// Definitions: [`Keeps`](crate::specs::machine::LawsSpecs#Keeps).
         pub struct LimitedMachine {
             pub(crate) machine: Machine<'static>,
             pub(crate) limiter: AnyLimiter,
@@ -2291,8 +2229,6 @@ pub mod machine {
             /// ensures step: MachineReplies call.now self.old result self.new
             /// ensures caps: caps_of self.new.limiter ≡ caps_of self.old.limiter
             /// ```
-            ///
-            /// Definitions: [`caps_of`](crate::specs::meter::AnyLimiterSpecs#caps_of).
             #[inline(always)]
             pub fn reply(&mut self, call: &Call) -> Reply {
                 self.machine.step_lending(call, &mut self.limiter)
@@ -2306,8 +2242,6 @@ pub mod machine {
             /// ensures step: RepliesInStruct call.now self.old result self.new
             /// ensures caps: caps_of self.new.limiter ≡ caps_of self.old.limiter
             /// ```
-            ///
-            /// Definitions: [`caps_of`](crate::specs::meter::AnyLimiterSpecs#caps_of).
             #[inline]
             fn reply_in_struct(&mut self, call: &Call) -> ReplyStruct {
                 ReplyStruct::from_common(self.reply(call))
@@ -2321,8 +2255,6 @@ pub mod machine {
             /// ensures step: RepliesToStruct numbers.now self.old result self.new
             /// ensures caps: caps_of self.new.limiter ≡ caps_of self.old.limiter
             /// ```
-            ///
-            /// Definitions: [`caps_of`](crate::specs::meter::AnyLimiterSpecs#caps_of).
             #[inline(always)]
             pub fn reply_to_struct(&mut self, numbers: &CallStruct) -> ReplyStruct {
                 let (index, ptr, offset) = (numbers.index, numbers.ptr, numbers.offset);
@@ -2364,8 +2296,6 @@ pub mod machine {
             /// ensures step: RepliesToList calls.now replies.old self.old (result, replies.new) self.new
             /// ensures caps: caps_of self.new.limiter ≡ caps_of self.old.limiter
             /// ```
-            ///
-            /// Definitions: [`caps_of`](crate::specs::meter::AnyLimiterSpecs#caps_of).
             #[inline]
             pub fn run_into(&mut self, calls: &[CallStruct], replies: &mut [ReplyStruct]) -> u8 {
                 if replies.len() != calls.len() {
@@ -2385,8 +2315,6 @@ pub mod machine {
             /// ensures step: Reserves room.now self.old result self.new
             /// ensures caps: caps_of self.new.limiter ≡ caps_of self.old.limiter
             /// ```
-            ///
-            /// Definitions: [`Reserves`](crate::specs::meter::CappedSpecs#Reserves), [`caps_of`](crate::specs::meter::AnyLimiterSpecs#caps_of).
             #[inline]
             pub fn reserve(&mut self, room: &Room) -> u8 {
                 match self.machine.reserve(room.slots()) {
@@ -2404,8 +2332,6 @@ pub mod machine {
             /// ensures step: ReservesElementsByStatus table elements self.old result self.new
             /// ensures caps: caps_of self.new.limiter ≡ caps_of self.old.limiter
             /// ```
-            ///
-            /// Definitions: [`caps_of`](crate::specs::meter::AnyLimiterSpecs#caps_of).
             #[inline]
             pub fn reserve_elements(&mut self, table: usize, elements: u64) -> u8 {
                 let reply = self.machine.reserve_elements(table, elements);
@@ -2477,8 +2403,6 @@ pub mod machine {
             ///     self.new
             /// ensures caps: caps_of self.new.limiter ≡ caps_of self.old.limiter
             /// ```
-            ///
-            /// Definitions: [`caps_of`](crate::specs::meter::AnyLimiterSpecs#caps_of).
             #[inline(always)]
             pub fn store(
                 &mut self,
@@ -2503,8 +2427,6 @@ pub mod machine {
             /// ensures step: MachineReplies (Store op memory ptr offset value) self.old result self.new
             /// ensures caps: caps_of self.new.limiter ≡ caps_of self.old.limiter
             /// ```
-            ///
-            /// Definitions: [`caps_of`](crate::specs::meter::AnyLimiterSpecs#caps_of).
             #[inline(always)]
             fn store_item(
                 &mut self,
@@ -2525,8 +2447,6 @@ pub mod machine {
             /// ensures step: RepliesInStatus (vector_binary number dst a b) self.old result self.new
             /// ensures caps: caps_of self.new.limiter ≡ caps_of self.old.limiter
             /// ```
-            ///
-            /// Definitions: [`caps_of`](crate::specs::meter::AnyLimiterSpecs#caps_of).
             #[inline(always)]
             pub fn binary(&mut self, number: u16, dst: u8, a: u8, b: u8) -> u8 {
                 let Some(op) = vector_binary_numbered(number) else {
@@ -2544,8 +2464,6 @@ pub mod machine {
             ///     (result, number.new) self.new
             /// ensures caps: caps_of self.new.limiter ≡ caps_of self.old.limiter
             /// ```
-            ///
-            /// Definitions: [`caps_of`](crate::specs::meter::AnyLimiterSpecs#caps_of).
             #[inline(always)]
             pub fn grow(&mut self, memory: usize, pages: u64, number: &mut u64) -> u8 {
                 leave(self.grow_memory(memory, pages), number)
@@ -2559,8 +2477,6 @@ pub mod machine {
             /// ensures step: MachineReplies (GrowMemory memory pages) self.old result self.new
             /// ensures caps: caps_of self.new.limiter ≡ caps_of self.old.limiter
             /// ```
-            ///
-            /// Definitions: [`caps_of`](crate::specs::meter::AnyLimiterSpecs#caps_of).
             #[inline(always)]
             fn grow_memory(&mut self, memory: usize, pages: u64) -> Reply {
                 self.machine
@@ -2576,8 +2492,6 @@ pub mod machine {
             ///     (result, number.new) self.new
             /// ensures caps: caps_of self.new.limiter ≡ caps_of self.old.limiter
             /// ```
-            ///
-            /// Definitions: [`caps_of`](crate::specs::meter::AnyLimiterSpecs#caps_of).
             #[inline(always)]
             pub fn fill(
                 &mut self,
@@ -2606,8 +2520,6 @@ pub mod machine {
             ///     number.old self.old (result, number.new) self.new
             /// ensures caps: caps_of self.new.limiter ≡ caps_of self.old.limiter
             /// ```
-            ///
-            /// Definitions: [`caps_of`](crate::specs::meter::AnyLimiterSpecs#caps_of).
             #[inline(always)]
             pub fn copy(
                 &mut self,
@@ -2637,8 +2549,6 @@ pub mod machine {
             ///     self.old (result, number.new) self.new
             /// ensures caps: caps_of self.new.limiter ≡ caps_of self.old.limiter
             /// ```
-            ///
-            /// Definitions: [`caps_of`](crate::specs::meter::AnyLimiterSpecs#caps_of).
             #[inline(always)]
             pub fn init(
                 &mut self,
@@ -2679,8 +2589,6 @@ pub mod machine {
             /// ensures step: RepliesToItems (Write memory offset) bytes.now self.old result self.new
             /// ensures caps: caps_of self.new.limiter ≡ caps_of self.old.limiter
             /// ```
-            ///
-            /// Definitions: [`caps_of`](crate::specs::meter::AnyLimiterSpecs#caps_of).
             #[inline]
             pub fn write(&mut self, memory: usize, offset: usize, bytes: &[u8]) -> ReplyStruct {
                 ReplyStruct::from_common(self.machine.write(memory, offset, bytes))
@@ -2694,8 +2602,6 @@ pub mod machine {
             /// ensures step: RepliesToSegment ty items.now self.old result self.new
             /// ensures caps: caps_of self.new.limiter ≡ caps_of self.old.limiter
             /// ```
-            ///
-            /// Definitions: [`caps_of`](crate::specs::meter::AnyLimiterSpecs#caps_of).
             #[inline]
             pub fn new_segment(&mut self, ty: u8, items: &[u32]) -> ReplyStruct {
                 let Some(ty) = reference_type(ty) else {
@@ -2715,8 +2621,6 @@ pub mod machine {
             /// ensures step: RepliesToCopy NewData bytes.now self.old result self.new
             /// ensures caps: caps_of self.new.limiter ≡ caps_of self.old.limiter
             /// ```
-            ///
-            /// Definitions: [`caps_of`](crate::specs::meter::AnyLimiterSpecs#caps_of).
             #[inline]
             pub fn new_data(&mut self, bytes: &[u8]) -> ReplyStruct {
                 let Ok(copy) = Vec::from_slice(bytes) else {
@@ -2753,8 +2657,6 @@ pub mod machine {
             /// ensures step: PaysFuel amount self.old result self.new
             /// ensures caps: caps_of self.new.limiter ≡ caps_of self.old.limiter
             /// ```
-            ///
-            /// Definitions: [`caps_of`](crate::specs::meter::AnyLimiterSpecs#caps_of).
             #[inline]
             pub fn consume_fuel(&mut self, amount: u64) -> ReplyStruct {
                 match self.machine.consume_fuel(amount) {
@@ -2771,8 +2673,6 @@ pub mod machine {
             /// ensures lines: RunsLines lines.now self.old text.old result text.new self.new
             /// ensures caps: caps_of self.new.limiter ≡ caps_of self.old.limiter
             /// ```
-            ///
-            /// Definitions: [`caps_of`](crate::specs::meter::AnyLimiterSpecs#caps_of).
             #[inline]
             pub fn run_lines(&mut self, lines: &[u8], text: &mut [u8]) -> ReplyStruct {
                 let script = match headless(lines) {
@@ -2796,8 +2696,6 @@ pub mod machine {
             /// ensures err: OnErr result (self.new ≡ self.old)
             /// ensures caps: caps_of self.new.limiter ≡ caps_of self.old.limiter
             /// ```
-            ///
-            /// Definitions: [`caps_of`](crate::specs::meter::AnyLimiterSpecs#caps_of).
             #[inline]
             fn run(&mut self, calls: &[Call]) -> Result<Vec<Reply>, AllocError> {
                 run_lending(&mut self.machine, calls, &mut self.limiter)
@@ -2877,8 +2775,6 @@ pub mod machine {
         ///     (λ script. WritesScript lines.now script × (script.header ≡ no_header))
         ///     (λ refusal. RefusesLines lines.now refusal)
         /// ```
-        ///
-        /// Definitions: [`WritesScript`](crate::specs::grammar::LinesSpecs#WritesScript), [`no_header`](crate::specs::grammar::LinesSpecs#no_header).
         #[inline]
         pub(crate) fn headless(lines: &[u8]) -> Result<Script, ReplyStruct> {
             match parse(lines) {
@@ -2908,8 +2804,6 @@ pub mod machine {
         /// ```text
         /// ensures text: WritesOut (replies_text calls.now replies.now) bytes.old result bytes.new
         /// ```
-        ///
-        /// Definitions: [`replies_text`](crate::specs::script::OutcomesSpecs#replies_text).
         #[inline]
         pub(crate) fn write_out(
             calls: &[Call],
@@ -3012,8 +2906,6 @@ pub mod machine {
             /// ```text
             /// ensures: result ≡ slots_of self.now
             /// ```
-            ///
-            /// Definitions: [`slots_of`](crate::specs::grammar::HeadersSpecs#slots_of).
             #[must_use]
             #[inline]
             pub fn slots(&self) -> SlotCounts {
@@ -3066,8 +2958,6 @@ pub mod machine {
         /// ```text
         /// ensures answers: IfOk result (λ answers. answers.items ≡ map answer_of numbers.now)
         /// ```
-        ///
-        /// Definitions: [`answer_of`](crate::specs::meter::AttemptSpecs#answer_of).
         #[inline]
         pub(super) fn answers_of(numbers: &[u8]) -> Result<Vec<LimiterAnswer>, AllocError> {
             let mut answers = Vec::new();
@@ -3082,8 +2972,6 @@ pub mod machine {
         /// ```text
         /// ensures: result ≡ answer_of number
         /// ```
-        ///
-        /// Definitions: [`answer_of`](crate::specs::meter::AttemptSpecs#answer_of).
         #[inline]
         fn answer(number: u8) -> LimiterAnswer {
             match number {
@@ -3322,8 +3210,6 @@ pub mod memory {
     /// ensures refused: OnErr result (region.new ≡ region.old)
     /// ```
     ///
-    /// Definitions: [`MakesMemory`](crate::specs::store::MemorySpecs#MakesMemory), [`optional_rules`](crate::specs::meter::LimiterSpecs#optional_rules), [`Lent`](crate::specs::store::BufferSpecs#Lent), [`made_in`](crate::specs::region::MemorySpecs#made_in), [`IsSized`](crate::specs::store::MemorySpecs#IsSized).
-    ///
     /// `L` is the type of the limiter, a [`ResourceLimiter`](crate::machine::ResourceLimiter#contract).
     #[inline]
     pub fn make_under<L: ResourceLimiter>(
@@ -3350,8 +3236,6 @@ pub mod memory {
     /// ensures unasked: (ty : MemoryTypeValue) → named_type (settings_of memory.old) ≡ Some ty
     ///     → 2 ^ 64 ≤ minimum_bytes ty → quota.new ≡ quota.old
     /// ```
-    ///
-    /// Definitions: [`MemoryTypeValue`](crate::specs::store::MemorySpecs#MemoryTypeValue), [`named_type`](crate::specs::store::MemorySpecs#named_type), [`minimum_bytes`](crate::specs::store::MemorySpecs#minimum_bytes).
     #[inline]
     pub fn make(memory: &mut MemoryNumbers, region: &mut [u8], quota: &mut QuotaNumbers) -> u8 {
         let Some(ty) = memory.ty() else {
@@ -3380,8 +3264,6 @@ pub mod memory {
     /// ensures unasked: (ty : MemoryTypeValue) → named_type (settings_of memory.old) ≡ Some ty
     ///     → 2 ^ 64 ≤ minimum_bytes ty → quota.new ≡ quota.old
     /// ```
-    ///
-    /// Definitions: [`MemoryTypeValue`](crate::specs::store::MemorySpecs#MemoryTypeValue), [`named_type`](crate::specs::store::MemorySpecs#named_type), [`minimum_bytes`](crate::specs::store::MemorySpecs#minimum_bytes).
     #[inline]
     pub fn make_zeroed(memory: &mut MemoryNumbers, region: &[u8], quota: &mut QuotaNumbers) -> u8 {
         let Some(ty) = memory.ty() else {
@@ -3406,8 +3288,6 @@ pub mod memory {
     ///     (Some limiter.old) (made_in_zeros ty region.now result) (Some limiter.new)
     /// ensures sized: IfOk result (λ size. IsSized ty size × (size ≤ length region.now))
     /// ```
-    ///
-    /// Definitions: [`MakesMemory`](crate::specs::store::MemorySpecs#MakesMemory), [`optional_rules`](crate::specs::meter::LimiterSpecs#optional_rules), [`Lent`](crate::specs::store::BufferSpecs#Lent), [`made_in_zeros`](crate::specs::region::MemorySpecs#made_in_zeros), [`IsSized`](crate::specs::store::MemorySpecs#IsSized).
     ///
     /// `L` is the type of the limiter, a [`ResourceLimiter`](crate::machine::ResourceLimiter#contract).
     #[inline]
@@ -3464,8 +3344,6 @@ pub mod memory {
     /// ensures within: memory.new.size ≤ length region.now
     /// ```
     ///
-    /// Definitions: [`zeroed`](crate::specs::region::MemorySpecs#zeroed).
-    ///
     /// `L` is the type of the limiter, a [`ResourceLimiter`](crate::machine::ResourceLimiter#contract).
     #[inline]
     pub fn grow_zeroed_under<L: ResourceLimiter>(
@@ -3507,8 +3385,6 @@ pub mod memory {
     ///     → (pages ≡ 0) ⊎ (in_bounds ty (memory.old.size / page_bytes ty.page + pages) ≡ false)
     ///     → quota.new ≡ quota.old
     /// ```
-    ///
-    /// Definitions: [`GrowsBy`](crate::specs::machine::ExchangeSpecs#GrowsBy), [`quota_rules`](crate::specs::meter::CappedSpecs#quota_rules), [`MemoryTypeValue`](crate::specs::store::MemorySpecs#MemoryTypeValue), [`in_bounds`](crate::specs::store::MemorySpecs#in_bounds), [`page_bytes`](crate::specs::store::MemorySpecs#page_bytes).
     #[inline]
     pub fn grow(
         memory: &mut MemoryNumbers,
@@ -3538,8 +3414,6 @@ pub mod memory {
     ///     → (pages ≡ 0) ⊎ (in_bounds ty (memory.old.size / page_bytes ty.page + pages) ≡ false)
     ///     → quota.new ≡ quota.old
     /// ```
-    ///
-    /// Definitions: [`GrowsBy`](crate::specs::machine::ExchangeSpecs#GrowsBy), [`quota_rules`](crate::specs::meter::CappedSpecs#quota_rules), [`zeroed`](crate::specs::region::MemorySpecs#zeroed), [`MemoryTypeValue`](crate::specs::store::MemorySpecs#MemoryTypeValue), [`in_bounds`](crate::specs::store::MemorySpecs#in_bounds), [`page_bytes`](crate::specs::store::MemorySpecs#page_bytes).
     #[inline]
     pub fn grow_zeroed(
         memory: &mut MemoryNumbers,
@@ -3638,8 +3512,6 @@ pub mod memory {
     /// ensures about: result ≡ is_about answers.now
     ///     (memory_growth (memory_in ty region.now memory.now.size) pages)
     /// ```
-    ///
-    /// Definitions: [`memory_in`](crate::specs::region::MemorySpecs#memory_in).
     #[inline]
     fn are_about(
         memory: &MemoryNumbers,
@@ -3868,8 +3740,6 @@ pub mod numbers {
         ///     ((ty : MemoryTypeValue) → named_type (settings_of self.now) ≡ Some ty → IsValid ty → ⊥)
         ///     (λ ty. (named_type (settings_of self.now) ≡ Some ty) × IsValid ty)
         /// ```
-        ///
-        /// Definitions: [`MemoryTypeValue`](crate::specs::store::MemorySpecs#MemoryTypeValue), [`named_type`](crate::specs::store::MemorySpecs#named_type), [`IsValid`](crate::specs::store::MemorySpecs#IsValid).
         #[must_use]
         #[inline]
         pub fn ty(&self) -> Option<MemoryType> {
@@ -3886,8 +3756,6 @@ pub mod numbers {
         ///     ((ty : MemoryTypeValue) → IsState self.now region.now ty → ⊥)
         ///     (λ ty. IsState self.now region.now ty)
         /// ```
-        ///
-        /// Definitions: [`MemoryTypeValue`](crate::specs::store::MemorySpecs#MemoryTypeValue).
         #[must_use]
         #[inline]
         pub fn type_if_valid(&self, region: &[u8]) -> Option<MemoryType> {
@@ -3939,8 +3807,6 @@ pub mod numbers {
         ///     ((ty : TableTypeValue) → IsTable self.now region.now ty → ⊥)
         ///     (λ ty. IsTable self.now region.now ty)
         /// ```
-        ///
-        /// Definitions: [`TableTypeValue`](crate::specs::store::TableSpecs#TableTypeValue).
         #[must_use]
         #[inline]
         pub fn type_if_valid(&self, region: &[u32]) -> Option<TableType> {
@@ -3974,8 +3840,6 @@ pub mod numbers {
         /// ```text
         /// ensures: result ≡ meter_of self.now
         /// ```
-        ///
-        /// Definitions: [`meter_of`](crate::specs::grammar::HeadersSpecs#meter_of).
         #[must_use]
         #[inline]
         pub fn fuel(&self) -> Fuel {
@@ -3989,8 +3853,6 @@ pub mod numbers {
         /// ```text
         /// ensures: result ≡ (meter_of self.now).costs
         /// ```
-        ///
-        /// Definitions: [`meter_of`](crate::specs::grammar::HeadersSpecs#meter_of).
         #[must_use]
         #[inline]
         pub fn costs(&self) -> CustomFuelCosts {
@@ -4246,52 +4108,6 @@ pub mod pool {
             self.is_made
         }
 
-        /// Takes the pool out, if there is one. It takes no memory.
-        ///
-        /// # Contract
-        ///
-        /// ```text
-        /// ensures taken: MatchOption result (self.old.pool.held ≡ None)
-        ///     (λ pool. self.old.pool.held ≡ Some pool.value)
-        /// ensures left: self.new.pool.held ≡ None
-        /// ```
-        #[inline]
-        pub fn take(&mut self) -> Option<Box<TenantPool>> {
-            let none = PoolHandle {
-                pool: PoolBox::from_held(HeldBox::empty()),
-                is_made: false,
-            };
-            let PoolHandle { pool, is_made } = mem::replace(self, none);
-            if is_made {
-                Some(pool.into_held().into_box())
-            } else {
-                pool.into_held().end();
-                None
-            }
-        }
-
-        /// Puts a pool in where there is none. It takes no memory.
-        ///
-        /// # Contract
-        ///
-        /// ```text
-        /// requires empty: self.old.pool.held ≡ None
-        /// ensures held: self.new.pool.held ≡ Some pool.value
-        /// ensures within: IsWithinCaps pool.value
-        /// ```
-        ///
-        /// Definitions: [`IsWithinCaps`](crate::specs::budget::PoolSpecs#IsWithinCaps).
-        #[inline]
-        pub fn put(&mut self, pool: Box<TenantPool>) {
-            pool.show_within();
-            let made = PoolHandle {
-                pool: PoolBox::from_held(HeldBox::from_box(pool)),
-                is_made: true,
-            };
-            let PoolHandle { pool, is_made: _ } = mem::replace(self, made);
-            pool.into_held().end();
-        }
-
         /// Makes a pool with these caps in a handle that has none.
         ///
         /// # Contract
@@ -4301,7 +4117,7 @@ pub mod pool {
         /// ```
         #[inline]
         pub fn new_pool(&mut self, bytes: u64, elements: u64) -> u8 {
-            if self.is_made {
+            if self.is_made() {
                 return HAS_POOL;
             }
             let pool = TenantPool {
@@ -4310,7 +4126,12 @@ pub mod pool {
             let Ok(pool) = crate::memory::boxed(pool) else {
                 return NO_ROOM;
             };
-            self.put(pool);
+            let made = PoolHandle {
+                pool: PoolBox::from_held(HeldBox::from_box(pool)),
+                is_made: true,
+            };
+            let PoolHandle { pool, is_made: _ } = mem::replace(self, made);
+            pool.into_held().end();
             DONE
         }
 
@@ -4323,7 +4144,17 @@ pub mod pool {
         /// ```
         #[inline]
         pub fn drop_pool(&mut self) {
-            let _pool = self.take();
+            let none = PoolHandle {
+                pool: PoolBox::from_held(HeldBox::empty()),
+                is_made: false,
+            };
+            let PoolHandle { pool, is_made } = mem::replace(self, none);
+            let held = pool.into_held();
+            if is_made {
+                let _pool = held.into_box();
+            } else {
+                held.end();
+            }
         }
 
         /// Replies to a call on the machine of a tenant, if the numbers stand for one.
@@ -4349,8 +4180,6 @@ pub mod pool {
     /// Value = PoolValue
     /// view = λ held. held.pool
     /// ```
-    ///
-    /// Definitions: [`PoolValue`](crate::specs::budget::PoolSpecs#PoolValue).
     pub struct TenantPool {
         pool: Pool<'static>,
     }
@@ -4363,8 +4192,6 @@ pub mod pool {
         /// ```text
         /// ensures: IsWithinCaps self.now
         /// ```
-        ///
-        /// Definitions: [`IsWithinCaps`](crate::specs::budget::PoolSpecs#IsWithinCaps).
         #[inline]
         pub fn show_within(&self) {
             let _ = self.pool.len();
@@ -4800,10 +4627,7 @@ pub mod pool {
             if pages == 0 {
                 return self.grow_by_none(tenant, memory, number);
             }
-            match self.pool.step(tenant, &Call::GrowMemory { memory, pages }) {
-                Ok(reply) => leave(reply, number),
-                Err(_) => NO_TENANT,
-            }
+            self.reply_in_word(tenant, &Call::GrowMemory { memory, pages }, number)
         }
 
         /// Grows a memory of a tenant by no page. It asks no limiter, so none is made.
@@ -4925,8 +4749,6 @@ pub mod pool {
         ///     (λ reply. RefusesTenant tenant self.old reply × (self.new ≡ self.old))
         /// ensures caps: self.new.caps ≡ self.old.caps
         /// ```
-        ///
-        /// Definitions: [`RunsTenant`](crate::specs::budget::PoolSpecs#RunsTenant).
         #[inline]
         fn run(&mut self, tenant: usize, calls: &[Call]) -> Result<Vec<Reply>, ReplyStruct> {
             match self.pool.run(tenant, calls) {
@@ -5103,8 +4925,6 @@ pub mod pool {
     ///     (Load op memory ptr offset) (world machine.now (Some tenant)) result
     ///     (world machine.now (Some tenant))
     /// ```
-    ///
-    /// Definitions: [`RepliesWith`](crate::specs::machine::StepsSpecs#RepliesWith), [`optional_rules`](crate::specs::meter::LimiterSpecs#optional_rules), [`tenant_rules`](crate::specs::budget::PoolSpecs#tenant_rules), [`world`](crate::specs::machine::StateSpecs#world).
     #[inline(always)]
     fn load_item(machine: &Machine, op: LoadOp, memory: usize, ptr: u64, offset: u64) -> Reply {
         let Some(memory) = machine.memory(memory) else {
@@ -5124,8 +4944,6 @@ pub mod pool {
     /// ensures: (tenant : Tenant) → RepliesWith (optional_rules tenant_rules) GetFuel
     ///     (world machine.now (Some tenant)) result (world machine.now (Some tenant))
     /// ```
-    ///
-    /// Definitions: [`RepliesWith`](crate::specs::machine::StepsSpecs#RepliesWith), [`optional_rules`](crate::specs::meter::LimiterSpecs#optional_rules), [`tenant_rules`](crate::specs::budget::PoolSpecs#tenant_rules), [`world`](crate::specs::machine::StateSpecs#world).
     #[inline(always)]
     fn fuel_reply(machine: &Machine) -> Reply {
         match machine.fuel().get_fuel() {
@@ -5142,8 +4960,6 @@ pub mod pool {
     /// ensures: (tenant : Tenant) → RepliesWith (optional_rules tenant_rules) (GrowMemory memory 0)
     ///     (world machine.now (Some tenant)) result (world machine.now (Some tenant))
     /// ```
-    ///
-    /// Definitions: [`RepliesWith`](crate::specs::machine::StepsSpecs#RepliesWith), [`optional_rules`](crate::specs::meter::LimiterSpecs#optional_rules), [`tenant_rules`](crate::specs::budget::PoolSpecs#tenant_rules), [`world`](crate::specs::machine::StateSpecs#world).
     #[inline(always)]
     fn size_reply(machine: &Machine, memory: usize) -> Reply {
         match machine.memory(memory) {
@@ -5423,8 +5239,6 @@ pub mod table {
     /// ensures refused: OnErr result (region.new ≡ region.old)
     /// ```
     ///
-    /// Definitions: [`MakesTableIn`](crate::specs::region::TableSpecs#MakesTableIn), [`optional_rules`](crate::specs::meter::LimiterSpecs#optional_rules), [`made_in`](crate::specs::region::TableSpecs#made_in), [`IsSized`](crate::specs::store::TableSpecs#IsSized).
-    ///
     /// `L` is the type of the limiter, a [`ResourceLimiter`](crate::machine::ResourceLimiter#contract).
     #[inline]
     pub fn make_under<L: ResourceLimiter>(
@@ -5524,8 +5338,6 @@ pub mod table {
     ///     → (delta ≡ 0) ⊎ (is_indexable ty (table.old.size + delta) ≡ false)
     ///     → quota.new ≡ quota.old
     /// ```
-    ///
-    /// Definitions: [`GrowsBy`](crate::specs::machine::ExchangeSpecs#GrowsBy), [`quota_rules`](crate::specs::meter::CappedSpecs#quota_rules), [`TableTypeValue`](crate::specs::store::TableSpecs#TableTypeValue), [`is_indexable`](crate::specs::store::TableSpecs#is_indexable).
     #[inline]
     pub fn grow(
         table: &mut TableNumbers,
@@ -5626,8 +5438,6 @@ pub mod table {
     /// ensures about: result ≡ is_about answers.now
     ///     (region_growth (length region.now) delta _reference (table_in ty region.now table.now.size))
     /// ```
-    ///
-    /// Definitions: [`region_growth`](crate::specs::region::TableSpecs#region_growth), [`table_in`](crate::specs::region::TableSpecs#table_in).
     #[inline]
     fn are_about(
         table: &TableNumbers,
@@ -5718,8 +5528,6 @@ pub mod table {
     ///     table.now (metered_region region.old meter.old number.old) result
     ///     (metered_region region.new meter.new number.new)
     /// ```
-    ///
-    /// Definitions: [`raw_filling_of`](crate::specs::store::TableSpecs#raw_filling_of).
     #[inline]
     pub fn fill(
         table: &TableNumbers,
@@ -5747,8 +5555,6 @@ pub mod table {
     ///     table.now (metered_region region.old meter.old number.old) result
     ///     (metered_region region.new meter.new number.new)
     /// ```
-    ///
-    /// Definitions: [`copy_of`](crate::specs::store::TableSpecs#copy_of), [`table_in`](crate::specs::region::TableSpecs#table_in).
     #[inline]
     pub fn copy_within(
         table: &TableNumbers,
@@ -5806,8 +5612,6 @@ pub mod table {
     ///     table.now (metered_region region.old meter.old number.old) result
     ///     (metered_region region.new meter.new number.new)
     /// ```
-    ///
-    /// Definitions: [`initialization_of`](crate::specs::store::TableSpecs#initialization_of), [`items_of`](crate::specs::region::TableSpecs#items_of).
     #[inline]
     pub fn init(
         table: &TableNumbers,
@@ -5909,8 +5713,6 @@ pub mod types {
     ///     (λ ty. (named_type (settings_of minimum maximum is_64 page_size_log2) ≡ Some ty)
     ///     × IsValid ty)
     /// ```
-    ///
-    /// Definitions: [`MemoryTypeValue`](crate::specs::store::MemorySpecs#MemoryTypeValue), [`named_type`](crate::specs::store::MemorySpecs#named_type), [`IsValid`](crate::specs::store::MemorySpecs#IsValid).
     #[must_use]
     #[inline]
     pub fn memory_type(
@@ -5965,8 +5767,6 @@ pub mod types {
     /// ```text
     /// ensures: result ≡ meter_of left costs
     /// ```
-    ///
-    /// Definitions: [`meter_of`](crate::specs::grammar::HeadersSpecs#meter_of).
     #[must_use]
     #[inline]
     pub fn meter(left: Option<u64>, costs: CustomFuelCosts) -> Fuel {

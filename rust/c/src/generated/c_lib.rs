@@ -316,8 +316,6 @@ mod instructions {
     /// ```text
     /// ensures: StoresBytes memory.old (ptr + offset) (le_bytes 16 (vector_in value)) memory.new result
     /// ```
-    ///
-    /// Definitions: [`le_bytes`](crate::specs::types::NumbersSpecs#le_bytes), [`vector_in`](crate::specs::raw::RawValSpecs#vector_in).
     #[unsafe(no_mangle)]
     pub unsafe extern "C" fn wasmi_v128_store(
         memory: *mut u8,
@@ -377,8 +375,6 @@ mod loads {
     /// ensures: Gives (loaded 1 (cast_signed w8) memory.now (ptr + offset)) value.old value.new
     ///     result
     /// ```
-    ///
-    /// Definitions: [`loaded`](crate::specs::accesses::LoadStoreSpecs#loaded).
     #[unsafe(no_mangle)]
     pub unsafe extern "C" fn wasmi_i32_load8_s(
         memory: *const u8,
@@ -397,8 +393,6 @@ mod loads {
     /// ```text
     /// ensures: Gives (loaded 1 pos memory.now (ptr + offset)) value.old value.new result
     /// ```
-    ///
-    /// Definitions: [`loaded`](crate::specs::accesses::LoadStoreSpecs#loaded).
     #[unsafe(no_mangle)]
     pub unsafe extern "C" fn wasmi_i32_load8_u(
         memory: *const u8,
@@ -418,8 +412,6 @@ mod loads {
     /// ensures: Gives (loaded 2 (cast_signed w16) memory.now (ptr + offset)) value.old value.new
     ///     result
     /// ```
-    ///
-    /// Definitions: [`loaded`](crate::specs::accesses::LoadStoreSpecs#loaded).
     #[unsafe(no_mangle)]
     pub unsafe extern "C" fn wasmi_i32_load16_s(
         memory: *const u8,
@@ -438,8 +430,6 @@ mod loads {
     /// ```text
     /// ensures: Gives (loaded 2 pos memory.now (ptr + offset)) value.old value.new result
     /// ```
-    ///
-    /// Definitions: [`loaded`](crate::specs::accesses::LoadStoreSpecs#loaded).
     #[unsafe(no_mangle)]
     pub unsafe extern "C" fn wasmi_i32_load16_u(
         memory: *const u8,
@@ -459,8 +449,6 @@ mod loads {
     /// ensures: Gives (loaded 1 (cast_signed w8) memory.now (ptr + offset)) value.old value.new
     ///     result
     /// ```
-    ///
-    /// Definitions: [`loaded`](crate::specs::accesses::LoadStoreSpecs#loaded).
     #[unsafe(no_mangle)]
     pub unsafe extern "C" fn wasmi_i64_load8_s(
         memory: *const u8,
@@ -479,8 +467,6 @@ mod loads {
     /// ```text
     /// ensures: Gives (loaded 1 pos memory.now (ptr + offset)) value.old value.new result
     /// ```
-    ///
-    /// Definitions: [`loaded`](crate::specs::accesses::LoadStoreSpecs#loaded).
     #[unsafe(no_mangle)]
     pub unsafe extern "C" fn wasmi_i64_load8_u(
         memory: *const u8,
@@ -500,8 +486,6 @@ mod loads {
     /// ensures: Gives (loaded 2 (cast_signed w16) memory.now (ptr + offset)) value.old value.new
     ///     result
     /// ```
-    ///
-    /// Definitions: [`loaded`](crate::specs::accesses::LoadStoreSpecs#loaded).
     #[unsafe(no_mangle)]
     pub unsafe extern "C" fn wasmi_i64_load16_s(
         memory: *const u8,
@@ -520,8 +504,6 @@ mod loads {
     /// ```text
     /// ensures: Gives (loaded 2 pos memory.now (ptr + offset)) value.old value.new result
     /// ```
-    ///
-    /// Definitions: [`loaded`](crate::specs::accesses::LoadStoreSpecs#loaded).
     #[unsafe(no_mangle)]
     pub unsafe extern "C" fn wasmi_i64_load16_u(
         memory: *const u8,
@@ -541,8 +523,6 @@ mod loads {
     /// ensures: Gives (loaded 4 (cast_signed w32) memory.now (ptr + offset)) value.old value.new
     ///     result
     /// ```
-    ///
-    /// Definitions: [`loaded`](crate::specs::accesses::LoadStoreSpecs#loaded).
     #[unsafe(no_mangle)]
     pub unsafe extern "C" fn wasmi_i64_load32_s(
         memory: *const u8,
@@ -561,8 +541,6 @@ mod loads {
     /// ```text
     /// ensures: Gives (loaded 4 pos memory.now (ptr + offset)) value.old value.new result
     /// ```
-    ///
-    /// Definitions: [`loaded`](crate::specs::accesses::LoadStoreSpecs#loaded).
     #[unsafe(no_mangle)]
     pub unsafe extern "C" fn wasmi_i64_load32_u(
         memory: *const u8,
@@ -581,8 +559,6 @@ mod loads {
     /// ```text
     /// ensures: Gives (loaded 4 (λ n. n) memory.now (ptr + offset)) value.old value.new result
     /// ```
-    ///
-    /// Definitions: [`loaded`](crate::specs::accesses::LoadStoreSpecs#loaded).
     #[unsafe(no_mangle)]
     pub unsafe extern "C" fn wasmi_load_u32(
         memory: *const u8,
@@ -601,8 +577,6 @@ mod loads {
     /// ```text
     /// ensures: Gives (loaded 8 (λ n. n) memory.now (ptr + offset)) value.old value.new result
     /// ```
-    ///
-    /// Definitions: [`loaded`](crate::specs::accesses::LoadStoreSpecs#loaded).
     #[unsafe(no_mangle)]
     pub unsafe extern "C" fn wasmi_load_u64(
         memory: *const u8,
@@ -684,8 +658,6 @@ mod machine {
     /// ensures: OnHeld (Reserves room.now) NO_MACHINE
     ///     handle.old.machine.held result handle.new.machine.held
     /// ```
-    ///
-    /// Definitions: [`Reserves`](crate::specs::meter::CappedSpecs#Reserves).
     #[unsafe(no_mangle)]
     pub extern "C" fn wasmi_machine_reserve(handle: &mut Handle, room: &Room) -> u8 {
         on_machine!(handle, NO_MACHINE, machine => machine.reserve(room))
@@ -1434,8 +1406,6 @@ mod memory {
     /// ensures unasked: (ty : MemoryTypeValue) → named_type (settings_of memory.old) ≡ Some ty
     ///     → 2 ^ 64 ≤ minimum_bytes ty → quota.new ≡ quota.old
     /// ```
-    ///
-    /// Definitions: [`MemoryTypeValue`](crate::specs::store::MemorySpecs#MemoryTypeValue), [`named_type`](crate::specs::store::MemorySpecs#named_type), [`minimum_bytes`](crate::specs::store::MemorySpecs#minimum_bytes).
     #[unsafe(no_mangle)]
     pub unsafe extern "C" fn wasmi_memory_new(
         memory: &mut MemoryNumbers,
@@ -1459,8 +1429,6 @@ mod memory {
     /// ensures unasked: (ty : MemoryTypeValue) → named_type (settings_of memory.old) ≡ Some ty
     ///     → 2 ^ 64 ≤ minimum_bytes ty → quota.new ≡ quota.old
     /// ```
-    ///
-    /// Definitions: [`MemoryTypeValue`](crate::specs::store::MemorySpecs#MemoryTypeValue), [`named_type`](crate::specs::store::MemorySpecs#named_type), [`minimum_bytes`](crate::specs::store::MemorySpecs#minimum_bytes).
     #[unsafe(no_mangle)]
     pub unsafe extern "C" fn wasmi_memory_new_zeroed(
         memory: &mut MemoryNumbers,
@@ -1485,8 +1453,6 @@ mod memory {
     ///     → (pages ≡ 0) ⊎ (in_bounds ty (memory.old.size / page_bytes ty.page + pages) ≡ false)
     ///     → quota.new ≡ quota.old
     /// ```
-    ///
-    /// Definitions: [`GrowsBy`](crate::specs::machine::ExchangeSpecs#GrowsBy), [`quota_rules`](crate::specs::meter::CappedSpecs#quota_rules), [`MemoryTypeValue`](crate::specs::store::MemorySpecs#MemoryTypeValue), [`in_bounds`](crate::specs::store::MemorySpecs#in_bounds), [`page_bytes`](crate::specs::store::MemorySpecs#page_bytes).
     #[unsafe(no_mangle)]
     pub unsafe extern "C" fn wasmi_memory_grow(
         memory: &mut MemoryNumbers,
@@ -1515,8 +1481,6 @@ mod memory {
     ///     → (pages ≡ 0) ⊎ (in_bounds ty (memory.old.size / page_bytes ty.page + pages) ≡ false)
     ///     → quota.new ≡ quota.old
     /// ```
-    ///
-    /// Definitions: [`GrowsBy`](crate::specs::machine::ExchangeSpecs#GrowsBy), [`quota_rules`](crate::specs::meter::CappedSpecs#quota_rules), [`zeroed`](crate::specs::region::MemorySpecs#zeroed), [`MemoryTypeValue`](crate::specs::store::MemorySpecs#MemoryTypeValue), [`in_bounds`](crate::specs::store::MemorySpecs#in_bounds), [`page_bytes`](crate::specs::store::MemorySpecs#page_bytes).
     #[unsafe(no_mangle)]
     pub unsafe extern "C" fn wasmi_memory_grow_zeroed(
         memory: &mut MemoryNumbers,
@@ -1747,8 +1711,6 @@ mod memory {
     /// ```text
     /// ensures: SetsFuel amount meter.old result meter.new
     /// ```
-    ///
-    /// Definitions: [`SetsFuel`](crate::specs::machine::ValueEffectsSpecs#SetsFuel).
     #[unsafe(no_mangle)]
     pub extern "C" fn wasmi_fuel_set(meter: &mut MeterNumbers, amount: u64) -> u8 {
         fuel::set(meter, amount)
@@ -1783,8 +1745,6 @@ mod memory {
     /// ```text
     /// ensures: result ≡ copy_cost (meter_of meter.now).costs bytes 1
     /// ```
-    ///
-    /// Definitions: [`copy_cost`](crate::specs::meter::MeterSpecs#copy_cost), [`meter_of`](crate::specs::grammar::HeadersSpecs#meter_of).
     #[unsafe(no_mangle)]
     pub extern "C" fn wasmi_fuel_copy_cost(meter: &MeterNumbers, bytes: u64) -> u64 {
         fuel::copy_cost(meter, bytes)
@@ -1796,8 +1756,6 @@ mod memory {
     /// ensures: PaysFuel (copy_cost (meter_of meter.old).costs bytes 1) meter.old number.old result
     ///     meter.new number.new
     /// ```
-    ///
-    /// Definitions: [`copy_cost`](crate::specs::meter::MeterSpecs#copy_cost), [`meter_of`](crate::specs::grammar::HeadersSpecs#meter_of).
     #[unsafe(no_mangle)]
     pub extern "C" fn wasmi_fuel_consume_copy(
         meter: &mut MeterNumbers,
@@ -1821,8 +1779,6 @@ mod scalar {
     /// ```text
     /// ensures: result ≡ iclz w32 value
     /// ```
-    ///
-    /// Definitions: [`iclz`](crate::specs::scalar::NumericsSpecs#iclz).
     #[unsafe(no_mangle)]
     pub extern "C" fn wasmi_i32_clz(value: i32) -> i32 {
         wasm::i32_clz(value)
@@ -1833,8 +1789,6 @@ mod scalar {
     /// ```text
     /// ensures: result ≡ ictz w32 value
     /// ```
-    ///
-    /// Definitions: [`ictz`](crate::specs::scalar::NumericsSpecs#ictz).
     #[unsafe(no_mangle)]
     pub extern "C" fn wasmi_i32_ctz(value: i32) -> i32 {
         wasm::i32_ctz(value)
@@ -1845,8 +1799,6 @@ mod scalar {
     /// ```text
     /// ensures: result ≡ ipopcnt w32 value
     /// ```
-    ///
-    /// Definitions: [`ipopcnt`](crate::specs::scalar::NumericsSpecs#ipopcnt).
     #[unsafe(no_mangle)]
     pub extern "C" fn wasmi_i32_popcnt(value: i32) -> i32 {
         wasm::i32_popcnt(value)
@@ -1857,8 +1809,6 @@ mod scalar {
     /// ```text
     /// ensures: result ≡ ieqz value
     /// ```
-    ///
-    /// Definitions: [`ieqz`](crate::specs::scalar::NumericsSpecs#ieqz).
     #[unsafe(no_mangle)]
     pub extern "C" fn wasmi_i32_eqz(value: i32) -> bool {
         wasm::i32_eqz(value)
@@ -1869,8 +1819,6 @@ mod scalar {
     /// ```text
     /// ensures: result ≡ iclz w64 value
     /// ```
-    ///
-    /// Definitions: [`iclz`](crate::specs::scalar::NumericsSpecs#iclz).
     #[unsafe(no_mangle)]
     pub extern "C" fn wasmi_i64_clz(value: i64) -> i64 {
         wasm::i64_clz(value)
@@ -1881,8 +1829,6 @@ mod scalar {
     /// ```text
     /// ensures: result ≡ ictz w64 value
     /// ```
-    ///
-    /// Definitions: [`ictz`](crate::specs::scalar::NumericsSpecs#ictz).
     #[unsafe(no_mangle)]
     pub extern "C" fn wasmi_i64_ctz(value: i64) -> i64 {
         wasm::i64_ctz(value)
@@ -1893,8 +1839,6 @@ mod scalar {
     /// ```text
     /// ensures: result ≡ ipopcnt w64 value
     /// ```
-    ///
-    /// Definitions: [`ipopcnt`](crate::specs::scalar::NumericsSpecs#ipopcnt).
     #[unsafe(no_mangle)]
     pub extern "C" fn wasmi_i64_popcnt(value: i64) -> i64 {
         wasm::i64_popcnt(value)
@@ -1905,8 +1849,6 @@ mod scalar {
     /// ```text
     /// ensures: result ≡ ieqz value
     /// ```
-    ///
-    /// Definitions: [`ieqz`](crate::specs::scalar::NumericsSpecs#ieqz).
     #[unsafe(no_mangle)]
     pub extern "C" fn wasmi_i64_eqz(value: i64) -> bool {
         wasm::i64_eqz(value)
@@ -1997,8 +1939,6 @@ mod scalar {
     /// ```text
     /// ensures: result ≡ iadd w32 lhs rhs
     /// ```
-    ///
-    /// Definitions: [`iadd`](crate::specs::scalar::NumericsSpecs#iadd).
     #[unsafe(no_mangle)]
     pub extern "C" fn wasmi_i32_add(lhs: i32, rhs: i32) -> i32 {
         wasm::i32_add(lhs, rhs)
@@ -2009,8 +1949,6 @@ mod scalar {
     /// ```text
     /// ensures: result ≡ isub w32 lhs rhs
     /// ```
-    ///
-    /// Definitions: [`isub`](crate::specs::scalar::NumericsSpecs#isub).
     #[unsafe(no_mangle)]
     pub extern "C" fn wasmi_i32_sub(lhs: i32, rhs: i32) -> i32 {
         wasm::i32_sub(lhs, rhs)
@@ -2021,8 +1959,6 @@ mod scalar {
     /// ```text
     /// ensures: result ≡ imul w32 lhs rhs
     /// ```
-    ///
-    /// Definitions: [`imul`](crate::specs::scalar::NumericsSpecs#imul).
     #[unsafe(no_mangle)]
     pub extern "C" fn wasmi_i32_mul(lhs: i32, rhs: i32) -> i32 {
         wasm::i32_mul(lhs, rhs)
@@ -2033,8 +1969,6 @@ mod scalar {
     /// ```text
     /// ensures: result ≡ iand w32 lhs rhs
     /// ```
-    ///
-    /// Definitions: [`iand`](crate::specs::scalar::NumericsSpecs#iand).
     #[unsafe(no_mangle)]
     pub extern "C" fn wasmi_i32_bitand(lhs: i32, rhs: i32) -> i32 {
         wasm::i32_bitand(lhs, rhs)
@@ -2045,8 +1979,6 @@ mod scalar {
     /// ```text
     /// ensures: result ≡ ior w32 lhs rhs
     /// ```
-    ///
-    /// Definitions: [`ior`](crate::specs::scalar::NumericsSpecs#ior).
     #[unsafe(no_mangle)]
     pub extern "C" fn wasmi_i32_bitor(lhs: i32, rhs: i32) -> i32 {
         wasm::i32_bitor(lhs, rhs)
@@ -2057,8 +1989,6 @@ mod scalar {
     /// ```text
     /// ensures: result ≡ ixor w32 lhs rhs
     /// ```
-    ///
-    /// Definitions: [`ixor`](crate::specs::scalar::NumericsSpecs#ixor).
     #[unsafe(no_mangle)]
     pub extern "C" fn wasmi_i32_bitxor(lhs: i32, rhs: i32) -> i32 {
         wasm::i32_bitxor(lhs, rhs)
@@ -2069,8 +1999,6 @@ mod scalar {
     /// ```text
     /// ensures: result ≡ ishl w32 lhs rhs
     /// ```
-    ///
-    /// Definitions: [`ishl`](crate::specs::scalar::NumericsSpecs#ishl).
     #[unsafe(no_mangle)]
     pub extern "C" fn wasmi_i32_shl(lhs: i32, rhs: i32) -> i32 {
         wasm::i32_shl(lhs, rhs)
@@ -2081,8 +2009,6 @@ mod scalar {
     /// ```text
     /// ensures: result ≡ ishr_s w32 lhs rhs
     /// ```
-    ///
-    /// Definitions: [`ishr_s`](crate::specs::scalar::NumericsSpecs#ishr_s).
     #[unsafe(no_mangle)]
     pub extern "C" fn wasmi_i32_shr_s(lhs: i32, rhs: i32) -> i32 {
         wasm::i32_shr_s(lhs, rhs)
@@ -2093,8 +2019,6 @@ mod scalar {
     /// ```text
     /// ensures: result ≡ ishr_u w32 lhs rhs
     /// ```
-    ///
-    /// Definitions: [`ishr_u`](crate::specs::scalar::NumericsSpecs#ishr_u).
     #[unsafe(no_mangle)]
     pub extern "C" fn wasmi_i32_shr_u(lhs: u32, rhs: u32) -> u32 {
         wasm::i32_shr_u(lhs, rhs)
@@ -2105,8 +2029,6 @@ mod scalar {
     /// ```text
     /// ensures: result ≡ irotl w32 lhs rhs
     /// ```
-    ///
-    /// Definitions: [`irotl`](crate::specs::scalar::NumericsSpecs#irotl).
     #[unsafe(no_mangle)]
     pub extern "C" fn wasmi_i32_rotl(lhs: i32, rhs: i32) -> i32 {
         wasm::i32_rotl(lhs, rhs)
@@ -2117,8 +2039,6 @@ mod scalar {
     /// ```text
     /// ensures: result ≡ irotr w32 lhs rhs
     /// ```
-    ///
-    /// Definitions: [`irotr`](crate::specs::scalar::NumericsSpecs#irotr).
     #[unsafe(no_mangle)]
     pub extern "C" fn wasmi_i32_rotr(lhs: i32, rhs: i32) -> i32 {
         wasm::i32_rotr(lhs, rhs)
@@ -2129,8 +2049,6 @@ mod scalar {
     /// ```text
     /// ensures: Gives (idiv_s w32 lhs rhs) value.old value.new result
     /// ```
-    ///
-    /// Definitions: [`idiv_s`](crate::specs::scalar::NumericsSpecs#idiv_s).
     #[unsafe(no_mangle)]
     pub extern "C" fn wasmi_i32_div_s(lhs: i32, rhs: i32, value: &mut i32) -> u8 {
         leave_item(wasm::i32_div_s(lhs, rhs), value)
@@ -2141,8 +2059,6 @@ mod scalar {
     /// ```text
     /// ensures: Gives (idiv_u lhs rhs) value.old value.new result
     /// ```
-    ///
-    /// Definitions: [`idiv_u`](crate::specs::scalar::NumericsSpecs#idiv_u).
     #[unsafe(no_mangle)]
     pub extern "C" fn wasmi_i32_div_u(lhs: u32, rhs: u32, value: &mut u32) -> u8 {
         leave_item(wasm::i32_div_u(lhs, rhs), value)
@@ -2153,8 +2069,6 @@ mod scalar {
     /// ```text
     /// ensures: Gives (irem_s lhs rhs) value.old value.new result
     /// ```
-    ///
-    /// Definitions: [`irem_s`](crate::specs::scalar::NumericsSpecs#irem_s).
     #[unsafe(no_mangle)]
     pub extern "C" fn wasmi_i32_rem_s(lhs: i32, rhs: i32, value: &mut i32) -> u8 {
         leave_item(wasm::i32_rem_s(lhs, rhs), value)
@@ -2165,8 +2079,6 @@ mod scalar {
     /// ```text
     /// ensures: Gives (irem_u lhs rhs) value.old value.new result
     /// ```
-    ///
-    /// Definitions: [`irem_u`](crate::specs::scalar::NumericsSpecs#irem_u).
     #[unsafe(no_mangle)]
     pub extern "C" fn wasmi_i32_rem_u(lhs: u32, rhs: u32, value: &mut u32) -> u8 {
         leave_item(wasm::i32_rem_u(lhs, rhs), value)
@@ -2177,8 +2089,6 @@ mod scalar {
     /// ```text
     /// ensures: result ≡ ieq lhs rhs
     /// ```
-    ///
-    /// Definitions: [`ieq`](crate::specs::scalar::NumericsSpecs#ieq).
     #[unsafe(no_mangle)]
     pub extern "C" fn wasmi_i32_eq(lhs: i32, rhs: i32) -> bool {
         wasm::i32_eq(lhs, rhs)
@@ -2189,8 +2099,6 @@ mod scalar {
     /// ```text
     /// ensures: result ≡ ine lhs rhs
     /// ```
-    ///
-    /// Definitions: [`ine`](crate::specs::scalar::NumericsSpecs#ine).
     #[unsafe(no_mangle)]
     pub extern "C" fn wasmi_i32_ne(lhs: i32, rhs: i32) -> bool {
         wasm::i32_ne(lhs, rhs)
@@ -2201,8 +2109,6 @@ mod scalar {
     /// ```text
     /// ensures: result ≡ ilt_s lhs rhs
     /// ```
-    ///
-    /// Definitions: [`ilt_s`](crate::specs::scalar::NumericsSpecs#ilt_s).
     #[unsafe(no_mangle)]
     pub extern "C" fn wasmi_i32_lt_s(lhs: i32, rhs: i32) -> bool {
         wasm::i32_lt_s(lhs, rhs)
@@ -2213,8 +2119,6 @@ mod scalar {
     /// ```text
     /// ensures: result ≡ ilt_u lhs rhs
     /// ```
-    ///
-    /// Definitions: [`ilt_u`](crate::specs::scalar::NumericsSpecs#ilt_u).
     #[unsafe(no_mangle)]
     pub extern "C" fn wasmi_i32_lt_u(lhs: u32, rhs: u32) -> bool {
         wasm::i32_lt_u(lhs, rhs)
@@ -2225,8 +2129,6 @@ mod scalar {
     /// ```text
     /// ensures: result ≡ ile_s lhs rhs
     /// ```
-    ///
-    /// Definitions: [`ile_s`](crate::specs::scalar::NumericsSpecs#ile_s).
     #[unsafe(no_mangle)]
     pub extern "C" fn wasmi_i32_le_s(lhs: i32, rhs: i32) -> bool {
         wasm::i32_le_s(lhs, rhs)
@@ -2237,8 +2139,6 @@ mod scalar {
     /// ```text
     /// ensures: result ≡ ile_u lhs rhs
     /// ```
-    ///
-    /// Definitions: [`ile_u`](crate::specs::scalar::NumericsSpecs#ile_u).
     #[unsafe(no_mangle)]
     pub extern "C" fn wasmi_i32_le_u(lhs: u32, rhs: u32) -> bool {
         wasm::i32_le_u(lhs, rhs)
@@ -2249,8 +2149,6 @@ mod scalar {
     /// ```text
     /// ensures: result ≡ igt_s lhs rhs
     /// ```
-    ///
-    /// Definitions: [`igt_s`](crate::specs::scalar::NumericsSpecs#igt_s).
     #[unsafe(no_mangle)]
     pub extern "C" fn wasmi_i32_gt_s(lhs: i32, rhs: i32) -> bool {
         wasm::i32_gt_s(lhs, rhs)
@@ -2261,8 +2159,6 @@ mod scalar {
     /// ```text
     /// ensures: result ≡ igt_u lhs rhs
     /// ```
-    ///
-    /// Definitions: [`igt_u`](crate::specs::scalar::NumericsSpecs#igt_u).
     #[unsafe(no_mangle)]
     pub extern "C" fn wasmi_i32_gt_u(lhs: u32, rhs: u32) -> bool {
         wasm::i32_gt_u(lhs, rhs)
@@ -2273,8 +2169,6 @@ mod scalar {
     /// ```text
     /// ensures: result ≡ ige_s lhs rhs
     /// ```
-    ///
-    /// Definitions: [`ige_s`](crate::specs::scalar::NumericsSpecs#ige_s).
     #[unsafe(no_mangle)]
     pub extern "C" fn wasmi_i32_ge_s(lhs: i32, rhs: i32) -> bool {
         wasm::i32_ge_s(lhs, rhs)
@@ -2285,8 +2179,6 @@ mod scalar {
     /// ```text
     /// ensures: result ≡ ige_u lhs rhs
     /// ```
-    ///
-    /// Definitions: [`ige_u`](crate::specs::scalar::NumericsSpecs#ige_u).
     #[unsafe(no_mangle)]
     pub extern "C" fn wasmi_i32_ge_u(lhs: u32, rhs: u32) -> bool {
         wasm::i32_ge_u(lhs, rhs)
@@ -2297,8 +2189,6 @@ mod scalar {
     /// ```text
     /// ensures: result ≡ iadd w64 lhs rhs
     /// ```
-    ///
-    /// Definitions: [`iadd`](crate::specs::scalar::NumericsSpecs#iadd).
     #[unsafe(no_mangle)]
     pub extern "C" fn wasmi_i64_add(lhs: i64, rhs: i64) -> i64 {
         wasm::i64_add(lhs, rhs)
@@ -2309,8 +2199,6 @@ mod scalar {
     /// ```text
     /// ensures: result ≡ isub w64 lhs rhs
     /// ```
-    ///
-    /// Definitions: [`isub`](crate::specs::scalar::NumericsSpecs#isub).
     #[unsafe(no_mangle)]
     pub extern "C" fn wasmi_i64_sub(lhs: i64, rhs: i64) -> i64 {
         wasm::i64_sub(lhs, rhs)
@@ -2321,8 +2209,6 @@ mod scalar {
     /// ```text
     /// ensures: result ≡ imul w64 lhs rhs
     /// ```
-    ///
-    /// Definitions: [`imul`](crate::specs::scalar::NumericsSpecs#imul).
     #[unsafe(no_mangle)]
     pub extern "C" fn wasmi_i64_mul(lhs: i64, rhs: i64) -> i64 {
         wasm::i64_mul(lhs, rhs)
@@ -2333,8 +2219,6 @@ mod scalar {
     /// ```text
     /// ensures: result ≡ iand w64 lhs rhs
     /// ```
-    ///
-    /// Definitions: [`iand`](crate::specs::scalar::NumericsSpecs#iand).
     #[unsafe(no_mangle)]
     pub extern "C" fn wasmi_i64_bitand(lhs: i64, rhs: i64) -> i64 {
         wasm::i64_bitand(lhs, rhs)
@@ -2345,8 +2229,6 @@ mod scalar {
     /// ```text
     /// ensures: result ≡ ior w64 lhs rhs
     /// ```
-    ///
-    /// Definitions: [`ior`](crate::specs::scalar::NumericsSpecs#ior).
     #[unsafe(no_mangle)]
     pub extern "C" fn wasmi_i64_bitor(lhs: i64, rhs: i64) -> i64 {
         wasm::i64_bitor(lhs, rhs)
@@ -2357,8 +2239,6 @@ mod scalar {
     /// ```text
     /// ensures: result ≡ ixor w64 lhs rhs
     /// ```
-    ///
-    /// Definitions: [`ixor`](crate::specs::scalar::NumericsSpecs#ixor).
     #[unsafe(no_mangle)]
     pub extern "C" fn wasmi_i64_bitxor(lhs: i64, rhs: i64) -> i64 {
         wasm::i64_bitxor(lhs, rhs)
@@ -2369,8 +2249,6 @@ mod scalar {
     /// ```text
     /// ensures: result ≡ ishl w64 lhs rhs
     /// ```
-    ///
-    /// Definitions: [`ishl`](crate::specs::scalar::NumericsSpecs#ishl).
     #[unsafe(no_mangle)]
     pub extern "C" fn wasmi_i64_shl(lhs: i64, rhs: i64) -> i64 {
         wasm::i64_shl(lhs, rhs)
@@ -2381,8 +2259,6 @@ mod scalar {
     /// ```text
     /// ensures: result ≡ ishr_s w64 lhs rhs
     /// ```
-    ///
-    /// Definitions: [`ishr_s`](crate::specs::scalar::NumericsSpecs#ishr_s).
     #[unsafe(no_mangle)]
     pub extern "C" fn wasmi_i64_shr_s(lhs: i64, rhs: i64) -> i64 {
         wasm::i64_shr_s(lhs, rhs)
@@ -2393,8 +2269,6 @@ mod scalar {
     /// ```text
     /// ensures: result ≡ ishr_u w64 lhs rhs
     /// ```
-    ///
-    /// Definitions: [`ishr_u`](crate::specs::scalar::NumericsSpecs#ishr_u).
     #[unsafe(no_mangle)]
     pub extern "C" fn wasmi_i64_shr_u(lhs: u64, rhs: u64) -> u64 {
         wasm::i64_shr_u(lhs, rhs)
@@ -2405,8 +2279,6 @@ mod scalar {
     /// ```text
     /// ensures: result ≡ irotl w64 lhs rhs
     /// ```
-    ///
-    /// Definitions: [`irotl`](crate::specs::scalar::NumericsSpecs#irotl).
     #[unsafe(no_mangle)]
     pub extern "C" fn wasmi_i64_rotl(lhs: i64, rhs: i64) -> i64 {
         wasm::i64_rotl(lhs, rhs)
@@ -2417,8 +2289,6 @@ mod scalar {
     /// ```text
     /// ensures: result ≡ irotr w64 lhs rhs
     /// ```
-    ///
-    /// Definitions: [`irotr`](crate::specs::scalar::NumericsSpecs#irotr).
     #[unsafe(no_mangle)]
     pub extern "C" fn wasmi_i64_rotr(lhs: i64, rhs: i64) -> i64 {
         wasm::i64_rotr(lhs, rhs)
@@ -2429,8 +2299,6 @@ mod scalar {
     /// ```text
     /// ensures: Gives (idiv_s w64 lhs rhs) value.old value.new result
     /// ```
-    ///
-    /// Definitions: [`idiv_s`](crate::specs::scalar::NumericsSpecs#idiv_s).
     #[unsafe(no_mangle)]
     pub extern "C" fn wasmi_i64_div_s(lhs: i64, rhs: i64, value: &mut i64) -> u8 {
         leave_item(wasm::i64_div_s(lhs, rhs), value)
@@ -2441,8 +2309,6 @@ mod scalar {
     /// ```text
     /// ensures: Gives (idiv_u lhs rhs) value.old value.new result
     /// ```
-    ///
-    /// Definitions: [`idiv_u`](crate::specs::scalar::NumericsSpecs#idiv_u).
     #[unsafe(no_mangle)]
     pub extern "C" fn wasmi_i64_div_u(lhs: u64, rhs: u64, value: &mut u64) -> u8 {
         leave_item(wasm::i64_div_u(lhs, rhs), value)
@@ -2453,8 +2319,6 @@ mod scalar {
     /// ```text
     /// ensures: Gives (irem_s lhs rhs) value.old value.new result
     /// ```
-    ///
-    /// Definitions: [`irem_s`](crate::specs::scalar::NumericsSpecs#irem_s).
     #[unsafe(no_mangle)]
     pub extern "C" fn wasmi_i64_rem_s(lhs: i64, rhs: i64, value: &mut i64) -> u8 {
         leave_item(wasm::i64_rem_s(lhs, rhs), value)
@@ -2465,8 +2329,6 @@ mod scalar {
     /// ```text
     /// ensures: Gives (irem_u lhs rhs) value.old value.new result
     /// ```
-    ///
-    /// Definitions: [`irem_u`](crate::specs::scalar::NumericsSpecs#irem_u).
     #[unsafe(no_mangle)]
     pub extern "C" fn wasmi_i64_rem_u(lhs: u64, rhs: u64, value: &mut u64) -> u8 {
         leave_item(wasm::i64_rem_u(lhs, rhs), value)
@@ -2477,8 +2339,6 @@ mod scalar {
     /// ```text
     /// ensures: result ≡ ieq lhs rhs
     /// ```
-    ///
-    /// Definitions: [`ieq`](crate::specs::scalar::NumericsSpecs#ieq).
     #[unsafe(no_mangle)]
     pub extern "C" fn wasmi_i64_eq(lhs: i64, rhs: i64) -> bool {
         wasm::i64_eq(lhs, rhs)
@@ -2489,8 +2349,6 @@ mod scalar {
     /// ```text
     /// ensures: result ≡ ine lhs rhs
     /// ```
-    ///
-    /// Definitions: [`ine`](crate::specs::scalar::NumericsSpecs#ine).
     #[unsafe(no_mangle)]
     pub extern "C" fn wasmi_i64_ne(lhs: i64, rhs: i64) -> bool {
         wasm::i64_ne(lhs, rhs)
@@ -2501,8 +2359,6 @@ mod scalar {
     /// ```text
     /// ensures: result ≡ ilt_s lhs rhs
     /// ```
-    ///
-    /// Definitions: [`ilt_s`](crate::specs::scalar::NumericsSpecs#ilt_s).
     #[unsafe(no_mangle)]
     pub extern "C" fn wasmi_i64_lt_s(lhs: i64, rhs: i64) -> bool {
         wasm::i64_lt_s(lhs, rhs)
@@ -2513,8 +2369,6 @@ mod scalar {
     /// ```text
     /// ensures: result ≡ ilt_u lhs rhs
     /// ```
-    ///
-    /// Definitions: [`ilt_u`](crate::specs::scalar::NumericsSpecs#ilt_u).
     #[unsafe(no_mangle)]
     pub extern "C" fn wasmi_i64_lt_u(lhs: u64, rhs: u64) -> bool {
         wasm::i64_lt_u(lhs, rhs)
@@ -2525,8 +2379,6 @@ mod scalar {
     /// ```text
     /// ensures: result ≡ ile_s lhs rhs
     /// ```
-    ///
-    /// Definitions: [`ile_s`](crate::specs::scalar::NumericsSpecs#ile_s).
     #[unsafe(no_mangle)]
     pub extern "C" fn wasmi_i64_le_s(lhs: i64, rhs: i64) -> bool {
         wasm::i64_le_s(lhs, rhs)
@@ -2537,8 +2389,6 @@ mod scalar {
     /// ```text
     /// ensures: result ≡ ile_u lhs rhs
     /// ```
-    ///
-    /// Definitions: [`ile_u`](crate::specs::scalar::NumericsSpecs#ile_u).
     #[unsafe(no_mangle)]
     pub extern "C" fn wasmi_i64_le_u(lhs: u64, rhs: u64) -> bool {
         wasm::i64_le_u(lhs, rhs)
@@ -2549,8 +2399,6 @@ mod scalar {
     /// ```text
     /// ensures: result ≡ igt_s lhs rhs
     /// ```
-    ///
-    /// Definitions: [`igt_s`](crate::specs::scalar::NumericsSpecs#igt_s).
     #[unsafe(no_mangle)]
     pub extern "C" fn wasmi_i64_gt_s(lhs: i64, rhs: i64) -> bool {
         wasm::i64_gt_s(lhs, rhs)
@@ -2561,8 +2409,6 @@ mod scalar {
     /// ```text
     /// ensures: result ≡ igt_u lhs rhs
     /// ```
-    ///
-    /// Definitions: [`igt_u`](crate::specs::scalar::NumericsSpecs#igt_u).
     #[unsafe(no_mangle)]
     pub extern "C" fn wasmi_i64_gt_u(lhs: u64, rhs: u64) -> bool {
         wasm::i64_gt_u(lhs, rhs)
@@ -2573,8 +2419,6 @@ mod scalar {
     /// ```text
     /// ensures: result ≡ ige_s lhs rhs
     /// ```
-    ///
-    /// Definitions: [`ige_s`](crate::specs::scalar::NumericsSpecs#ige_s).
     #[unsafe(no_mangle)]
     pub extern "C" fn wasmi_i64_ge_s(lhs: i64, rhs: i64) -> bool {
         wasm::i64_ge_s(lhs, rhs)
@@ -2585,8 +2429,6 @@ mod scalar {
     /// ```text
     /// ensures: result ≡ ige_u lhs rhs
     /// ```
-    ///
-    /// Definitions: [`ige_u`](crate::specs::scalar::NumericsSpecs#ige_u).
     #[unsafe(no_mangle)]
     pub extern "C" fn wasmi_i64_ge_u(lhs: u64, rhs: u64) -> bool {
         wasm::i64_ge_u(lhs, rhs)
@@ -2598,8 +2440,6 @@ mod scalar {
     /// ensures: unsigned_of lo.new hi.new ≡ add128 (unsigned_of lhs_lo lhs_hi) (unsigned_of rhs_lo
     ///     rhs_hi)
     /// ```
-    ///
-    /// Definitions: [`unsigned_of`](crate::specs::scalar::NumericsSpecs#unsigned_of), [`add128`](crate::specs::scalar::NumericsSpecs#add128).
     #[unsafe(no_mangle)]
     pub extern "C" fn wasmi_i64_add128(
         lhs_lo: i64,
@@ -2618,8 +2458,6 @@ mod scalar {
     /// ensures: unsigned_of lo.new hi.new ≡ sub128 (unsigned_of lhs_lo lhs_hi) (unsigned_of rhs_lo
     ///     rhs_hi)
     /// ```
-    ///
-    /// Definitions: [`unsigned_of`](crate::specs::scalar::NumericsSpecs#unsigned_of), [`sub128`](crate::specs::scalar::NumericsSpecs#sub128).
     #[unsafe(no_mangle)]
     pub extern "C" fn wasmi_i64_sub128(
         lhs_lo: i64,
@@ -2637,8 +2475,6 @@ mod scalar {
     /// ```text
     /// ensures: signed_of lo.new hi.new ≡ lhs *ℤ rhs
     /// ```
-    ///
-    /// Definitions: [`signed_of`](crate::specs::scalar::NumericsSpecs#signed_of).
     #[unsafe(no_mangle)]
     pub extern "C" fn wasmi_i64_mul_wide_s(lhs: i64, rhs: i64, lo: &mut i64, hi: &mut i64) {
         leave_pair(wasm::i64_mul_wide_s(lhs, rhs), lo, hi)
@@ -2649,8 +2485,6 @@ mod scalar {
     /// ```text
     /// ensures: unsigned_of lo.new hi.new ≡ cast_unsigned w64 lhs * cast_unsigned w64 rhs
     /// ```
-    ///
-    /// Definitions: [`unsigned_of`](crate::specs::scalar::NumericsSpecs#unsigned_of).
     #[unsafe(no_mangle)]
     pub extern "C" fn wasmi_i64_mul_wide_u(lhs: i64, rhs: i64, lo: &mut i64, hi: &mut i64) {
         leave_pair(wasm::i64_mul_wide_u(lhs, rhs), lo, hi)
@@ -2671,8 +2505,6 @@ mod stores {
     /// ensures: StoresBytes memory.old (ptr + offset) (le_bytes 1 (cast_unsigned w32 value % 2 ^ 8))
     ///     memory.new result
     /// ```
-    ///
-    /// Definitions: [`le_bytes`](crate::specs::types::NumbersSpecs#le_bytes).
     #[unsafe(no_mangle)]
     pub unsafe extern "C" fn wasmi_i32_store8(
         memory: *mut u8,
@@ -2692,8 +2524,6 @@ mod stores {
     /// ensures: StoresBytes memory.old (ptr + offset) (le_bytes 2 (cast_unsigned w32 value % 2 ^ 16))
     ///     memory.new result
     /// ```
-    ///
-    /// Definitions: [`le_bytes`](crate::specs::types::NumbersSpecs#le_bytes).
     #[unsafe(no_mangle)]
     pub unsafe extern "C" fn wasmi_i32_store16(
         memory: *mut u8,
@@ -2713,8 +2543,6 @@ mod stores {
     /// ensures: StoresBytes memory.old (ptr + offset) (le_bytes 1 (cast_unsigned w64 value % 2 ^ 8))
     ///     memory.new result
     /// ```
-    ///
-    /// Definitions: [`le_bytes`](crate::specs::types::NumbersSpecs#le_bytes).
     #[unsafe(no_mangle)]
     pub unsafe extern "C" fn wasmi_i64_store8(
         memory: *mut u8,
@@ -2734,8 +2562,6 @@ mod stores {
     /// ensures: StoresBytes memory.old (ptr + offset) (le_bytes 2 (cast_unsigned w64 value % 2 ^ 16))
     ///     memory.new result
     /// ```
-    ///
-    /// Definitions: [`le_bytes`](crate::specs::types::NumbersSpecs#le_bytes).
     #[unsafe(no_mangle)]
     pub unsafe extern "C" fn wasmi_i64_store16(
         memory: *mut u8,
@@ -2755,8 +2581,6 @@ mod stores {
     /// ensures: StoresBytes memory.old (ptr + offset) (le_bytes 4 (cast_unsigned w64 value % 2 ^ 32))
     ///     memory.new result
     /// ```
-    ///
-    /// Definitions: [`le_bytes`](crate::specs::types::NumbersSpecs#le_bytes).
     #[unsafe(no_mangle)]
     pub unsafe extern "C" fn wasmi_i64_store32(
         memory: *mut u8,
@@ -2775,8 +2599,6 @@ mod stores {
     /// ```text
     /// ensures: StoresBytes memory.old (ptr + offset) (le_bytes 4 value) memory.new result
     /// ```
-    ///
-    /// Definitions: [`le_bytes`](crate::specs::types::NumbersSpecs#le_bytes).
     #[unsafe(no_mangle)]
     pub unsafe extern "C" fn wasmi_store32(
         memory: *mut u8,
@@ -2795,8 +2617,6 @@ mod stores {
     /// ```text
     /// ensures: StoresBytes memory.old (ptr + offset) (le_bytes 8 value) memory.new result
     /// ```
-    ///
-    /// Definitions: [`le_bytes`](crate::specs::types::NumbersSpecs#le_bytes).
     #[unsafe(no_mangle)]
     pub unsafe extern "C" fn wasmi_store64(
         memory: *mut u8,
@@ -2851,8 +2671,6 @@ mod table {
     ///     → (delta ≡ 0) ⊎ (is_indexable ty (table.old.size + delta) ≡ false)
     ///     → quota.new ≡ quota.old
     /// ```
-    ///
-    /// Definitions: [`GrowsBy`](crate::specs::machine::ExchangeSpecs#GrowsBy), [`quota_rules`](crate::specs::meter::CappedSpecs#quota_rules), [`TableTypeValue`](crate::specs::store::TableSpecs#TableTypeValue), [`is_indexable`](crate::specs::store::TableSpecs#is_indexable).
     #[unsafe(no_mangle)]
     pub unsafe extern "C" fn wasmi_table_grow(
         table: &mut TableNumbers,
@@ -2991,8 +2809,6 @@ mod table {
     ///     table.now (metered_region region.old meter.old number.old) result
     ///     (metered_region region.new meter.new number.new)
     /// ```
-    ///
-    /// Definitions: [`raw_filling_of`](crate::specs::store::TableSpecs#raw_filling_of).
     #[unsafe(no_mangle)]
     pub unsafe extern "C" fn wasmi_table_fill(
         table: &TableNumbers,
@@ -3016,8 +2832,6 @@ mod table {
     ///     table.now (metered_region region.old meter.old number.old) result
     ///     (metered_region region.new meter.new number.new)
     /// ```
-    ///
-    /// Definitions: [`copy_of`](crate::specs::store::TableSpecs#copy_of), [`table_in`](crate::specs::region::TableSpecs#table_in).
     #[unsafe(no_mangle)]
     pub unsafe extern "C" fn wasmi_table_copy_within(
         table: &TableNumbers,
@@ -3040,8 +2854,6 @@ mod table {
     ///     table.now (metered_region region.old meter.old number.old) result
     ///     (metered_region region.new meter.new number.new)
     /// ```
-    ///
-    /// Definitions: [`copy_of`](crate::specs::store::TableSpecs#copy_of), [`table_in`](crate::specs::region::TableSpecs#table_in).
     #[unsafe(no_mangle)]
     pub unsafe extern "C" fn wasmi_table_copy(
         table: &TableNumbers,
@@ -3089,8 +2901,6 @@ mod table {
     ///     table.now (metered_region region.old meter.old number.old) result
     ///     (metered_region region.new meter.new number.new)
     /// ```
-    ///
-    /// Definitions: [`initialization_of`](crate::specs::store::TableSpecs#initialization_of), [`items_of`](crate::specs::region::TableSpecs#items_of).
     #[unsafe(no_mangle)]
     pub unsafe extern "C" fn wasmi_table_init(
         table: &TableNumbers,
@@ -3124,8 +2934,6 @@ mod vector_loads {
     /// ensures: Gives (as_raw raw_of_vector (loaded 16 (λ n. n) memory.now (ptr + offset))) value.old
     ///     value.new result
     /// ```
-    ///
-    /// Definitions: [`as_raw`](crate::specs::ops::LoadStoreOpsSpecs#as_raw), [`raw_of_vector`](crate::specs::raw::RawValSpecs#raw_of_vector), [`loaded`](crate::specs::accesses::LoadStoreSpecs#loaded).
     #[unsafe(no_mangle)]
     pub unsafe extern "C" fn wasmi_v128_load(
         memory: *const u8,
@@ -3145,8 +2953,6 @@ mod vector_loads {
     /// ensures: Gives (as_raw raw_of_vector (loaded 8 (vector.widen_s w8 w16) memory.now (ptr +
     ///     offset))) value.old value.new result
     /// ```
-    ///
-    /// Definitions: [`as_raw`](crate::specs::ops::LoadStoreOpsSpecs#as_raw), [`raw_of_vector`](crate::specs::raw::RawValSpecs#raw_of_vector), [`loaded`](crate::specs::accesses::LoadStoreSpecs#loaded), [`widen_s`](crate::specs::widening::WideningTableSpecs#widen_s).
     #[unsafe(no_mangle)]
     pub unsafe extern "C" fn wasmi_v128_load8x8_s(
         memory: *const u8,
@@ -3166,8 +2972,6 @@ mod vector_loads {
     /// ensures: Gives (as_raw raw_of_vector (loaded 8 (vector.widen_u w8 w16) memory.now (ptr +
     ///     offset))) value.old value.new result
     /// ```
-    ///
-    /// Definitions: [`as_raw`](crate::specs::ops::LoadStoreOpsSpecs#as_raw), [`raw_of_vector`](crate::specs::raw::RawValSpecs#raw_of_vector), [`loaded`](crate::specs::accesses::LoadStoreSpecs#loaded), [`widen_u`](crate::specs::widening::WideningTableSpecs#widen_u).
     #[unsafe(no_mangle)]
     pub unsafe extern "C" fn wasmi_v128_load8x8_u(
         memory: *const u8,
@@ -3187,8 +2991,6 @@ mod vector_loads {
     /// ensures: Gives (as_raw raw_of_vector (loaded 8 (vector.widen_s w16 w32) memory.now (ptr +
     ///     offset))) value.old value.new result
     /// ```
-    ///
-    /// Definitions: [`as_raw`](crate::specs::ops::LoadStoreOpsSpecs#as_raw), [`raw_of_vector`](crate::specs::raw::RawValSpecs#raw_of_vector), [`loaded`](crate::specs::accesses::LoadStoreSpecs#loaded), [`widen_s`](crate::specs::widening::WideningTableSpecs#widen_s).
     #[unsafe(no_mangle)]
     pub unsafe extern "C" fn wasmi_v128_load16x4_s(
         memory: *const u8,
@@ -3208,8 +3010,6 @@ mod vector_loads {
     /// ensures: Gives (as_raw raw_of_vector (loaded 8 (vector.widen_u w16 w32) memory.now (ptr +
     ///     offset))) value.old value.new result
     /// ```
-    ///
-    /// Definitions: [`as_raw`](crate::specs::ops::LoadStoreOpsSpecs#as_raw), [`raw_of_vector`](crate::specs::raw::RawValSpecs#raw_of_vector), [`loaded`](crate::specs::accesses::LoadStoreSpecs#loaded), [`widen_u`](crate::specs::widening::WideningTableSpecs#widen_u).
     #[unsafe(no_mangle)]
     pub unsafe extern "C" fn wasmi_v128_load16x4_u(
         memory: *const u8,
@@ -3229,8 +3029,6 @@ mod vector_loads {
     /// ensures: Gives (as_raw raw_of_vector (loaded 8 (vector.widen_s w32 w64) memory.now (ptr +
     ///     offset))) value.old value.new result
     /// ```
-    ///
-    /// Definitions: [`as_raw`](crate::specs::ops::LoadStoreOpsSpecs#as_raw), [`raw_of_vector`](crate::specs::raw::RawValSpecs#raw_of_vector), [`loaded`](crate::specs::accesses::LoadStoreSpecs#loaded), [`widen_s`](crate::specs::widening::WideningTableSpecs#widen_s).
     #[unsafe(no_mangle)]
     pub unsafe extern "C" fn wasmi_v128_load32x2_s(
         memory: *const u8,
@@ -3250,8 +3048,6 @@ mod vector_loads {
     /// ensures: Gives (as_raw raw_of_vector (loaded 8 (vector.widen_u w32 w64) memory.now (ptr +
     ///     offset))) value.old value.new result
     /// ```
-    ///
-    /// Definitions: [`as_raw`](crate::specs::ops::LoadStoreOpsSpecs#as_raw), [`raw_of_vector`](crate::specs::raw::RawValSpecs#raw_of_vector), [`loaded`](crate::specs::accesses::LoadStoreSpecs#loaded), [`widen_u`](crate::specs::widening::WideningTableSpecs#widen_u).
     #[unsafe(no_mangle)]
     pub unsafe extern "C" fn wasmi_v128_load32x2_u(
         memory: *const u8,
@@ -3271,8 +3067,6 @@ mod vector_loads {
     /// ensures: Gives (as_raw raw_of_vector (loaded 1 (splat_of w8) memory.now (ptr + offset)))
     ///     value.old value.new result
     /// ```
-    ///
-    /// Definitions: [`as_raw`](crate::specs::ops::LoadStoreOpsSpecs#as_raw), [`raw_of_vector`](crate::specs::raw::RawValSpecs#raw_of_vector), [`loaded`](crate::specs::accesses::LoadStoreSpecs#loaded), [`splat_of`](crate::specs::lanes::VectorSpecs#splat_of).
     #[unsafe(no_mangle)]
     pub unsafe extern "C" fn wasmi_v128_load8_splat(
         memory: *const u8,
@@ -3292,8 +3086,6 @@ mod vector_loads {
     /// ensures: Gives (as_raw raw_of_vector (loaded 2 (splat_of w16) memory.now (ptr + offset)))
     ///     value.old value.new result
     /// ```
-    ///
-    /// Definitions: [`as_raw`](crate::specs::ops::LoadStoreOpsSpecs#as_raw), [`raw_of_vector`](crate::specs::raw::RawValSpecs#raw_of_vector), [`loaded`](crate::specs::accesses::LoadStoreSpecs#loaded), [`splat_of`](crate::specs::lanes::VectorSpecs#splat_of).
     #[unsafe(no_mangle)]
     pub unsafe extern "C" fn wasmi_v128_load16_splat(
         memory: *const u8,
@@ -3313,8 +3105,6 @@ mod vector_loads {
     /// ensures: Gives (as_raw raw_of_vector (loaded 4 (splat_of w32) memory.now (ptr + offset)))
     ///     value.old value.new result
     /// ```
-    ///
-    /// Definitions: [`as_raw`](crate::specs::ops::LoadStoreOpsSpecs#as_raw), [`raw_of_vector`](crate::specs::raw::RawValSpecs#raw_of_vector), [`loaded`](crate::specs::accesses::LoadStoreSpecs#loaded), [`splat_of`](crate::specs::lanes::VectorSpecs#splat_of).
     #[unsafe(no_mangle)]
     pub unsafe extern "C" fn wasmi_v128_load32_splat(
         memory: *const u8,
@@ -3334,8 +3124,6 @@ mod vector_loads {
     /// ensures: Gives (as_raw raw_of_vector (loaded 8 (splat_of w64) memory.now (ptr + offset)))
     ///     value.old value.new result
     /// ```
-    ///
-    /// Definitions: [`as_raw`](crate::specs::ops::LoadStoreOpsSpecs#as_raw), [`raw_of_vector`](crate::specs::raw::RawValSpecs#raw_of_vector), [`loaded`](crate::specs::accesses::LoadStoreSpecs#loaded), [`splat_of`](crate::specs::lanes::VectorSpecs#splat_of).
     #[unsafe(no_mangle)]
     pub unsafe extern "C" fn wasmi_v128_load64_splat(
         memory: *const u8,
@@ -3355,8 +3143,6 @@ mod vector_loads {
     /// ensures: Gives (as_raw raw_of_vector (loaded 4 (vector.low_zero w32) memory.now (ptr +
     ///     offset))) value.old value.new result
     /// ```
-    ///
-    /// Definitions: [`as_raw`](crate::specs::ops::LoadStoreOpsSpecs#as_raw), [`raw_of_vector`](crate::specs::raw::RawValSpecs#raw_of_vector), [`loaded`](crate::specs::accesses::LoadStoreSpecs#loaded), [`low_zero`](crate::specs::widening::WideningTableSpecs#low_zero).
     #[unsafe(no_mangle)]
     pub unsafe extern "C" fn wasmi_v128_load32_zero(
         memory: *const u8,
@@ -3376,8 +3162,6 @@ mod vector_loads {
     /// ensures: Gives (as_raw raw_of_vector (loaded 8 (vector.low_zero w64) memory.now (ptr +
     ///     offset))) value.old value.new result
     /// ```
-    ///
-    /// Definitions: [`as_raw`](crate::specs::ops::LoadStoreOpsSpecs#as_raw), [`raw_of_vector`](crate::specs::raw::RawValSpecs#raw_of_vector), [`loaded`](crate::specs::accesses::LoadStoreSpecs#loaded), [`low_zero`](crate::specs::widening::WideningTableSpecs#low_zero).
     #[unsafe(no_mangle)]
     pub unsafe extern "C" fn wasmi_v128_load64_zero(
         memory: *const u8,

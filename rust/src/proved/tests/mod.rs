@@ -676,7 +676,8 @@ mod script {
         ];
 
         fn is_bad(script: &[u8], printed: &str) {
-            prints(&mut Source::of(script), printed, Status::BadScript);
+            let mut reader = Source::of(script);
+            prints(&mut reader, printed, Status::BadScript);
         }
 
         #[test]
@@ -1389,11 +1390,10 @@ mod store {
 
         #[test]
         fn subtyping_works() {
-            for row in &SUBTYPES {
-                let (own, other) = (row.own, row.other);
+            for &(what, own, other, expected) in &SUBTYPES {
                 let own = page_type(u64::from(own.0), own.1.map(u64::from));
                 let other = page_type(u64::from(other.0), other.1.map(u64::from));
-                same(row.what, own.is_subtype_of(&other), row.expected);
+                same(what, own.is_subtype_of(&other), expected);
             }
         }
 
@@ -1606,11 +1606,8 @@ mod store {
         fn test_static_buffer_overflow() {
             let mut region = [7; 5];
             let mut buffer = ByteBuffer::new_static(&mut region, 5).expect("a buffer");
-            same(
-                "ten of five",
-                buffer.grow(10),
-                Err(MemoryError::InvalidStaticBufferSize),
-            );
+            let refused = Err(MemoryError::InvalidStaticBufferSize);
+            same("ten of five", buffer.grow(10), refused);
             same("five", buffer.data(), [0; 5].as_slice());
         }
 
@@ -1661,10 +1658,9 @@ mod store {
 
         #[test]
         fn subtyping_works() {
-            for row in &SUBTYPES {
-                let own = func_type(row.own);
-                let other = func_type(row.other);
-                same(row.what, own.is_subtype_of(&other), row.expected);
+            for &(what, own, other, expected) in &SUBTYPES {
+                let is_subtype = func_type(own).is_subtype_of(&func_type(other));
+                same(what, is_subtype, expected);
             }
             let functions = TableType::new(RefType::Func, 0, Some(1));
             let externals = TableType::new(RefType::Extern, 0, Some(1));
@@ -1726,12 +1722,8 @@ mod store {
             let second = grow_raw(&mut table, 4294967294, None, &mut recorder);
             let question = table_question(1, 4294967295, None);
             same_record("one less", &recorder, question, None);
-            let answers = [first, second];
-            same(
-                "as many as indices, one less",
-                answers,
-                [Err(OUT_OF_BOUNDS); 2],
-            );
+            let (answers, expected) = ([first, second], [Err(OUT_OF_BOUNDS); 2]);
+            same("as many as indices, one less", answers, expected);
         }
 
         /// A limiter's answer, and how the growth of a table ends.
@@ -1759,7 +1751,8 @@ mod store {
         fn copies_within() {
             for &((to, from, len), elements) in &COPIES {
                 let mut table = five_functions();
-                same("a copy", table.copy_within(to, from, len, None), Ok(()));
+                let copied = table.copy_within(to, from, len, None);
+                same("a copy", copied, Ok(()));
                 same_elements("a copy", &table, elements);
             }
         }
@@ -1827,7 +1820,7 @@ mod store {
             let again = ElementSegment::new(RefType::Extern, rest).expect("a segment");
             let answer = (items.calls, again.size(), again.ty());
             let expected = (3, 1, RefType::Extern);
-            same("the calls, the second's size and type", answer, expected);
+            same("calls, the second's size and type", answer, expected);
         }
     }
 
@@ -1933,11 +1926,8 @@ mod store {
         let ty = TableType::new(RefType::Func, 5, None);
         let mut table = table_of(ty, func(1));
         for index in 1..5u32 {
-            same(
-                "an element",
-                table.set(u64::from(index), func(index + 1)),
-                Ok(()),
-            );
+            let set = table.set(u64::from(index), func(index + 1));
+            same("an element", set, Ok(()));
         }
         table
     }
@@ -1951,57 +1941,18 @@ mod store {
         }
     }
 
-    /// Two types by their minimum and maximum, and whether the first is a subtype of the second.
-    struct Subtype {
-        what: &'static str,
-        own: (u32, Option<u32>),
-        other: (u32, Option<u32>),
-        expected: bool,
-    }
+    /// A minimum and a maximum.
+    type Limits = (u32, Option<u32>);
 
-    static SUBTYPES: [Subtype; 7] = [
-        Subtype {
-            what: "the same maximum",
-            own: (0, Some(1)),
-            other: (0, Some(1)),
-            expected: true,
-        },
-        Subtype {
-            what: "a smaller maximum",
-            own: (0, Some(1)),
-            other: (0, Some(2)),
-            expected: true,
-        },
-        Subtype {
-            what: "a greater maximum",
-            own: (0, Some(2)),
-            other: (0, Some(1)),
-            expected: false,
-        },
-        Subtype {
-            what: "a greater minimum",
-            own: (2, None),
-            other: (1, None),
-            expected: true,
-        },
-        Subtype {
-            what: "the same minimum",
-            own: (0, None),
-            other: (0, None),
-            expected: true,
-        },
-        Subtype {
-            what: "a maximum where the other has none",
-            own: (0, Some(1)),
-            other: (0, None),
-            expected: true,
-        },
-        Subtype {
-            what: "no maximum where the other has one",
-            own: (0, None),
-            other: (0, Some(1)),
-            expected: false,
-        },
+    /// Two types by their limits, and whether the first is a subtype of the second.
+    static SUBTYPES: [(&str, Limits, Limits, bool); 7] = [
+        ("the same maximum", (0, Some(1)), (0, Some(1)), true),
+        ("a smaller maximum", (0, Some(1)), (0, Some(2)), true),
+        ("a greater maximum", (0, Some(2)), (0, Some(1)), false),
+        ("a greater minimum", (2, None), (1, None), true),
+        ("the same minimum", (0, None), (0, None), true),
+        ("a maximum for none", (0, Some(1)), (0, None), true),
+        ("none for a maximum", (0, None), (0, Some(1)), false),
     ];
 }
 mod traps {
@@ -2084,11 +2035,8 @@ mod traps {
     fn check_trap(mut trap: Trap<Refused>, text: &str, reason: Reason) {
         same_text(&trap, text);
         let error = trap.downcast_ref().copied();
-        same(
-            text,
-            (trap.trap_code(), trap.i32_exit_status(), error),
-            reason,
-        );
+        let answer = (trap.trap_code(), trap.i32_exit_status(), error);
+        same(text, answer, reason);
         if let Some(error) = trap.downcast_mut() {
             error.0 = 8;
         }
@@ -2232,11 +2180,8 @@ mod values {
         let before = replace(&mut global, RawVal { lo: 1, hi: 2 });
         same("value before", before, RawVal::default());
         global.get_raw_mut().hi = 5;
-        same(
-            "value written in place",
-            *global.get_raw(),
-            RawVal { lo: 1, hi: 5 },
-        );
+        let written = RawVal { lo: 1, hi: 5 };
+        same("value written in place", *global.get_raw(), written);
     }
 }
 

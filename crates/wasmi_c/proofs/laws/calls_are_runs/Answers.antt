@@ -1,8 +1,4 @@
-use Rattle.wasmi_c.proofs.MachineLemmas.{lists_run}
 use Rattle.wasmi_c.proofs.laws.calls_are_runs.Goals as goal
-
-pub returns-clause-lists : goal.returns-clause-lists
-returns-clause-lists c = lists_run
 
 pub returns-clause-join : goal.returns-clause-join
 returns-clause-join c =

@@ -5,13 +5,9 @@ use Rattle.wasmi_c.proofs.memory.fill.Goals as goal
 
 pub returns : goal.returns
 returns c =
-    let size = c.args.memory.now.size in
     let after = c.fill-written.new in
-    let long : length after.bytes ≡ size = search rules in
-    let writes = rw c.fuel-fuel.ensures at c.fill-written.ensures in
-    inr (
-      c.in-Some._ty,
-      c.in-Some.ensures,
-      written_with (filled_range c.args.value) c.args.range.now size _ _ after.bytes after.fuel c.fill-written.result _
-          c.store_left.ensures writes long refl (c.leave_write.ensures.status, c.leave_write.ensures.number),
-    )
+    let long : length after.bytes ≡ c.args.memory.now.size = search rules in
+    let writes = written_with (filled_range c.args.value) c.args.range.now c.args.memory.now.size _ _ after.bytes after.fuel
+    c.fill-written.result _ c.store_left.ensures (rw c.fuel-fuel.ensures at c.fill-written.ensures) long refl
+    (c.leave_write.ensures.status, c.leave_write.ensures.number) in
+    inr (c.in-Some._ty, c.in-Some.ensures, writes)

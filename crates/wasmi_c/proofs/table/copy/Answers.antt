@@ -5,16 +5,13 @@ use Rattle.wasmi_c.proofs.table.copy.Goals as goal
 
 pub returns : goal.returns
 returns c =
-    let source = table_in c.in-Some-type_if_valid.source_ty c.args.source_region.now c.args.source.now.size in
-    let write = copy_of c.args.range.now.to c.args.range.now.from c.args.range.now.count source in
+    let source_ty = c.in-Some-type_if_valid.source_ty in
+    let range = c.args.range.now in
     let after = c.copy-written.new in
     let long : length after.elements ≡ c.args.table.now.size = search rules in
-    inr (
-      c.in-Some.ty,
-      c.in-Some-type_if_valid.source_ty,
-      c.in-Some.ensures,
-      c.in-Some-type_if_valid.ensures,
-      table_written_with write c.in-Some.ty c.args.table.now.size _ _ after.elements after.fuel c.copy-written.result _
-          c.store_left.ensures (rw c.fuel-fuel.ensures at c.copy-written.ensures) long refl
-          (c.leave_write.ensures.status, c.leave_write.ensures.number),
-    )
+    let source = table_in source_ty c.args.source_region.now c.args.source.now.size in
+    let written = table_written_with (copy_of range.to range.from range.count source) c.in-Some.ty c.args.table.now.size _ _
+    after.elements after.fuel c.copy-written.result _ c.store_left.ensures
+    (rw c.fuel-fuel.ensures at c.copy-written.ensures) long refl
+    (c.leave_write.ensures.status, c.leave_write.ensures.number) in
+    inr (c.in-Some.ty, source_ty, c.in-Some.ensures, c.in-Some-type_if_valid.ensures, written)

@@ -1,5 +1,4 @@
-use Rattle.std.proofs.Common.{◌∙◌}
-use Rattle.wasmi_types.specs.Numbers.{w8}
+use Rattle.std.proofs.Common.{◌∙◌, w8}
 use Rattle.wasmi_lanes.specs.Vector.{lane}
 use Rattle.wasmi_lanes.proofs.VariableLaneLemmas.{indices_are, indices_may_index, picked_inside_at}
 use Rattle.wasmi_lanes.proofs.simd_lane.bytes_at.Goals as goal

@@ -1,5 +1,4 @@
-use Rattle.std.proofs.Common.{rules}
-use Rattle.wasmi_types.specs.Numbers.{w16}
+use Rattle.std.proofs.Common.{rules, w16}
 use Rattle.wasmi_lanewise.proofs.SaturationLemmas.{sums_u_make_vector}
 use Rattle.wasmi_lanewise.proofs.simd.i16x8_add_sat_u.Goals as goal
 

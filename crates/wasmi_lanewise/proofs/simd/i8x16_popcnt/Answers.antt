@@ -1,6 +1,5 @@
-use Rattle.std.proofs.Common.{ℕ, ◌/◌, ◌%◌, ◌^◌, count_ones, refl, arith}
+use Rattle.std.proofs.Common.{ℕ, ◌/◌, ◌%◌, ◌^◌, count_ones, refl, arith, w8}
 use Rattle.wasmi_lanewise.proofs.Common.{unary_of_lanes, u64x2_of, words_make_unary}
-use Rattle.wasmi_types.specs.Numbers.{w8}
 use Rattle.wasmi_lanewise.proofs.CountLemmas.{counts_below, counts_at}
 use Rattle.wasmi_lanewise.proofs.simd.i8x16_popcnt.Goals as goal
 

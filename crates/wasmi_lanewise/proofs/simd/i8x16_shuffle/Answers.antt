@@ -1,6 +1,5 @@
-use Rattle.std.proofs.Common.{◌-◌, ◌%◌, ◌<◌, ◌≡◌, ◌∙◌, refl, ap, slice_index, nat_lt, if◌then◌else◌, arith, rules}
+use Rattle.std.proofs.Common.{◌-◌, ◌%◌, ◌<◌, ◌≡◌, ◌∙◌, refl, ap, slice_index, nat_lt, if◌then◌else◌, arith, rules, w8}
 use Rattle.wasmi_lanewise.proofs.Common.{lane, lanes_make_vector}
-use Rattle.wasmi_types.specs.Numbers.{w8}
 use Rattle.wasmi_lanewise.proofs.ChosenLemmas.{chosen_at, first_or_other}
 use Rattle.wasmi_lanewise.proofs.simd.i8x16_shuffle.Goals as goal
 

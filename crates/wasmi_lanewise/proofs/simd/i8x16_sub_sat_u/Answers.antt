@@ -1,5 +1,4 @@
-use Rattle.std.proofs.Common.{rules}
-use Rattle.wasmi_types.specs.Numbers.{w8}
+use Rattle.std.proofs.Common.{rules, w8}
 use Rattle.wasmi_lanewise.proofs.SaturationLemmas.{differences_u_make_vector}
 use Rattle.wasmi_lanewise.proofs.simd.i8x16_sub_sat_u.Goals as goal
 

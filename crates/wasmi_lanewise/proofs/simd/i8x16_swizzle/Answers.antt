@@ -1,6 +1,5 @@
-use Rattle.std.proofs.Common.{◌∙◌, refl, ap, slice_index, nat_lt, if◌then◌else◌, rules}
+use Rattle.std.proofs.Common.{◌∙◌, refl, ap, slice_index, nat_lt, if◌then◌else◌, rules, w8}
 use Rattle.wasmi_lanewise.proofs.Common.{lane, unary_of_lanes, lanes_make_vector}
-use Rattle.wasmi_types.specs.Numbers.{w8}
 use Rattle.wasmi_lanewise.proofs.ChosenLemmas.{below_or_zero, bytes_fit, picked_or_zero_at, positions_may_index}
 use Rattle.wasmi_lanewise.proofs.simd.i8x16_swizzle.Goals as goal
 

@@ -1,6 +1,5 @@
-use Rattle.std.proofs.Common.{◌∙◌, ap, sym, slice_get}
+use Rattle.std.proofs.Common.{◌∙◌, ap, sym, option_map, slice_get}
 use Rattle.std.proofs.lemmas.Option.{slice_get-map}
-use Rattle.std.specs.Option.{option_map}
 use Rattle.wasmi_c.specs.Instruction.{binary_numbered, name_of_binary}
 use Rattle.wasmi_c.specs.declared.instruction.numbers.TheConstants.{BINARY_INSTRUCTIONS}
 use Rattle.wasmi_law_tests.proofs.hosts.binary_of_number.Goals as goal

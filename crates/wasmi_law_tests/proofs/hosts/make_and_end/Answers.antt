@@ -22,8 +22,8 @@ returns c =
           status = c.make.result;
           after = made;
           makes = c.make.ensures.made;
-          bytes = rw c.if-make-ne-DONE.false refl;
-          elements = refl;
+          sizes = rw c.if-make-ne-DONE.false refl;
+          others = refl;
         }),
       ),
       tt,

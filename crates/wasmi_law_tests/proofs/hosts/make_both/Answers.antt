@@ -28,22 +28,24 @@ returns-then-of_memory-eq-DONE c =
           status = memory.result;
           after = record { numbers = memory.new.memory; region = memory.new.region };
           makes = memory.ensures.made;
-          bytes = refl;
-          elements = refl;
+          sizes = refl;
+          others = refl;
         }),
       ),
       (
         (
           table.ensures.quota,
-          inr (inr (inl (record {
-            reference = 0;
-            before = record { numbers = c.args.table.now; region = c.args.elements.now };
-            status = table.result;
-            after = record { numbers = table.new.table; region = table.new.region };
-            makes = table.ensures.made;
-            bytes = refl;
-            elements = refl;
-          }))),
+          inr (inr (inl (
+            0,
+            record {
+              before = record { numbers = c.args.table.now; region = c.args.elements.now };
+              status = table.result;
+              after = record { numbers = table.new.table; region = table.new.region };
+              makes = table.ensures.made;
+              sizes = refl;
+              others = refl;
+            },
+          ))),
         ),
         tt,
       ),

@@ -1,6 +1,5 @@
 use Rattle.std.proofs.Common.{Some}
-use Rattle.wasmi_law_tests.proofs.Common.{optional_rules, world, Done, store_call}
-use Rattle.wasmi_law_tests.proofs.RunsLemmas.{answers_as}
+use Rattle.wasmi_law_tests.proofs.Common.{world}
 use Rattle.wasmi_law_tests.proofs.places.call_elsewhere.Goals as goal
 
 pub returns-clause-stays : goal.returns-clause-stays
@@ -10,9 +9,6 @@ returns-clause-stays g c = λ location leaves.
 pub returns-clause-bytes : goal.returns-clause-bytes
 returns-clause-bytes g c =
     λ it stores done x x' found found'.
-    let rules = optional_rules g.L.ResourceLimiter.rules in
     let t = world c.args.machine.now (Some c.args.limiter.now) in
     let u = world c.step_lending.new.self (Some c.step_lending.new.limiter) in
-    (c.stores_are_read_back.ensures.others it t u
-    (answers_as rules t u c.args.call.now (store_call it) c.step_lending.result Done stores done
-    c.step_lending.ensures.step) x x' found found').0
+    (c.stores_are_read_back.ensures.others it t u (rw (stores, done) at c.step_lending.ensures.step) x x' found found').0

@@ -1,6 +1,6 @@
 use Rattle.std.proofs.Common.{Some, [], refl, ◌∷◌}
-use Rattle.wasmi_law_tests.proofs.Common.{optional_rules, world, store_call}
-use Rattle.wasmi_law_tests.proofs.RunsLemmas.{answers_call, stores_apart, turn_with}
+use Rattle.wasmi_law_tests.proofs.Common.{world, store_call}
+use Rattle.wasmi_law_tests.proofs.RunsLemmas.{stores_apart, turn_with}
 use Rattle.wasmi_law_tests.proofs.places.call_in_either_order.Goals as goal
 
 pub returns-clause-independent : goal.returns-clause-independent
@@ -19,14 +19,11 @@ returns-clause-independent g c =
 pub returns-clause-stores : goal.returns-clause-stores
 returns-clause-stores g c =
     λ it that is is_that differ.
-    let rules = optional_rules g.L.ResourceLimiter.rules in
     let t = world c.args.machine.now (Some c.args.limiter.now) in
     let u = world c.step_lending-reply.new.self (Some c.step_lending-reply.new.limiter) in
     let v = world c.step_lending-other_reply.new.self (Some c.step_lending-other_reply.new.limiter) in
-    let first = answers_call rules t u c.args.first.now (store_call it) c.step_lending-reply.result is
-    c.step_lending-reply.ensures.step in
-    let second = answers_call rules u v c.args.second.now (store_call that) c.step_lending-other_reply.result is_that
-    c.step_lending-other_reply.ensures.step in
+    let first = rw is at c.step_lending-reply.ensures.step in
+    let second = rw is_that at c.step_lending-other_reply.ensures.step in
     let turn = turn_with (store_call it) c.step_lending-reply.result first.0 first.1 in
     let other = turn_with (store_call that) c.step_lending-other_reply.result second.0 second.1 in (
       other ∷ turn ∷ [],

@@ -1,19 +1,16 @@
 use Rattle.std.proofs.Common.{Some, subst, sym}
-use Rattle.wasmi_law_tests.proofs.Common.{All, optional_rules, world, Done, LeavesAlone, MemoryAt, load_call, store_call}
-use Rattle.wasmi_law_tests.proofs.RunsLemmas.{answers_as, answers_call}
+use Rattle.wasmi_law_tests.proofs.Common.{All, world, LeavesAlone, MemoryAt}
 use Rattle.wasmi_law_tests.proofs.places.load_stored.Goals as goal
 
 pub returns : goal.returns
 returns g c =
     λ it stores loads leave done.
-    let rules = optional_rules g.L.ResourceLimiter.rules in
     let ran = c.in_ok-replies.ensures.run in
     let t = world c.args.machine.now (Some c.args.limiter.now) in
     let u = world c.step_lending-stored.new.self (Some c.step_lending-stored.new.limiter) in
     let v = world c.run_lending.new.machine (Some c.run_lending.new.limiter) in
     let w = world c.step_lending-loaded.new.self (Some c.step_lending-loaded.new.limiter) in
     (c.stores_are_read_back.ensures.read it t u v w ran.0 c.step_lending-loaded.result
-    (answers_as rules t u c.args.store.now (store_call it) c.step_lending-stored.result Done stores done
-    c.step_lending-stored.ensures.step) ran.3 (subst (All (LeavesAlone (MemoryAt it.memory))) (sym ran.1) leave)
-    (answers_call rules v w c.args.load.now (load_call it) c.step_lending-loaded.result loads
-    c.step_lending-loaded.ensures.step)).0
+    (rw (stores, done) at c.step_lending-stored.ensures.step) ran.3
+    (subst (All (LeavesAlone (MemoryAt it.memory))) (sym ran.1) leave)
+    (rw loads at c.step_lending-loaded.ensures.step)).0

@@ -10,7 +10,7 @@ returns c = record {
   trace =
       if_ok_too c.run_lending.result c.run_lending.ensures.run (λ replies ran.
       let one = one_turn (optional_rules recorder_rules) c.args.calls.now _ _ replies.items c.requires.one ran in
-      let passed = c.growths_are_permitted.ensures.turn _ one.0 _ one.2 in
+      let passed = c.growths_are_permitted.ensures.turn _ one.0 _ one.3 in
       traced c.args.recorder.now c.run_lending.new.limiter (sizes c.args.machine.now)
       (sizes c.run_lending.new.machine) (place_of one.0.call) passed.exchange passed.passes passed.grows);
 }

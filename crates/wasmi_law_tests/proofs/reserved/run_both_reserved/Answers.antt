@@ -1,11 +1,10 @@
 use Rattle.std.proofs.Common.{Option, Some, ap}
-use Rattle.wasmi_law_tests.proofs.Common.{same_Some, Quota, World, world}
-use Rattle.wasmi_law_tests.proofs.ReservedLemmas.{accepted_too}
+use Rattle.wasmi_law_tests.proofs.Common.{same_Some, on_ok_weaker, Quota, World, world}
 use Rattle.wasmi_law_tests.proofs.reserved.run_both_reserved.Goals as goal
 
 pub returns : goal.returns
 returns c = record {
-  same = accepted_too c.run_into_lending-2.result (λ ran.
+  same = on_ok_weaker c.run_into_lending-2.result (λ ran.
       let w = world c.args.machine.now (Some c.args.quota.now) in
       let first = c.in_ok-run_into_lending.ensures.run in
       let second = rw (c.requires.machines, c.requires.quotas) at ran in

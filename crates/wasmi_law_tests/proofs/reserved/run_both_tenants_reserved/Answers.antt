@@ -1,10 +1,11 @@
-use Rattle.wasmi_law_tests.proofs.ReservedLemmas.{accepted_too, run_with_memory}
+use Rattle.wasmi_law_tests.proofs.Common.{on_ok_weaker}
+use Rattle.wasmi_law_tests.proofs.ReservedLemmas.{run_with_memory}
 use Rattle.wasmi_law_tests.proofs.RunsLemmas.{pools_same}
 use Rattle.wasmi_law_tests.proofs.reserved.run_both_tenants_reserved.Goals as goal
 
 pub returns : goal.returns
 returns c = record {
-  same = accepted_too c.run_into-2.result (λ ran.
+  same = on_ok_weaker c.run_into-2.result (λ ran.
       let second = rw c.requires.pools at ran in
       let once = c.tenants_leave_no_choice.ensures in
       let pool = c.args.pool.now in

@@ -1,10 +1,11 @@
-use Rattle.wasmi_law_tests.proofs.ReservedLemmas.{accepted_too, as_alone}
+use Rattle.wasmi_law_tests.proofs.Common.{on_ok_weaker}
+use Rattle.wasmi_law_tests.proofs.ReservedLemmas.{as_alone}
 use Rattle.wasmi_law_tests.proofs.RunsLemmas.{alone_after}
 use Rattle.wasmi_law_tests.proofs.reserved.run_reserved_as_alone.Goals as goal
 
 pub returns : goal.returns
 returns c = record {
-  same = accepted_too c.run_into-2.result (λ ran shown.
+  same = on_ok_weaker c.run_into-2.result (λ ran shown.
       let once = c.tenants_leave_no_choice.ensures in
       let pool = c.args.pool.now in
       let index = c.args.index in

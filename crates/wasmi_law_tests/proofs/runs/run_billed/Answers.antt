@@ -1,5 +1,4 @@
-use Rattle.std.proofs.Common.{sym, subst, ◌≤◌, arith, refl}
-use Rattle.std.specs.Prelude.{All, ◌≡◌, is_some}
+use Rattle.std.proofs.Common.{All, sym, subst, ◌≡◌, ◌≤◌, arith, is_some, refl}
 use Rattle.wasmi_machine.specs.Account.{SetsNoFuel}
 use Rattle.wasmi_law_tests.proofs.RunsLemmas.{if_ok_too, holds_after}
 use Rattle.wasmi_meter.specs.Limiter.{optional_rules}

@@ -1,6 +1,5 @@
-use Rattle.std.proofs.Common.{sym, subst, ◌≤◌, ℕ, Some, arith}
+use Rattle.std.proofs.Common.{sym, subst, ◌≡◌, ◌≤◌, ℕ, Some, arith, slice_get}
 use Rattle.wasmi_law_tests.proofs.Common.{All, optional_rules, TellsNoDenial, sizes, total}
-use Rattle.std.specs.Prelude.{◌≡◌, slice_get}
 use Rattle.wasmi_law_tests.proofs.RunsLemmas.{if_ok_too, holds_after}
 use Rattle.wasmi_law_tests.proofs.LimitersLemmas.{grows_in_regions}
 use Rattle.wasmi_meter.specs.declared.limiter.Kind.{Kind}

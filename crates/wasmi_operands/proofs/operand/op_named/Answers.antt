@@ -1,8 +1,6 @@
-use Rattle.std.proofs.Common.{◌≡◌, ◌∙◌, ◌∷◌, ℕ, Bor, true, false, List, [], Some, bytes_eq, cond, map, refl, ap, sym, rules, tests}
+use Rattle.std.proofs.Common.{◌≡◌, ◌∙◌, ◌∷◌, ℕ, Bor, true, false, List, [], Some, bytes_eq, cond, map, refl, ap, sym, rules, tests, find, option_map}
 use Rattle.std.proofs.lemmas.Iterator.{YieldsList-from_slice}
 use Rattle.std.proofs.lemmas.Iterator.Search.{find_from_yields_List}
-use Rattle.std.specs.List.{find}
-use Rattle.std.specs.Option.{option_map}
 use Rattle.wasmi_operands.specs.Names.{IsNamed, entry_of}
 use Rattle.wasmi_operands.proofs.operand.op_named.Goals as goal
 

@@ -1,7 +1,6 @@
-use Rattle.std.proofs.Common.{◌∙◌, rules}
+use Rattle.std.proofs.Common.{◌∙◌, rules, ℤ, ◌*ℤ◌, FitsSigned}
 use Rattle.std.proofs.lemmas.Int.{to_z-of_z}
 use Rattle.std.specs.Int.{w64, w128}
-use Rattle.std.specs.Prelude.{ℤ, ◌*ℤ◌, FitsSigned}
 use Rattle.wasmi_scalar.proofs.NumericsLemmas.{signed_of-is}
 use Rattle.wasmi_scalar.proofs.wasm.i64_mul_wide_s.Goals as goal
 

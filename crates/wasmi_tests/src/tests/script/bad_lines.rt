@@ -33,13 +33,8 @@ static BAD_LINES: [(&[u8], &str); 17] = [
 ];
 
 fn is_bad<R: Abort>(rt: &R, alloc: Global, script: &[u8], printed: &str) {
-    prints(
-        rt,
-        alloc,
-        &mut Source::of(script),
-        printed,
-        Status::BadScript,
-    );
+    let mut reader = Source::of(script);
+    prints(rt, alloc, &mut reader, printed, Status::BadScript);
 }
 
 #[test]

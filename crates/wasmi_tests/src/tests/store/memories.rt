@@ -19,11 +19,10 @@ const OUT_OF_FUEL: MemoryError = MemoryError::OutOfFuel {
 
 #[test]
 fn subtyping_works(rt: HostRuntime) {
-    for row in &SUBTYPES {
-        let (own, other) = (row.own, row.other);
+    for &(what, own, other, expected) in &SUBTYPES {
         let own = page_type(&rt, u64::from(own.0), own.1.map(u64::from));
         let other = page_type(&rt, u64::from(other.0), other.1.map(u64::from));
-        same(&rt, row.what, own.is_subtype_of(&other), row.expected);
+        same(&rt, what, own.is_subtype_of(&other), expected);
     }
 }
 
@@ -235,12 +234,8 @@ fn test_growing_static(rt: HostRuntime) {
 fn test_static_buffer_overflow(rt: HostRuntime) {
     let mut region = [7; 5];
     let mut buffer = ByteBuffer::new_static(&mut region, 5).expect(&rt, "a buffer");
-    same(
-        &rt,
-        "ten of five",
-        buffer.grow(10),
-        Err(MemoryError::InvalidStaticBufferSize),
-    );
+    let refused = Err(MemoryError::InvalidStaticBufferSize);
+    same(&rt, "ten of five", buffer.grow(10), refused);
     same(&rt, "five", buffer.data(), [0; 5].as_slice());
 }
 

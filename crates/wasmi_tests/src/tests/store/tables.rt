@@ -21,10 +21,9 @@ fn func_type(limits: (u32, Option<u32>)) -> TableType {
 
 #[test]
 fn subtyping_works(rt: HostRuntime) {
-    for row in &SUBTYPES {
-        let own = func_type(row.own);
-        let other = func_type(row.other);
-        same(&rt, row.what, own.is_subtype_of(&other), row.expected);
+    for &(what, own, other, expected) in &SUBTYPES {
+        let is_subtype = func_type(own).is_subtype_of(&func_type(other));
+        same(&rt, what, is_subtype, expected);
     }
     let functions = TableType::new(RefType::Func, 0, Some(1));
     let externals = TableType::new(RefType::Extern, 0, Some(1));
@@ -86,13 +85,8 @@ fn stays_below_the_number_of_indices(rt: HostRuntime) {
     let second = grow_raw(&mut table, 4294967294, None, &mut recorder);
     let question = table_question(1, 4294967295, None);
     same_record(&rt, "one less", &recorder, question, None);
-    let answers = [first, second];
-    same(
-        &rt,
-        "as many as indices, one less",
-        answers,
-        [Err(OUT_OF_BOUNDS); 2],
-    );
+    let (answers, expected) = ([first, second], [Err(OUT_OF_BOUNDS); 2]);
+    same(&rt, "as many as indices, one less", answers, expected);
 }
 
 /// A limiter's answer, and how the growth of a table ends.
@@ -122,12 +116,8 @@ static COPIES: [((u64, u64, u64), [u32; 5]); 2] = [
 fn copies_within(rt: HostRuntime) {
     for &((to, from, len), elements) in &COPIES {
         let mut table = five_functions(&rt, rt.alloc());
-        same(
-            &rt,
-            "a copy",
-            table.copy_within(to, from, len, None),
-            Ok(()),
-        );
+        let copied = table.copy_within(to, from, len, None);
+        same(&rt, "a copy", copied, Ok(()));
         same_elements(&rt, "a copy", &table, elements);
     }
 }
@@ -196,10 +186,5 @@ fn ends_at_the_first_none(rt: HostRuntime) {
     let again = ElementSegment::new(rt.alloc(), RefType::Extern, rest).expect(&rt, "a segment");
     let answer = (items.calls, again.size(), again.ty());
     let expected = (3, 1, RefType::Extern);
-    same(
-        &rt,
-        "the calls, the second's size and type",
-        answer,
-        expected,
-    );
+    same(&rt, "calls, the second's size and type", answer, expected);
 }

@@ -1,6 +1,5 @@
-use Rattle.std.proofs.Common.{ap, ◌∙◌}
+use Rattle.std.proofs.Common.{ap, ◌∙◌, pos}
 use Rattle.std.proofs.lemmas.Int.{to_z-of_z}
-use Rattle.std.specs.Prelude.{pos}
 use Rattle.std.specs.Int.{w128, cast_unsigned}
 use Rattle.wasmi_types.specs.Numbers.{le_bytes, wrap}
 use Rattle.wasmi_access.proofs.ByteLemmas.{wrap_of_image}

@@ -1,5 +1,4 @@
-use Rattle.std.proofs.Common.{rules}
-use Rattle.std.specs.Int.{w64}
+use Rattle.std.proofs.Common.{rules, w64}
 use Rattle.wasmi_access.proofs.ByteLemmas.{le_bytes-unsigned}
 use Rattle.wasmi_access.proofs.integer.U64LittleEndianConvert.from_le_bytes.Goals as goal
 

@@ -1,5 +1,4 @@
-use Rattle.std.proofs.Common.{refl}
-use Rattle.wasmi_types.specs.Numbers.{w32}
+use Rattle.std.proofs.Common.{refl, w32}
 use Rattle.wasmi_lanes.proofs.SimdLaneLemmas.{signed_read_at}
 use Rattle.wasmi_lanes.proofs.item.I32LaneItem4.read_into.Goals as goal
 

@@ -1,5 +1,4 @@
-use Rattle.wasmi_types.specs.Numbers.{w16}
-use Rattle.std.proofs.Common.{ltb}
+use Rattle.std.proofs.Common.{ltb, w16}
 use Rattle.wasmi_lanes.proofs.ItemLemmas.{items, chosen_by}
 use Rattle.wasmi_lanes.proofs.simd_lane.U16SimdLane.choose_if_less.Goals as goal
 

@@ -1,5 +1,4 @@
-use Rattle.std.proofs.Common.{◌≡◌, ◌∙◌, ap, arith, sym}
-use Rattle.wasmi_types.specs.Numbers.{w64}
+use Rattle.std.proofs.Common.{◌≡◌, ◌∙◌, ap, arith, sym, w64}
 use Rattle.wasmi_lanes.specs.Vector.{lane}
 use Rattle.wasmi_lanes.proofs.simd_lane.U64VariableLane.lane_at.Goals as goal
 

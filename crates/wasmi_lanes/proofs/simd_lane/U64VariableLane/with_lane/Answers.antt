@@ -1,5 +1,4 @@
-use Rattle.std.proofs.Common.{replicate, ap, refl, ◌∙◌, rules}
-use Rattle.wasmi_types.specs.Numbers.{w64}
+use Rattle.std.proofs.Common.{replicate, ap, refl, ◌∙◌, rules, w64}
 use Rattle.wasmi_lanes.proofs.VariableLaneLemmas.{lane_written}
 use Rattle.wasmi_lanes.proofs.simd_lane.U64VariableLane.with_lane.Goals as goal
 

@@ -1,5 +1,4 @@
-use Rattle.std.proofs.Common.{◌≡◌, ◌<◌, ◌∙◌, ap, refl, arith}
-use Rattle.wasmi_types.specs.Numbers.{w8}
+use Rattle.std.proofs.Common.{◌≡◌, ◌<◌, ◌∙◌, ap, refl, arith, w8}
 use Rattle.wasmi_lanes.specs.Vector.{lane}
 use Rattle.wasmi_lanes.proofs.VariableLaneLemmas.{byte_picked, first_byte, indices_inside}
 use Rattle.wasmi_lanes.proofs.simd_lane.U8VariableLane.lane_at.Goals as goal

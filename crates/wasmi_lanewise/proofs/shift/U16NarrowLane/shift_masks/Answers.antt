@@ -1,5 +1,4 @@
-use Rattle.std.proofs.Common.{◌∙◌, refl}
-use Rattle.wasmi_types.specs.Numbers.{w16}
+use Rattle.std.proofs.Common.{◌∙◌, refl, w16}
 use Rattle.wasmi_lanewise.proofs.ShiftLemmas.{mask_at}
 use Rattle.wasmi_lanewise.proofs.shift.U16NarrowLane.shift_masks.Goals as goal
 

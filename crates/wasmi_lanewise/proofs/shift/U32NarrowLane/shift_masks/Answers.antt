@@ -1,5 +1,4 @@
-use Rattle.std.proofs.Common.{◌∙◌, refl}
-use Rattle.wasmi_types.specs.Numbers.{w32}
+use Rattle.std.proofs.Common.{◌∙◌, refl, w32}
 use Rattle.wasmi_lanewise.proofs.ShiftLemmas.{mask_at}
 use Rattle.wasmi_lanewise.proofs.shift.U32NarrowLane.shift_masks.Goals as goal
 

@@ -1,5 +1,4 @@
-use Rattle.std.proofs.Common.{arith}
-use Rattle.std.specs.Int.RustNames.{int_lt, int_le}
+use Rattle.std.proofs.Common.{arith, int_lt, int_le}
 use Rattle.wasmi_types.specs.Numbers.{signed}
 use Rattle.wasmi_lanewise.proofs.OrderLemmas.{int_at_most_is_not_less, inverted_comparison}
 use Rattle.wasmi_lanewise.proofs.simd.order.at_most_s.Goals as goal

@@ -1,5 +1,4 @@
-use Rattle.std.proofs.Common.{◌≡◌, ◌-◌, ◌∙◌, length, take, drop, ap, sym, arith}
-use Rattle.std.proofs.lemmas.List.{length-drop, take_all}
+use Rattle.std.proofs.Common.{◌≡◌, ◌-◌, ◌∙◌, length, take, drop, ap, sym, arith, length-drop, take_all}
 use Rattle.wasmi_ops.specs.LoadStoreOps.{loaded_raw}
 use Rattle.wasmi_ops.proofs.LoadStoreOpsLemmas.{raw_front, raw_past}
 use Rattle.wasmi_ops.proofs.load_store.LoadOp.load.Goals as goal

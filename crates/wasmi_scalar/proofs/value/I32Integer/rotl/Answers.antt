@@ -1,5 +1,4 @@
-use Rattle.std.proofs.Common.{rules, lit<}
-use Rattle.std.specs.Int.{w32}
+use Rattle.std.proofs.Common.{rules, lit<, w32}
 use Rattle.wasmi_scalar.proofs.NumericsLemmas.{amount_is, rotated_to_left}
 use Rattle.wasmi_scalar.proofs.value.I32Integer.rotl.Goals as goal
 

@@ -1,5 +1,4 @@
-use Rattle.std.proofs.Common.{rules, lit<}
-use Rattle.std.specs.Int.{w64}
+use Rattle.std.proofs.Common.{rules, lit<, w64}
 use Rattle.wasmi_scalar.proofs.NumericsLemmas.{cut_amount_is, rotated_to_left}
 use Rattle.wasmi_scalar.proofs.value.I64Integer.rotl.Goals as goal
 

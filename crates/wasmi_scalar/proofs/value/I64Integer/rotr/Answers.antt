@@ -1,5 +1,4 @@
-use Rattle.std.proofs.Common.{rules, lit<}
-use Rattle.std.specs.Int.{w64}
+use Rattle.std.proofs.Common.{rules, lit<, w64}
 use Rattle.wasmi_scalar.proofs.NumericsLemmas.{cut_amount_is, rotated_to_right}
 use Rattle.wasmi_scalar.proofs.value.I64Integer.rotr.Goals as goal
 

@@ -1,5 +1,4 @@
-use Rattle.std.proofs.Common.{rules, lit<, lit≤}
-use Rattle.std.specs.Int.{w64}
+use Rattle.std.proofs.Common.{rules, lit<, lit≤, w64}
 use Rattle.wasmi_scalar.proofs.NumericsLemmas.{cut_amount_is, shifted}
 use Rattle.wasmi_scalar.proofs.value.I64Integer.shl.Goals as goal
 

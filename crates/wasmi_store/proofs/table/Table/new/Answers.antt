@@ -17,7 +17,7 @@ returns-in_err-permission-clause-made g c =
     rw (p.1, p.2) (
     makes_denied (optional_rules g.L.ResourceLimiter.rules) (creation_of c.args.ty c.args.init.ty)
     (new_table c.args.ty c.args.init.raw) _ _
-    (making_asked c.args.ty c.args.init c.in_ok-ensure_element_type_matches.ensures
+    (making_asked c.args.ty c.args.init.ty c.in_ok-ensure_element_type_matches.ensures
     c.in-Ok.size (c.in-Ok.ensures.1 ∙ c.minimum.ensures.value) c.maximum_size.result c.maximum_size.ensures)
     _ _ c.table_growing-answer.ensures.asked _ c.in_err-permission.ensures
     )
@@ -26,7 +26,7 @@ pub returns-in-Err-clause-made : goal.returns-in-Err-clause-made
 returns-in-Err-clause-made g c =
     let rules = optional_rules g.L.ResourceLimiter.rules in
     let creation = creation_of c.args.ty c.args.init.ty in
-    let asked = making_asked c.args.ty c.args.init c.in_ok-ensure_element_type_matches.ensures
+    let asked = making_asked c.args.ty c.args.init.ty c.in_ok-ensure_element_type_matches.ensures
     c.in-Ok.size (c.in-Ok.ensures.1 ∙ c.minimum.ensures.value) c.maximum_size.result c.maximum_size.ensures in
     makes_refused rules creation (new_table c.args.ty c.args.init.raw) _ _
     (record {

@@ -1,5 +1,4 @@
-use Rattle.std.proofs.Common.{arith, rules}
-use Rattle.wasmi_types.specs.Numbers.{w16}
+use Rattle.std.proofs.Common.{arith, rules, w16}
 use Rattle.wasmi_simd.proofs.HalfLemmas.{extracted_lane}
 use Rattle.wasmi_simd.proofs.simd.wide.U16ExtendedLane.high.Goals as goal
 

@@ -1,5 +1,4 @@
-use Rattle.std.proofs.Common.{arith, rules}
-use Rattle.wasmi_types.specs.Numbers.{w8}
+use Rattle.std.proofs.Common.{arith, rules, w8}
 use Rattle.wasmi_simd.proofs.HalfLemmas.{extracted_lane}
 use Rattle.wasmi_simd.proofs.simd.wide.U8ExtendedLane.high.Goals as goal
 
