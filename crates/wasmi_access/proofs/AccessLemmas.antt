@@ -2,7 +2,8 @@
 use Rattle.std.proofs.Common.{◌≡◌, ℕ, zero, suc, ◌+◌, ◌*◌, ◌%◌, ◌^◌, ◌≤◌, Bool, true, false, List, length, take, drop, ◌++◌, Some, None, refl, ap, sym, ◌∙◌, arith, append_assoc, div-one, length-append, pow-suc, nat_le, nat_lt, if◌then◌else◌, Option, Ok, length-take-le, pow-add, leb-true}
 use Rattle.std.proofs.lemmas.Grind.{common_steps}
 use Rattle.std.proofs.lemmas.Option.{cond_some}
-use Rattle.std.proofs.Math.Seq.{drop-append_seam, take-append_seam}
+use Rattle.std.proofs.lemmas.List.{drop_at, take_at}
+use Rattle.std.proofs.Math.Seq.{take-append_seam}
 use Rattle.std.specs.Int.{bytes_low_first}
 use Rattle.wasmi_types.specs.Numbers.{number_of, le_bytes}
 use Rattle.wasmi_types.specs.Access.{at, overwrite}
@@ -18,20 +19,12 @@ accepted xs a ys new e =
     cond_some (nat_le (a + length ys) (length xs)) (take a xs ++ ys ++ drop (a + length ys) xs) new e in
     (leb-true (a + length ys) (length xs) both.0, both.1, both.0)
 
--- from the length of its first part on, a list is its second part
-from_place : (ps zs : List ℕ) (a : ℕ) → length ps ≡ a → drop a (ps ++ zs) ≡ zs
-from_place ps zs a e = ap (λ n. drop n (ps ++ zs)) (sym e) ∙ drop-append_seam ps zs
-
--- up to the length of its first part, a list is its first part
-to_place : (ps zs : List ℕ) (a : ℕ) → length ps ≡ a → take a (ps ++ zs) ≡ ps
-to_place ps zs a e = ap (λ n. take n (ps ++ zs)) (sym e) ∙ take-append_seam ps zs
-
 -- what lies at a after ys was put there
 written : (xs : List ℕ) (a : ℕ) (ys : List ℕ) → a ≤ length xs
     → take (length ys) (drop a (take a xs ++ ys ++ drop (a + length ys) xs)) ≡ ys
 written xs a ys h =
     ap (λ zs. take (length ys) (drop a zs)) (append_assoc (take a xs) ys (drop (a + length ys) xs))
-    ∙ ap (take (length ys)) (from_place (take a xs) (ys ++ drop (a + length ys) xs) a (length-take-le a xs h))
+    ∙ ap (take (length ys)) (drop_at (take a xs) (ys ++ drop (a + length ys) xs) a (length-take-le a xs h))
     ∙ take-append_seam ys (drop (a + length ys) xs)
 
 -- a list is as long after ys was put at a as before
@@ -60,9 +53,9 @@ outside_by_length old new a ys e =
     let through : length (take a old ++ ys) ≡ a + length ys =
     length-append (take a old) ys ∙ ap (λ n. n + length ys) before in (
       ap (take a) (sym facts.1 ∙ append_assoc (take a old) ys (drop (a + length ys) old))
-          ∙ to_place (take a old) (ys ++ drop (a + length ys) old) a before,
+          ∙ take_at (take a old) (ys ++ drop (a + length ys) old) a before,
       ap (drop (a + length ys)) (sym facts.1)
-          ∙ from_place (take a old ++ ys) (drop (a + length ys) old) (a + length ys) through,
+          ∙ drop_at (take a old ++ ys) (drop (a + length ys) old) (a + length ys) through,
     )
 
 -- ---- the bytes of a number

@@ -1,5 +1,5 @@
 -- What holds of each effect on memories.
-use Rattle.std.proofs.Common.{Bool, Err, List, None, Ok, Option, Result, Some, ap, arith, drop, false, inl, inr, length, refl, subst, sym, take, true, ℕ, ◌++◌, ◌+◌, ◌-◌, ◌∙◌, ◌≡◌, ◌≤◌}
+use Rattle.std.proofs.Common.{Bool, Err, List, None, Ok, Option, Result, Some, ap, arith, drop, false, inl, inr, length, refl, subst, sym, take, true, ℕ, ◌++◌, ◌+◌, ◌∙◌, ◌≡◌, ◌≤◌}
 use Rattle.wasmi_machine.proofs.Common.{leb-true, common_steps, cond_some, none-some, if◌then◌else◌, nat_le, IsNotOutOfMemory, CreatesLent, ReadsBytes, ReadsMemoryAt, StoresMemory, WritesMemoryAt, spare_after, StoresVectorAt, MemoryPart, live_at, byte_count, Reply, Slot, Rules, MemoryError, LacksMemory, Lent, Owned, Room, IsValidMemory, MakesMemory, MemoryValue, WritesMemory, MemoryTypeValue, at, overwrite}
 use Rattle.wasmi_machine.proofs.EffectLemmas.{PutsOr, SlotFacts, creates_back, on_both, on_found, on_live, setting_facts, settled_facts}
 use Rattle.wasmi_machine.specs.Laws.{IsRefusal}

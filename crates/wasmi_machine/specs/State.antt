@@ -1,4 +1,5 @@
--- What a machine is to its callers: its state, a world of it with a limiter, its totals, and when it is valid (core specification, the store).
+-- What a machine is to its callers: its state, a world of it with a limiter, its totals, when it is valid (core
+-- specification, the store), and a turn of it with its outcome.
 use Rattle.std.specs.Prelude.{ℕ, ◌+◌, List, [], Option, Some, None, slice_get, replicate, ◌≡◌, length, map, max, sum, ◌≤◌, All}
 use Rattle.std.specs.Option.{option_and_then}
 use Rattle.wasmi_raw.specs.declared.raw.RawVal.{RawVal}

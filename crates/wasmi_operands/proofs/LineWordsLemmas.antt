@@ -1,5 +1,5 @@
 -- What words write one after the other, the digits of a word, and what is accepted, in other words.
-use Rattle.std.proofs.Common.{ℕ, zero, suc, ◌≡◌, ◌<◌, ◌+◌, ◌∷◌, ◌++◌, Err, List, [], add-one, false, get_or, length, map, take, refl, sym, ap, subst, arith, rules, tests, Option, Some, None, true, bytes_eq, codes, cond, Result, Ok, OnErr, IfErr, Bor}
+use Rattle.std.proofs.Common.{ℕ, zero, suc, ◌≡◌, ◌<◌, ◌+◌, ◌∷◌, ◌++◌, Err, List, [], false, get_or, length, map, take, refl, sym, ap, subst, arith, rules, tests, Option, Some, None, true, bytes_eq, codes, cond, Result, Ok, OnErr, IfErr, Bor}
 use Rattle.std.specs.List.{AllZip}
 use Rattle.wasmi_operands.specs.declared.error.LineError.{LineError}
 use Rattle.wasmi_operands.specs.declared.error.LineError.TheVariants.{BadCommand, OutOfMemory}
@@ -9,7 +9,7 @@ use Rattle.std.specs.Str.Parse.{AllDigits}
 
 module _ {A : Type 0} (Writes : List ℕ → A → Type 0) where
   -- one word more, and what it writes
-  one_more : (words : LineWords) (i : ℕ) (none : Bor (List ℕ)) (items : List A) (item : A) → i < length words
+  pub one_more : (words : LineWords) (i : ℕ) (none : Bor (List ℕ)) (items : List A) (item : A) → i < length words
       → WritesEach Writes (take i words) items → Writes (get_or words i none).now item
       → WritesEach Writes (take (suc i) words) (items ++ item ∷ [])
   one_more [] i none items item below before last = absurd (omega (arith, below))
@@ -18,14 +18,6 @@ module _ {A : Type 0} (Writes : List ℕ → A → Type 0) where
   one_more (word ∷ words) (suc i) none [] item below before last = absurd before
   one_more (word ∷ words) (suc i) none (first ∷ items) item below before last =
       (before.0, one_more words i none items item (omega (arith, below)) before.1 last)
-
-  -- the same, by the place of the next word
-  pub one_word_more : (words : LineWords) (i : ℕ) (none : Bor (List ℕ)) (items : List A) (item : A) → i < length words
-      → WritesEach Writes (take i words) items → Writes (get_or words i none).now item
-      → WritesEach Writes (take (i + 1) words) (items ++ item ∷ [])
-  one_word_more words i none items item below before last =
-      subst (λ n. WritesEach Writes (take n words) (items ++ item ∷ [])) (sym (add-one i))
-      (one_more words i none items item below before last)
 
   -- words of which one writes nothing write no list
   pub not_each : (words : LineWords) (i : ℕ) (none : Bor (List ℕ)) → i < length words
@@ -78,18 +70,11 @@ limit_is word (Some n) w = elim (bytes_eq word (codes "none")) as
     ] refl
 
 -- digits and the one behind them are digits
-digits_to : (word : List ℕ) (i : ℕ) → i < length word → AllDigits 10 (take i word)
+pub digits_to : (word : List ℕ) (i : ℕ) → i < length word → AllDigits 10 (take i word)
     → digit_value (get_or word i 0) < 10 → AllDigits 10 (take (suc i) word)
 digits_to [] i inside digits digit = absurd (omega arith)
 digits_to (c ∷ cs) zero inside digits digit = (digit, tt)
 digits_to (c ∷ cs) (suc i) inside digits digit = (digits.0, digits_to cs i (omega arith) digits.1 digit)
-
--- the same, with the end as a loop over the word has it
-pub digits_more : (word : List ℕ) (i : ℕ) → i < length word → AllDigits 10 (take i word)
-    → digit_value (get_or word i 0) < 10 → AllDigits 10 (take (i + 1) word)
-digits_more word i inside digits digit =
-    let next : suc i ≡ i + 1 = omega arith in
-    subst (λ end. AllDigits 10 (take end word)) next (digits_to word i inside digits digit)
 
 -- what two facts mean that hold of the same values
 pub accepts_same : {A : Type 0} (r : Result A LineError) (P Q : A → Type 0) → ((a : A) → P a → Q a)

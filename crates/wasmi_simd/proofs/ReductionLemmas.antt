@@ -1,6 +1,7 @@
 -- Tests of the lanes of a vector and the bits that they give, made of those of its two words.
 use Rattle.std.proofs.Common.{◌≡◌, ℕ, zero, suc, ◌+◌, ◌-◌, ◌*◌, ◌/◌, ◌%◌, ◌^◌, ◌<◌, ◌≤◌, refl, inl, inr, sym, ap, ap₂, subst, ◌∙◌, arith, Bool, true, false, not, eqb, nat_eq, ◌&&◌, if◌then◌else◌, bit_and, bit_or, true≢false, zero-mul, mul-suc, mul-zero, mul_comm, mul-add, mul_assoc, one-mul, add-mul, le_refl, lit<, mod-eq_of_lt, pow-suc, suc-add, zero-add}
 use Rattle.wasmi_simd.proofs.Common.{div-eq_of_lt, mod-one, add-mod_right, div-mul-add, mod-pow-add, pow_pos, pow-add, mul-le, and_le_l, and_le_r, or_shifted, or_comm, and_pow, and_from, and_parts, eqb-true, eq-eqb, cases_eq, cases_lt, pow_mono, Width, bits, lane, unsigned, field, lanes_in_word, in_each_lane, field_lt, field_and, field_not, field_wrapping_sub, field_of_zero, lane_ends, same_words, lanes_of_width, AreWords, low_lane, high_lane, filled, some_bits, lane_of_each, top_in_range, holds_below, first_bits, every_lane, lane_bits}
+use mathlib.Core.Bool.{and-true, and_assoc}
 use Rattle.std.proofs.Math.Dec.{eqb-suc-zero}
 use Rattle.std.specs.Int.Bits.{and_self}
 use Rattle.std.specs.Cmp.{both_ways}
@@ -36,19 +37,11 @@ holds_joined : (n m : ℕ) (test : ℕ → Bool)
     → holds_below (n + m) test ≡ (holds_below n test && holds_below m (λ i. test (n + i)))
 unfolding holds_below
 holds_joined n zero test =
-    ap (λ k. holds_below k test) (let e : n + 0 ≡ n = omega arith in e) ∙ sym (and_true (holds_below n test))
-  where
-    and_true : (a : Bool) → (a && true) ≡ a
-    and_true true = refl
-    and_true false = refl
+    ap (λ k. holds_below k test) (let e : n + 0 ≡ n = omega arith in e) ∙ sym (and-true (holds_below n test))
 holds_joined n (suc m) test =
     let more : n + suc m ≡ suc (n + m) = omega arith in
     ap (λ k. holds_below k test) more ∙ ap (λ b. b && test (n + m)) (holds_joined n m test)
     ∙ and_assoc (holds_below n test) (holds_below m (λ i. test (n + i))) (test (n + m))
-  where
-    and_assoc : (a b c : Bool) → ((a && b) && c) ≡ (a && (b && c))
-    and_assoc true b c = refl
-    and_assoc false b c = refl
 
 -- two tests that agree on each number below n give the same n bits
 bits_as : (n : ℕ) (f g : ℕ → Bool) → ((i : ℕ) → i < n → f i ≡ g i) → first_bits n f ≡ first_bits n g

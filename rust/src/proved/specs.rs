@@ -4527,7 +4527,7 @@ abbrev pub <b id="with_item">with_item</b> : {X : Type 0} → <a href="../../mac
 </code></pre>
 "####]
     pub mod ReservedListSpecs {}
-    #[doc = r####"What a machine is to its callers: its state, a world of it with a limiter, its totals, and when it is valid (core specification, the store).
+    #[doc = r####"What a machine is to its callers: its state, a world of it with a limiter, its totals, when it is valid (core specification, the store), and a turn of it with its outcome.
 
 <pre><code>use Rattle.std.specs.Prelude.{ℕ, ◌+◌, List, [], Option, Some, None, slice_get, replicate, ◌≡◌, length, map, max, sum, ◌≤◌, All}
 use Rattle.std.specs.Option.{option_and_then}

@@ -1,10 +1,10 @@
-use Rattle.std.proofs.Common.{◌≡◌, ◌∙◌, ◌+◌, ◌^◌, ◌<◌, ◌≤◌, Err, ap, arith, get_or, length, rules, subst, sym, tests, OkIff, take_all}
+use Rattle.std.proofs.Common.{◌≡◌, ◌∙◌, ◌+◌, ◌^◌, ◌<◌, ◌≤◌, Err, add-one, ap, arith, get_or, length, rules, subst, sym, tests, OkIff, take_all}
 use Rattle.std.specs.Str.Parse.{AllDigits, digits_value}
 use Rattle.std.proofs.lemmas.Int.Digits.{digits_value_more}
 use Rattle.std.proofs.lemmas.Str.{digit_value_digit}
 use Rattle.std.proofs.lemmas.Str.Parse.{digit_at, digits_value-take-le}
 use Rattle.wasmi_operands.specs.LineWords.{IsDecimal, decimal_value}
-use Rattle.wasmi_operands.proofs.LineWordsLemmas.{digits_more}
+use Rattle.wasmi_operands.proofs.LineWordsLemmas.{digits_to}
 use Rattle.wasmi_operands.proofs.operand.decimal.Goals as goal
 
 pub returns-then-is_empty-clause-value : goal.returns-then-is_empty-clause-value
@@ -40,7 +40,8 @@ loop-digit-preserved c =
     c.loop-digit-test.true in
     let longer = rw (c.as_bytes-digit-items.ensures.value, c.in_ok-number.ensures.ok_part) at c.appended.ensures in
     let worth = digit_value_digit (get_or word c.loop-digit.digit-index 0) longer.0.0 in (
-      digits_more word c.loop-digit.digit-index inside c.loop-digit.invariant.0 (omega (arith, worth, longer.0.0)),
+      rw add-one (digits_to word c.loop-digit.digit-index inside c.loop-digit.invariant.0
+          (omega (arith, worth, longer.0.0))),
       omega (arith, digits_value_more 10 word c.loop-digit.digit-index inside, c.loop-digit.invariant.1, longer.1),
       omega (arith, longer.0.1, longer.1),
     )

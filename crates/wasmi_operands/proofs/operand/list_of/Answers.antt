@@ -1,13 +1,13 @@
-use Rattle.std.proofs.Common.{◌≡◌, ◌+◌, ◌∙◌, Err, rules, sym, subst, ap, arith}
+use Rattle.std.proofs.Common.{◌≡◌, ◌+◌, ◌∙◌, Err, rules, sym, subst, ap, add-one, arith}
 use Rattle.wasmi_operands.specs.LineWords.{AcceptsWithMemory, WritesEach}
-use Rattle.wasmi_operands.proofs.LineWordsLemmas.{one_word_more, refused_list}
+use Rattle.wasmi_operands.proofs.LineWordsLemmas.{one_more, refused_list}
 use Rattle.wasmi_operands.proofs.operand.list_of.Goals as goal
 
 pub loop-word-preserved : goal.loop-word-preserved
 loop-word-preserved g c = record {
   written = subst (WritesEach g.T.Operand.writes _) (sym c.push_reserved.ensures.items)
-      (one_word_more g.T.Operand.writes c.args.words.now c.loop-word.word-index _ _ _ c.loop-word-test.true
-      c.loop-word.invariant.written c.in_ok-from_word.ensures);
+      (rw add-one (one_more g.T.Operand.writes c.args.words.now c.loop-word.word-index _ _ _ c.loop-word-test.true
+      c.loop-word.invariant.written c.in_ok-from_word.ensures));
   count = c.push_reserved.ensures.len ∙ ap (λ n. n + 1) c.loop-word.invariant.count;
   room = omega (arith, c.push_reserved.ensures.capacity);
 }
