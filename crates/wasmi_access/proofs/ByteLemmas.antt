@@ -5,7 +5,7 @@ use Rattle.wasmi_types.specs.Numbers.{wrap, number_of, le_bytes}
 use Rattle.wasmi_types.proofs.NumbersLemmas.{half_below, wrap_below, wrap_unsigned, wrap_signed, wrap_of_bits}
 use Rattle.std.proofs.lemmas.Int.{to_z-of_z, of_z-to_z, SFits-int_wrap}
 use Rattle.std.proofs.lemmas.Nat.{mod_below, div-add-mod', div_below, mod-mul-add, pow_pos, pow-add}
-use mir.Val.{SFits, bits, Fits}
+use mir.Val.{SFits, bits}
 use Rattle.std.proofs.Math.Nat.{div-div-eq-div-mul, pow-suc, mod-one}
 use Rattle.std.proofs.Math.Facts.{sfits_to_z}
 use lib.Arith.{mod-mul}
@@ -14,12 +14,10 @@ use lib.Arith.{mod-mul}
 complement-mod : (q m n : ℕ) → 0 < m → n < q * m → m - 1 - n % m ≡ (q * m - suc n) % m
 complement-mod q m n h l =
     let small : n % m < m = mod_below n m h in
-    let parts : n / m * m + n % m ≡ n = div-add-mod' n m in
-    let below : n / m < q = div_below n m q h l in
-    let split : q ≡ (q - suc (n / m)) + suc (n / m) = omega (arith, below) in
+    let split : q ≡ (q - suc (n / m)) + suc (n / m) = omega (arith, div_below n m q h l) in
     let whole : q * m ≡ (q - suc (n / m)) * m + suc (n / m) * m =
     ap (λ k. k * m) split ∙ add-mul (q - suc (n / m)) (suc (n / m)) m in
-    let left : q * m - suc n ≡ (q - suc (n / m)) * m + (m - 1 - n % m) = omega (arith, whole, parts, small) in
+    let left : q * m - suc n ≡ (q - suc (n / m)) * m + (m - 1 - n % m) = omega (arith, whole, div-add-mod' n m, small) in
     sym (ap (λ k. k % m) left ∙ mod-mul-add (q - suc (n / m)) m (m - 1 - n % m) (omega (arith, small)))
 
 -- the narrow width is a part of the wide one
@@ -89,17 +87,14 @@ pub number_of-low_first : (i k n : ℕ) → number_of (bytes_low_first i k n) �
 unfolding number_of
 number_of-low_first i zero n = sym (mod-one (n / 256 ^ i))
 number_of-low_first i (suc k) n =
-    let here : byte_at i n ≡ n / 256 ^ i % 256 = byte_at-is i n in
-    let rest : number_of (bytes_low_first (suc i) k n) ≡ n / 256 ^ suc i % 256 ^ k = number_of-low_first (suc i) k n in
     let next : n / 256 ^ suc i ≡ n / 256 ^ i / 256 =
     ap (λ d. n / d) (pow-suc 256 i) ∙ sym (div-div-eq-div-mul n (256 ^ i) 256) in
-    let power : 256 ^ suc k ≡ 256 ^ k * 256 = pow-suc 256 k in
     let split : n / 256 ^ i % (256 ^ k * 256) ≡ (n / 256 ^ i / 256 % 256 ^ k) * 256 + n / 256 ^ i % 256 =
     mod-mul (n / 256 ^ i) (pow-pos k) (lit< tt) in
-    ap (λ b. b + 256 * number_of (bytes_low_first (suc i) k n)) here
-    ∙ ap (λ r. n / 256 ^ i % 256 + 256 * r) (rest ∙ ap (λ q. q % 256 ^ k) next)
+    ap (λ b. b + 256 * number_of (bytes_low_first (suc i) k n)) (byte_at-is i n)
+    ∙ ap (λ r. n / 256 ^ i % 256 + 256 * r) (number_of-low_first (suc i) k n ∙ ap (λ q. q % 256 ^ k) next)
     ∙ omega arith
-    ∙ sym (ap (λ m. n / 256 ^ i % m) power ∙ split)
+    ∙ sym (ap (λ m. n / 256 ^ i % m) (pow-suc 256 k) ∙ split)
 
 -- ---- the number of some bytes
 
@@ -108,11 +103,10 @@ number_of-push : (bs : List ℕ) (b : ℕ) → number_of (bs ++ b ∷ []) ≡ nu
 unfolding number_of
 number_of-push [] b = omega arith
 number_of-push (c ∷ bs) b =
-    let rest : number_of (bs ++ b ∷ []) ≡ number_of bs + b * 256 ^ length bs = number_of-push bs b in
     let power : b * 256 ^ suc (length bs) ≡ 256 * (b * 256 ^ length bs) =
     ap (λ p. b * p) (pow-suc 256 (length bs)) ∙ sym (mul_assoc b (256 ^ length bs) 256)
     ∙ mul_comm (b * 256 ^ length bs) 256 in
-    omega (arith, rest, power)
+    omega (arith, number_of-push bs b, power)
 
 -- what the bytes 0 to k are worth together is the number of the first k + 1 bytes
 pub sum_through-number_of : (bs : List ℕ) (k : ℕ) → k < length bs
@@ -151,10 +145,10 @@ low_first-number_of (b ∷ bs) h =
     let small : b < 256 = h 0 in
     let first : (b + 256 * number_of bs) % 256 ≡ b = omega (arith, small) in
     let quotient : (b + 256 * number_of bs) / 256 ≡ number_of bs = omega (arith, small) in
-    let rest : le_bytes (length bs) (number_of bs) ≡ bs = low_first-number_of bs (λ i. h (suc i)) in
     ap (λ c. c ∷ bytes_low_first 1 (length bs) (b + 256 * number_of bs)) first
     ∙ ap (λ cs. b ∷ cs)
-    (low_first-next 0 (length bs) (b + 256 * number_of bs) ∙ ap (bytes_low_first 0 (length bs)) quotient ∙ rest)
+    (low_first-next 0 (length bs) (b + 256 * number_of bs) ∙ ap (bytes_low_first 0 (length bs)) quotient
+    ∙ low_first-number_of bs (λ i. h (suc i)))
 
 -- the same, where the length of the list is k
 le_bytes-number_of : (bs : List ℕ) (k : ℕ) → length bs ≡ k → ((i : ℕ) → get_or bs i 0 < 256)
@@ -192,8 +186,7 @@ wrap_of_image w z f =
 pub le_bytes-of_bits : (w : Width) (k n : ℕ) (z : ℤ) (bs : List ℕ) → n < 2 ^ bits w → z ≡ cast_signed w n
     → le_bytes k (wrap w (pos n)) ≡ bs → le_bytes k (wrap w (cast_signed w (cast_unsigned w z))) ≡ bs
 le_bytes-of_bits w k n z bs below is bytes =
-    let fits_number : Fits w n = record { fits = below } in
-    let fits : SFits w z = subst (SFits w) (sym is) (sfits_to_z fits_number) in
+    let fits : SFits w z = subst (SFits w) (sym is) (sfits_to_z (record { fits = below })) in
     ap (λ y. le_bytes k (wrap w y)) (to_z-of_z w z fits ∙ is)
     ∙ ap (le_bytes k) (wrap_of_bits w n below ∙ sym (wrap_unsigned w n below)) ∙ bytes
 

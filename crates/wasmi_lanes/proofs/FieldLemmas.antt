@@ -1,5 +1,5 @@
 -- The bits of a word that belong to one lane (`field`), as those of the operands give them.
-use Rattle.std.proofs.Common.{◌≡◌, ℕ, zero, suc, ◌+◌, ◌-◌, ◌*◌, ◌/◌, ◌%◌, ◌^◌, ◌<◌, ◌≤◌, sym, ap, ap₂, subst, ◌∙◌, arith, zero-mul, suc-mul, add-mul, mul-suc, mul-zero, mul_comm, le_refl, div-one, mod-lt, bit_and, bit_or, bit_xor}
+use Rattle.std.proofs.Common.{◌≡◌, ℕ, zero, suc, ◌+◌, ◌-◌, ◌*◌, ◌/◌, ◌%◌, ◌^◌, ◌<◌, ◌≤◌, sym, ap, ap₂, subst, ◌∙◌, arith, zero-mul, suc-mul, add-mul, mul-suc, mul-zero, mul_comm, le_refl, div-one, mod-lt, bit_and, bit_or, bit_xor, one-add}
 use Rattle.wasmi_lanes.proofs.Common.{bit_at, zero-div, zero-mod, add-mod, add-mod_right, add-mul-mod_self_right, mod-add-mod, mod-mod, pow_pos, mul-le, shr-shr, and_mask, div-add-mod', div-mul-add, mod-mul-add, and_shr, and_mod, or_shr, or_mod, xor_shr, xor_mod, field_of, shr_below, field}
 use Rattle.std.proofs.Math.Pow.{ones_split, shr_mono, mod-mod-pow}
 
@@ -52,25 +52,22 @@ low_sub k a b le low =
     let c : ℕ = a / p - b / p in
     let rows : a / p * p ≡ c * p + b / p * p =
     ap (λ n. n * p) (let e : a / p ≡ c + b / p = omega arith in e) ∙ add-mul c (b / p) p in
-    let split-a : a / p * p + a % p ≡ a = div-add-mod' a p in
-    let split-b : b / p * p + b % p ≡ b = div-add-mod' b p in
-    let below : a % p < p = mod-lt a (pow_pos k) in
-    let parts : a - b ≡ c * p + (a % p - b % p) = omega arith in
-    let rest : (a - b) % p ≡ a % p - b % p = ap (λ n. n % p) parts ∙ mod-mul-add c p (a % p - b % p) (omega arith) in
-    omega arith
+    let parts : a - b ≡ c * p + (a % p - b % p) = omega (arith, div-add-mod' a p, div-add-mod' b p) in
+    let rest : (a - b) % p ≡ a % p - b % p =
+    ap (λ n. n % p) parts ∙ mod-mul-add c p (a % p - b % p) (omega (arith, mod-lt a (pow_pos k))) in
+    omega (arith, mod-lt a (pow_pos k))
 
 -- the laws of a number's two parts give those of a difference with no borrow
 shr_sub : (k a b : ℕ) → b ≤ a → b % 2 ^ k ≤ a % 2 ^ k → (a - b) / 2 ^ k + b / 2 ^ k ≡ a / 2 ^ k
 shr_sub k a b le low =
     let whole : a ≡ (a - b) + b = omega arith in
-    let fits : (a - b) % 2 ^ k + b % 2 ^ k < 2 ^ k = low_sub k a b le low in
-    sym (shr_add k (a - b) b fits) ∙ ap (λ n. n / 2 ^ k) (sym whole)
+    sym (shr_add k (a - b) b (low_sub k a b le low)) ∙ ap (λ n. n / 2 ^ k) (sym whole)
 
 -- where c + b is a, c modulo q is the difference of a modulo q and b modulo q, wrapped
 wrap_sub : (q a b c : ℕ) → 0 < q → c + b ≡ a → c % q ≡ (a % q + (q - b % q)) % q
 wrap_sub q a b c pos e =
-    let below : b % q < q = mod-lt b pos in
-    let whole : a + (q - b % q) ≡ c + (b / q + 1) * q = omega (arith, div-add-mod' b q, add-mul (b / q) 1 q) in
+    let whole : a + (q - b % q) ≡ c + (b / q + 1) * q =
+    omega (arith, mod-lt b pos, div-add-mod' b q, add-mul (b / q) 1 q) in
     sym (add-mul-mod_self_right c (b / q + 1) q) ∙ ap (λ n. n % q) (sym whole) ∙ sym (mod-add-mod a q (q - b % q))
 
 -- nothing is borrowed from the field below
@@ -92,13 +89,10 @@ complement : (j k v : ℕ) → v < 2 ^ (j + k)
     → 2 ^ (j + k) - 1 - v ≡ (2 ^ j - 1 - v / 2 ^ k) * 2 ^ k + (2 ^ k - 1 - v % 2 ^ k)
 complement j k v fits =
     let d : ℕ = 2 ^ j - 1 - v / 2 ^ k in
-    let high : v / 2 ^ k < 2 ^ j = shr_below v j k fits in
-    let low : v % 2 ^ k < 2 ^ k = mod-lt v (pow_pos k) in
-    let all : d + v / 2 ^ k ≡ 2 ^ j - 1 = omega arith in
+    let all : d + v / 2 ^ k ≡ 2 ^ j - 1 = omega (arith, shr_below v j k fits) in
     let rows : (2 ^ j - 1) * 2 ^ k ≡ d * 2 ^ k + v / 2 ^ k * 2 ^ k =
     ap (λ n. n * 2 ^ k) (sym all) ∙ add-mul d (v / 2 ^ k) (2 ^ k) in
-    let parts : v / 2 ^ k * 2 ^ k + v % 2 ^ k ≡ v = div-add-mod' v (2 ^ k) in
-    omega (arith, ones_split j k, rows, parts)
+    omega (arith, ones_split j k, rows, div-add-mod' v (2 ^ k), mod-lt v (pow_pos k))
 
 -- the upper j bits of the complement of j + k bits are the complement of the upper j bits
 complement_shr : (j k v : ℕ) → v < 2 ^ (j + k) → (2 ^ (j + k) - 1 - v) / 2 ^ k ≡ 2 ^ j - 1 - v / 2 ^ k
@@ -148,8 +142,7 @@ lane_ends w n i inside = omega (arith, mul-le (suc i) w n w (omega arith) (le_re
 pub first_lane : (w v : ℕ) → field (w * 0) w v ≡ v % 2 ^ w
 unfolding field
 first_lane w v =
-    let none : w * 0 ≡ 0 = mul-zero w in
-    ap (λ k. v / 2 ^ k % 2 ^ w) none ∙ ap (λ n. n % 2 ^ w) (div-one v)
+    ap (λ k. v / 2 ^ k % 2 ^ w) (mul-zero w) ∙ ap (λ n. n % 2 ^ w) (div-one v)
 
 -- lane i + 1 of a word is lane i of the word without its lowest w bits
 pub next_lane : (w i v : ℕ) → field (w * suc i) w v ≡ field (w * i) w (v / 2 ^ w)
@@ -162,8 +155,7 @@ next_lane w i v =
 pub top_of_lane : (k h v : ℕ) → bit_at (field k (suc h) v) h ≡ bit_at v (k + h)
 unfolding field
 top_of_lane k h v =
-    let one : suc h ≡ 1 + h = omega arith in
-    ap (λ n. v / 2 ^ k % 2 ^ n / 2 ^ h % 2) one ∙ ap (λ n. n % 2) (field_of (v / 2 ^ k) 1 h)
+    ap (λ n. v / 2 ^ k % 2 ^ n / 2 ^ h % 2) (sym (one-add h)) ∙ ap (λ n. n % 2) (field_of (v / 2 ^ k) 1 h)
     ∙ mod-mod (v / 2 ^ k / 2 ^ h) 2 ∙ ap (λ n. n % 2) (shr-shr v k h)
 
 -- a lane of a word that was shifted to the right by s, where only the bits of that lane are kept

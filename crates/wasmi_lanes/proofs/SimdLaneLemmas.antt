@@ -1,5 +1,5 @@
 -- Lanes as std::simd computes them: the digits of a number, and sums.
-use Rattle.std.proofs.Common.{ℕ, ◌+◌, ◌%◌, ◌<◌, ◌≡◌, List, [], ◌∷◌, length, get_or, map, replicate, refl, sym, ap, ◌∙◌, arith, zero, suc, pos, ◌*◌, ◌/◌, ◌^◌, ◌≤◌, subst, mul_comm, zero-mul, suc-mul, mul-add, mul-one, mod-eq_of_lt, w8, w64}
+use Rattle.std.proofs.Common.{ℕ, ◌+◌, ◌%◌, ◌<◌, ◌≡◌, List, [], ◌∷◌, length, get_or, map, replicate, refl, sym, ap, ◌∙◌, arith, zero, suc, pos, ◌*◌, ◌/◌, ◌^◌, ◌≤◌, subst, mul_comm, zero-mul, suc-mul, mul-add, mul-one, mod-eq_of_lt, w8, w64, le_refl}
 use Rattle.wasmi_lanes.proofs.Common.{zip2, digits_l, number_l, Each1, Each1-from_get_or, mod-one, mod-pow-add, div-mul-add, mod-mul-add, pow-add, mul-le, get_or-map, Width, w16, w32, bits, signed, lane, field}
 use Rattle.wasmi_raw.specs.RawVal.{vector_of}
 use Rattle.wasmi_lanes.proofs.FieldLemmas.{first_lane, next_lane}
@@ -57,25 +57,20 @@ number_below b [] fits = let none : 2 ^ (0 * b) ≡ 1 = ap (λ k. 2 ^ k) (zero-m
 number_below b (x ∷ xs) fits =
     let n = number_l (2 ^ b) xs in
     let q = 2 ^ (length xs * b) in
-    let below : n < q = number_below b xs fits.1 in
     let first : x < 2 ^ b = fits.0 in
-    let rows : 2 ^ b * (n + 1) ≤ 2 ^ b * q = mul-le (2 ^ b) (n + 1) (2 ^ b) q (le_self (2 ^ b)) (omega arith) in
+    let rows : 2 ^ b * (n + 1) ≤ 2 ^ b * q =
+    mul-le (2 ^ b) (n + 1) (2 ^ b) q (le_refl (2 ^ b)) (omega (arith, number_below b xs fits.1)) in
     let whole : 2 ^ (suc (length xs) * b) ≡ q * 2 ^ b =
     ap (λ k. 2 ^ k) (suc-mul (length xs) b) ∙ pow-add 2 (length xs * b) b in
     omega (arith, rows, whole, mul_comm (2 ^ b) q, mul-add (2 ^ b) n 1, mul-one (2 ^ b))
-  where
-    le_self : (n : ℕ) → n ≤ n
-    le_self n = omega arith
 
 -- the number of the digits of v
 pub number_of_digits : (b n v : ℕ) → number_l (2 ^ b) (digits_l (2 ^ b) n v) ≡ v % 2 ^ (n * b)
 number_of_digits b zero v = sym (mod-one v) ∙ ap (λ k. v % 2 ^ k) (sym (zero-mul b))
 number_of_digits b (suc n) v =
-    let high : number_l (2 ^ b) (digits_l (2 ^ b) n (v / 2 ^ b)) ≡ v / 2 ^ b % 2 ^ (n * b) =
-    number_of_digits b n (v / 2 ^ b) in
     let whole : v % 2 ^ (suc n * b) ≡ (v / 2 ^ b % 2 ^ (n * b)) * 2 ^ b + v % 2 ^ b =
     ap (λ k. v % 2 ^ k) (suc-mul n b) ∙ mod-pow-add v (n * b) b in
-    omega (arith, ap (λ k. 2 ^ b * k) high, mul_comm (2 ^ b) (v / 2 ^ b % 2 ^ (n * b)), whole)
+    omega (arith, ap (λ k. 2 ^ b * k) (number_of_digits b n (v / 2 ^ b)), mul_comm (2 ^ b) (v / 2 ^ b % 2 ^ (n * b)), whole)
 
 -- a lane of a vector, as it is read from its bytes
 pub read_at : (b n v : ℕ) (bytes : List ℕ) (i d : ℕ) → i < n → number_l 256 bytes ≡ v

@@ -1,6 +1,6 @@
 -- One lane as a number of its own: its highest bit and the rest; and what leaves room for a carry or a borrow where a
 -- lane begins.
-use Rattle.std.proofs.Common.{◌≡◌, ℕ, zero, suc, ◌+◌, ◌-◌, ◌*◌, ◌/◌, ◌%◌, ◌^◌, ◌<◌, ◌≤◌, max, ◌⊎◌, refl, sym, ap, subst, ap₂, ◌∙◌, inl, inr, arith, add-mul, mod-lt, mod-eq_of_lt, bit_and, bit_or, bit_xor, cond, eqb, pow-suc, mul_assoc, one-mul, zero-mul, zero-add, pos_of_ne-zero, w64}
+use Rattle.std.proofs.Common.{◌≡◌, ℕ, zero, suc, ◌+◌, ◌-◌, ◌*◌, ◌/◌, ◌%◌, ◌^◌, ◌<◌, ◌≤◌, max, ◌⊎◌, refl, sym, ap, subst, ap₂, ◌∙◌, inl, inr, arith, add-mul, mod-lt, mod-eq_of_lt, bit_and, bit_or, bit_xor, cond, eqb, pow-suc, mul_assoc, one-mul, zero-mul, zero-add, pos_of_ne-zero, w64, one-add}
 use Rattle.wasmi_lanes.proofs.Common.{mod-one, div-eq_of_lt, add-mod_right, add-mul-mod_self_right, mod-add-mod, pow_pos, mod-pow-add, and_mask, xor_lt, bit_at, eq-eqb, ne_eqb, cases_eq, field}
 use Rattle.std.proofs.lemmas.Nat.Bits.{and_pow, bit_at_and, bit_at_or, bit_at_xor, bit_at-lt, bit_at_not}
 use Rattle.std.specs.Int.Bits.{xor_block, or_add_and, xor_zero_r, xor_zero_l, or_zero_r, xor_self, xor_assoc}
@@ -9,11 +9,8 @@ use Rattle.wasmi_lanes.proofs.FieldLemmas.{field_not}
 -- the bits of v below k, whose top is clear
 pub clear_top : (v j : ℕ) → bit_at v j ≡ 0 → v % 2 ^ suc j < 2 ^ j
 clear_top v j e =
-    let one : 1 + j ≡ suc j = omega arith in
-    let parts : v % 2 ^ (1 + j) ≡ bit_at v j * 2 ^ j + v % 2 ^ j = mod-pow-add v 1 j in
-    let parts' : v % 2 ^ (1 + j) ≡ 0 * 2 ^ j + v % 2 ^ j = parts ∙ ap (λ b. b * 2 ^ j + v % 2 ^ j) e in
-    let low : v % 2 ^ j < 2 ^ j = mod-lt v (pow_pos j) in
-    subst (λ i. v % 2 ^ i < 2 ^ j) one (omega arith)
+    let parts : v % 2 ^ (1 + j) ≡ 0 * 2 ^ j + v % 2 ^ j = mod-pow-add v 1 j ∙ ap (λ b. b * 2 ^ j + v % 2 ^ j) e in
+    subst (λ i. v % 2 ^ i < 2 ^ j) (one-add j) (omega (arith, parts, mod-lt v (pow_pos j)))
 
 -- where a lane of tops begins, what is kept beside the tops leaves room for a carry
 pub room : (tops k v : ℕ) → tops < 2 ^ 64 → k ≤ 64 → (k ≡ 0) ⊎ (bit_at tops (k - 1) ≡ 1)
@@ -35,17 +32,15 @@ filled tops (suc j) v (inr e) =
     let back : suc j - 1 ≡ j = omega arith in
     let set : bit_at tops j ≡ 1 = subst (λ i. bit_at tops i ≡ 1) back e in
     let on : bit_at (bit_or v tops) j ≡ 1 = omega (arith, bit_at_or v tops j, bit_at-lt v j) in
-    let one : 1 + j ≡ suc j = omega arith in
     let parts : bit_or v tops % 2 ^ (1 + j) ≡ 1 * 2 ^ j + bit_or v tops % 2 ^ j =
     mod-pow-add (bit_or v tops) 1 j ∙ ap (λ b. b * 2 ^ j + bit_or v tops % 2 ^ j) on in
-    subst (λ i. 2 ^ i ≤ 2 * (bit_or v tops % 2 ^ i) + 1) one (omega (arith, pow-suc 2 j, ap (λ i. 2 ^ i) one))
+    subst (λ i. 2 ^ i ≤ 2 * (bit_or v tops % 2 ^ i) + 1) (one-add j)
+    (omega (arith, pow-suc 2 j, ap (λ i. 2 ^ i) (one-add j)))
 
 -- a lane of h + 1 bits: its top bit, and the rest
 pub lane_split : (h x : ℕ) → x < 2 ^ suc h → bit_at x h * 2 ^ h + x % 2 ^ h ≡ x
 lane_split h x fits =
-    let one : 1 + h ≡ suc h = omega arith in
-    let whole : x % 2 ^ (1 + h) ≡ x = ap (λ i. x % 2 ^ i) one ∙ mod-eq_of_lt fits in
-    sym (mod-pow-add x 1 h) ∙ whole
+    sym (mod-pow-add x 1 h) ∙ ap (λ i. x % 2 ^ i) (one-add h) ∙ mod-eq_of_lt fits
 
 -- of h + 1 bits, c the top and m the others, to flip the top is to add 2 ^ h modulo 2 ^ (h + 1)
 flipped : (h c m : ℕ) → c < 2 → m < 2 ^ h
@@ -122,9 +117,7 @@ or_top h x fits = omega (arith, or_add_and x (2 ^ h), and_pow x h, lane_split h 
 pub not_top : (h y : ℕ) → y < 2 ^ suc h → bit_at (2 ^ suc h - 1 - y) h ≡ 1 - bit_at y h
 unfolding field
 not_top h y fits =
-    let one : 1 + h ≡ suc h = omega arith in
-    let sum : h + 1 ≤ suc h = omega arith in
-    field_not h 1 (suc h) y sum fits
+    field_not h 1 (suc h) y (omega arith) fits
 
 -- x with its top set less the bits of y below the top, top flipped where the tops are equal, is x - y, wrapped
 pub lane_sub : (h x y : ℕ) → x < 2 ^ suc h → y < 2 ^ suc h →
@@ -134,11 +127,18 @@ lane_sub h x y fx fy =
     let m : ℕ = 2 ^ suc h in
     let z : ℕ = bit_or x (2 ^ h) + (m - bit_and y (2 ^ h - 1)) in
     let n : ℕ = bit_at x h + bit_at (m - 1 - y) h in
-    let low : bit_and y (2 ^ h - 1) ≡ y % 2 ^ h = and_mask y h in
     let tops : n * 2 ^ h + bit_at y h * 2 ^ h ≡ bit_at x h * 2 ^ h + 2 ^ h =
     tops_of (bit_at x h) (bit_at y h) (bit_at (m - 1 - y) h) (2 ^ h) (not_top h y fy) (bit_at-lt y h) in
     let sum : z + n * 2 ^ h ≡ x + (m - y) + m =
-    omega (arith, pow-suc 2 h, or_top h x fx, lane_split h x fx, lane_split h y fy, mod-lt y (pow_pos h)) in
+    omega (
+      arith,
+      pow-suc 2 h,
+      or_top h x fx,
+      and_mask y h,
+      lane_split h x fx,
+      lane_split h y fy,
+      mod-lt y (pow_pos h),
+    ) in
     ap (bit_xor (z % m)) (and_top_xor h x (m - 1 - y)) ∙ xor_tops h (z % m) n (mod-lt z (pow_pos (suc h)))
     ∙ mod-add-mod z m (n * 2 ^ h) ∙ ap (λ k. k % m) sum ∙ add-mod_right (x + (m - y)) m
 
@@ -157,8 +157,7 @@ top_case (suc (suc b)) p r s bit low e le = absurd (omega arith)
 -- a number of h + 1 bits that is at least 2 ^ h has its top
 top_of : (h s : ℕ) → s < 2 ^ suc h → 2 ^ h ≤ s → bit_at s h ≡ 1
 top_of h s fits le =
-    let whole : bit_at s h * 2 ^ h + s % 2 ^ h ≡ s = lane_split h s fits in
-    top_case (bit_at s h) (2 ^ h) (s % 2 ^ h) s (bit_at-lt s h) (mod-lt s (pow_pos h)) whole le
+    top_case (bit_at s h) (2 ^ h) (s % 2 ^ h) s (bit_at-lt s h) (mod-lt s (pow_pos h)) (lane_split h s fits) le
 
 -- where z of h + 1 bits isn't 0, z or the sum s of its bits below the top and 2 ^ h - 1 has the top
 some_top : (h z s b : ℕ) → z < 2 ^ suc h → 0 < z → s ≡ z % 2 ^ h + (2 ^ h - 1) → s < 2 ^ suc h → bit_at z h ≡ b
@@ -178,9 +177,8 @@ lane_some h z fits pos =
     let small : s < 2 ^ suc h = omega (arith, pow-suc 2 h, mod-lt z (pow_pos h)) in
     let sum : (bit_and z (2 ^ h - 1) + (2 ^ h - 1)) % 2 ^ suc h ≡ s =
     ap (λ n. (n + (2 ^ h - 1)) % 2 ^ suc h) (and_mask z h) ∙ mod-eq_of_lt small in
-    let set : max (bit_at s h) (bit_at z h) ≡ 1 = some_top h z s (bit_at z h) fits pos refl small refl in
-    ap (λ n. bit_and (bit_or n z) (2 ^ h)) sum ∙ and_pow (bit_or s z) h ∙ ap (λ b. b * 2 ^ h) (bit_at_or s z h ∙ set)
-    ∙ one-mul (2 ^ h)
+    ap (λ n. bit_and (bit_or n z) (2 ^ h)) sum ∙ and_pow (bit_or s z) h
+    ∙ ap (λ b. b * 2 ^ h) (bit_at_or s z h ∙ some_top h z s (bit_at z h) fits pos refl small refl) ∙ one-mul (2 ^ h)
 
 -- and it isn't set where the lane is 0
 lane_none : (h : ℕ) → bit_and (bit_or ((bit_and 0 (2 ^ h - 1) + (2 ^ h - 1)) % 2 ^ suc h) 0) (2 ^ h) ≡ 0

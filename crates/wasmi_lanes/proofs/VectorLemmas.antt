@@ -26,8 +26,7 @@ first_lanes_are : (w : Width) (v : ℕ) (f : ℕ → ℕ) (n : ℕ) → ((i : �
     → first_lanes w n f ≡ v % 2 ^ (bits w * n)
 unfolding first_lanes
 first_lanes_are w v f zero each =
-    let none : bits w * 0 ≡ 0 = omega arith in
-    sym (ap (λ k. v % 2 ^ k) none ∙ mod-one v)
+    sym (ap (λ k. v % 2 ^ k) (mul-zero (bits w)) ∙ mod-one v)
 first_lanes_are w v f (suc n) each =
     let b = bits w in
     let low : first_lanes w n f ≡ v % 2 ^ (b * n) = first_lanes_are w v f n (λ i h. each i (omega arith)) in
@@ -103,8 +102,7 @@ module _ {A : Type 0} (item : Ghosts A) where
 lanes_below : (w : Width) (f : ℕ → ℕ) (n : ℕ) → first_lanes w n f < 2 ^ (bits w * n)
 unfolding first_lanes
 lanes_below w f zero =
-    let none : bits w * 0 ≡ 0 = mul-zero (bits w) in
-    subst (λ k. 0 < 2 ^ k) (sym none) (omega arith)
+    subst (λ k. 0 < 2 ^ k) (sym (mul-zero (bits w))) (omega arith)
 lanes_below w f (suc n) =
     let p : ℕ = 2 ^ (bits w * n) in
     let x : ℕ = f n % 2 ^ bits w in

@@ -186,13 +186,11 @@ from_fields v start (width ∷ widths) fits whole =
     let p : ℕ = 2 ^ start in
     let q : ℕ = 2 ^ width in
     let x : ℕ = v / p in
-    let above : v / 2 ^ (start + width) ≡ x / q = sym (shr-shr v start width) in
-    let place : 2 ^ (start + width) ≡ p * q = pow-add 2 start width in
     let rest : word_of_lanes (λ k w. field k w v) (start + width) widths
     ≡ v / 2 ^ (start + width) * 2 ^ (start + width) =
     from_fields v (start + width) widths fits (omega (arith, sum_by-cons (λ x. x) width widths)) in
     let moved : x / q * (p * q) ≡ x / q * q * p = ap (λ n. x / q * n) (mul_comm p q) ∙ sym (mul_assoc (x / q) q p) in
-    ap (λ n. x % q * p + n) (rest ∙ ap₂ ◌*◌ above place ∙ moved)
+    ap (λ n. x % q * p + n) (rest ∙ ap₂ ◌*◌ (sym (shr-shr v start width)) (pow-add 2 start width) ∙ moved)
     ∙ omega (arith, add-mul (x / q * q) (x % q) p, ap (λ n. n * p) (div-add-mod' x q))
 
 -- a word is the word of its own lanes, whatever their widths are, where these have the sum 64

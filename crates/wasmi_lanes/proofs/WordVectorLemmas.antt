@@ -1,5 +1,5 @@
 -- Vectors by their two words, and words of equal lanes.
-use Rattle.std.proofs.Common.{◌≡◌, ℕ, zero, suc, ◌+◌, ◌-◌, ◌*◌, ◌/◌, ◌%◌, ◌^◌, ◌<◌, ◌≤◌, ◌⊎◌, inl, inr, refl, sym, ap, ap₂, subst, ◌∙◌, arith, mul-suc, mul-zero, mul-add, mul_comm, w8, w64}
+use Rattle.std.proofs.Common.{◌≡◌, ℕ, zero, suc, ◌+◌, ◌-◌, ◌*◌, ◌/◌, ◌%◌, ◌^◌, ◌<◌, ◌≤◌, ◌⊎◌, inl, inr, refl, sym, ap, ap₂, subst, ◌∙◌, arith, mul-suc, mul-zero, mul-add, mul_comm, w8, w64, one-add}
 use Rattle.wasmi_lanes.proofs.Common.{cases_lt, pow_pos, shr-shr, field_of, zero-mod, mod_self, bit_at, Width, w16, w32, bits, lane, from_lanes, field, IsLane, IsLastLane, lanes_in_word, in_each_lane}
 use Rattle.std.proofs.Math.Pow.{mod-mod-pow}
 use Rattle.std.proofs.lemmas.Nat.Bits.{bit_at-pow_same}
@@ -167,10 +167,9 @@ unfolding field
 last_is_free tops k zero pos top whole = absurd (omega arith)
 last_is_free tops k (suc h) pos top whole =
     let place : 63 ≡ h + k = omega arith in
-    let one : 1 + h ≡ suc h = omega arith in
     let back : suc h - 1 ≡ h = omega arith in
     let low : tops / 2 ^ k % 2 ^ h ≡ 0 =
-    sym (mod-mod-pow (tops / 2 ^ k) 1 h) ∙ ap (λ n. tops / 2 ^ k % 2 ^ n % 2 ^ h) one
+    sym (mod-mod-pow (tops / 2 ^ k) 1 h) ∙ ap (λ n. tops / 2 ^ k % 2 ^ n % 2 ^ h) (one-add h)
     ∙ ap (λ n. n % 2 ^ h) (top ∙ ap (λ n. 2 ^ n) back) ∙ mod_self (2 ^ h) in
     ap (λ n. tops % 2 ^ n / 2 ^ k % 2 ^ suc h) place ∙ ap (λ n. n % 2 ^ suc h) (field_of tops h k ∙ low)
     ∙ zero-mod (2 ^ suc h)

@@ -42,8 +42,7 @@ mask_off h n mask j is below =
 half_room : (w n mask v i : ℕ) → 0 < w → ((j : ℕ) → j < n → field ((w + w) * j) (w + w) mask ≡ 2 ^ w - 1) → i < n →
     2 * (bit_and v mask % 2 ^ ((w + w) * i)) < 2 ^ ((w + w) * i)
 half_room w n mask v zero pos is lt =
-    let none : (w + w) * 0 ≡ 0 = mul-zero (w + w) in
-    subst (λ k. 2 * (bit_and v mask % 2 ^ k) < 2 ^ k) (sym none) (omega (arith, mod-one (bit_and v mask)))
+    subst (λ k. 2 * (bit_and v mask % 2 ^ k) < 2 ^ k) (sym (mul-zero (w + w))) (omega (arith, mod-one (bit_and v mask)))
 half_room zero n mask v (suc j) pos is lt = absurd (omega arith)
 half_room (suc h) n mask v (suc j) pos is lt =
     let top : ℕ = (suc h + suc h) * j + (h + suc h) in
@@ -98,9 +97,8 @@ first_pairs v j fits below =
     let upper : ℕ = bit_and (v / 2) ones in
     let within : k + 2 ≤ 64 = omega arith in
     let small : upper < 2 ^ 64 = omega (arith, and_le_l (v / 2) ones) in
-    let high : field k 2 upper ≡ field (k + 1) 1 v = upper_half 1 k v ones (masks j below) in
     field_wrapping_sub k 2 64 v upper within small (mean_low k v ones (starts j below))
-    ∙ ap (λ n. (field k 2 v + (4 - n)) % 4) high
+    ∙ ap (λ n. (field k 2 v + (4 - n)) % 4) (upper_half 1 k v ones (masks j below))
     ∙ omega (
       arith,
       pair_split k v,

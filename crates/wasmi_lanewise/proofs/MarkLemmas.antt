@@ -1,5 +1,5 @@
 -- Words whose lanes are 0 or their top bit alone, and their lanes filled with ones.
-use Rattle.std.proofs.Common.{◌≡◌, ℕ, zero, suc, ◌+◌, ◌-◌, ◌*◌, ◌/◌, ◌%◌, ◌^◌, ◌<◌, ◌≤◌, ◌⊎◌, inl, inr, cond, eqb, Bool, true, false, not, refl, sym, ap, ap₂, subst, ◌∙◌, arith, mod-eq_of_lt, mod-lt, lit<, bit_and, bit_or, bit_xor, pow-suc, mul_comm, one-mul, mul-add, mul-one}
+use Rattle.std.proofs.Common.{◌≡◌, ℕ, zero, suc, ◌+◌, ◌-◌, ◌*◌, ◌/◌, ◌%◌, ◌^◌, ◌<◌, ◌≤◌, ◌⊎◌, inl, inr, cond, eqb, Bool, true, false, not, refl, sym, ap, ap₂, subst, ◌∙◌, arith, mod-eq_of_lt, mod-lt, lit<, bit_and, bit_or, bit_xor, pow-suc, mul_comm, one-mul, mul-add, mul-one, one-add}
 use Rattle.wasmi_lanewise.proofs.Common.{zero-mod, mod_self, div-eq_of_lt, add-mod_right, mod-add-mod, pow_pos, shr-shr, mod-pow-add, field_of, shr_le, and_le_l, and_mask, or_lt, or_shifted, bit_at-zero, bit_at-pow_same, ne_eqb, cases_lt, mod-mod-pow, bit_at, field, IsLane, AreMarks, AreFilled, Width, bits, field_and, field_or, field_sub, field_xor, field_of_zero, same_words, top_of_lane, EachLane}
 use Rattle.std.specs.Int.Bits.{and_zero_r, or_add_and, xor_self, xor_zero_l}
 
@@ -11,9 +11,8 @@ Clear h v k = v / 2 ^ k % 2 ^ h ≡ 0
 mark_clear : (h k v : ℕ) → (field k (suc h) v ≡ 0) ⊎ (field k (suc h) v ≡ 2 ^ h) → Clear h v k
 unfolding field
 mark_clear h k v mark =
-    let one : suc h ≡ 1 + h = omega arith in
     let low : v / 2 ^ k % 2 ^ suc h % 2 ^ h ≡ v / 2 ^ k % 2 ^ h =
-    ap (λ n. v / 2 ^ k % 2 ^ n % 2 ^ h) one ∙ mod-mod-pow (v / 2 ^ k) 1 h in
+    ap (λ n. v / 2 ^ k % 2 ^ n % 2 ^ h) (sym (one-add h)) ∙ mod-mod-pow (v / 2 ^ k) 1 h in
     elim mark [
       | inl e ↦ sym low ∙ ap (λ n. n % 2 ^ h) e ∙ zero-mod (2 ^ h)
       | inr e ↦ sym low ∙ ap (λ n. n % 2 ^ h) e
@@ -63,10 +62,9 @@ fill_case h f b (inl e) at =
 fill_case h f b (inr e) at =
     let one : b ≡ 1 = at ∙ ap (λ n. bit_at n h) e ∙ bit_at-pow_same h in
     let less : f - b ≡ 2 ^ h - 1 = omega arith in
-    let top : 1 * 2 ^ h ≡ 2 ^ h = one-mul (2 ^ h) in
     let below : 2 ^ h - 1 < 2 ^ h = omega (arith, pow_pos h) in
     let joined : bit_or (2 ^ h) (2 ^ h - 1) ≡ 2 ^ suc h - 1 =
-    ap (λ n. bit_or n (2 ^ h - 1)) (sym top) ∙ or_shifted 1 h (2 ^ h - 1) below
+    ap (λ n. bit_or n (2 ^ h - 1)) (sym (one-mul (2 ^ h))) ∙ or_shifted 1 h (2 ^ h - 1) below
     ∙ omega (arith, pow-suc 2 h, pow_pos h) in
     let some : eqb (2 ^ h) 0 ≡ false = ne_eqb (2 ^ h) 0 (λ z. absurd (omega (arith, pow_pos h))) in
     ap₂ bit_or e less ∙ joined
@@ -140,10 +138,9 @@ filled_is v top fits apart =
     let less : half ≤ v = shr_le v top in
     let joined : bit_or v (v - half) ≡ v + (v - half) = omega (arith, or_add_and v (v - half)) in
     let below : v - half < 2 ^ 64 = omega arith in
-    let small : bit_or v (v - half) < 2 ^ 64 = or_lt 64 v (v - half) fits below in
     let sum : (v + v) + (2 ^ 64 - half) ≡ bit_or v (v - half) + 2 ^ 64 = omega arith in
     mod-add-mod (v + v) (2 ^ 64) (2 ^ 64 - half) ∙ ap (λ n. n % 2 ^ 64) sum
-    ∙ add-mod_right (bit_or v (v - half)) (2 ^ 64) ∙ mod-eq_of_lt small
+    ∙ add-mod_right (bit_or v (v - half)) (2 ^ 64) ∙ mod-eq_of_lt (or_lt 64 v (v - half) fits below)
 
 module _ (h n v : ℕ) (fits : v < 2 ^ 64) (whole : n * suc h ≡ 64)
     (marks : (i : ℕ) → i < n → (field (suc h * i) (suc h) v ≡ 0) ⊎ (field (suc h * i) (suc h) v ≡ 2 ^ h)) where

@@ -83,9 +83,7 @@ module _ (x y : ℤ) (fits_x : FitsSigned w16 x) (fits_y : FitsSigned w16 y) whe
   -- the product is at most 2 ^ 30 away from 0
   product_is_small : unsigned_abs (x *ℤ y) ≤ 2 ^ 30
   product_is_small =
-      let bound : unsigned_abs x * unsigned_abs y ≤ 32768 * 32768 =
-      mul-le-mul (abs_of_lane x fits_x) (abs_of_lane y fits_y) in
-      omega (arith, bound, unsigned_abs-mul x y)
+      omega (arith, mul-le-mul (abs_of_lane x fits_x) (abs_of_lane y fits_y), unsigned_abs-mul x y)
 
   -- the largest product is far above the next one
   product_has_gap : (unsigned_abs (x *ℤ y) ≤ 2 ^ 30 - 2 ^ 15) ⊎ (2 ^ 30 ≤ unsigned_abs (x *ℤ y))
@@ -102,8 +100,7 @@ module _ (x y : ℤ) (fits_x : FitsSigned w16 x) (fits_y : FitsSigned w16 y) whe
           let bound : unsigned_abs x * unsigned_abs y ≤ 32768 * 32767 = mul-le-mul (abs_of_lane x fits_x) small in
           inl (omega (arith, bound, unsigned_abs-mul x y))
       gap (inr least_x) (inr least_y) =
-          let bound : 32768 * 32768 ≤ unsigned_abs x * unsigned_abs y = mul-le-mul least_x least_y in
-          inr (omega (arith, bound, unsigned_abs-mul x y))
+          inr (omega (arith, mul-le-mul least_x least_y, unsigned_abs-mul x y))
 
   -- a signed number of 16 bits is one of 32 bits
   lane_in_32_bits : (z : ℤ) → FitsSigned w16 z → FitsSigned w32 z

@@ -22,8 +22,7 @@ field_mul k w u c low =
 scaled_low : (w c u i : ℕ) → ((j : ℕ) → j < i → field (w * j) w u * c < 2 ^ w) → (u % 2 ^ (w * i)) * c < 2 ^ (w * i)
 unfolding field
 scaled_low w c u zero each =
-    let none : w * 0 ≡ 0 = mul-zero w in
-    subst (λ k. (u % 2 ^ k) * c < 2 ^ k) (sym none) (omega (arith, ap (λ n. n * c) (mod-one u), zero-mul c))
+    subst (λ k. (u % 2 ^ k) * c < 2 ^ k) (sym (mul-zero w)) (omega (arith, ap (λ n. n * c) (mod-one u), zero-mul c))
 scaled_low w c u (suc i) each =
     let q : ℕ = 2 ^ (w * i) in
     let x : ℕ = u / q % 2 ^ w in
@@ -54,8 +53,8 @@ shl_cut w s r x e =
     let parts : x * 2 ^ s ≡ x / 2 ^ r * 2 ^ w + m * 2 ^ s =
     ap (λ n. n * 2 ^ s) (sym (div-add-mod' x (2 ^ r))) ∙ add-mul (x / 2 ^ r * 2 ^ r) m (2 ^ s)
     ∙ ap (λ n. n + m * 2 ^ s) (mul_assoc (x / 2 ^ r) (2 ^ r) (2 ^ s) ∙ ap (λ n. x / 2 ^ r * n) whole) in
-    let small : m * 2 ^ s < 2 ^ w = subst (λ n. m * 2 ^ s < 2 ^ n) e (shl_below m r s (mod-lt x (pow_pos r))) in
-    sym (ap (λ n. n % 2 ^ w) parts ∙ mod-mul-add (x / 2 ^ r) (2 ^ w) (m * 2 ^ s) small)
+    sym (ap (λ n. n % 2 ^ w) parts ∙ mod-mul-add (x / 2 ^ r) (2 ^ w) (m * 2 ^ s)
+    (subst (λ n. m * 2 ^ s < 2 ^ n) e (shl_below m r s (mod-lt x (pow_pos r)))))
 
 -- a lane of v, masked to r bits a lane and shifted to the left by s, is the lane, shifted, at its width
 pub lane_shl : (w n s r v mask : ℕ) → n * w ≤ 64 → r + s ≡ w → ((j : ℕ) → j < n → field (w * j) w mask ≡ 2 ^ r - 1)
@@ -140,21 +139,19 @@ module _ (w : Width) (whole : lanes_in_word w * bits w ≡ 64) (v amount s : ℕ
       → r ≡ vector_of (bit_and (v % 2 ^ 64) (shift_masks w s) * 2 ^ s % 2 ^ 64)
       (bit_and (v / 2 ^ 64) (shift_masks w s) * 2 ^ s % 2 ^ 64) → r ≡ shl w v amount
   words_shifted_left is =
-      let less : s < bits w = amount_below in
-      let keep : bits w - s + s ≡ bits w = omega arith in
+      let keep : bits w - s + s ≡ bits w = omega (arith, amount_below) in
       let kept : ℕ = shift_masks w s in
       words_shifted (λ x. bit_and x kept * 2 ^ s % 2 ^ 64) (λ n x. x * 2 ^ n % 2 ^ bits w)
       (λ x _. mod-lt (bit_and x kept * 2 ^ s) (lit< tt))
-      (λ x _. lane_shl (bits w) (lanes_in_word w) s (bits w - s) x kept (le_of_eq whole) keep (masked_lane w s less)) is
+      (λ x _. lane_shl (bits w) (lanes_in_word w) s (bits w - s) x kept (le_of_eq whole) keep (masked_lane w s amount_below)) is
 
   -- words that are shifted to the right, then masked
   pub words_shifted_right : {r : ℕ}
       → r ≡ vector_of (bit_and (v % 2 ^ 64 / 2 ^ s) (shift_masks w s)) (bit_and (v / 2 ^ 64 / 2 ^ s) (shift_masks w s))
       → r ≡ shr_u w v amount
   words_shifted_right is =
-      let less : s < bits w = amount_below in
-      let keep : bits w - s + s ≡ bits w = omega arith in
+      let keep : bits w - s + s ≡ bits w = omega (arith, amount_below) in
       let kept : ℕ = shift_masks w s in
       words_shifted (λ x. bit_and (x / 2 ^ s) kept) (λ n x. x / 2 ^ n)
       (λ x below. omega (arith, and_le_l (x / 2 ^ s) kept, shr_le x s))
-      (λ x _ i inside. lane_shr (bits w) s (bits w - s) (bits w * i) x kept keep (masked_lane w s less i inside)) is
+      (λ x _ i inside. lane_shr (bits w) s (bits w - s) (bits w * i) x kept keep (masked_lane w s amount_below i inside)) is

@@ -1,5 +1,5 @@
 -- Lane by lane and bit by bit work on the words of a vector.
-use Rattle.std.proofs.Common.{◌≡◌, ℕ, zero, suc, ◌+◌, ◌-◌, ◌*◌, ◌/◌, ◌%◌, ◌^◌, ◌<◌, ◌≤◌, inl, inr, cond, eqb, Bool, true, false, not, refl, sym, ap, ◌∙◌, arith, mod-eq_of_lt, ap₂, bit_and, bit_or, bit_xor, ◌⊎◌, subst, pow-suc, mul_comm, mul_assoc}
+use Rattle.std.proofs.Common.{◌≡◌, ℕ, zero, suc, ◌+◌, ◌-◌, ◌*◌, ◌/◌, ◌%◌, ◌^◌, ◌<◌, ◌≤◌, inl, inr, cond, eqb, Bool, true, false, not, refl, sym, ap, ◌∙◌, arith, mod-eq_of_lt, ap₂, bit_and, bit_or, bit_xor, ◌⊎◌, subst, pow-suc, mul_comm, mul_assoc, one-add, add-one}
 use Rattle.wasmi_lanewise.proofs.Common.{mod_self, add-mod_right, mul-div_cancel, pow_pos, div-add-mod', and_mod, or_mod, xor_mod, mod-pow-add, field_of, or_lt, and_le_l, eq-eqb, ne_eqb, field, IsLane, field_lt, field_not, field_of_zero, same_words, field_or, field_xor, field_sub, lane_shr, AreWords, InnerLane, tops_each, u64x2_of, v128_not, w64, lane, unsigned, first_lanes, binary_of_lanes, bit_at_and, bit_at_not, bit_at}
 use Rattle.std.proofs.lemmas.Bool.Decides.{eqb_tells}
 use Rattle.wasmi_raw.specs.RawVal.{vector_of}
@@ -8,9 +8,7 @@ use Rattle.std.specs.Int.Bits.{or_add_and, xor_add_and}
 -- a lane of the word of all ones
 ones_lane : (k w : ℕ) → k + w ≤ 64 → field k w (2 ^ 64 - 1) ≡ 2 ^ w - 1
 ones_lane k w within =
-    let zeros : field k w (2 ^ 64 - 1 - 0) ≡ 2 ^ w - 1 - field k w 0 = field_not k w 64 0 within (pow_pos 64) in
-    let whole : 2 ^ w - 1 - 0 ≡ 2 ^ w - 1 = omega arith in
-    zeros ∙ ap (λ n. 2 ^ w - 1 - n) (field_of_zero k w) ∙ whole
+    field_not k w 64 0 within (pow_pos 64) ∙ ap (λ n. 2 ^ w - 1 - n) (field_of_zero k w) ∙ omega arith
 
 -- ---- a vector inverted, and its words
 
@@ -152,11 +150,9 @@ pub lanes_are_words : (row : ℕ → ℕ → ℕ) (a b low high r : ℕ) → a <
     → r ≡ vector_of low high → r ≡ binary_of_lanes w64 unsigned row a b
 unfolding binary_of_lanes first_lanes
 lanes_are_words row a b low high r fits_a fits_b of_low of_high is =
-    let low_fits : low < 2 ^ 64 = of_low.fits in
-    let high_fits : high < 2 ^ 64 = of_high.fits in
     let first : row (lane w64 a 0) (lane w64 b 0) ≡ low = ap₂ row (omega arith) (omega arith) ∙ sym of_low.is in
     let second : row (lane w64 a 1) (lane w64 b 1) ≡ high = ap₂ row (omega arith) (omega arith) ∙ sym of_high.is in
-    omega (arith, is, first, second)
+    omega (arith, is, first, second, of_low.fits, of_high.fits)
 
 -- modulo 2 ^ k, half of z without its bit k - 1 is at most z
 pub mean_low : (k z rest : ℕ) → (k ≡ 0) ⊎ (bit_at rest (k - 1) ≡ 0) → bit_and (z / 2) rest % 2 ^ k ≤ z % 2 ^ k
@@ -167,14 +163,11 @@ mean_low (suc j) z rest (inr e) =
     let back : suc j - 1 ≡ j = omega arith in
     let off : bit_at rest j ≡ 0 = subst (λ i. bit_at rest i ≡ 0) back e in
     let clear : bit_at s j ≡ 0 = omega (arith, bit_at_and (z / 2) rest j) in
-    let one : 1 + j ≡ suc j = omega arith in
-    let turned : j + 1 ≡ suc j = omega arith in
     let parts : s % 2 ^ (1 + j) ≡ 0 * 2 ^ j + s % 2 ^ j = mod-pow-add s 1 j ∙ ap (λ b. b * 2 ^ j + s % 2 ^ j) clear in
     let low : s % 2 ^ j ≤ z / 2 % 2 ^ j =
     subst (λ n. n ≤ z / 2 % 2 ^ j) (sym (and_mod (z / 2) rest j)) (and_le_l (z / 2 % 2 ^ j) (rest % 2 ^ j)) in
-    let half : z % 2 ^ (j + 1) / 2 ≡ z / 2 % 2 ^ j = field_of z j 1 in
-    let half' : z % 2 ^ suc j / 2 ≡ z / 2 % 2 ^ j = ap (λ n. z % 2 ^ n / 2) (sym turned) ∙ half in
-    subst (λ n. s % 2 ^ n ≤ z % 2 ^ suc j) one (omega (arith, ap (λ n. s % 2 ^ n) one))
+    let half : z % 2 ^ suc j / 2 ≡ z / 2 % 2 ^ j = ap (λ n. z % 2 ^ n / 2) (sym (add-one j)) ∙ field_of z j 1 in
+    subst (λ n. s % 2 ^ n ≤ z % 2 ^ suc j) (one-add j) (omega (arith, ap (λ n. s % 2 ^ n) (one-add j)))
 
 -- the larger part of a or b is not below what differs
 pub xor_le_or : (a b : ℕ) → bit_xor a b ≤ bit_or a b
@@ -184,8 +177,7 @@ xor_le_or a b = omega (arith, xor_add_and a b, or_add_and a b)
 lane_half : (k h z rest : ℕ) → field k (suc h) rest ≡ 2 ^ h - 1
     → field k (suc h) (bit_and (z / 2) rest) ≡ field k (suc h) z / 2
 lane_half k h z rest is =
-    let one : h + 1 ≡ suc h = omega arith in
-    lane_shr (suc h) 1 h k z rest one is
+    lane_shr (suc h) 1 h k z rest (add-one h) is
 
 -- no mean borrows from the lane below
 mean_suc_lane : (k h a b rest : ℕ) → (k ≡ 0) ⊎ (bit_at rest (k - 1) ≡ 0) → field k (suc h) rest ≡ 2 ^ h - 1 →
@@ -214,10 +206,7 @@ not_starts : (tops k : ℕ) → tops < 2 ^ 64 → k ≤ 64 → (k ≡ 0) ⊎ (bi
 not_starts tops zero fits le starts = inl refl
 not_starts tops (suc j) fits le (inl e) = absurd (omega arith)
 not_starts tops (suc j) fits le (inr e) =
-    let place : suc j - 1 < 64 = omega arith in
-    let off : bit_at (2 ^ 64 - 1 - tops) (suc j - 1) ≡ 1 - bit_at tops (suc j - 1) =
-    bit_at_not w64 tops (suc j - 1) fits place in
-    inr (omega (arith, off))
+    inr (omega (arith, bit_at_not w64 tops (suc j - 1) fits (omega arith)))
 
 -- a lane of the bits of either, less half of those that differ, is the mean of both lanes, rounded up
 pub mean_lane : (tops k w a b : ℕ) → tops < 2 ^ 64 → IsLane tops k w →
@@ -228,8 +217,7 @@ mean_lane tops k (suc h) a b fits lane =
     let top : field k (suc h) tops ≡ 2 ^ h = lane.top ∙ ap (λ n. 2 ^ n) back in
     let kept : field k (suc h) (2 ^ 64 - 1 - tops) ≡ 2 ^ h - 1 =
     field_not k (suc h) 64 tops lane.within fits ∙ omega (arith, top, pow-suc 2 h) in
-    let start : k ≤ 64 = omega (arith, lane.within) in
-    mean_suc_lane k h a b (2 ^ 64 - 1 - tops) (not_starts tops k fits start lane.starts) kept
+    mean_suc_lane k h a b (2 ^ 64 - 1 - tops) (not_starts tops k fits (omega (arith, lane.within)) lane.starts) kept
 
 pub ruleset averages = (and_le_l, xor_le_or, mean_lane)
 

@@ -326,8 +326,8 @@ fn upper_halves(x: u16x8, y: u16x8) -> u16x8
     (products >> u32x8::splat(16)).cast::<u16>()
 }
 
-// Twice the lanes, read signed, and the largest number in the place of the one double that doesn't
-// fit, that of 2 to the power 14.
+/// Twice the lanes, read signed, and the largest number in the place of the one double that doesn't
+/// fit, that of 2 to the power 14.
 #[tactic(auto, using(crate::proofs::SaturationLemmas::most_at))]
 #[inline(always)]
 fn twice(items: u16x8) -> u16x8

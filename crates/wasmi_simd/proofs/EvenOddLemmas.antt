@@ -77,10 +77,9 @@ module _ {narrow wide : Width} {n : ℕ} (widens : IsWidening narrow wide n) (v 
   pair_is i =
       let b = bits narrow in
       let from : bits wide * i ≡ b * (2 * i) = ap (λ k. k * i) widens.twice ∙ grind arith in
-      let next : b * (2 * i) + b ≡ b * (2 * i + 1) = grind arith in
       ap₂ (λ k m. v / 2 ^ k % 2 ^ m) from widens.twice
       ∙ mod-pow-add (v / 2 ^ (b * (2 * i))) b b
-      ∙ ap (λ m. m % 2 ^ b * 2 ^ b + even i) (shr-shr v (b * (2 * i)) b ∙ ap (λ k. v / 2 ^ k) next)
+      ∙ ap (λ m. m % 2 ^ b * 2 ^ b + even i) (shr-shr v (b * (2 * i)) b ∙ ap (λ k. v / 2 ^ k) (grind arith))
 
   module _ (xs : List ℕ) (long : length xs ≡ n) (is : (i : ℕ) → i < n → get_or xs i 0 ≡ lane wide v i) where
     -- xs is the wide lanes

@@ -18,12 +18,9 @@ spelled_same p (suc n) g h each =
 -- a word is its lanes, as digits
 word_spelled : (w n v : ℕ) → v < 2 ^ (n * w) → v ≡ spelled (2 ^ w) n (λ i. field (w * i) w v)
 word_spelled w zero v fits =
-    let none : 0 * w ≡ 0 = zero-mul w in
-    let less : v < 2 ^ 0 = subst (λ k. v < 2 ^ k) none fits in
-    omega arith
+    omega (arith, subst (λ k. v < 2 ^ k) (zero-mul w) fits)
 word_spelled w (suc n) v fits =
-    let more : suc n * w ≡ n * w + w = suc-mul n w in
-    let less : v < 2 ^ (n * w + w) = subst (λ k. v < 2 ^ k) more fits in
+    let less : v < 2 ^ (n * w + w) = subst (λ k. v < 2 ^ k) (suc-mul n w) fits in
     let rest : spelled (2 ^ w) n (λ i. field (w * suc i) w v) ≡ v / 2 ^ w =
     spelled_same (2 ^ w) n (λ i. field (w * suc i) w v) (λ i. field (w * i) w (v / 2 ^ w)) (λ i _. next_lane w i v)
     ∙ sym (word_spelled w n (v / 2 ^ w) (shr_below v (n * w) w less)) in
@@ -65,10 +62,9 @@ highest_alone h x fits =
 pub tops_spelled : (h n v tops : ℕ) → n * suc h ≡ 64 → v < 2 ^ 64 → tops ≡ number_l (2 ^ suc h) (replicate n (2 ^ h))
     → bit_and v tops ≡ spelled (2 ^ suc h) n (λ i. one_if (leb (2 ^ h) (field (suc h * i) (suc h) v)) * 2 ^ h)
 tops_spelled h n v tops whole fits is =
-    let all : 64 ≡ n * suc h = sym whole in
     let less : bit_and v tops < 2 ^ 64 = omega (arith, and_le_l v tops) in
     let top : 2 ^ h < 2 ^ suc h = omega (arith, pow-suc 2 h, pow_pos h) in
-    word_spelled (suc h) n (bit_and v tops) (subst (λ k. bit_and v tops < 2 ^ k) all less)
+    word_spelled (suc h) n (bit_and v tops) (subst (λ k. bit_and v tops < 2 ^ k) (sym whole) less)
     ∙ spelled_same (2 ^ suc h) n (λ i. field (suc h * i) (suc h) (bit_and v tops))
     (λ i. one_if (leb (2 ^ h) (field (suc h * i) (suc h) v)) * 2 ^ h)
     (λ i inside.
@@ -81,8 +77,7 @@ tops_spelled h n v tops whole fits is =
 pub one_top : (v : ℕ) → v < 2 ^ 64 → v / 2 ^ 63 ≡ first_bits 1 (λ i. leb (2 ^ 63) (field (64 * i) 64 v))
 unfolding first_bits
 one_top v fits =
-    let whole : field (64 * 0) 64 v ≡ v = first_lane 64 v ∙ mod-eq_of_lt fits in
-    highest_bit 63 v fits ∙ ap (λ x. one_if (leb (2 ^ 63) x)) (sym whole) ∙ omega arith
+    highest_bit 63 v fits ∙ ap (λ x. one_if (leb (2 ^ 63) x)) (sym (first_lane 64 v ∙ mod-eq_of_lt fits)) ∙ omega arith
 
 -- ---- digits of 0 or 1, brought together
 

@@ -61,10 +61,7 @@ pub bits_below : (n : ℕ) (f : ℕ → Bool) → first_bits n f < 2 ^ n
 unfolding first_bits
 bits_below zero f = lit< tt
 bits_below (suc n) f =
-    let rest : first_bits n (λ i. f (suc i)) < 2 ^ n = bits_below n (λ i. f (suc i)) in
-    let power : 2 ^ suc n ≡ 2 ^ n * 2 = pow-suc 2 n in
-    let bit : (if f 0 then 1 else 0) ≤ 1 = bit_at_most (f 0) in
-    omega (arith, rest, power, bit)
+    omega (arith, bits_below n (λ i. f (suc i)), pow-suc 2 n, bit_at_most (f 0))
 
 -- the first n + m bits of a test are its first n bits and, above them, the m bits of the numbers from n on
 bits_joined : (n m : ℕ) (f : ℕ → Bool) → first_bits (n + m) f ≡ first_bits n f + 2 ^ n * first_bits m (λ i. f (n + i))
@@ -149,8 +146,7 @@ module _ (h n v ones tops : ℕ) (given : IsZeroTest h n v ones tops) where
   enough_below : (i : ℕ) → i < n → ((j : ℕ) → j < i → is_some j ≡ true) → ones % 2 ^ (suc h * i) ≤ v % 2 ^ (suc h * i)
   unfolding field
   enough_below zero inside some =
-      let none : suc h * 0 ≡ 0 = mul-zero (suc h) in
-      subst (λ k. ones % 2 ^ k ≤ v % 2 ^ k) (sym none) (omega (arith, mod-one ones))
+      subst (λ k. ones % 2 ^ k ≤ v % 2 ^ k) (sym (mul-zero (suc h))) (omega (arith, mod-one ones))
   enough_below (suc i) inside some =
       let b : ℕ = suc h * i in
       let p : ℕ = 2 ^ b in

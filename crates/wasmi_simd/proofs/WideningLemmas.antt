@@ -98,8 +98,7 @@ low_zero_is w n number filled below small = lanes_make_vector w n number _ fille
         ∙ mod-eq_of_lt below
     lane_is (suc i) =
         let wider : bits w ≤ bits w * suc i = omega (arith, mul-suc (bits w) i) in
-        let above : 2 ^ bits w ≤ 2 ^ (bits w * suc i) = pow_mono wider in
-        let out : number < 2 ^ (bits w * suc i) = omega arith in
+        let out : number < 2 ^ (bits w * suc i) = omega (arith, pow_mono wider) in
         ap (λ m. m % 2 ^ bits w) (div-eq_of_lt out ∙ sym (zero-div (2 ^ (bits w * suc i))))
         ∙ sym (ap (λ t. if t then number else lane w 0 (suc i)) (eqb-suc-zero i))
 
@@ -216,13 +215,11 @@ unfolding first_bits
 bit_of_first zero test i inside = absurd (omega arith)
 bit_of_first (suc n) test zero inside =
     let low : ℕ = if test 0 then 1 else 0 in
-    let small : low ≤ 1 = bit_at_most (test 0) in
-    bit_at_lowest (low + 2 * first_bits n (λ i. test (suc i))) ∙ omega arith
+    bit_at_lowest (low + 2 * first_bits n (λ i. test (suc i))) ∙ omega (arith, bit_at_most (test 0))
 bit_of_first (suc n) test (suc i) inside =
     let low : ℕ = if test 0 then 1 else 0 in
-    let small : low ≤ 1 = bit_at_most (test 0) in
     let rest : ℕ = first_bits n (λ i. test (suc i)) in
-    let half : (low + 2 * rest) / 2 ≡ rest = omega arith in
+    let half : (low + 2 * rest) / 2 ≡ rest = omega (arith, bit_at_most (test 0)) in
     bit_at-suc (low + 2 * rest) i ∙ ap (λ k. bit_at k i) half ∙ bit_of_first n (λ i. test (suc i)) i (omega arith)
 
 module _ {A : Type 0} (w : Width) (read : ℕ → A) (test : A → Bool) (v : ℕ) where

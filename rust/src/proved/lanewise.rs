@@ -1134,8 +1134,9 @@ pub mod simd {
         (products >> u32x8::splat(16)).cast::<u16>()
     }
 
-    // Twice the lanes, read signed, and the largest number in the place of the one double that doesn't
-    // fit, that of 2 to the power 14.
+    /// Twice the lanes, read signed, and the largest number in the place of the one double that doesn't
+    /// fit, that of 2 to the power 14.
+    ///
     /// # Contract
     ///
     /// ```text
