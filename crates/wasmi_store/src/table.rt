@@ -262,10 +262,10 @@ impl Table {
             (metered_value self.old (Some fuel.old) (lent_limiter limiter.old)) result
             (metered_value self.new (Some fuel.new) (lent_limiter limiter.new)) }
     {
-        let size = self.elements.len();
         if delta == 0 {
-            return Ok(size as u64);
+            return Ok(self.size());
         }
+        let size = self.elements.len();
         let Some(desired) = self.ty.grown_size(size as u64, delta) else {
             return Err(TableError::GrowOutOfBounds);
         };

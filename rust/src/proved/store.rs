@@ -3052,10 +3052,10 @@ mod table {
             fuel: &mut Fuel,
             limiter: &mut ResourceLimiterRef<L>,
         ) -> Result<u64, TableError> {
-            let size = self.elements.len();
             if delta == 0 {
-                return Ok(size as u64);
+                return Ok(self.size());
             }
+            let size = self.elements.len();
             let Some(desired) = self.ty.grown_size(size as u64, delta) else {
                 return Err(TableError::GrowOutOfBounds);
             };
