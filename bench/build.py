@@ -294,6 +294,8 @@ def main(crate, folder, form=None, links=LINKS):
     if form:
         flags = ["-Ctarget-cpu=x86-64-v2", "-Cllvm-args=-align-loops=64", "-Cllvm-args=-x86-branches-within-32B-boundaries"]
         build_program(f"{folder}/program", flags, ["--features", "rust"], int(links))
+        for link in range(int(links)):
+            subprocess.run([sys.executable, f"{HERE}/../conformance/jumps.py", f"{folder}/program/links/{link}", "bench::"], check=True)
     else:
         build_libraries(f"{folder}/repository")
         build_program(f"{folder}/program", flags_of_libraries(f"{folder}/repository"))

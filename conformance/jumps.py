@@ -1,9 +1,9 @@
-"""Looks whether each jump of an archive lies within 32 bytes, as tools/archive has the assembler place it: some processors of Intel decode a jump
-that crosses a multiple of 32 bytes, or ends at one, each time.
+"""Looks whether each jump of an archive or a program lies within 32 bytes, as tools/archive and bench/build.py have the compiler place it: some
+processors of Intel decode a jump that crosses a multiple of 32 bytes, or ends at one, each time.
 
-usage: python3 jumps.py ARCHIVE: the last line is `N jumps, M across`; the status is 1 if one is across, or if there is none at all. Of the objects in the
-archive it takes those that have a function of include/numbers.tsv: the kit's C isn't assembled so. An indirect jump, and one to a place that the
-linker decides, isn't counted."""
+usage: python3 jumps.py ARCHIVE | PROGRAM NAME: the last line is `N jumps, M across`; the status is 1 if one is across, or if there is none at all. Of the
+objects in an archive it takes those that have a function of include/numbers.tsv: the kit's C isn't assembled so. Of a program it takes the functions
+whose names begin with NAME. An indirect jump, and one of an archive to a place that the linker decides, isn't counted."""
 import pathlib
 import re
 import subprocess
@@ -14,6 +14,12 @@ WITHIN = 32
 ALIGNED = re.compile(r"^ *\d+ (.+?) +[0-9a-f]{8,} .* 2\*\*(\d+)", re.M)
 # The address, the bytes, and a jump to a place of the section; behind one that the linker decides stands a relocation.
 JUMP = re.compile(r"^ *([0-9a-f]+):\t((?:[0-9a-f]{2} )+) *\t(?:\w+ )*j\w+ +[0-9a-f]+ <.*>$", re.M)
+
+
+def functions(program, name):
+    """What objdump says of a program, with the code of the functions whose names begin so."""
+    said = subprocess.run(["objdump", "-hdrwC", program], capture_output=True, text=True, check=True).stdout
+    return re.sub(rf"(?m)^[0-9a-f]+ <(?!{re.escape(name)}).*>:\n(?:.+\n)*", "", said)
 
 
 def objects(archive):
@@ -33,8 +39,8 @@ def jumps(said):
             yield section, begin, aligned[section] % WITHIN == 0 and begin // WITHIN == (begin + length) // WITHIN
 
 
-def main(archive):
-    found = [it for said in objects(archive) for it in jumps(said)]
+def main(file, name=None):
+    found = [it for said in ([functions(file, name)] if name else objects(file)) for it in jumps(said)]
     across = [(section, address) for section, address, is_within in found if not is_within]
     for section, address in across[:5]:
         print(f"{section}: the jump at {address:#x} is across")
@@ -42,6 +48,6 @@ def main(archive):
     return int(bool(across) or not found)
 
 
-if len(sys.argv) != 2:
+if len(sys.argv) not in (2, 3):
     sys.exit(__doc__)
-sys.exit(main(sys.argv[1]))
+sys.exit(main(*sys.argv[1:]))
