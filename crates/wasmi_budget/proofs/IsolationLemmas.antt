@@ -17,8 +17,8 @@ use Rattle.wasmi_machine.specs.declared.calls.Reply.{Reply}
 use Rattle.wasmi_machine.specs.State.{State}
 use Rattle.wasmi_machine.proofs.HoldingLemmas.{Carries, if_there}
 use Rattle.wasmi_budget.specs.declared.tenant.Tenant.{Tenant}
-use Rattle.wasmi_budget.specs.Pool.{capped_tenant, tenant_rules, without_others, PoolValue, machine_of, tenant_at, RunsTenantBy, RunsTenant}
-use Rattle.wasmi_budget.proofs.PoolLemmas.{BecomesAlike, elements_reserved, slots_reserved, tenant_inside}
+use Rattle.wasmi_budget.specs.Pool.{BecomesAt, capped_tenant, tenant_rules, without_others, PoolValue, machine_of, tenant_at, RunsTenantBy, RunsTenant}
+use Rattle.wasmi_budget.proofs.PoolLemmas.{BecomesAlike, becomes_alike, elements_alike, slots_alike, tenant_inside}
 use Rattle.wasmi_budget.specs.Laws.{PoolTurn, Added, Ran, Removed, Refused, Reserved, ReservedElements, PoolRun, PoolStep, PermittingRun, own_turns, OthersDontShow, RunsAsAlone, RepliesPermit}
 use Rattle.wasmi_machine.specs.Determinism.{permitting, TellsNoDenial}
 use Rattle.wasmi_machine.proofs.RevealingLemmas.{permitted_run, run_carried}
@@ -180,6 +180,11 @@ module _ (caps : Amounts) (index : ℕ) (pool' : PoolValue) where
         (kept_set pool.machines index i s (Some becomes.machine')
         (λ same. false≢true (decides.1 (sym same))) there.found))
 
+  -- a change of the machine of a pool of one
+  only_becomes : {change : State → State → Type 0} {s s' : State} → change s s'
+      → (caps ≡ caps) × BecomesAt (Some s ∷ []) 0 change (Some s' ∷ [])
+  only_becomes how = (refl, record { machine = _; found = refl; machine' = _; becomes = how; after = refl })
+
   -- calls by which the tenant of the index is never denied end for its machine as its own turns alone do
   ends_alone : (pool : PoolValue) (s : State) → IsThere pool s → (turns : List PoolTurn)
       → PermittingRun index pool turns pool' → EndsAlone s (own_turns index turns)
@@ -191,22 +196,12 @@ module _ (caps : Amounts) (index : ℕ) (pool' : PoolValue) where
       ends_alone next s (there_among pool s s next (slice_set pool.machines i None) there removes.removed
       (kept_set pool.machines index i s None (λ same. other (sym same)) there.found)) turns ran
   ends_alone pool s there (Reserved i more ∷ turns) (next, reserves, ran) =
-      let becomes = slots_reserved pool i more next reserves in
-      by_alike pool s there next i becomes (Reserved 0 more)
-      (refl, record { machine = becomes.machine; found = refl; after = refl }) (own_turns index turns)
+      by_alike pool s there next i (becomes_alike (slots_alike more) reserves) (Reserved 0 more)
+      (only_becomes reserves.1.becomes) (own_turns index turns)
       (λ t at. ends_alone next t at turns ran) (nat_eq i index) (Decides-eqb i index)
   ends_alone pool s there (ReservedElements i table elements reply ∷ turns) (next, reserves, ran) =
-      let becomes = elements_reserved pool i table elements reply next reserves in
-      by_alike pool s there next i becomes (ReservedElements 0 table elements reply) (
-        refl,
-        record {
-          machine = becomes.machine;
-          found = refl;
-          machine' = becomes.machine';
-          becomes = reserves.1.becomes;
-          after = refl;
-        },
-      ) (own_turns index turns)
+      by_alike pool s there next i (becomes_alike (elements_alike table elements reply) reserves)
+      (ReservedElements 0 table elements reply) (only_becomes reserves.1.becomes) (own_turns index turns)
       (λ t at. ends_alone next t at turns ran) (nat_eq i index) (Decides-eqb i index)
   ends_alone pool s there (Refused ∷ turns) (next, same, ran) =
       ends_alone next s (there_among pool s s next pool.machines there same there.found) turns ran

@@ -18,9 +18,8 @@ use Rattle.wasmi_machine.proofs.DeterminismLemmas.{capped_unique}
 use Rattle.wasmi_machine.proofs.EffectLemmas.{changes_kept}
 use Rattle.wasmi_machine.proofs.ExchangeLemmas.{growths_are_permitted}
 use Rattle.wasmi_machine.proofs.HoldingLemmas.{IsLater, run_is_later, totals_are_held}
-use Rattle.wasmi_machine.proofs.TotalLemmas.{slots_alike}
 use Rattle.wasmi_budget.specs.declared.tenant.Tenant.{Tenant}
-use Rattle.wasmi_budget.specs.Pool.{capped_tenant, tenant_rules, holdings, PoolValue, total_of, IsWithinCaps, IsKept, HasNothing, tenant_at, machine_of, total_at, AddsTenant, RemovesTenant, ReservesElements, ReservesElementsForTenant, ReservesForTenant, IsUnasked, RepliesUnasked, RunsTenant, RunsUnasked, tenant_of, held_before, IsPart, RunsAsPart}
+use Rattle.wasmi_budget.specs.Pool.{capped_tenant, tenant_rules, holdings, PoolValue, total_of, IsWithinCaps, IsKept, HasNothing, tenant_at, machine_of, total_at, AddsTenant, BecomesAt, RemovesTenant, ReservesElements, IsUnasked, RepliesUnasked, RunsTenant, RunsUnasked, tenant_of, held_before, IsPart, RunsAsPart}
 use Rattle.std.proofs.lemmas.List.Sums.{sum_by-remove, sum_by-set, sum_by_push}
 use Rattle.std.specs.Prelude.{slice_set, remove}
 use Rattle.wasmi_meter.specs.declared.limiter.Kind.TheVariants.{Bytes, Elements}
@@ -69,9 +68,10 @@ module _ (machines : List (Option State)) (index : ℕ) (s : State) (found : get
       omega (arith, set, own, total_split)
 
 -- the amount of a kind among amounts by kind
-amount_of-amounts_of : (amount : Kind → ℕ) (kind : Kind) → amount_of (amounts_of amount) kind ≡ amount kind
-amount_of-amounts_of amount Bytes = refl
-amount_of-amounts_of amount Elements = refl
+amount_is : {amounts : Amounts} (amount : Kind → ℕ) → amounts ≡ amounts_of amount → (kind : Kind)
+    → amount_of amounts kind ≡ amount kind
+amount_is amount is Bytes = ap (λ (a : Amounts). a.bytes) is
+amount_is amount is Elements = ap (λ (a : Amounts). a.elements) is
 
 -- amounts by kind that are the same of each kind
 amounts_same : (amount amount' : Kind → ℕ) → ((kind : Kind) → amount kind ≡ amount' kind)
@@ -100,11 +100,11 @@ tenant_held_together : (pool : PoolValue) (index : ℕ) (s : State) → machine_
 tenant_held_together pool index s found Bytes = total_split pool.machines index s found Bytes
 tenant_held_together pool index s found Elements = total_split pool.machines index s found Elements
 
-module _ (pool : PoolValue) (all : Amounts) (kept : IsKept pool all) (index : ℕ) (s : State)
+module _ {pool : PoolValue} {all : Amounts} (kept : IsKept pool all) (index : ℕ) {s : State}
     (found : machine_of pool index ≡ Some s) where
   -- what all hold of a kind is what all machines have
   all_held : (kind : Kind) → amount_of all kind ≡ total_of pool.machines kind
-  all_held kind = ap (λ amounts. amount_of amounts kind) kept.counted ∙ amount_of-amounts_of (total_of pool.machines) kind
+  all_held = amount_is (total_of pool.machines) kept.counted
 
   -- what one machine has is a part of it
   pub is_part : IsPart pool.caps all s
@@ -145,7 +145,7 @@ module _ (pool : PoolValue) (within : IsWithinCaps pool) (index : ℕ) (s : Stat
     replaced_total kind =
         let own = amount_held_total tenant' s' held kind in
         let all = total_replaced pool.machines index s found kind (Some s') in
-        let others = stays.others kind ∙ amount_of-amounts_of (total_of (remove pool.machines index)) kind in
+        let others = stays.others kind ∙ amount_is (total_of (remove pool.machines index)) refl kind in
         omega (arith, own, all, others)
 
     -- the pool is within its caps then, where the tenant stayed within them
@@ -165,7 +165,7 @@ module _ (pool : PoolValue) (within : IsWithinCaps pool) (index : ℕ) (s : Stat
       (record { state = s'; limiter = Some tenant' }) ran
 
 -- what the machine of an index has run under its own tenant, and what both have become
-module _ (pool : PoolValue) (all : Amounts) (kept : IsKept pool all) (index : ℕ) (s : State)
+module _ {pool : PoolValue} {all : Amounts} (kept : IsKept pool all) (index : ℕ) {s : State}
     (found : machine_of pool index ≡ Some s) (calls : List Call) (replies : List Reply) (s' : State) (tenant' : Tenant)
     (ran : IsRunOf (optional_rules tenant_rules) calls (world s (Some (tenant_at pool index s))) replies
     (world s' (Some tenant'))) where
@@ -187,9 +187,9 @@ module _ (pool : PoolValue) (all : Amounts) (kept : IsKept pool all) (index : �
       }
 
 -- what the machine of an index has run as a part, and the machines then
-module _ (pool : PoolValue) (all : Amounts) (kept : IsKept pool all) (index : ℕ) (s : State)
-    (found : machine_of pool index ≡ Some s) (calls : List Call) (replies : List Reply) (s' : State) (all' : Amounts)
-    (part : RunsAsPart pool.caps all s calls replies s' all') (machines' : List (Option State))
+module _ {pool : PoolValue} {all : Amounts} (kept : IsKept pool all) (index : ℕ) {s : State}
+    (found : machine_of pool index ≡ Some s) {calls : List Call} {replies : List Reply} {s' : State} {all' : Amounts}
+    (part : RunsAsPart pool.caps all s calls replies s' all') {machines' : List (Option State)}
     (after : machines' ≡ slice_set pool.machines index (Some s')) where
   -- the machine has run under its own tenant
   part_ran : IsRunOf (optional_rules tenant_rules) calls (world s (Some (tenant_at pool index s))) replies
@@ -197,17 +197,17 @@ module _ (pool : PoolValue) (all : Amounts) (kept : IsKept pool all) (index : �
   part_ran = subst
       (λ tenant. IsRunOf (optional_rules tenant_rules) calls (world s (Some tenant)) replies
       (world s' (Some part.tenant')))
-      (tenant_is_own pool all kept index s found) part.ran
+      (tenant_is_own kept index found) part.ran
 
   -- the run is an accepted one
   pub part_runs : RunsTenant pool index calls replies (record pool { machines = machines' })
   part_runs = subst (λ machines. RunsTenant pool index calls replies (record pool { machines = machines })) (sym after)
-      (own_runs pool all kept index s found calls replies s' part.tenant' part_ran)
+      (own_runs kept index found calls replies s' part.tenant' part_ran)
 
   -- the pool is kept with what all hold then
   pub part_kept : IsKept (record pool { machines = machines' }) all'
   part_kept = subst (λ machines. IsKept (record pool { machines = machines }) all') (sym after)
-      (own_kept pool all kept index s found calls replies s' part.tenant' part_ran part.holds all' part.together)
+      (own_kept kept index found calls replies s' part.tenant' part_ran part.holds all' part.together)
 
 -- a machine with its limiter, lent
 abbrev lent : World Tenant → World (Option Tenant)
@@ -237,21 +237,17 @@ refused_total w w' call reply refusal (charge, written, step) kind =
     by exchange replies grows = ap sum (grows kind)
 
 -- a machine that has a part of what all hold
-module _ (caps all held : Amounts) (s now : State) (view : s ≡ now) (is : held ≡ amounts_of (total s))
+module _ {caps all held : Amounts} {s now : State} (view : s ≡ now) (is : held ≡ amounts_of (total s))
     (part : IsPart caps all now) where
-  -- what it has of a kind
-  held_is : (kind : Kind) → amount_of held kind ≡ total s kind
-  held_is kind = ap (λ amounts. amount_of amounts kind) is ∙ amount_of-amounts_of (total s) kind
-
   -- all hold as much
   pub part_held : (kind : Kind) → amount_of held kind ≤ amount_of all kind
   part_held kind =
-      let own = held_is kind in
+      let own = amount_is (total s) is kind in
       let same = ap (λ t. total t kind) view in
       let counted = part.counted kind in
       omega (arith, own, same, counted)
 
-  module _ (tenant : Tenant) (tenant_is : tenant ≡ tenant_of caps all held) where
+  module _ {tenant : Tenant} (tenant_is : tenant ≡ tenant_of caps all held) where
     -- its tenant holds what it has
     pub part_holds : HoldsTotals (holdings tenant) s
     part_holds = subst (λ t. HoldsTotals (holdings t) s) (sym (tenant_is ∙ ap (tenant_of caps all) is))
@@ -270,7 +266,7 @@ module _ (caps all held : Amounts) (s now : State) (view : s ≡ now) (is : held
         let bound = part.within kind in
         omega (arith, together, cap, bound)
 
-    module _ (calls : List Call) (replies : List Reply) (s' : State) (tenant' : Tenant)
+    module _ {calls : List Call} {replies : List Reply} {s' : State} {tenant' : Tenant}
         (ran : IsRunOf (optional_rules tenant_rules) calls (world s (Some tenant)) replies (world s' (Some tenant')))
       where
         -- the tenant stays within the caps
@@ -313,33 +309,28 @@ module _ (caps all held : Amounts) (s now : State) (view : s ≡ now) (is : held
                 together = together;
               })
 
-          module _ (same : (kind : Kind) → total s' kind ≡ total s kind) where
-            -- all hold what they held, where it has what it had
-            pub all_same : all ≡ amounts_of (held_together capped_tenant tenant')
-            all_same = amounts_are all (held_together capped_tenant tenant') (λ kind.
-                let before = part_before kind in
-                let own = amount_held_total tenant' s' holds kind ∙ same kind ∙ sym (held_is kind) in
-                omega (arith, before, own))
+          -- all hold what they held, where it has what it had
+          pub all_same : ((kind : Kind) → total s' kind ≡ total s kind)
+              → all ≡ amounts_of (held_together capped_tenant tenant')
+          all_same same = amounts_are all (held_together capped_tenant tenant') (λ kind.
+              let before = part_before kind in
+              let own = amount_held_total tenant' s' holds kind ∙ same kind ∙ sym (amount_is (total s) is kind) in
+              omega (arith, before, own))
 
-            -- and what was held is what it has
-            pub held_same : held ≡ amounts_of (total s')
-            held_same = amounts_are held (total s') (λ kind. held_is kind ∙ sym (same kind))
+-- amounts that were those of a machine are those of one that has as much
+pub counted_alike : {held : Amounts} (s s' : State) → ((kind : Kind) → total s' kind ≡ total s kind)
+    → held ≡ amounts_of (total s) → held ≡ amounts_of (total s')
+counted_alike s s' same is = is ∙ amounts_same (total s) (total s') (λ kind. sym (same kind))
 
 -- what a machine has after a reply without its tenant is what it had
-total_unasked : (s s' : State) (call : Call) (reply : Reply) → RepliesUnasked call s reply s' → (kind : Kind)
+pub total_unasked : (s s' : State) (call : Call) (reply : Reply) → RepliesUnasked call s reply s' → (kind : Kind)
     → total s' kind ≡ total s kind
 total_unasked s s' call reply unasked kind =
     let tenant : Tenant =
     record { caps = nothing; others = nothing; holdings = record { held = amounts_of (total s); last = None } } in
     let held = step_holds (world s tenant) (world s' tenant) call reply (record { bytes = refl; elements = refl })
     (unasked tenant) in
-    sym (amount_held_total tenant s' held kind) ∙ amount_of-amounts_of (total s) kind
-
--- amounts that were those of the machine are so after a reply without its tenant
-pub counted_unasked : (s s' : State) (call : Call) (reply : Reply) (held : Amounts) → RepliesUnasked call s reply s'
-    → held ≡ amounts_of (total s) → held ≡ amounts_of (total s')
-counted_unasked s s' call reply held unasked is =
-    is ∙ amounts_same (total s) (total s') (λ kind. sym (total_unasked s s' call reply unasked kind))
+    sym (amount_held_total tenant s' held kind) ∙ amount_is (total s) refl kind
 
 -- a write of bytes is the reply to the call `Write` with a copy of them, the same under each tenant
 pub write_unasked : (memory offset : ℕ) (bytes : List ℕ) → length bytes < 2 ^ 63 → (s : State) (reply : Reply)
@@ -373,7 +364,7 @@ replies_unasked (SetFuel fuel) unasked s reply s' limiter limiter' (charge, writ
 replies_unasked call unasked s reply s' limiter limiter' step tenant = absurd unasked
 
 -- what `Pool::step_unasked` has done with the machine of an index
-module _ (pool : PoolValue) (all : Amounts) (kept : IsKept pool all) (index : ℕ) (call : Call) (reply : Reply)
+module _ {pool : PoolValue} {all : Amounts} (kept : IsKept pool all) (index : ℕ) (call : Call) (reply : Reply)
     (machines' : List (Option State)) (ran : RunsUnasked pool.machines index call reply machines') where
   -- the tenant of the machine
   abbrev own_tenant : Tenant
@@ -389,13 +380,13 @@ module _ (pool : PoolValue) (all : Amounts) (kept : IsKept pool all) (index : �
   unasked_runs =
       subst (λ machines. RunsTenant pool index (call ∷ []) (reply ∷ []) (record pool { machines = machines }))
       (sym ran.after)
-      (own_runs pool all kept index ran.machine ran.found (call ∷ []) (reply ∷ []) ran.machine' own_tenant own_ran)
+      (own_runs kept index ran.found (call ∷ []) (reply ∷ []) ran.machine' own_tenant own_ran)
 
   -- the pool is kept with the same amounts
   pub unasked_kept : IsKept (record pool { machines = machines' }) all
   unasked_kept =
       subst (λ machines. IsKept (record pool { machines = machines }) all) (sym ran.after)
-      (own_kept pool all kept index ran.machine ran.found (call ∷ []) (reply ∷ []) ran.machine' own_tenant own_ran
+      (own_kept kept index ran.found (call ∷ []) (reply ∷ []) ran.machine' own_tenant own_ran
       (step_holds (world ran.machine own_tenant) (world ran.machine' own_tenant) call reply
       (record { bytes = refl; elements = refl }) (ran.becomes own_tenant)) all
       (kept.counted ∙ amounts_same (total_of pool.machines) (held_together capped_tenant own_tenant)
@@ -481,19 +472,18 @@ kept_removed pool all index s pool' held kept removes is = record {
     left : (kind : Kind) (of : Amounts → ℕ) → ((a : Amounts) → of a ≡ amount_of a kind)
         → of all - of held ≡ total_of pool'.machines kind
     left kind of is_of =
-        let sum = is_of all ∙ ap (λ amounts. amount_of amounts kind) kept.counted
-        ∙ amount_of-amounts_of (total_of pool.machines) kind in
-        let own = is_of held ∙ ap (λ amounts. amount_of amounts kind) is ∙ amount_of-amounts_of (total s) kind in
+        let sum = is_of all ∙ amount_is (total_of pool.machines) kept.counted kind in
+        let own = is_of held ∙ amount_is (total s) is kind in
         let less = removals_give_back pool index s pool' removes kind in
         omega (arith, sum, own, less)
 
 -- what a tenant of a pool holds is at most what all hold
-pub held_at_most : (pool : PoolValue) (all held : Amounts) (index : ℕ) (s : State) → IsKept pool all
+pub held_at_most : {pool : PoolValue} {all held : Amounts} (index : ℕ) {s : State} → IsKept pool all
     → machine_of pool index ≡ Some s → held ≡ amounts_of (total s)
     → (kind : Kind) → amount_of held kind ≤ amount_of all kind
-held_at_most pool all held index s kept found is kind =
-    let part = (is_part pool all kept index s found).counted kind in
-    let own = ap (λ amounts. amount_of amounts kind) is ∙ amount_of-amounts_of (total s) kind in
+held_at_most index {s} kept found is kind =
+    let part = (is_part kept index found).counted kind in
+    let own = amount_is (total s) is kind in
     omega (arith, part, own)
 
 -- the machine of an index has become another that has as much, and all else is the same
@@ -504,43 +494,34 @@ pub record BecomesAlike (pool : PoolValue) (index : ℕ) (pool' : PoolValue) : T
   pub alike : (kind : Kind) → total machine' kind ≡ total machine kind
   pub after : pool' ≡ record pool { machines = slice_set pool.machines index (Some machine') }
 
--- a machine whose slots are reserved has what it had: the machine of the index has become such a one
-abbrev pub slots_reserved : (pool : PoolValue) (index : ℕ) (more : SlotCounts) (pool' : PoolValue)
-    → ReservesForTenant pool index more pool' → BecomesAlike pool index pool'
-slots_reserved pool index more pool' reserves = record {
-  machine = reserves.1.machine;
-  found = reserves.1.found;
-  machine' = with_reserved reserves.1.machine more;
-  alike = slots_alike reserves.1.machine more;
-  after = λ i. record { caps = reserves.0 i; machines = reserves.1.after i };
+-- the machine of an index has become such a one where what has become of it keeps what it has
+abbrev pub becomes_alike : {change : State → State → Type 0}
+    → ((s s' : State) → change s s' → (kind : Kind) → total s' kind ≡ total s kind) → {pool : PoolValue} {index : ℕ}
+    {pool' : PoolValue} → (pool'.caps ≡ pool.caps) × BecomesAt pool.machines index change pool'.machines
+    → BecomesAlike pool index pool'
+becomes_alike keeps becomes = record {
+  machine = becomes.1.machine;
+  found = becomes.1.found;
+  machine' = becomes.1.machine';
+  alike = keeps becomes.1.machine becomes.1.machine' becomes.1.becomes;
+  after = λ i. record { caps = becomes.0 i; machines = becomes.1.after i };
 }
 
--- a machine has what it had where elements of a table are reserved
-pub elements_alike : (s : State) (table elements : ℕ) (reply : Reply) (s' : State)
+-- a machine has what it had where slots are reserved
+pub slots_alike : (more : SlotCounts) (s s' : State) → s' ≡ with_reserved s more → (kind : Kind)
+    → total s' kind ≡ total s kind
+slots_alike more s s' is Bytes = ap (λ (t : State). total t Bytes) is
+slots_alike more s s' is Elements = ap (λ (t : State). total t Elements) is
+
+-- and where elements of a table are reserved
+pub elements_alike : (table elements : ℕ) (reply : Reply) (s s' : State)
     → ReservesElements s table elements reply s' → (kind : Kind) → total s' kind ≡ total s kind
-elements_alike s table elements reply s' (tables, rest) Bytes = ap (λ (t : State). total t Bytes) rest
-elements_alike s table elements reply s' (tables, rest) Elements =
+elements_alike table elements reply s s' (tables, rest) Bytes = ap (λ (t : State). total t Bytes) rest
+elements_alike table elements reply s s' (tables, rest) Elements =
     ap sum (changes_kept _ table s.tables reply s'.tables _
     (λ x x' changed. ⊎_elim (λ done. rw done.1 refl) (λ refused. rw refused.2 refl) changed) tables)
 
--- amounts that were those of the machine are so where elements of a table are reserved
-pub counted_reserved : (s : State) (table elements : ℕ) (reply : Reply) (s' : State) (held : Amounts)
-    → ReservesElements s table elements reply s' → held ≡ amounts_of (total s) → held ≡ amounts_of (total s')
-counted_reserved s table elements reply s' held reserves is =
-    is ∙ amounts_same (total s) (total s') (λ kind. sym (elements_alike s table elements reply s' reserves kind))
-
--- a machine with elements of a table reserved has what it had: the machine of the index has become such a one
-abbrev pub elements_reserved : (pool : PoolValue) (index table elements : ℕ) (reply : Reply) (pool' : PoolValue)
-    → ReservesElementsForTenant pool index table elements reply pool' → BecomesAlike pool index pool'
-elements_reserved pool index table elements reply pool' reserves = record {
-  machine = reserves.1.machine;
-  found = reserves.1.found;
-  machine' = reserves.1.machine';
-  alike = elements_alike reserves.1.machine table elements reply reserves.1.machine' reserves.1.becomes;
-  after = λ i. record { caps = reserves.0 i; machines = reserves.1.after i };
-}
-
-module _ (pool : PoolValue) (index : ℕ) (pool' : PoolValue) (becomes : BecomesAlike pool index pool') where
+module _ {pool : PoolValue} {index : ℕ} {pool' : PoolValue} (becomes : BecomesAlike pool index pool') where
   -- all machines together have what they had
   total_alike : (kind : Kind) → total_of pool'.machines kind ≡ total_of pool.machines kind
   total_alike kind =
@@ -585,9 +566,9 @@ step_within : (pool : PoolValue) (turn : PoolTurn) (pool' : PoolValue) → IsWit
 step_within pool (Added s) pool' within adds = adds_within pool s pool' within adds
 step_within pool (Ran index calls replies) pool' within runs = runs_within pool index calls replies pool' within runs
 step_within pool (Reserved index more) pool' within reserves =
-    alike_within pool index pool' (slots_reserved pool index more pool' reserves) within
+    alike_within (becomes_alike (slots_alike more) reserves) within
 step_within pool (ReservedElements index table elements reply) pool' within reserves =
-    alike_within pool index pool' (elements_reserved pool index table elements reply pool' reserves) within
+    alike_within (becomes_alike (elements_alike table elements reply) reserves) within
 step_within pool (Removed index s) pool' within removes = removes_within pool index s pool' within removes
 step_within pool Refused pool' within same = rw same within
 
@@ -633,9 +614,9 @@ module _ (pool : PoolValue) (index : ℕ) (vacant : IsVacant pool index) where
   vacant_stays (Ran i calls replies) pool' runs =
       vacant_set i runs.machine (Some runs.machine') pool' runs.found runs.after
   vacant_stays (Reserved i more) pool' reserves =
-      vacant_alike i pool' (slots_reserved pool i more pool' reserves)
+      vacant_alike i pool' (becomes_alike (slots_alike more) reserves)
   vacant_stays (ReservedElements i table elements reply) pool' reserves =
-      vacant_alike i pool' (elements_reserved pool i table elements reply pool' reserves)
+      vacant_alike i pool' (becomes_alike (elements_alike table elements reply) reserves)
   vacant_stays (Removed i s) pool' removes = vacant_set i s None pool' removes.found removes.removed
   vacant_stays Refused pool' same = rw same vacant
 

@@ -376,8 +376,8 @@ module _ {next : ℕ} {indices : List ℕ} {machines : List State} (listed : IsL
   ran_at {caps} {all} {all'} {calls} {replies} {s'} kept part =
       let there = its_value listed is sees index place found at in
       let put = set_value listed is sees index place found s' in (
-        part_runs (pool_of caps view) all kept index s there calls replies s' all' part _ put,
-        part_kept (pool_of caps view) all kept index s there calls replies s' all' part _ put,
+        part_runs kept index there part put,
+        part_kept kept index there part put,
       )
 
 -- a search among rising indices finds the place of an index, or says that it isn't among them

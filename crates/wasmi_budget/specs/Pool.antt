@@ -178,11 +178,8 @@ pub record RemovesTenant (pool : PoolValue) (index : ℕ) (s : State) (pool' : P
   pub removed : pool' ≡ record pool { machines = slice_set pool.machines index None }
 
 -- the machine at an index has so many more slots reserved, and all others are the same
-pub record ReservesAt (machines : List (Option State)) (index : ℕ) (more : SlotCounts)
-    (machines' : List (Option State)) : Type 0 where
-  pub machine : State
-  pub found : slice_index_or machines index None ≡ Some machine
-  pub after : machines' ≡ slice_set machines index (Some (with_reserved machine more))
+abbrev pub ReservesAt : List (Option State) → ℕ → SlotCounts → List (Option State) → Type 0
+ReservesAt machines index more machines' = BecomesAt machines index (λ s s'. s' ≡ with_reserved s more) machines'
 
 -- the machine of a tenant has so many more slots reserved, and all else is the same
 abbrev pub ReservesForTenant : PoolValue → ℕ → SlotCounts → PoolValue → Type 0

@@ -164,7 +164,7 @@ kept_by_reserve s l more s' reserved = kept_by_totals s l s' (λ kind. ap (λ st
 pub kept_by_elements : (s : State) (l : AnyLimiter) (table elements : ℕ) (reply : Reply) (s' : State)
     → ReservesElementsAt table elements s.tables reply s'.tables → s' ≡ with_tables s s'.tables → Keeps s l → Keeps s' l
 kept_by_elements s l table elements reply s' tables rest =
-    kept_by_totals s l s' (elements_alike s table elements reply s' (tables, rest))
+    kept_by_totals s l s' (elements_alike table elements reply s s' (tables, rest))
 
 -- what is made as one machine is made as one of which a fact holds
 pub made_so : (IsNew : MachineValue → Type 0) (machine : MachineValue) (held : Option MachineValue) (status : ℕ)

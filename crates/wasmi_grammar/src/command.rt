@@ -16,11 +16,16 @@ use wasmi_store::{MemoryType, TableType};
 use wasmi_typed::{GlobalType, TypedRawRef, TypedRawVal};
 use wasmi_types::{IndexType, RefType};
 
-/// The call of a kind, each part of which is what an operand writes.
+/// The call of a kind, each part of which is what an operand writes, or is made of what operands
+/// write under these names.
 macro_rules! call {
-    ($operands:ident, $count:ident => $kind:ident { $($part:ident),+ }) => {{
-        let ($($part),+) = operand::$count($operands)?;
-        Ok(Call::$kind { $($part),+ })
+    ($operands:expr, $count:ident => $kind:ident { $($part:ident),+ }) => {
+        call!($operands, $count($($part),+) => $kind { $($part),+ })
+    };
+    ($operands:expr, $count:ident($($written:ident),+) => $kind:ident
+        { $($part:ident $(: $value:expr)?),+ }) => {{
+        let ($($written),+) = operand::$count($operands)?;
+        Ok(Call::$kind { $($part $(: $value)?),+ })
     }};
 }
 
@@ -68,28 +73,16 @@ fn values_call(name: &str, operands: &[&str]) -> Result<Call, LineError>
         "fuel" => Ok(Call::SetFuel(operand::one(operands)?)),
         "left" if operands.is_empty() => Ok(Call::GetFuel),
         "left" => Err(LineError::BadCommand),
-        "global" => {
-            let (content, mutability, lo, hi) = operand::four(operands)?;
-            Ok(Call::NewGlobal {
-                value: RawVal { lo, hi },
-                ty: GlobalType::new(content, mutability),
-            })
-        }
-        "gset" => {
-            let (global, ty, lo, hi) = operand::four(operands)?;
-            Ok(Call::SetGlobal {
-                global,
-                value: TypedRawVal::new(ty, RawVal { lo, hi }),
-            })
-        }
+        "global" => call!(operands, four(content, mutability, lo, hi) => NewGlobal {
+            value: RawVal { lo, hi }, ty: GlobalType::new(content, mutability)
+        }),
+        "gset" => call!(operands, four(global, ty, lo, hi) => SetGlobal {
+            global, value: TypedRawVal::new(ty, RawVal { lo, hi })
+        }),
         "gget" => Ok(Call::GetGlobal(operand::one(operands)?)),
-        "set" => {
-            let (dst, lo, hi) = operand::three(operands)?;
-            Ok(Call::SetRegister {
-                dst,
-                value: RawVal { lo, hi },
-            })
-        }
+        "set" => call!(operands, three(dst, lo, hi) => SetRegister {
+            dst, value: RawVal { lo, hi }
+        }),
         _ => Ok(Call::GetRegister(operand::one(operands)?)),
     }
 }
@@ -163,16 +156,9 @@ fn access_call(name: &str, operands: &[&str]) -> Result<Call, LineError>
     ensures call { Accepts result (NamesAfter name.now operands.now) }
 {
     match name {
-        "store" => {
-            let (op, memory, ptr, offset, lo) = operand::five(operands)?;
-            Ok(Call::Store {
-                op,
-                memory,
-                ptr,
-                offset,
-                value: RawVal::from_bits64(lo),
-            })
-        }
+        "store" => call!(operands, five(op, memory, ptr, offset, lo) => Store {
+            op, memory, ptr, offset, value: RawVal::from_bits64(lo)
+        }),
         "vloadlane" => load_lane(operands),
         // What tools/generate writes begins.
         "load" => call!(operands, four => Load { op, memory, ptr, offset }),
@@ -191,14 +177,8 @@ fn load_lane(operands: &[&str]) -> Result<Call, LineError>
         return Err(LineError::BadCommand);
     };
     let op = load_lane_op(name, lane)?;
-    let (dst, a, memory, ptr, offset) = operand::five(&[dst, a, memory, ptr, offset])?;
-    Ok(Call::LoadLane {
-        op,
-        dst,
-        a,
-        memory,
-        ptr,
-        offset,
+    call!(&[dst, a, memory, ptr, offset], five(dst, a, memory, ptr, offset) => LoadLane {
+        op, dst, a, memory, ptr, offset
     })
 }
 
@@ -210,13 +190,8 @@ fn store_lane(operands: &[&str]) -> Result<Call, LineError>
         return Err(LineError::BadCommand);
     };
     let op = store_lane_op(name, lane)?;
-    let (a, memory, ptr, offset) = operand::four(&[a, memory, ptr, offset])?;
-    Ok(Call::StoreLane {
-        op,
-        a,
-        memory,
-        ptr,
-        offset,
+    call!(&[a, memory, ptr, offset], four(a, memory, ptr, offset) => StoreLane {
+        op, a, memory, ptr, offset
     })
 }
 
@@ -227,31 +202,15 @@ fn table_call(name: &str, operands: &[&str]) -> Result<Call, LineError>
 {
     match name {
         "table" => new_table(operands),
-        "tgrow" => {
-            let (table, delta, ty, raw) = operand::four(operands)?;
-            Ok(Call::GrowTable {
-                table,
-                delta,
-                init: TypedRawRef::new(raw, ty),
-            })
-        }
-        "tset" => {
-            let (table, index, ty, raw) = operand::four(operands)?;
-            Ok(Call::SetElement {
-                table,
-                index,
-                value: TypedRawRef::new(raw, ty),
-            })
-        }
-        "fill" => {
-            let (table, dst, ty, raw, len) = operand::five(operands)?;
-            Ok(Call::FillTable {
-                table,
-                dst,
-                value: TypedRawRef::new(raw, ty),
-                len,
-            })
-        }
+        "tgrow" => call!(operands, four(table, delta, ty, raw) => GrowTable {
+            table, delta, init: TypedRawRef::new(raw, ty)
+        }),
+        "tset" => call!(operands, four(table, index, ty, raw) => SetElement {
+            table, index, value: TypedRawRef::new(raw, ty)
+        }),
+        "fill" => call!(operands, five(table, dst, ty, raw, len) => FillTable {
+            table, dst, value: TypedRawRef::new(raw, ty), len
+        }),
         "dempty" => Ok(Call::DropData(operand::one(operands)?)),
         // What tools/generate writes begins.
         "get" => call!(operands, two => GetElement { table, index }),
@@ -270,10 +229,8 @@ fn new_table(operands: &[&str]) -> Result<Call, LineError>
         return Err(LineError::BadCommand);
     };
     let ty = table_type(&[element, min, max, width])?;
-    let (init_ty, raw) = operand::two(&[init_ty, raw])?;
-    Ok(Call::NewTable {
-        ty,
-        init: TypedRawRef::new(raw, init_ty),
+    call!(&[init_ty, raw], two(init_ty, raw) => NewTable {
+        ty, init: TypedRawRef::new(raw, init_ty)
     })
 }
 

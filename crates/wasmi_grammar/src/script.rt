@@ -1,5 +1,5 @@
 //! The script's lines: header lines, and then commands.
-ghost use Rattle.std.specs.Prelude.{◌≡◌, [], ℕ, ◌+◌, ◌-◌, ◌<◌, ◌≤◌, length, take, drop, vec_len, IfOk, IfErr, OnOk, OnErr};
+ghost use Rattle.std.specs.Prelude.{◌≡◌, [], ℕ, ◌+◌, ◌-◌, ◌<◌, ◌≤◌, length, take, drop, IfOk, IfErr, OnOk, OnErr};
 ghost use Rattle.wasmi_operands.specs.LineWords.{AcceptsWithMemory};
 ghost use Rattle.wasmi_grammar.specs.Lines.{WritesScript, NamesLine, calls_of, IsParseError};
 

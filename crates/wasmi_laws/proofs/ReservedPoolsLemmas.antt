@@ -1,6 +1,6 @@
 -- What a tenant has reserved stays reserved for its calls, whatever else is done with its pool.
 use Rattle.std.proofs.Common.{◌≡◌, ◌++◌, ◌∷◌, ◌∙◌, Bool, List, None, Some, [], ap, false, refl, subst, sym, true, ℕ}
-use Rattle.wasmi_laws.proofs.Common.{Decides-eqb, All-append, All-nil, none-some, same_Some, All, get_or, if◌then◌else◌, nat_eq, slice_set, optional_rules, IsNotOutOfMemory, State, with_reserved, world, Call, FitsSlots, IsReservedFor}
+use Rattle.wasmi_laws.proofs.Common.{Decides-eqb, All-append, All-nil, none-some, same_Some, All, get_or, if◌then◌else◌, nat_eq, slice_set, optional_rules, IsNotOutOfMemory, State, world, Call, FitsSlots, IsReservedFor}
 use Rattle.std.proofs.lemmas.Bool.{false≢true}
 use Rattle.std.specs.Bool.{Decides}
 use Rattle.wasmi_laws.proofs.ReservedLemmas.{elements_stay_reserved, front_told, more_reserved, slots_suffice}
@@ -64,10 +64,9 @@ module _ (index : ℕ) where
       ready_told next turns (stays_at pool (calls_of index turns) it next (ap (λ p. machine_of p index) adds.added
       ∙ kept_added pool.machines index it.machine (Some s) it.found)) pool' ran
   ready_told pool (Reserved i more ∷ turns) it pool' (next, (caps, reserves), ran) =
-      ready_told next turns (becomes_ready pool (calls_of index turns) it next i reserves.machine
-      (with_reserved reserves.machine more) reserves.found
-      (λ k. record { caps = caps k; machines = reserves.after k })
-      (more_reserved reserves.machine more (calls_of index turns)) (nat_eq i index) (Decides-eqb i index)) pool' ran
+      ready_told next turns (becomes_ready pool (calls_of index turns) it next i reserves.machine reserves.machine'
+      reserves.found (λ k. record { caps = caps k; machines = reserves.after k })
+      (λ r. rw reserves.becomes (more_reserved reserves.machine more (calls_of index turns) r)) (nat_eq i index) (Decides-eqb i index)) pool' ran
   ready_told pool (ReservedElements i table elements reply ∷ turns) it pool' (next, (caps, reserves), ran) =
       ready_told next turns (becomes_ready pool (calls_of index turns) it next i reserves.machine reserves.machine'
       reserves.found (λ k. record { caps = caps k; machines = reserves.after k })
@@ -126,9 +125,9 @@ pub slots_suffice_for_tenants : SlotsSufficeForTenants
 slots_suffice_for_tenants pool index s found more turns pool' fits (next, (caps, reserves), ran) =
     let own = same_Some s reserves.machine (sym found ∙ reserves.found) in
     ready_told index next turns (record {
-      machine = with_reserved reserves.machine more;
+      machine = reserves.machine';
       found = ap (λ machines. get_or machines index None) reserves.after
-          ∙ set_at pool.machines index reserves.machine (with_reserved reserves.machine more) reserves.found;
-      ready = slots_suffice reserves.machine more (calls_of index turns)
-          (subst (λ t. FitsSlots t more (calls_of index turns)) own fits);
+          ∙ set_at pool.machines index reserves.machine reserves.machine' reserves.found;
+      ready = rw reserves.becomes (slots_suffice reserves.machine more (calls_of index turns)
+          (subst (λ t. FitsSlots t more (calls_of index turns)) own fits));
     }) pool' ran

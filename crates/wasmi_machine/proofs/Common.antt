@@ -35,7 +35,7 @@ pub use Rattle.wasmi_machine.specs.Exchange.{AsksFor, At, Denial, Exchange, Exch
 pub use Rattle.wasmi_machine.specs.Laws.{RunsGrowAsPermitted, Keeps, KeepsMeter, KeepsSpare, RefusalsInRunsKeepContents, SameContents}
 pub use Rattle.wasmi_machine.specs.MemoryEffects.{CreatesLent, spare_after, byte_write_of, ByteSource, OfBytes, StoresMemoryAt, WritesMemoryAt, bytes_appended, bytes_in, load_reply, ReadsBytes, ReadsMemoryAt, StoresMemory, OfByte, WritesMemoryFrom, memory_copy_of}
 pub use Rattle.wasmi_machine.specs.RegisterEffects.{StoresVectorAt, lane_loaded, vector_at, vector_loaded, SetsAt}
-pub use Rattle.wasmi_machine.specs.State.{State, live_at, Turn, TurnOutcome, outcome_of, World, MemoryPart, memory_part, slot_count, IsValidSlot, byte_count, sizes, world, HoldsTotals, live_value, IsValid, with_memories, with_tables, with_data_segments, with_globals, with_registers, with_segments, IsValidSegment, total, with_reserved, IsValidCall}
+pub use Rattle.wasmi_machine.specs.State.{State, live_at, Turn, TurnOutcome, outcome_of, World, MemoryPart, memory_part, slot_count, IsValidSlot, byte_count, sizes, world, HoldsTotals, live_value, IsValid, with_memories, with_tables, with_data_segments, with_globals, with_registers, with_segments, IsValidSegment, IsValidCall}
 pub use Rattle.wasmi_machine.specs.Steps.{Run, Changed, Effect, FuelSet, MemoryGrown, HasRangeWrite, RangeWrite, RangeWritten, Step, TableGrown, HasEffect, effect_of, BytesRead, LentMemoryMade, MemoryMade, TableMade, MemoryWritten, TableWritten, Told, Change, IsRunOf, BytesStored, BytesWritten, LacksSlot, MemoryDropped, RegisterSet, HasChange, RepliesWith, DataDropped, DataMade, ElementSet, GlobalMade, GlobalSet, ItemsDropped, SegmentMade, TableDropped, RepliesWithoutLimiter, SomeCopy, Sequence, is_charged}
 pub use Rattle.wasmi_machine.specs.TableEffects.{write_of, OfReference, OfSegment, OfTable, Source, ReservesElementsAt, SetsElementAt, element_bytes}
 pub use Rattle.wasmi_machine.specs.declared.calls.Call.{Call}

@@ -76,13 +76,13 @@ record IsToldBy {V E : Type 0} (e : Request V E) (refusal : E → Reply) : Type 
       → refusal (error_of_failure e.refusal cause notice_answer) ≡ failed_reply (e.notice cause) notice_answer
 
 -- the price of a request is what the meter is due for its question, and its last cause alone is want of memory
-record IsPriced {V E : Type 0} (e : Request V E) (m : Meter) : Type 0 where
+record IsPricedAsAsked {V E : Type 0} (e : Request V E) (m : Meter) : Type 0 where
   price : optional_due (Some m) e.price ≡ growth_due m e.question
   late : (cause : E) → e.late ≡ Some cause → (price : ℕ) → failed_charge (e.notice cause) price ≡ 0
   unpaid : (due price : ℕ) → failed_charge (e.notice (e.unpaid due)) price ≡ 0
   refuses : (cause : E) → e.refuses cause → (price : ℕ) → failed_charge (e.notice cause) price ≡ price
 
-module _ {V E : Type 0} (e : Request V E) (m : Meter) (charge : ℕ) (priced : IsPriced e m) where
+module _ {V E : Type 0} (e : Request V E) (m : Meter) (charge : ℕ) (priced : IsPricedAsAsked e m) where
   -- the charge of a growth that failed
   failed_charged : (cause : E) (late : Option E) → e.late ≡ late → (payable : Bool)
       → covers (Some m) (optional_due (Some m) e.price) ≡ payable → IsFirstCause e (Some m) late cause
@@ -108,7 +108,7 @@ module _ {V E : Type 0} (e : Request V E) (m : Meter) (charge : ℕ) (priced : I
   charged_by_outcome outcome may charged = charged
 
 -- an attempt that may end so asks what the call does, and what came of it is the reply
-record IsAnswered {S V E : Type 0} (t : Meeting S) (e : Request V E) (meter : Option Meter)
+record IsAttemptOf {S V E : Type 0} (t : Meeting S) (e : Request V E) (meter : Option Meter)
     (outcome : AttemptOutcome E) : Type 0 where
   may_end : MayEnd e meter outcome
   asks : t.question ≡ question_in e
@@ -153,7 +153,7 @@ module _ {S : Type 0} (rules : Rules S) (t : Meeting S) (place : Place) where
     still own = of_each (λ kind. t.after kind ≡ t.before kind) e.question.kind own others
 
     -- the exchange
-    attempt_passes : (meter : Option Meter) (outcome : AttemptOutcome E) → IsAnswered t e meter outcome
+    attempt_passes : (meter : Option Meter) (outcome : AttemptOutcome E) → IsAttemptOf t e meter outcome
         → Follows e rules t.first outcome t.last → GrowsByOutcome outcome
         → t.charge ≡ charge_at place (exchange_of e outcome) t.meter t.writing → Passed
     attempt_passes meter (Unasked cause) is follows own charged =
@@ -196,7 +196,7 @@ record IsWatched {S X : Type 0} (v : Watch S X) (kind : Kind) : Type 0 where
   own' : v.meeting.after kind ≡ map (slot_count v.count) v.later
   others : (other : Kind) → other ≢ kind → v.meeting.after other ≡ v.meeting.before other
 
--- an request that makes a value of nothing
+-- a request that makes a value of nothing
 record IsCreationOf {X E : Type 0} (count : X → ℕ) (made : X) (e : Request (Unit {0}) E) : Type 0 where
   tells : (cause : E) → kind_of (e.notice cause) ≡ e.question.kind
   fresh : e.question.current ≡ 0
@@ -208,7 +208,7 @@ record IsGrowthOf {X E : Type 0} (count : X → ℕ) (x : X) (m : Meter) (g : Gr
   now : g.request.question.current ≡ count x
   full : count g.request.grown ≡ g.request.question.desired
   up : g.request.question.current ≤ g.request.question.desired
-  priced : IsPriced g.request m
+  priced : IsPricedAsAsked g.request m
   refusal : E → Reply
   told : IsToldBy g.request refusal
 
@@ -380,7 +380,7 @@ late_is true late cause is = absurd (none-some cause is)
 late_is false late cause is = same_Some late cause is
 
 -- the price of a growth of a memory
-memory_priced : (pages : ℕ) (x : MemoryValue) (m : Meter) → IsPriced (memory.growth_of x pages) m
+memory_priced : (pages : ℕ) (x : MemoryValue) (m : Meter) → IsPricedAsAsked (memory.growth_of x pages) m
 memory_priced pages x m = record {
   price = due_again m 1 (length x.bytes) (pages * page_bytes x.ty.page);
   late = λ cause is price. subst (λ c. failed_charge (MemoryFailure c) price ≡ 0)
@@ -406,7 +406,7 @@ memory_growth_is pages x m =
     }
 
 -- the price of a growth of a table
-table_priced : (n reference : ℕ) (x : TableValue) (m : Meter) → IsPriced (table.growth_of x n reference) m
+table_priced : (n reference : ℕ) (x : TableValue) (m : Meter) → IsPricedAsAsked (table.growth_of x n reference) m
 table_priced n reference x m = record {
   price = due_again m 4 (size_of x) n;
   late = λ cause is price. subst (λ c. failed_charge (TableFailure c) price ≡ 0)

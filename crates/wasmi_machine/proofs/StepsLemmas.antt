@@ -88,7 +88,7 @@ abbrev KeepsRegisters : State → List RawVal → Type 0
 KeepsRegisters s registers = length registers ≡ length s.registers
 
 -- a state is valid, if each of its parts is where those of another one are
-valid_by : (s s' : State) → (AllValid IsValidMemory s.memories → AllValid IsValidMemory s'.memories)
+pub valid_by : (s s' : State) → (AllValid IsValidMemory s.memories → AllValid IsValidMemory s'.memories)
     → (AllValid IsValidTable s.tables → AllValid IsValidTable s'.tables)
     → (All IsValidSegment s.segments → All IsValidSegment s'.segments)
     → (length s.registers ≡ 16 → length s'.registers ≡ 16) → IsValid s → IsValid s'

@@ -1,7 +1,6 @@
 -- The sizes of slots as slots change.
-use Rattle.std.proofs.Common.{◌≡◌, ◌++◌, ℕ, List, set, Some, ap, refl, sym, ◌∙◌, [], map, sum, ◌+◌, ◌∷◌}
-use Rattle.wasmi_machine.proofs.Common.{slice_get, slice_set, map-set, get_or_from_slice_get, slice_get-map, slice_get_within, Slot, State, live_at, slot_count, total, with_reserved, sum_by-set, sum_by_push, option_map, Kind, Bytes, Elements}
-use Rattle.wasmi_machine.specs.declared.slots.SlotCounts.{SlotCounts}
+use Rattle.std.proofs.Common.{◌≡◌, ◌++◌, ℕ, List, set, Some, ap, sym, ◌∙◌, [], map, sum, ◌+◌, ◌∷◌}
+use Rattle.wasmi_machine.proofs.Common.{slice_get, slice_set, map-set, get_or_from_slice_get, slice_get-map, slice_get_within, Slot, live_at, slot_count, sum_by-set, sum_by_push, option_map, Kind, Bytes, Elements}
 use Rattle.wasmi_machine.proofs.SlotsLemmas.{live_slot, set_read}
 
 module _ {X : Type 0} (count : X → ℕ) where
@@ -33,8 +32,3 @@ sum_push xs desired = sum_by_push (λ x. x) xs desired
 pub each_kind : (P : Kind → Type 0) → P Bytes → P Elements → (kind : Kind) → P kind
 each_kind P bytes elements Bytes = bytes
 each_kind P bytes elements Elements = elements
-
--- a machine has what it had where slots are reserved
-pub slots_alike : (s : State) (more : SlotCounts) (kind : Kind) → total (with_reserved s more) kind ≡ total s kind
-slots_alike s more Bytes = refl
-slots_alike s more Elements = refl

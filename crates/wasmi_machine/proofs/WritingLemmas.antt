@@ -1,5 +1,6 @@
 -- What each turn writes, what it is charged for that, and what calls that don't set the fuel were charged.
 use Rattle.std.proofs.Common.{Bool, Err, List, None, Ok, Option, Result, Some, [], ap, arith, false, inl, inr, map, refl, subst, true, ℕ, ◌*◌, ◌+◌, ◌-◌, ◌/◌, ◌<◌, ◌^◌, ◌∙◌, ◌∷◌, ◌≡◌, ◌≤◌}
+use Rattle.std.proofs.lemmas.List.Sums.{sum_by-le-sum_by}
 use Rattle.std.proofs.Math.Nat.{add-mul, lt-div-mul-add, mul-add, mul-le-mul_left, mul_comm}
 use Rattle.wasmi_machine.proofs.Common.{All, All-head, All-tail, Account, ChangesMeter, IsSpent, SetsNoFuel, account_after, and_parts, charged_by, charges, opened, nat_tests, sum_by-cons, option_map, option_map_or, cond, if◌then◌else◌, is_some, nat_eq, nat_le, nat_lt, ◌&&◌, bytes_appended, IsBounded, amount_set, amounts_set, bytes_written, charges_for_writing, has_written, is_accepted, writing_turns, ActsAt, reply_of, Run, Effect, MemoryGrown, HasRangeWrite, RangeWrite, RangeWritten, TableGrown, HasEffect, effect_of, is_charged, State, live_at, Turn, World, element_bytes, Grows, Growth, Call, SetFuel, Reply, Slot, AttemptOutcome, MayEnd, Met, optional_due, answer_of, outcome_charge, copy_cost, cut_product, Meter, Rules, MemoryError, TableError, CustomFuelCosts, on_test, GrowsMemoryCharging, MemoryValue, pages_of, greatest_pages, in_bounds, page_bytes, GrowsTableCharging, TableValue, same_type, TypedRawRef, memory_growth, table_growth, outcome_of, MeteredValue, with_value}
 use Rattle.wasmi_machine.proofs.AccountLemmas.{fuel_balances, rest_left, costs_kept, step_meter}
@@ -282,13 +283,9 @@ charges_added account (turn ∷ turns) none =
 
 -- the charges for writing are charges
 writing_within : (turns : List Turn) → charges_for_writing turns ≤ charges turns
-writing_within [] = omega arith
-writing_within (turn ∷ turns) =
-    let all : charges (turn ∷ turns) ≡ turn.charge + charges turns = sum_by-cons (λ (t : Turn). t.charge) turn turns in
-    let some : charges_for_writing (turn ∷ turns) ≡ (if has_written turn.call turn.reply then turn.charge else
-    0) + charges_for_writing turns =
-    sum_by-cons (λ (t : Turn). if has_written t.call t.reply then t.charge else 0) turn turns in
-    omega (arith, all, some, part_of (has_written turn.call turn.reply) turn.charge, writing_within turns)
+writing_within turns =
+    sum_by-le-sum_by (λ (t : Turn). counted (has_written t.call t.reply) t.charge) (λ (t : Turn). t.charge) turns
+    (λ t. part_of (has_written t.call t.reply) t.charge)
 
 module _ {S : Type 0} (rules : Rules S) where
   -- what is left and the charges are what was left; they pay for what is written

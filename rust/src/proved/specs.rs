@@ -6173,11 +6173,8 @@ pub record <b id="RemovesTenant">RemovesTenant</b> (pool : <a href="../../budget
   pub <b id="removed">removed</b> : pool&#x27; ≡ record pool { <a href="../../budget/PoolSpecs/index.html#machines">machines</a> = slice_set pool.machines index None }
 
 -- the machine at an index has so many more slots reserved, and all others are the same
-pub record <b id="ReservesAt">ReservesAt</b> (<a href="../../budget/PoolSpecs/index.html#machines">machines</a> : List (Option <a href="../../machine/StateSpecs/index.html#State">State</a>)) (index : ℕ) (more : SlotCounts)
-    (machines&#x27; : List (Option <a href="../../machine/StateSpecs/index.html#State">State</a>)) : Type 0 where
-  pub <b id="machine">machine</b> : <a href="../../machine/StateSpecs/index.html#State">State</a>
-  pub <b id="found">found</b> : slice_index_or <a href="../../budget/PoolSpecs/index.html#machines">machines</a> index None ≡ Some <a href="../../budget/PoolSpecs/index.html#machine">machine</a>
-  pub <b id="after">after</b> : machines&#x27; ≡ slice_set <a href="../../budget/PoolSpecs/index.html#machines">machines</a> index (Some (<a href="../../machine/StateSpecs/index.html#with_reserved">with_reserved</a> <a href="../../budget/PoolSpecs/index.html#machine">machine</a> more))
+abbrev pub <b id="ReservesAt">ReservesAt</b> : List (Option <a href="../../machine/StateSpecs/index.html#State">State</a>) → ℕ → SlotCounts → List (Option <a href="../../machine/StateSpecs/index.html#State">State</a>) → Type 0
+<a href="../../budget/PoolSpecs/index.html#ReservesAt">ReservesAt</a> <a href="../../budget/PoolSpecs/index.html#machines">machines</a> index more machines&#x27; = <a href="../../budget/PoolSpecs/index.html#BecomesAt">BecomesAt</a> <a href="../../budget/PoolSpecs/index.html#machines">machines</a> index (λ s s&#x27;. s&#x27; ≡ <a href="../../machine/StateSpecs/index.html#with_reserved">with_reserved</a> s more) machines&#x27;
 
 -- the machine of a tenant has so many more slots reserved, and all else is the same
 abbrev pub <b id="ReservesForTenant">ReservesForTenant</b> : <a href="../../budget/PoolSpecs/index.html#PoolValue">PoolValue</a> → ℕ → SlotCounts → <a href="../../budget/PoolSpecs/index.html#PoolValue">PoolValue</a> → Type 0

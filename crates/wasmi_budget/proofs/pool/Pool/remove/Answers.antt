@@ -8,14 +8,12 @@ use Rattle.wasmi_budget.proofs.pool.Pool.remove.Goals as goal
 
 pub overflow_sub-self : goal.overflow_sub-self
 overflow_sub-self c =
-    held_at_most (pool_of c.self.inside.caps c.self.inside.tenants) c.self.inside.held_by_all c.machine.inside.held
-    c.args.index c.in_ok-machine.field-0 c.self.invariant c.in_ok-machine.ensures.0
+    held_at_most c.args.index c.self.invariant c.in_ok-machine.ensures.0
     (c.machine.invariant ∙ ap (λ (s : State). amounts_of (total s)) c.machine.view_is) Bytes
 
 pub overflow_sub-self-2 : goal.overflow_sub-self-2
 overflow_sub-self-2 c =
-    held_at_most (pool_of c.self.inside.caps c.self.inside.tenants) c.self.inside.held_by_all c.machine.inside.held
-    c.args.index c.in_ok-machine.field-0 c.self.invariant c.in_ok-machine.ensures.0
+    held_at_most c.args.index c.self.invariant c.in_ok-machine.ensures.0
     (c.machine.invariant ∙ ap (λ (s : State). amounts_of (total s)) c.machine.view_is) Elements
 
 pub invariant_of-self-2 : goal.invariant_of-self-2

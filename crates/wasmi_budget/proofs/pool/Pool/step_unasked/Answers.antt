@@ -4,13 +4,13 @@ use Rattle.wasmi_budget.proofs.PoolLemmas.{unasked_kept, unasked_runs}
 use Rattle.wasmi_budget.proofs.pool.Pool.step_unasked.Goals as goal
 
 pub invariant_of-self-2 : goal.invariant_of-self-2
-invariant_of-self-2 c = unasked_kept _ _ c.self.invariant c.args.index c.args.call.now _ _ c.in-Some.ensures.stepped
+invariant_of-self-2 c = unasked_kept c.self.invariant c.args.index c.args.call.now _ _ c.in-Some.ensures.stepped
 
 pub returns-clause-ran : goal.returns-clause-ran
 returns-clause-ran c = subst
     (λ (pool : PoolValue). RunsTenant pool c.args.index (c.args.call.now ∷ []) (c.in-Some.reply ∷ [])
     (pool_of c.self.inside.caps c.step_unasked.new.self)) c.self.view_is
-    (unasked_runs _ _ c.self.invariant c.args.index c.args.call.now _ _ c.in-Some.ensures.stepped)
+    (unasked_runs c.self.invariant c.args.index c.args.call.now _ _ c.in-Some.ensures.stepped)
 
 pub returns-clause-within : goal.returns-clause-within
 returns-clause-within c = (invariant_of-self-2 c).within

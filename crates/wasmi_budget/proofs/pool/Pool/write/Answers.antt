@@ -7,7 +7,7 @@ use Rattle.wasmi_budget.proofs.pool.Pool.write.Goals as goal
 pub invariant_of-self-2 : goal.invariant_of-self-2
 invariant_of-self-2 c =
     let written = c.in-Some.ensures.stepped in
-    unasked_kept _ _ c.self.invariant c.args.index (Write c.args.memory c.args.offset written.0) c.in-Some.reply _
+    unasked_kept c.self.invariant c.args.index (Write c.args.memory c.args.offset written.0) c.in-Some.reply _
     written.2
 
 pub returns-clause-ran : goal.returns-clause-ran
@@ -18,7 +18,7 @@ returns-clause-ran c =
       subst
           (λ (pool : PoolValue). RunsTenant pool c.args.index (Write c.args.memory c.args.offset written.0 ∷ [])
           (c.in-Some.reply ∷ []) (pool_of c.self.inside.caps c.write.new.self)) c.self.view_is
-          (unasked_runs _ _ c.self.invariant c.args.index (Write c.args.memory c.args.offset written.0) c.in-Some.reply _
+          (unasked_runs c.self.invariant c.args.index (Write c.args.memory c.args.offset written.0) c.in-Some.reply _
           written.2),
     )
 

@@ -1,7 +1,7 @@
 use Rattle.std.proofs.Common.{◌≡◌, ◌∙◌, Err, refl, rules, sym}
 use Rattle.std.proofs.lemmas.Option.{none-some}
 use Rattle.wasmi_budget.specs.declared.error.ReserveError.TheVariants.{OutOfMemory}
-use Rattle.wasmi_budget.proofs.TenantsLemmas.{its_value, no_value, set_value}
+use Rattle.wasmi_budget.proofs.TenantsLemmas.{becomes_at, its_value, no_value}
 use Rattle.wasmi_budget.proofs.tenants.Tenants.reserve.Goals as goal
 
 pub returns-in_default-clause-no_tenant : goal.returns-in_default-clause-no_tenant
@@ -22,12 +22,8 @@ returns c =
     let there = its_value c.self.invariant c.self.view_is c.deref.ensures.value _ _ c.in-Some.ensures.found
     c.index_mut-counted.ensures.value in
     record {
-      reserved = record {
-        machine = c.index_mut-counted.result.now;
-        found = there;
-        after = rw c.in_ok-reserve.ensures.reserved (set_value c.self.invariant c.self.view_is c.deref.ensures.value _ _
-            c.in-Some.ensures.found _);
-      };
+      reserved = becomes_at c.self.invariant c.self.view_is c.deref.ensures.value _ _ c.in-Some.ensures.found
+          c.index_mut-counted.ensures.value _ _ c.in_ok-reserve.ensures.reserved;
       no_tenant = (λ error. absurd cc, λ none. absurd (none-some _ (sym none ∙ there)));
       refused = tt;
     }

@@ -1,7 +1,6 @@
 use Rattle.std.proofs.Common.{◌≡◌, ◌∙◌, Err, refl, rules, sym}
 use Rattle.std.proofs.lemmas.Option.{none-some}
 use Rattle.wasmi_budget.specs.declared.error.PoolError.TheVariants.{OutOfMemory}
-use Rattle.wasmi_budget.specs.Pool.{pool_of}
 use Rattle.wasmi_budget.proofs.PoolLemmas.{is_part}
 use Rattle.wasmi_budget.proofs.TenantsLemmas.{its_value, no_value, ran_at}
 use Rattle.wasmi_budget.proofs.tenants.Tenants.run.Goals as goal
@@ -14,8 +13,8 @@ returns-in_default-clause-no_tenant c = (
 
 pub run-requires : goal.run-requires
 run-requires c = record {
-  part = is_part (pool_of c.args.caps c.args.self.now) _ c.requires.kept c.args.index _ (its_value c.self.invariant
-      c.self.view_is c.deref.ensures.value _ _ c.in-Some.ensures.found c.index_mut-machine.ensures.value);
+  part = is_part c.requires.kept c.args.index (its_value c.self.invariant c.self.view_is c.deref.ensures.value _ _
+      c.in-Some.ensures.found c.index_mut-machine.ensures.value);
 }
 
 pub returns-in_err-replies-clause-no_tenant : goal.returns-in_err-replies-clause-no_tenant

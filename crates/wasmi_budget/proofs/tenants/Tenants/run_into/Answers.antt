@@ -1,7 +1,6 @@
 use Rattle.std.proofs.Common.{◌≡◌, ◌∙◌, Err, refl, rules, sym}
 use Rattle.std.proofs.lemmas.Option.{none-some}
 use Rattle.wasmi_budget.specs.declared.error.RunIntoError.TheVariants.{TooManyCalls}
-use Rattle.wasmi_budget.specs.Pool.{pool_of}
 use Rattle.wasmi_budget.proofs.PoolLemmas.{is_part}
 use Rattle.wasmi_budget.proofs.TenantsLemmas.{its_value, no_value, ran_at, value_put_back}
 use Rattle.wasmi_budget.proofs.tenants.Tenants.run_into.Goals as goal
@@ -14,8 +13,8 @@ returns-in_default-clause-no_tenant c = (
 
 pub run_into-requires : goal.run_into-requires
 run_into-requires c = record {
-  part = is_part (pool_of c.args.caps c.args.self.now) _ c.requires.kept c.args.index _ (its_value c.self.invariant
-      c.self.view_is c.deref.ensures.value _ _ c.in-Some.ensures.found c.index_mut-counted.ensures.value);
+  part = is_part c.requires.kept c.args.index (its_value c.self.invariant c.self.view_is c.deref.ensures.value _ _
+      c.in-Some.ensures.found c.index_mut-counted.ensures.value);
 }
 
 pub returns-in_err-run_into-clause-no_tenant : goal.returns-in_err-run_into-clause-no_tenant

@@ -1,5 +1,4 @@
 use Rattle.std.proofs.Common.{refl}
-use Rattle.wasmi_budget.specs.Pool.{pool_of}
 use Rattle.wasmi_budget.proofs.PoolLemmas.{is_part}
 use Rattle.wasmi_budget.proofs.TenantsLemmas.{its_value, no_value, ran_at}
 use Rattle.wasmi_budget.proofs.tenants.Tenants.step.Goals as goal
@@ -12,8 +11,8 @@ returns-in_err-place-clause-stepped c = rw c.from_residual.ensures (
 
 pub step-requires : goal.step-requires
 step-requires c = record {
-  part = is_part (pool_of c.args.caps c.args.self.now) _ c.requires.kept c.args.index _ (its_value c.self.invariant
-      c.self.view_is c.deref.ensures.value _ _ c.in_ok-place.ensures.found c.index_mut.ensures.value);
+  part = is_part c.requires.kept c.args.index (its_value c.self.invariant c.self.view_is c.deref.ensures.value _ _
+      c.in_ok-place.ensures.found c.index_mut.ensures.value);
 }
 
 pub returns : goal.returns
