@@ -2,7 +2,7 @@
 pub use Rattle.std.proofs.alloc.Calls.{α, Fits, Goes-blank, handle_tells, token}
 pub use Rattle.std.proofs.lemmas.Grind.{same_number_lists, get_or-set_at}
 pub use Rattle.std.proofs.lemmas.List.{get_or-map, length-map, same_lists, take_all, take_more, take_more_set, take_at, drop_at, length-replicate, length-take-le, set-get_or, get_or-set_other, get_or_default, length-set, length-take}
-pub use Rattle.std.proofs.lemmas.Option.{same_Some, gets, slice_get-map}
+pub use Rattle.std.proofs.lemmas.Option.{gets, slice_get-map}
 pub use Rattle.std.proofs.raw_atomic.Walks.{proved_at}
 pub use Rattle.std.specs.Option.{option_map, unwrap_or}
 pub use Rattle.std.specs.Prelude.{IsSome, ◌==◌, if◌then◌else◌, nat_lt, MatchOption, Vec, nat_eq, slice_set}
@@ -10,7 +10,7 @@ pub use Rattle.std_alloc.proofs.BoxSteps.Form.{B, Bx, D, P, R, box_ty, handle, o
 pub use Rattle.std_alloc.proofs.BoxSteps.Steps.{box_out, box_in}
 pub use Rattle.std_alloc.proofs.SendSync.{lies, quiet}
 pub use Rattle.wasmi_budget.specs.Pool.{PoolValue, RunsTenant, machine_of, tenant_at, tenant_rules}
-pub use Rattle.wasmi_machine.specs.State.{State, with_memories, with_reserved, HoldsTotals, total, Turn, byte_count, slot_count, world, with_tables, World, live_at}
+pub use Rattle.wasmi_machine.specs.State.{State, with_memories, with_reserved, total, Turn, byte_count, slot_count, world, with_tables, World, live_at}
 pub use Rattle.wasmi_machine.specs.declared.calls.Call.TheVariants.{Write, SetFuel, GrowMemory, Binary, GetFuel, Load, Store}
 pub use Rattle.wasmi_meter.specs.Capped.{holdings, quota_rules, IsWithinCaps, SameCaps, Asked, HoldsTheSame, Releases, amount_held, with_less, with_more, capped_quota}
 pub use Rattle.wasmi_meter.specs.Limiter.{optional_rules, Rules, Question, Answer, Failure, NoticeAnswer, AskedIf, NoticedIf, kind_of}
@@ -53,7 +53,7 @@ pub use types.Run.{stop, fld, load, no_more, and_then, of_opd, addr, first, bloc
 pub use Rattle.wasmi_c.specs.HeldBox.{box_or_none_owns, global_token, machine_row, pool_row}
 pub use Rattle.wasmi_c.specs.Instruction.{Leaves, zip3, lanes_of, extracted_value, replaced_value, ternary_value, unary_value}
 unfoldable pub use Rattle.wasmi_c.specs.Instruction.{each_of, each_of_two, each_of_three, binary_outcome}
-pub use Rattle.wasmi_c.specs.Machine.Calls.{CallsAreRuns, InTurn, ListsAreRuns, MachineReplies, QuotasAreKept, RepliesInStruct, world_of, PaysFuelIn, word_after, RepliesToStruct, vector_binary, item_load, item_store}
+pub use Rattle.wasmi_c.specs.Machine.Calls.{CallsAreRuns, InTurn, ListsAreRuns, MachineReplies, QuotasAreKept, world_of, word_after, RepliesToStruct}
 unfoldable pub use Rattle.wasmi_c.specs.Machine.Calls.{RepliesInTurn}
 pub use Rattle.wasmi_c.specs.MemoryCalls.{WritesBytesAs, of_memory, by_pages, ended_memory}
 pub use Rattle.wasmi_c.specs.Numbers.{meter_of, with_left, KeepsMeter, MeteredRegion, SameRest, limiter_of, quota_numbers_rules, Embedded, embedded, KeepsQuota, Placed, quota_of, table_type_of, IsState}
@@ -61,4 +61,4 @@ pub use Rattle.wasmi_c.specs.Pool.{with_machine_at, TenantPaysFuel, TenantReplie
 unfoldable pub use Rattle.wasmi_c.specs.Pool.{TenantReplies, TenantRepliesInStatus, TenantRepliesInWord, TenantRepliesToItems}
 pub use Rattle.wasmi_c.specs.TableCalls.{WritesTableAs, of_table, by_elements, ended_table}
 pub use Rattle.wasmi_c.specs.declared.machine.reply_struct.ReplyStruct.{ReplyStruct}
-pub use Rattle.wasmi_c.specs.declared.status.TheConstants.{NO_CALL, DONE, NO_TENANT}
+pub use Rattle.wasmi_c.specs.declared.status.TheConstants.{DONE}

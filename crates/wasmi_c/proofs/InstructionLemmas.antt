@@ -8,7 +8,7 @@ use Rattle.std.proofs.lemmas.Simd.{get_or-zip2, length-zip2}
 use Rattle.std.specs.List.{list_all}
 use Rattle.wasmi_c.specs.declared.instruction.result.Refusal.TheVariants.{LengthsDiffer}
 
--- what passes a test is written
+-- where a test holds, a call after which the value is there has left what is expected, and the status 0
 written : {V : Type 0} (test : Bool) (value old new : V) → test ≡ true → new ≡ value
     → Leaves (if test then Ok value else Err LengthsDiffer) old new 0
 written true value old new passes is = (refl, is)

@@ -1,8 +1,7 @@
 -- What calls and lines do to a machine with its limiter.
-use Rattle.std.proofs.Common.{◌≡◌, ◌+◌, ◌<◌, ◌≤◌, ◌++◌, drop, set, take, length, get_or, All, Option, Some, None, false, is_some, map, Ok, Err, List, Result, arith, IfOk, OnErr, [], ◌∷◌, refl, sym, subst, ap, ℕ, ◌∙◌, ◌^◌, sum, inl, inr}
-use Rattle.wasmi_c.proofs.Common.{take_all, take_more, take_more_set, same_Some, MatchOption, Vec, optional_rules, holdings, quota_rules, IsWithinCaps, SameCaps, Quota, State, with_memories, with_reserved, HoldsTotals, total, Turn, byte_count, slot_count, world, with_tables, Write, CallsAreRuns, InTurn, ListsAreRuns, MachineReplies, QuotasAreKept, RepliesInStruct, world_of, NO_CALL, ReplyStruct}
+use Rattle.std.proofs.Common.{◌≡◌, ◌+◌, ◌<◌, ◌≤◌, ◌++◌, set, take, length, get_or, All, Option, Some, None, false, is_some, map, Ok, Err, List, Result, arith, IfOk, OnErr, [], ◌∷◌, refl, sym, ap, ℕ, ◌∙◌, ◌^◌, sum, inl, inr}
+use Rattle.wasmi_c.proofs.Common.{take_all, take_more, take_more_set, Vec, optional_rules, holdings, quota_rules, SameCaps, Quota, State, with_memories, with_reserved, total, Turn, byte_count, slot_count, world, with_tables, Write, CallsAreRuns, InTurn, ListsAreRuns, MachineReplies, QuotasAreKept, world_of, ReplyStruct}
 use Rattle.std.specs.Global.{Global}
-use Rattle.std.specs.Prelude.{slice_get}
 use Rattle.std.specs.declared.alloc.AllocError.{AllocError}
 use Rattle.wasmi_meter.specs.AnyLimiter.{any_limiter_rules, caps_of}
 use Rattle.wasmi_meter.specs.declared.any_limiter.AnyLimiter.{AnyLimiter}
@@ -20,7 +19,6 @@ use Rattle.wasmi_machine.specs.declared.calls.Reply.{Reply}
 use Rattle.wasmi_machine.specs.declared.slots.SlotCounts.{SlotCounts}
 use Rattle.wasmi_c.specs.Machine.Caps.{IsKept, Keeps, MachineValue}
 use Rattle.wasmi_c.specs.Machine.CallStructs.{call_of}
-use Rattle.wasmi_c.specs.Machine.Replies.{only}
 use Rattle.wasmi_c.specs.Machine.NewMachines.{IsAnswer, IsNewWithAnswers, MakesMachine, MakesWithAnswers, answer_of}
 use Rattle.wasmi_c.specs.declared.machine.call_struct.CallStruct.{CallStruct}
 use Rattle.wasmi_c.specs.declared.machine.limits.Limits.{Limits}
@@ -40,12 +38,10 @@ quota_kept : HoldsTotalsAlways quota_rules holdings → QuotasStayWithin → (tu
 quota_kept holds stays turns s quota s' quota' kept ran =
     let held = holds s quota kept.totals turns (world s' (Some quota')) ran in
     let within = stays s quota kept.within turns (world s' (Some quota')) ran in
-    let same = sym (same_Some quota' within.0 within.1) in
-    let caps = subst (SameCaps quota) same within.3 in (
-      record {
-        totals = subst (λ q. HoldsTotals (holdings q) s') (sym (same_Some quota' held.0 held.1)) held.2;
-        within = subst IsWithinCaps same within.2;
-      },
+    let same : quota' ≡ within.0 = cc in
+    let is_held : quota' ≡ held.0 = cc in
+    let caps : SameCaps quota quota' = rw same within.3 in (
+      record { totals = rw is_held held.2; within = rw same within.2 },
       (λ i. Some (record { bytes = caps Bytes i; elements = caps Elements i })),
     )
 
@@ -53,12 +49,10 @@ quota_kept holds stays turns s quota s' quota' kept ran =
 kept_by_kind : HoldsTotalsAlways quota_rules holdings → QuotasStayWithin → (turns : List Turn) (s : State)
     (l : AnyLimiter) (s' : State) (l' : AnyLimiter) → Keeps s l
     → RelatesByKind (λ L rules w w'. Run rules w turns w') s l s' l' → KeptAfter l s' l'
-kept_by_kind holds stays turns s limiter.Unlimited s' l' kept (same, ran) =
-    subst (KeptAfter limiter.Unlimited s') (sym same) (tt, refl)
+kept_by_kind holds stays turns s limiter.Unlimited s' l' kept (same, ran) = rw same (tt, refl)
 kept_by_kind holds stays turns s (limiter.Quota quota) s' l' kept (quota', same, ran) =
-    subst (KeptAfter (limiter.Quota quota) s') (sym same) (quota_kept holds stays turns s quota s' quota' kept ran)
-kept_by_kind holds stays turns s (limiter.Answers list) s' l' kept (list', same, ran) =
-    subst (KeptAfter (limiter.Answers list) s') (sym same) (tt, refl)
+    rw same (quota_kept holds stays turns s quota s' quota' kept ran)
+kept_by_kind holds stays turns s (limiter.Answers list) s' l' kept (list', same, ran) = rw same (tt, refl)
 
 -- quotas are kept in each run
 pub quotas_kept : RunsKeepKind → HoldsTotalsAlways quota_rules holdings → QuotasStayWithin → QuotasAreKept
@@ -89,16 +83,7 @@ module _ (keeps : QuotasAreKept) (machine : MachineValue) (s : State) (l : AnyLi
       → OnErr result ((s' ≡ s) × (l' ≡ l)) → Kept
   kept_by_run calls (Ok replies) (turns, called, replied, ran) unchanged =
       of_machine (keeps turns s l s' l' ran kept)
-  kept_by_run calls (Err error) run unchanged = of_machine
-      (subst (λ t. Keeps t l') (sym unchanged.0) (subst (Keeps s) (sym unchanged.1) kept), ap caps_of unchanged.1)
-
--- what a machine replies by its parts
-pub machine_replies : (machine : MachineValue) (s : State) (l : AnyLimiter) (call : Call) (reply : Reply) (s' : State)
-    (l' : AnyLimiter) → record { state = s; limiter = l } ≡ machine
-    → RepliesWith (optional_rules any_limiter_rules) call (world s (Some l)) reply (world s' (Some l'))
-    → MachineReplies call machine reply (record { state = s'; limiter = l' })
-machine_replies machine s l call reply s' l' seen replies =
-    subst (λ m. MachineReplies call m reply (record { state = s'; limiter = l' })) seen replies
+  kept_by_run calls (Err error) run unchanged = of_machine (rw (unchanged.0, unchanged.1) (kept, refl))
 
 -- a call is a run of it alone
 pub calls_run : CallsAreRuns
@@ -151,8 +136,7 @@ machine_writes machine s l seen memory offset bytes short full s' writes rest =
     let written = write_replies (optional_rules any_limiter_rules) memory offset bytes short s full s' writes rest in (
       written.0,
       written.1,
-      machine_replies machine s l (Write memory offset written.0) full s' l seen
-          (0, 0, written.2 (Some l)),
+      rw (← seen) (0, 0, written.2 (Some l)),
     )
 
 -- what is reserved counts nowhere
@@ -171,8 +155,7 @@ pub made_so : (IsNew : MachineValue → Type 0) (machine : MachineValue) (held :
     (held' : Option MachineValue) → MakesMachine (λ made. made ≡ machine) held status held' → IsNew machine
     → MakesMachine IsNew held status held'
 made_so IsNew machine None status held' (inl refused) is = inl refused
-made_so IsNew machine None status held' (inr (made, same, done, kept)) is =
-    inr (made, subst IsNew (sym same) is, done, kept)
+made_so IsNew machine None status held' (inr (made, same, done, kept)) is = inr (made, rw same is, done, kept)
 made_so IsNew machine (Some old) status held' there is = there
 
 -- where there is none, what is made as a new machine with answers is made with these answers
@@ -209,23 +192,19 @@ module _ {V : Type 0} (Replies : CallStruct → V → ReplyStruct → V → Type
       → InTurn Replies (take i calls) v (take i replies) w → length calls ≤ i → length replies ≡ length calls
       → InTurn Replies calls v replies w
   all_in_turn calls i v replies w ran past places =
-      subst (λ cs. InTurn Replies cs v replies w) (take_all i calls past)
-      (subst (λ rs. InTurn Replies (take i calls) v rs w) (take_all i replies (omega (arith, past, places))) ran)
+      rw (take_all i calls past, take_all i replies (omega (arith, past, places))) at ran
 
 -- calls that are replied to in turn are one run of them
 pub lists_run : ListsAreRuns
 lists_run [] [] machine [] machine' are same = ([], ([], refl, refl, ap world_of same), refl)
 lists_run [] [] machine (t ∷ told) machine' are ran = absurd ran
-lists_run [] (c ∷ calls) machine told machine' are ran = absurd (omega (arith, ap length are))
-lists_run (n ∷ numbers) [] machine told machine' are ran = absurd (omega (arith, ap length are))
+lists_run [] (c ∷ calls) machine told machine' are ran = absurd cc
+lists_run (n ∷ numbers) [] machine told machine' are ran = absurd cc
 lists_run (n ∷ numbers) (c ∷ calls) machine [] machine' are ran = absurd ran
 lists_run (n ∷ numbers) (c ∷ calls) machine (t ∷ told) machine' are (next, step, ran) =
-    let is : call_of n ≡ Some c =
-    same_Some (call_of n) (Some c) (ap (λ (found : List (Option Call)). slice_get found 0) are) in
-    let one : RepliesInStruct c machine t next =
-    subst (λ (called : Option Call). MatchOption called ((t ≡ only NO_CALL) × (next ≡ machine))
-    (λ call. RepliesInStruct call machine t next)) is step in
-    let rest = lists_run numbers calls next told machine' (ap (λ (found : List (Option Call)). drop 1 found) are) ran in
+    let is : call_of n ≡ Some c = cc in
+    let one = rw is at step in
+    let rest = lists_run numbers calls next told machine' (cc) ran in
     let turn : Turn = record { call = c; reply = one.0; charge = one.1.0; written = one.1.1 } in (
       one.0 ∷ rest.0,
       (turn ∷ rest.1.0, λ i. c ∷ rest.1.1 i, λ i. one.0 ∷ rest.1.2 i, (world_of next, one.1.2, rest.1.3)),

@@ -260,8 +260,8 @@ module _ {V E S : Type 0} (rules : Rules S) (e : Request V E) (a a' : HostAnswer
       → AskedIf host_rules (Some (fresh a)) e.question answer (Some a')
       → rules.asked l.before e.question answer (limiter_after a' l)
   by_answer answer asks =
-      let was_asked : a'.asked ≡ 1 = ap (λ (h : HostAnswers). h.asked) asks.1 in
-      let kept : a'.answer ≡ a.answer = ap (λ (h : HostAnswers). h.answer) asks.1 in
+      let was_asked : a'.asked ≡ 1 = rw asks.1 refl in
+      let kept : a'.answer ≡ a.answer = rw asks.1 refl in
       let state : limiter_after a' l ≡ l.asked = rw asks.1 refl in
       rw (state, asks.0, ← kept) (allows.asks was_asked)
 
@@ -273,12 +273,10 @@ module _ {V E S : Type 0} (rules : Rules S) (e : Request V E) (a a' : HostAnswer
       × rules.noticed p (e.notice cause) notice_answer (limiter_after a' l)
   by_failure cause notice_answer None asks tells = absurd asks
   by_failure cause notice_answer (Some b) asks tells =
-      let was_asked : a'.asked ≡ 1 =
-      ap (λ (h : HostAnswers). h.asked) tells.1 ∙ ap (λ (h : HostAnswers). h.asked) asks.1 in
-      let was_told : a'.told ≡ 1 = ap (λ (h : HostAnswers). h.told) tells.1 in
-      let answered : a'.answer ≡ a.answer =
-      ap (λ (h : HostAnswers). h.answer) tells.1 ∙ ap (λ (h : HostAnswers). h.answer) asks.1 in
-      let noticed : a'.notice_answer ≡ b.notice_answer = ap (λ (h : HostAnswers). h.notice_answer) tells.1 in
+      let was_asked : a'.asked ≡ 1 = rw (tells.1, asks.1) refl in
+      let was_told : a'.told ≡ 1 = rw tells.1 refl in
+      let answered : a'.answer ≡ a.answer = rw (tells.1, asks.1) refl in
+      let noticed : a'.notice_answer ≡ b.notice_answer = rw tells.1 refl in
       let state : limiter_after a' l ≡ l.told = rw tells.1 refl in (
         l.asked,
         rw asks.0 (rw answered at allows.asks was_asked),

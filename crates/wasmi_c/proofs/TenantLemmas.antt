@@ -1,17 +1,14 @@
 -- Calls on a tenant's machine.
-use Rattle.std.proofs.Common.{◌≡◌, ◌≤◌, ◌<◌, ◌-◌, ◌∷◌, ◌∙◌, [], ℕ, List, Option, Some, None, Result, Ok, Err, ap, arith, inl, inr, length, refl, subst, sym}
-use Rattle.wasmi_c.proofs.Common.{set-get_or, same_Some, option_map, MatchOption, slice_set, State, World, world, SetFuel, Rules, optional_rules, Meter, meter_after, meter_set, PoolValue, RunsTenant, machine_of, tenant_at, tenant_rules, PaysFuelIn, word_after, with_machine_at, TenantPaysFuel, TenantReplies, TenantRepliesInStatus, TenantRepliesInWord, DONE, NO_TENANT, ReplyStruct}
-use Rattle.std.proofs.lemmas.Result.{IfOk-at_ok}
-use Rattle.std.specs.Prelude.{slice_get}
+use Rattle.std.proofs.Common.{◌≡◌, ◌≤◌, ◌<◌, ◌-◌, ◌∷◌, ◌∙◌, [], ℕ, Option, Some, None, Result, Ok, Err, ap, inl, inr, refl, sym}
+use Rattle.wasmi_c.proofs.Common.{set-get_or, MatchOption, slice_set, State, World, world, SetFuel, Rules, optional_rules, meter_after, meter_set, PoolValue, RunsTenant, machine_of, tenant_at, tenant_rules, word_after, with_machine_at, TenantPaysFuel, TenantReplies, TenantRepliesInStatus, TenantRepliesInWord, DONE, ReplyStruct}
 use Rattle.wasmi_machine.proofs.StoreLemmas.{run_of_one}
-use Rattle.wasmi_machine.specs.State.{outcome_of}
-use Rattle.wasmi_machine.specs.Steps.{FuelSet, HasEffect, IsRunOf, RepliesWith, effect_of}
+use Rattle.wasmi_machine.specs.Steps.{IsRunOf, RepliesWith}
 use Rattle.wasmi_machine.specs.declared.calls.Call.{Call}
 use Rattle.wasmi_machine.specs.declared.calls.Reply.{Reply}
 use Rattle.wasmi_meter.specs.declared.fuel.FuelError.{FuelError}
 use Rattle.wasmi_meter.specs.declared.fuel.FuelError.TheVariants.{FuelMeteringDisabled, OutOfFuel}
 use Rattle.wasmi_budget.specs.declared.tenant.Tenant.{Tenant}
-use Rattle.wasmi_c.specs.Machine.Replies.{fuel_refusal, only, reply_struct, status_of, with_number}
+use Rattle.wasmi_c.specs.Machine.Replies.{fuel_refusal, reply_struct, status_of, with_number}
 use Rattle.wasmi_machine.specs.declared.calls.Reply.TheVariants as reply
 
 module _ (pool : PoolValue) (tenant : ℕ) (s : State) (found : machine_of pool tenant ≡ Some s) (call : Call) (full : Reply)
@@ -61,14 +58,12 @@ tenant_status tenant call told pool pool' (inr (full, run, is)) = inr (full, run
 set_by_run : {S : Type 0} (rules : Rules S) (fuel : ℕ) (w : World S) (full : Reply) (w' : World S)
     → IsRunOf rules (SetFuel fuel ∷ []) w (full ∷ []) w'
     → w'.state ≡ record w.state { meter = meter_set w.state.meter fuel }
-set_by_run rules fuel w full w' ([], called, told, ran) = absurd (omega (arith, ap length called))
-set_by_run {S} rules fuel w full w' (turn ∷ [], called, told, (v, step, ran)) =
-    let is : turn.call ≡ SetFuel fuel =
-    same_Some turn.call (SetFuel fuel) (ap (λ (calls : List Call). slice_get calls 0) called) in
-    let sets : HasEffect rules (FuelSet fuel) w (outcome_of turn) v =
-    subst (λ call. HasEffect rules (effect_of w.state call) w (outcome_of turn) v) is step in
-    ap (λ (u : World S). u.state) (ran ∙ sets.after) ∙ sets.effect.1
-set_by_run rules fuel w full w' (turn ∷ t ∷ turns, called, told, ran) = absurd (omega (arith, ap length called))
+set_by_run rules fuel w full w' ([], called, told, ran) = absurd cc
+set_by_run rules fuel w full w' (turn ∷ [], called, told, (v, step, ran)) =
+    let is : turn.call ≡ SetFuel fuel = cc in
+    let sets = rw is at step in
+    rw (ran, sets.after) sets.effect.1
+set_by_run rules fuel w full w' (turn ∷ t ∷ turns, called, told, ran) = absurd cc
 
 -- what is left of so much fuel once an amount is taken; or why it isn't
 abbrev LeftAfter : Option ℕ → ℕ → Result ℕ FuelError → Type 0
@@ -84,16 +79,9 @@ module _ (pool : PoolValue) (tenant : ℕ) (s : State) (found : machine_of pool 
   paid_by_set : (had : ℕ) → s.meter.left ≡ Some had → (full : Reply) (pool' : PoolValue)
       → RunsTenant pool tenant (SetFuel (had - amount) ∷ []) (full ∷ []) pool' → pool' ≡ paid_pool
   paid_by_set had is full pool' run =
-      let taken : meter_set s.meter (had - amount) ≡ meter_after s.meter amount =
-      ap (λ (left : Option ℕ). record s.meter { left = option_map (λ l. had - amount) left }) is
-      ∙ sym (ap (λ (left : Option ℕ). record s.meter { left = option_map (λ l. l - amount) left }) is) in
-      let same : run.machine ≡ s = same_Some run.machine s (sym run.found ∙ found) in
-      let set = set_by_run (optional_rules tenant_rules) (had - amount)
-      (world run.machine (Some (tenant_at pool tenant run.machine))) full (world run.machine' (Some run.tenant'))
-      run.ran in
-      run.after ∙ ap (with_machine_at pool tenant) (set
-      ∙ (ap (λ (m : State). record m { meter = meter_set m.meter (had - amount) }) same
-      ∙ ap (λ (m : Meter). record s { meter = m }) taken))
+      let same : run.machine ≡ s = cc in
+      let set = set_by_run (optional_rules tenant_rules) (had - amount) _ full _ run.ran in
+      rw (run.after, set, same, is) refl
 
   module _ (told : ReplyStruct) (pool' : PoolValue) where
     -- the amount is taken where so much was left
@@ -106,15 +94,12 @@ module _ (pool : PoolValue) (tenant : ℕ) (s : State) (found : machine_of pool 
     pays_left : (had : Option ℕ) → s.meter.left ≡ had → (left : ℕ) → LeftAfter had amount (Ok left)
         → told ≡ with_number DONE left → (full : Reply)
         → RunsTenant pool tenant (SetFuel left ∷ []) (full ∷ []) pool' → Pays had
-    pays_left None is left after told_is full run = absurd (IfOk-at_ok (λ _. ⊥) (sym after) tt)
+    pays_left None is left after told_is full run = absurd cc
     pays_left (Some had) is left after told_is full run = (
       λ enough.
-          let same : left ≡ had - amount = IfOk-at_ok (λ x. x ≡ had - amount) (sym (after.0 enough)) refl in (
-            told_is ∙ ap (with_number DONE) same,
-            paid_by_set had is full pool'
-                (subst (λ n. RunsTenant pool tenant (SetFuel n ∷ []) (full ∷ []) pool') same run),
-          ),
-      λ short. absurd (IfOk-at_ok (λ _. ⊥) (sym (after.1 short)) tt),
+          let same : left ≡ had - amount = cc (after.0 enough) in
+          (told_is ∙ ap (with_number DONE) same, paid_by_set had is full pool' (rw same at run)),
+      λ short. absurd (cc (after.1 short)),
     )
 
     -- a tenant pays an amount where its fuel is set to what is left then
@@ -122,6 +107,4 @@ module _ (pool : PoolValue) (tenant : ℕ) (s : State) (found : machine_of pool 
         → (full : Reply) → RunsTenant pool tenant (SetFuel left ∷ []) (full ∷ []) pool'
         → TenantPaysFuel tenant amount told pool pool'
     tenant_pays left after told_is full run =
-        subst (λ (there : Option State). MatchOption there ((told ≡ only NO_TENANT) × (pool' ≡ pool))
-        (λ machine. PaysFuelIn pool (with_machine_at pool tenant) amount machine told pool')) (sym found)
-        (pays_left s.meter.left refl left after told_is full run)
+        rw found (pays_left s.meter.left refl left after told_is full run)

@@ -1,6 +1,6 @@
 //! A pool of machines under common caps that C holds by a handle, or none. A call works on the pool
 //! where it is. `include/wasmi_machine.h` says which statuses calls return, in which order.
-ghost use Rattle.std.specs.Prelude.{◌≡◌, ◌∷◌, ◌-◌, ◌≤◌, ◌<◌, [], Err, IfErr, IfOk, Ok, Some, None, is_some, MatchOption};
+ghost use Rattle.std.specs.Prelude.{◌≡◌, ◌-◌, ◌≤◌, ◌<◌, Err, IfErr, IfOk, Ok, Some, None, is_some, MatchOption};
 ghost use Rattle.wasmi_budget.specs.Pool.{tenant_rules};
 ghost use Rattle.wasmi_budget.specs.declared.tenant.Tenant.{Tenant};
 ghost use Rattle.wasmi_machine.specs.State.{world};

@@ -97,7 +97,7 @@ ran_billed rules law calls replies w w' charged is none ran =
     let billed : (left : ℕ) → w.state.meter.left ≡ Some left
     → Accounts ran.0 left charged (amount_left w'.state.meter) =
     λ left on.
-    let spent = law w left on ran.0 w' ran.3 (subst (All SetsNoFuel) (sym ran.1) none) in
+    let spent = law w left on ran.0 w' ran.3 (rw ran.1 none) in
     let before = left_is w.state.meter left on in
     let after = left_is w'.state.meter spent.0 spent.1 in
     record {

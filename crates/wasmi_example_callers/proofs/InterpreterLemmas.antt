@@ -1,6 +1,5 @@
 -- What a program did is a run, and what fuel it took.
 use Rattle.std.proofs.Common.{◌≡◌, ◌∙◌, ◌+◌, ◌-◌, ◌*◌, ◌<◌, ◌≤◌, ◌⊎◌, inl, inr, ℕ, zero, suc, Bool, true, false, ◌==◌, Option, Some, None, MatchOption, MatchBool, Result, Ok, Err, cond, List, [], ◌∷◌, ◌++◌, map, refl, sym, ap, subst, arith, All, if◌then◌else◌, is_some, IsSome, slice_get, add-one, add-zero}
-use Rattle.std.specs.Int.{w64, cast_unsigned}
 use Rattle.std.specs.Option.{option_map, option_map_or, option_and_then, unwrap_or}
 use Rattle.std.proofs.Math.Nat.{mul-le-mul_left}
 use Rattle.std.proofs.lemmas.Bool.Decides.{nat_tests}
@@ -11,18 +10,12 @@ use Rattle.wasmi_meter.specs.declared.fuel.FuelError.TheVariants.{FuelMeteringDi
 use Rattle.wasmi_meter.specs.declared.error.MemoryError.{MemoryError}
 use Rattle.wasmi_meter.specs.Limiter.{Rules}
 use Rattle.wasmi_meter.specs.Meter.{Meter, amount_left, meter_after, ConsumesFuel}
-use Rattle.wasmi_raw.specs.declared.raw.RawVal.{RawVal}
-use Rattle.wasmi_raw.specs.RawVal.{raw_of, signed_in}
-use Rattle.wasmi_scalar.specs.Numerics.{iadd, imul}
-use Rattle.wasmi_ops.specs.declared.load_store.StoreOp.TheVariants.{Store64}
-use Rattle.wasmi_ops.specs.declared.vector.VectorLoadOp.TheVariants.{V128Load64Zero}
-use Rattle.wasmi_store.specs.Memory.{MemoryValue, pages_of}
+use Rattle.wasmi_raw.specs.RawVal.{raw_of}
 use Rattle.wasmi_core.specs.Types.{Call, Reply}
-use Rattle.wasmi_core.specs.Calls.{SetFuel, GrowMemory, SetRegister, VectorLoad}
-use Rattle.wasmi_core.specs.Calls as call
+use Rattle.wasmi_core.specs.Calls.{SetFuel, GrowMemory, SetRegister}
 use Rattle.wasmi_core.specs.Replies.{Done, Fuel, Number, Memory}
 use Rattle.wasmi_core.specs.Account.{SetsNoFuel, charges, has_written, bytes_written, writing_turns, charges_for_writing}
-use Rattle.wasmi_core.specs.State.{State, live_at, World, Turn, world}
+use Rattle.wasmi_core.specs.State.{State, World, Turn, world}
 use Rattle.wasmi_core.specs.Steps.{Step, RepliesWith, Run, AreTurns}
 use Rattle.wasmi_core.specs.Laws.{RunsJoin, ChargesAreSpent, FuelBoundsWriting}
 use Rattle.wasmi_example_callers.specs.declared.interpreter.Instruction.{Instruction}
@@ -32,7 +25,7 @@ use Rattle.wasmi_example_callers.specs.declared.interpreter.Action.TheVariants.{
 use Rattle.wasmi_example_callers.specs.declared.interpreter.Ending.{Ending}
 use Rattle.wasmi_example_callers.specs.declared.interpreter.Ending.TheVariants as ending
 use Rattle.wasmi_example_callers.specs.declared.interpreter.Outcome.{Outcome}
-use Rattle.wasmi_example_callers.specs.Interpreter.{sets, action_of, action_at, grow_result, place_after, IsGrowth, CarriesOut, is_out_of_fuel, fuel_taken, Stops, StepsAt, Reaches, ExecutesProgram, HasRun, last_instruction, instructions_of, PaysProgramFuel}
+use Rattle.wasmi_example_callers.specs.Interpreter.{action_of, action_at, grow_result, place_after, IsGrowth, CarriesOut, is_out_of_fuel, fuel_taken, Stops, StepsAt, Reaches, ExecutesProgram, HasRun, last_instruction, instructions_of, PaysProgramFuel}
 
 -- the state with so much left
 abbrev with_left : State → Option ℕ → State
@@ -129,17 +122,17 @@ abbrev ActsWithoutFuel : Option Action → Type 0
 ActsWithoutFuel (Some (Calls c)) = SetsNoFuel c
 ActsWithoutFuel action = Unit {0}
 
--- what is made of a register, if that is there, doesn't set the fuel
+-- an action that a function makes of a value, if there is one, doesn't set the fuel where none that it makes does
 of_one : {A : Type 0} (o : Option A) (f : A → Action) → ((x : A) → ActsWithoutFuel (Some (f x)))
     → ActsWithoutFuel (option_map f o)
 of_one None f each = tt
 of_one (Some x) f each = each x
 
--- what is made of two registers, if they are there, doesn't set the fuel
-of_two : {A B : Type 0} (o : Option A) (p : Option B) (f : A → B → Action)
-    → ((x : A) (y : B) → ActsWithoutFuel (Some (f x y))) → ActsWithoutFuel (option_and_then (λ x. option_map (f x) p) o)
-of_two None p f each = tt
-of_two (Some x) p f each = of_one p (f x) (each x)
+-- the same where the function may make no action of the value
+of_bound : {A : Type 0} (o : Option A) (f : A → Option Action) → ((x : A) → ActsWithoutFuel (f x))
+    → ActsWithoutFuel (option_and_then f o)
+of_bound None f each = tt
+of_bound (Some x) f each = each x
 
 -- a branch doesn't set the fuel, taken or not
 of_branch : (stays : Bool) (target : ℕ) → ActsWithoutFuel (Some (if stays then Continues else Branches target))
@@ -149,33 +142,17 @@ of_branch false target = tt
 -- no instruction sets the fuel
 acts_without_fuel : (i : Instruction) (s : State) → ActsWithoutFuel (action_of i s)
 acts_without_fuel (Constant dst number) s = tt
-acts_without_fuel (Copy dst src) s = of_one (slice_get s.registers src) (λ (x : RawVal). sets dst x) (λ x. tt)
-acts_without_fuel (Add dst a b) s =
-    of_two (slice_get s.registers a) (slice_get s.registers b)
-    (λ (x y : RawVal). sets dst (raw_of (cast_unsigned w64 (iadd w64 (signed_in w64 x) (signed_in w64 y))))) (λ x y. tt)
-acts_without_fuel (Multiply dst a b) s =
-    of_two (slice_get s.registers a) (slice_get s.registers b)
-    (λ (x y : RawVal). sets dst (raw_of (cast_unsigned w64 (imul w64 (signed_in w64 x) (signed_in w64 y))))) (λ x y. tt)
+acts_without_fuel (Copy dst src) s = search of_one
+acts_without_fuel (Add dst a b) s = search (of_bound, of_one)
+acts_without_fuel (Multiply dst a b) s = search (of_bound, of_one)
 acts_without_fuel (AddBytes dst a b) s = tt
-acts_without_fuel (Load dst ptr offset) s =
-    of_one (slice_get s.registers ptr) (λ (x : RawVal). Calls (VectorLoad V128Load64Zero dst 0 x.lo offset)) (λ x. tt)
-acts_without_fuel (Store ptr offset value) s =
-    of_two (slice_get s.registers ptr) (slice_get s.registers value)
-    (λ (x y : RawVal). Calls (call.Store Store64 0 x.lo offset y)) (λ x y. tt)
-acts_without_fuel (Grow dst pages) s =
-    of_two (slice_get s.registers dst) (slice_get s.registers pages) (λ (old x : RawVal). Grows dst x.lo) (λ x y. tt)
-acts_without_fuel (Size dst) s =
-    of_one (live_at s.memories 0) (λ (x : MemoryValue). sets dst (raw_of (pages_of x))) (λ x. tt)
+acts_without_fuel (Load dst ptr offset) s = search of_one
+acts_without_fuel (Store ptr offset value) s = search (of_bound, of_one)
+acts_without_fuel (Grow dst pages) s = search (of_bound, of_one)
+acts_without_fuel (Size dst) s = search of_one
 acts_without_fuel (Branch target) s = tt
-acts_without_fuel (BranchIf condition target) s =
-    of_one (slice_get s.registers condition) (λ (x : RawVal). if x.lo == 0 then Continues else Branches target)
-    (λ x. of_branch (x.lo == 0) target)
-acts_without_fuel (Return local) s = of_one (slice_get s.registers local) (λ (x : RawVal). Returns x) (λ x. tt)
-
--- the instruction of a place, if there is one, doesn't set the fuel
-place_without_fuel : (o : Option Instruction) (s : State) → ActsWithoutFuel (option_and_then (λ i. action_of i s) o)
-place_without_fuel None s = tt
-place_without_fuel (Some i) s = acts_without_fuel i s
+acts_without_fuel (BranchIf condition target) s = search (of_one, of_branch)
+acts_without_fuel (Return local) s = search of_one
 
 -- the turns of a growth don't set the fuel, by its result
 growth_without_fuel : (o : Option ℕ) (dst pages : ℕ) (turns : List Turn) (reply last : Reply)
@@ -371,7 +348,7 @@ module _ {S : Type 0} (rules : Rules S) (joins : RunsJoin rules) (spends : Charg
     step_taken place w turns result w' steps =
         needs_taken w turns (instruction_of result) w'
         (place_needs rules (action_at program place w.state) (place + 1) w turns result w'
-        (place_without_fuel (slice_get program place) w.state) steps)
+        (of_bound (slice_get program place) (λ i. action_of i w.state) (λ i. acts_without_fuel i w.state)) steps)
 
     -- the instructions that reach a place take one fuel each
     reached_taken : (w : World S) (n place : ℕ) (turns : List Turn) (v : World S)

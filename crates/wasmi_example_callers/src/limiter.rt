@@ -1,5 +1,5 @@
 //! A limiter of one's own, and what grows under it.
-ghost use Rattle.std.specs.Prelude.{◌≡◌, ◌≤◌, Some, Ok, nat_le, length};
+ghost use Rattle.std.specs.Prelude.{◌≡◌, ◌≤◌, Some, Ok, length};
 ghost use Rattle.wasmi_meter.specs.Limiter.{optional_rules};
 ghost use Rattle.wasmi_store.specs.Growth.{metered_value};
 ghost use Rattle.wasmi_store.specs.Memory.{GrowsMemory};

@@ -3,16 +3,16 @@ pub use Rattle.std.proofs.lemmas.List.{length-replicate, append_assoc, append-ni
 pub use Rattle.std.proofs.lemmas.List.Elements.{All-head, All-tail, All-cons, All-nil}
 pub use Rattle.std.proofs.lemmas.Option.{same_Some, slice_get_read}
 pub use Rattle.std.proofs.lemmas.Result.{on_ok_weaker}
-pub use Rattle.std.specs.Prelude.{◌↔◌, FitsSigned, IsTrue, All, MatchOption, max, nat_eq, slice_set}
+pub use Rattle.std.specs.Prelude.{◌↔◌, FitsSigned, IsTrue, All, MatchOption, max, nat_eq}
 pub use Rattle.wasmi_c.specs.Numbers.{KeepsQuota, Placed, limiter_of, quota_of}
 pub use Rattle.wasmi_c.specs.SharedQuota.{HoldsSums, OneQuotaHoldsEach, sizes_made, UnderQuota}
-pub use Rattle.wasmi_laws.specs.Places.{IsIndependent, LeavesAlone, MemoryAt, NumberStore, store_call, StaysAt, DropsNot, HasAt, IsLater, IsLive}
+pub use Rattle.wasmi_laws.specs.Places.{IsIndependent, LeavesAlone, MemoryAt, NumberStore, store_call, StaysAt, HasAt, IsLater, IsLive}
 pub use Rattle.wasmi_laws.specs.Reserved.{IsReservedFor, IsReservedTable, ReservedRunsSucceed, FitsSlots}
-pub use Rattle.wasmi_laws.specs.Runs.{IsWithinCapsOf, RunsOfCallsAreCut, IsPlainRefusal, HasFuel, NamesNoFuel}
-pub use Rattle.wasmi_machine.specs.Determinism.{AcceptsNotices, IsDeterministic, IsNotOutOfMemory, permitting, TellsNoDenial}
+pub use Rattle.wasmi_laws.specs.Runs.{IsWithinCapsOf, RunsOfCallsAreCut}
+pub use Rattle.wasmi_machine.specs.Determinism.{AcceptsNotices, IsDeterministic, IsNotOutOfMemory, permitting}
 pub use Rattle.wasmi_machine.specs.Laws.{IsRefusal, LentGrowthsSucceed, RepliesAreOne, LentRunsAreOwned, LentCreationsAreOwned, HoldsTotalsAlways, QuotasStayWithin, RunsKeepValidity}
 pub use Rattle.wasmi_machine.specs.State.{live_at, with_memories, World, Turn, outcome_of, world, State, IsValid, IsValidCall, HoldsTotals, sizes, total}
-pub use Rattle.wasmi_machine.specs.Steps.{Run, Sequence, MemoryGrown, HasEffect, effect_of, Step, IsRunOf}
+pub use Rattle.wasmi_machine.specs.Steps.{Run, Sequence, MemoryGrown, HasEffect, Step, IsRunOf}
 pub use Rattle.wasmi_machine.specs.declared.calls.Reply.{Reply}
 pub use Rattle.wasmi_machine.specs.declared.calls.Reply.TheVariants.{Number, Memory, Done, NoRoom, NoSuch}
 pub use Rattle.wasmi_meter.specs.Capped.{IsWithinCaps, holdings, cap_of, SameCaps, quota_rules}

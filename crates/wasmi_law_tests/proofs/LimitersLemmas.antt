@@ -1,6 +1,6 @@
 -- What a quota and a recorder hold after creations and growths, and growths in lent regions.
-use Rattle.std.proofs.Common.{◌≡◌, ◌∙◌, ℕ, ◌+◌, ◌*◌, ◌≤◌, Option, Some, Result, length, replicate, IfOk, refl, sym, ap, inl, inr, arith, length-append, ◌⊎◌, Ok, Err, List, subst, None, true, false, [], ◌∷◌, ◌++◌, ⊎_elim}
-use Rattle.wasmi_law_tests.proofs.Common.{length-replicate, append_assoc, Rules, optional_rules, Question, kind_of, IsWithinCaps, MemoryValue, GrowsMemoryCharging, pages_of, growth_of, page_bytes, Reply, Number, Memory, IsRefusal, LentGrowthsSucceed, Run, Sequence, MemoryGrown, HasEffect, effect_of, Step, live_at, with_memories, World, Turn, outcome_of, world, CanGrowInRegion, IsGrownOrDenied, GrowsInRegion, same_Some, KeepsQuota, Placed, limiter_of, quota_of, HoldsSums, OneQuotaHoldsEach, sizes_made}
+use Rattle.std.proofs.Common.{◌≡◌, ◌∙◌, ℕ, ◌+◌, ◌*◌, ◌≤◌, Option, Some, Result, length, replicate, IfOk, refl, sym, ap, inl, inr, arith, length-append, ◌⊎◌, Ok, Err, List, None, true, false, [], ◌∷◌, ◌++◌, ⊎_elim}
+use Rattle.wasmi_law_tests.proofs.Common.{length-replicate, append_assoc, Rules, optional_rules, Question, kind_of, IsWithinCaps, MemoryValue, GrowsMemoryCharging, pages_of, growth_of, page_bytes, Reply, Number, Memory, IsRefusal, LentGrowthsSucceed, Run, Sequence, MemoryGrown, HasEffect, Step, live_at, with_memories, World, Turn, outcome_of, world, CanGrowInRegion, IsGrownOrDenied, GrowsInRegion, same_Some, KeepsQuota, Placed, limiter_of, quota_of, HoldsSums, OneQuotaHoldsEach, sizes_made}
 use Rattle.wasmi_meter.specs.declared.error.MemoryError.{MemoryError}
 use Rattle.wasmi_meter.specs.declared.limiter.Kind.{Kind}
 use Rattle.wasmi_meter.specs.Attempt.{MeteredValue, AttemptOutcome, Met, answer_of, value_after}
@@ -91,9 +91,7 @@ module _ {S : Type 0} (rules : Rules S) (succeed : LentGrowthsSucceed rules) whe
 
   -- a memory has grown, or the limiter has denied it, in a turn by a call that grows it
   grows_in_region : (w : World S) (turn : Turn) (w' : World S) → Step rules w turn w' → GrowsInRegion rules w turn w'
-  grows_in_region w turn w' step k pages x is found can =
-      grown w k pages x found can turn w'
-      (subst (λ call. HasEffect rules (effect_of w.state call) w (outcome_of turn) w') is step)
+  grows_in_region w turn w' step k pages x is found can = grown w k pages x found can turn w' (rw is at step)
 
   -- a memory has grown, or the limiter has denied it, in each turn of a run by a call that grows it
   pub grows_in_regions : (w : World S) (turns : List Turn) (w' : World S) → Run rules w turns w'

@@ -61,8 +61,7 @@ as_alone one once accepts suffices pool pool' alone alone' index calls replies r
     let same = pools_same one once accepts start end alone' 0 calls
     (run_with_memory suffices start 0 calls replies end has
     (subst (λ p. RunsTenant start 0 calls replies p) (sym ended) ran))
-    (run_with_memory suffices start 0 calls replies' alone' has
-    (subst (λ p. RunsTenant p 0 calls replies' alone') (equal s found) second)) in
+    (run_with_memory suffices start 0 calls replies' alone' has (rw (equal s found) at second)) in
     (same.0, found' ∙ ap (λ p. machine_of p 0) same.1)
 
 -- a table that was reserved up to its maximum is

@@ -1,6 +1,6 @@
 -- Calls and runs that were answered, also on pools and by handles.
-use Rattle.std.proofs.Common.{◌≡◌, Option, Some, OnErr, Result, Ok, Err, List, [], ◌∷◌, length, map, refl, sym, ap, subst, ◌∙◌, arith, IfOk, ℕ, true, None, inl, inr, slice_get, ◌≢◌}
-use Rattle.wasmi_law_tests.proofs.Common.{All-cons, All-head, All-nil, All-tail, same_Some, All, nat_eq, slice_set, MatchOption, MemoryTypeValue, Rules, optional_rules, Reply, World, Turn, world, IsValid, IsValidCall, State, HoldsTotals, Step, Run, Sequence, IsRunOf, IsNotOutOfMemory, IsDeterministic, AcceptsNotices, permitting, IsWithinCapsOf, RunsOfCallsAreCut, FitsAnyRegions, HasRegionFor, IsRunInParts, RunsAlone, RunsBeside, KeepsCaps, KeepsTenant, RunsBoth, RunsList, LentRunsAreOwned, LentCreationsAreOwned, HoldsTotalsAlways, QuotasStayWithin, RunsKeepValidity, RepliesAreOne, Quota, holdings, cap_of, IsWithinCaps, SameCaps, quota_rules, IsIndependent, LeavesAlone, MemoryAt, NumberStore, store_call, get_or-set_other}
+use Rattle.std.proofs.Common.{◌≡◌, Option, Some, OnErr, Result, Ok, Err, List, [], ◌∷◌, length, map, refl, sym, ap, subst, ◌∙◌, arith, IfOk, ℕ, true, None, inl, inr, ◌≢◌}
+use Rattle.wasmi_law_tests.proofs.Common.{All-cons, All-head, All-nil, All-tail, same_Some, All, nat_eq, MatchOption, MemoryTypeValue, Rules, optional_rules, Reply, World, Turn, world, IsValid, IsValidCall, State, HoldsTotals, Step, Run, Sequence, IsRunOf, IsNotOutOfMemory, IsDeterministic, AcceptsNotices, permitting, IsWithinCapsOf, RunsOfCallsAreCut, FitsAnyRegions, HasRegionFor, IsRunInParts, RunsAlone, RunsBeside, KeepsCaps, KeepsTenant, RunsBoth, RunsList, LentRunsAreOwned, LentCreationsAreOwned, HoldsTotalsAlways, QuotasStayWithin, RunsKeepValidity, RepliesAreOne, Quota, holdings, cap_of, IsWithinCaps, SameCaps, quota_rules, IsIndependent, LeavesAlone, MemoryAt, NumberStore, store_call, get_or-set_other}
 use Rattle.wasmi_machine.specs.declared.calls.Call.{Call}
 use Rattle.wasmi_machine.specs.declared.calls.Call.TheVariants.{NewMemory, NewLentMemory}
 use Rattle.wasmi_machine.specs.LentMemory.{RunInRegions, owned_world, unlent_world}
@@ -15,7 +15,7 @@ use Rattle.wasmi_c.specs.Machine.Caps.{MachineValue}
 use Rattle.wasmi_c.specs.Machine.Calls.{ActsOnHeld, CallsAreRuns, ListsAreRuns, MachineRunsJoin, RepliesInStruct, RepliesInTurn, RepliesToList, RepliesToStruct}
 use Rattle.wasmi_c.specs.Machine.Replies.{only}
 use Rattle.wasmi_c.specs.Pool.{TenantReplies, TenantRepliesToStruct}
-use Rattle.wasmi_c.specs.declared.status.TheConstants.{DONE, NO_CALL, NO_MACHINE, NO_POOL}
+use Rattle.wasmi_c.specs.declared.status.TheConstants.{DONE, NO_MACHINE, NO_POOL}
 use Rattle.wasmi_c.specs.declared.machine.call_struct.CallStruct.{CallStruct}
 use Rattle.wasmi_c.specs.declared.machine.reply_struct.ReplyStruct.{ReplyStruct}
 
@@ -40,8 +40,7 @@ holds_after Other rules items calls w w' Holds (Err error) runs first ran same =
 -- a run, wherever it is cut
 pub in_parts : {S : Type 0} (rules : Rules S) → RunsOfCallsAreCut rules → (calls : List Call) (w w' : World S)
     (replies : List Reply) → IsRunOf rules calls w replies w' → IsRunInParts rules calls w replies w'
-in_parts rules cut calls w w' replies ran first rest is =
-    cut first rest w replies w' (subst (λ cs. IsRunOf rules cs w replies w') is ran)
+in_parts rules cut calls w w' replies ran first rest is = cut first rest w replies w' (rw is at ran)
 
 -- the parts of a world that is the same
 pub same_parts : {L : Type 0} {s s' : State} {l l' : L} → world s' (Some l') ≡ world s (Some l) → (s' ≡ s) × (l' ≡ l)
@@ -62,7 +61,7 @@ module _ {S : Type 0} (rules : Rules S) where
       → (turn : Turn) × (turn.call ∷ [] ≡ calls) × (turn.reply ∷ [] ≡ replies) × Step rules w turn w'
   one_turn calls w w' replies one ([], made, told, ran) = absurd (omega (arith, one, ap length made))
   one_turn calls w w' replies one (turn ∷ [], made, told, (v, step, ran)) =
-      (turn, made, told, subst (λ u. Step rules w turn u) (sym ran) step)
+      (turn, made, told, rw ran step)
   one_turn calls w w' replies one (turn ∷ t ∷ turns, made, told, ran) = absurd (omega (arith, one, ap length made))
 
   -- calls that fit any regions
@@ -80,7 +79,7 @@ module _ {S : Type 0} (rules : Rules S) where
       → All FitsAnyRegions calls → IsRunOf rules calls w replies w'
       → IsRunOf rules calls (owned_world w) replies (owned_world w')
   fitting_owned owns calls w w' replies fits (turns, made, told, ran) =
-      (turns, made, told, owns w turns w' (fitting_runs w turns w' (subst (All FitsAnyRegions) (sym made) fits) ran))
+      (turns, made, told, owns w turns w' (fitting_runs w turns w' (rw made fits) ran))
 
   -- a run of one creation in the spare region
   pub made_owned : LentCreationsAreOwned rules
@@ -89,7 +88,7 @@ module _ {S : Type 0} (rules : Rules S) where
       → IsRunOf rules (NewMemory ty ∷ []) (unlent_world w) replies (unlent_world w')
   made_owned owns ty calls w w' replies is region ran =
       let (turn, made, told, step) = one_turn calls w w' replies (ap length is) ran in
-      let call = same_Some turn.call (NewLentMemory ty) (ap (λ (cs : List Call). slice_get cs 0) (made ∙ is)) in (
+      let call : turn.call ≡ NewLentMemory ty = cc in (
         record turn { call = NewMemory ty } ∷ [],
         refl,
         told,
@@ -193,24 +192,17 @@ pub pools_same : RepliesAreOne tenant_rules → IsDeterministic tenant_rules →
 pools_same one once accepts pool p p' index calls a b =
     let first = a.ran in
     let second = b.ran in
-    let found : second.machine ≡ first.machine =
-    same_Some second.machine first.machine (sym second.found ∙ first.found) in
+    let found : second.machine ≡ first.machine = cc in
     let ran = rw found at second.ran in
     let same = one once accepts calls _ a.replies b.replies _ _ a.has b.has first.ran ran in
-    let machine : first.machine' ≡ second.machine' = ap (λ (w : World (Option Tenant)). w.state) same.1 in (
-      same.0,
-      first.after
-          ∙ ap (λ s. let q : PoolValue = record pool { machines = slice_set pool.machines index (Some s) } in q) machine
-          ∙ sym second.after,
-    )
+    let machine : first.machine' ≡ second.machine' = ap (λ (w : World (Option Tenant)). w.state) same.1 in
+    (same.0, rw (first.after, second.after, machine) refl)
 
 -- numbers that stand for a call are replied to as it is
 numbered : (numbers : CallStruct) (call : Call) (machine machine' : MachineValue) (reply : ReplyStruct)
     → call_of numbers ≡ Some call → RepliesToStruct numbers machine reply machine'
     → RepliesInStruct call machine reply machine'
-numbered numbers call machine machine' reply is =
-    subst (λ found. MatchOption found ((reply ≡ only NO_CALL) × (machine' ≡ machine))
-    (λ called. RepliesInStruct called machine reply machine')) is
+numbered numbers call machine machine' reply is replied = rw is at replied
 
 -- a machine that replies to a call with a struct stands in a handle
 abbrev pub Placed : Call → MachineValue → ReplyStruct → Option MachineValue → Type 0
@@ -223,8 +215,7 @@ pub placed : (numbers : CallStruct) (held held' : Option MachineValue) (reply : 
     → ActsOnHeld (only NO_MACHINE) held reply held' (λ m m'. RepliesToStruct numbers m reply m')
     → held ≡ Some machine → call_of numbers ≡ Some call → Placed call machine reply held'
 placed numbers held held' reply machine call step there is =
-    let here = subst
-    (λ h. ActsOnHeld (only NO_MACHINE) h reply held' (λ m m'. RepliesToStruct numbers m reply m')) there step in
+    let here = rw there at step in
     (here.0, numbered numbers call machine here.0 reply is here.1, here.2)
 
 -- two calls on the machine of a handle, one after the other, are one run of both

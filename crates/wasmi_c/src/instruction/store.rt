@@ -1,7 +1,7 @@
 //! The stores.
 ghost use Rattle.std.specs.Prelude.{◌≡◌, ◌+◌};
 ghost use Rattle.wasmi_access.specs.LoadStore.{IsStore};
-ghost use Rattle.wasmi_c.specs.Instruction.{memory_after, store_numbered, store_result, stored_value, Leaves};
+ghost use Rattle.wasmi_c.specs.Instruction.{store_numbered, store_result, stored_value, Leaves};
 
 use crate::instruction::list::numbered;
 use crate::instruction::numbers::STORE_INSTRUCTIONS;

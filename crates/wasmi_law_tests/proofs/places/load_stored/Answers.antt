@@ -1,5 +1,5 @@
-use Rattle.std.proofs.Common.{Some, subst, sym}
-use Rattle.wasmi_law_tests.proofs.Common.{All, world, LeavesAlone, MemoryAt}
+use Rattle.std.proofs.Common.{Some}
+use Rattle.wasmi_law_tests.proofs.Common.{world}
 use Rattle.wasmi_law_tests.proofs.places.load_stored.Goals as goal
 
 pub returns : goal.returns
@@ -11,6 +11,5 @@ returns g c =
     let v = world c.run_lending.new.machine (Some c.run_lending.new.limiter) in
     let w = world c.step_lending-loaded.new.self (Some c.step_lending-loaded.new.limiter) in
     (c.stores_are_read_back.ensures.read it t u v w ran.0 c.step_lending-loaded.result
-    (rw (stores, done) at c.step_lending-stored.ensures.step) ran.3
-    (subst (All (LeavesAlone (MemoryAt it.memory))) (sym ran.1) leave)
+    (rw (stores, done) at c.step_lending-stored.ensures.step) ran.3 (rw ran.1 leave)
     (rw loads at c.step_lending-loaded.ensures.step)).0

@@ -1,5 +1,6 @@
-use Rattle.std.proofs.Common.{Option, Some, ap}
-use Rattle.wasmi_law_tests.proofs.Common.{same_Some, on_ok_weaker, Quota, World, world}
+use Rattle.std.proofs.Common.{Some}
+use Rattle.wasmi_law_tests.proofs.Common.{on_ok_weaker, world}
+use Rattle.wasmi_law_tests.proofs.RunsLemmas.{same_parts}
 use Rattle.wasmi_law_tests.proofs.reserved.run_both_reserved.Goals as goal
 
 pub returns : goal.returns
@@ -14,10 +15,7 @@ returns c = record {
       c.requires.reserved second in
       let one = c.replies_are_one.ensures c.limiters_leave_no_choice.ensures.quota c.limiters_accept_notices.ensures.quota
       c.args.calls.now w c.run_into_lending.new.replies.items c.run_into_lending-2.new.replies.items _ _ has has' first
-      second in (
-        one.0,
-        ap (λ (w : World (Option Quota)). w.state) one.1,
-        same_Some c.run_into_lending.new.limiter c.run_into_lending-2.new.limiter
-            (ap (λ (w : World (Option Quota)). w.limiter) one.1),
-      )) c.run_into_lending-2.ensures.run;
+      second in
+      let parts = same_parts one.1 in
+      (one.0, parts.0, parts.1)) c.run_into_lending-2.ensures.run;
 }

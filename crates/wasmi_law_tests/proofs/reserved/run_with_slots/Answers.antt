@@ -1,5 +1,5 @@
-use Rattle.std.proofs.Common.{Some, subst, sym}
-use Rattle.wasmi_law_tests.proofs.Common.{world, IsReservedFor}
+use Rattle.std.proofs.Common.{Some}
+use Rattle.wasmi_law_tests.proofs.Common.{world}
 use Rattle.wasmi_law_tests.proofs.reserved.run_with_slots.Goals as goal
 
 pub returns : goal.returns
@@ -9,7 +9,7 @@ returns g c =
       has = λ done. c.reserved_suffices.ensures.run calls (world c.reserve.new.self (Some c.args.limiter.now))
           c.run_into_lending.new.replies.items
           (world c.run_into_lending.new.machine (Some c.run_into_lending.new.limiter))
-          (subst (λ s. IsReservedFor s calls) (sym c.in-Ok.ensures.reserved)
+          (rw c.in-Ok.ensures.reserved
           (c.reserved_suffices.ensures.slots c.args.machine.now c.args.slots calls c.requires.fits))
           c.in-Ok-run_into_lending.ensures.run;
     }

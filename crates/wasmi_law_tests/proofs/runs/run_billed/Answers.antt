@@ -1,5 +1,4 @@
-use Rattle.std.proofs.Common.{All, sym, subst, ◌≡◌, ◌≤◌, arith, is_some, refl}
-use Rattle.wasmi_machine.specs.Account.{SetsNoFuel}
+use Rattle.std.proofs.Common.{◌≡◌, ◌≤◌, arith, is_some, refl}
 use Rattle.wasmi_law_tests.proofs.RunsLemmas.{if_ok_too, holds_after}
 use Rattle.wasmi_meter.specs.Limiter.{optional_rules}
 use Rattle.wasmi_meter.specs.Meter.{amount_left}
@@ -28,7 +27,7 @@ returns-clause-spent g c = λ sets_no_fuel. if_ok_too c.run_lending.result c.run
   ran.0,
   record { calls_of = ran.1; replies_of = ran.2 },
   ran.3,
-  λ left on. c.charges_are_spent.ensures _ left on ran.0 _ ran.3 (subst (All SetsNoFuel) (sym ran.1) sets_no_fuel),
+  λ left on. c.charges_are_spent.ensures _ left on ran.0 _ ran.3 (rw ran.1 sets_no_fuel),
 ))
 
 pub returns-clause-costs : goal.returns-clause-costs
@@ -49,5 +48,5 @@ pub returns-clause-fuel : goal.returns-clause-fuel
 returns-clause-fuel g c =
     λ others. holds_after _ (optional_rules g.L.ResourceLimiter.rules) (λ replies. replies.items) _ _ _
     (λ s. amount_left s.meter ≤ amount_left c.args.machine.now.meter) c.run_lending.result
-    (λ turns made ran. c.meters_are_kept.ensures.fuel _ turns _ ran (subst (All SetsNoFuel) (sym made) others))
+    (λ turns made ran. c.meters_are_kept.ensures.fuel _ turns _ ran (rw made others))
     (omega arith) c.run_lending.ensures.run c.run_lending.ensures.err

@@ -1,5 +1,5 @@
-use Rattle.std.proofs.Common.{sym, subst, ◌≡◌, ◌≤◌, ℕ, Some, arith, slice_get}
-use Rattle.wasmi_law_tests.proofs.Common.{All, optional_rules, TellsNoDenial, sizes, total}
+use Rattle.std.proofs.Common.{◌≡◌, ◌≤◌, ℕ, Some, arith, slice_get}
+use Rattle.wasmi_law_tests.proofs.Common.{optional_rules, sizes, total}
 use Rattle.wasmi_law_tests.proofs.RunsLemmas.{if_ok_too, holds_after}
 use Rattle.wasmi_law_tests.proofs.LimitersLemmas.{grows_in_regions}
 use Rattle.wasmi_meter.specs.declared.limiter.Kind.{Kind}
@@ -21,7 +21,7 @@ returns-clause-regions g c =
 pub returns-clause-permitted : goal.returns-clause-permitted
 returns-clause-permitted g c =
     if_ok_too c.run_lending.result c.run_lending.ensures.run (λ replies ran shown.
-    (ran.0, ran.1, ran.2, c.replies_permit.ensures _ ran.0 _ (subst (All TellsNoDenial) (sym ran.2) shown) ran.3))
+    (ran.0, ran.1, ran.2, c.replies_permit.ensures _ ran.0 _ (rw ran.2 shown) ran.3))
 
 pub returns-clause-sizes : goal.returns-clause-sizes
 returns-clause-sizes g c =

@@ -1,5 +1,3 @@
-use Rattle.std.proofs.Common.{sym, subst}
-use Rattle.wasmi_law_tests.proofs.Common.{All, IsRefusal, IsPlainRefusal}
 use Rattle.wasmi_law_tests.proofs.RunsLemmas.{if_ok_too, same_parts}
 use Rattle.wasmi_law_tests.proofs.runs.run_refused.Goals as goal
 
@@ -11,9 +9,9 @@ returns-clause-turns g c =
 pub returns-clause-all : goal.returns-clause-all
 returns-clause-all g c =
     if_ok_too c.run_lending.result c.run_lending.ensures.run (λ replies ran refused.
-    c.refusals_keep_contents.ensures.all_refused _ ran.0 _ ran.3 (subst (All IsRefusal) (sym ran.2) refused))
+    c.refusals_keep_contents.ensures.all_refused _ ran.0 _ ran.3 (rw ran.2 refused))
 
 pub returns-clause-plain : goal.returns-clause-plain
 returns-clause-plain g c =
-    if_ok_too c.run_lending.result c.run_lending.ensures.run (λ replies ran plain. same_parts
-    (c.plain_refusals_change_nothing.ensures.run _ ran.0 _ ran.3 (subst (All IsPlainRefusal) (sym ran.2) plain)))
+    if_ok_too c.run_lending.result c.run_lending.ensures.run (λ replies ran plain.
+    same_parts (c.plain_refusals_change_nothing.ensures.run _ ran.0 _ ran.3 (rw ran.2 plain)))

@@ -1,5 +1,5 @@
-use Rattle.std.proofs.Common.{Option, Some, ap, sym, ◌∙◌, subst}
-use Rattle.wasmi_law_tests.proofs.Common.{same_Some, Quota, optional_rules, quota_rules, World, world, Run}
+use Rattle.std.proofs.Common.{sym, ◌∙◌}
+use Rattle.wasmi_law_tests.proofs.RunsLemmas.{same_parts}
 use Rattle.wasmi_machine.proofs.ToldLemmas.{replies_have}
 use Rattle.wasmi_law_tests.proofs.runs.run_twice.Goals as goal
 
@@ -8,12 +8,9 @@ returns-clause-same c = λ has.
     let second = rw (c.requires.machines, c.requires.quotas) at c.in_ok-second.ensures.run in
     let one = c.replies_are_one.ensures c.limiters_leave_no_choice.ensures.quota c.limiters_accept_notices.ensures.quota
     c.args.calls.now _ c.in_ok-first.first.items c.in_ok-second.second.items _ _ has.0 has.1 c.in_ok-first.ensures.run
-    second in (
-      one.0,
-      ap (λ (w : World (Option Quota)). w.state) one.1,
-      same_Some c.run_lending.new.limiter c.run_lending-2.new.limiter
-          (ap (λ (w : World (Option Quota)). w.limiter) one.1),
-    )
+    second in
+    let parts = same_parts one.1 in
+    (one.0, parts.0, parts.1)
 
 pub returns-clause-turns : goal.returns-clause-turns
 returns-clause-turns c = λ has.
@@ -23,9 +20,5 @@ returns-clause-turns c = λ has.
     let have' = replies_have second.0 c.in_ok-second.second.items second.2 has.1 in
     let tells = c.replies_tell.ensures c.limiters_accept_notices.ensures.quota in
     let one = c.runs_are_one.ensures c.limiters_leave_no_choice.ensures.quota _ first.0 second.0 _ _ (first.1 ∙ sym second.1)
-    have have' (tells _ first.0 _ have first.3) (tells _ second.0 _ have' second.3) in (
-      first.0,
-      first.3,
-      subst (λ turns. Run (optional_rules quota_rules) (world c.args.machine.now (Some c.args.quota.now)) turns
-          (world c.run_lending-2.new.machine (Some c.run_lending-2.new.limiter))) (sym one.0) second.3,
-    )
+    have have' (tells _ first.0 _ have first.3) (tells _ second.0 _ have' second.3) in
+    (first.0, first.3, rw one.0 second.3)

@@ -1,6 +1,4 @@
 use Rattle.wasmi_law_tests.proofs.RunsLemmas.{held_after, within_quota, if_ok_too}
-use Rattle.std.proofs.Common.{sym, subst}
-use Rattle.wasmi_law_tests.proofs.Common.{All, HasFuel, NamesNoFuel}
 use Rattle.wasmi_law_tests.proofs.runs.run_within_quota.Goals as goal
 
 pub returns-clause-held : goal.returns-clause-held
@@ -24,6 +22,6 @@ returns-clause-enough c = λ others. if_ok_too c.run_lending.result c.run_lendin
   ran.0,
   ran.1,
   ran.2,
-  c.more_fuel_changes_nothing.ensures c.limiters_accept_notices.ensures.quota more _ ran.0 _
-      (subst (All NamesNoFuel) (sym ran.1) others) (subst (All HasFuel) (sym ran.2) has) ran.3,
+  c.more_fuel_changes_nothing.ensures c.limiters_accept_notices.ensures.quota more _ ran.0 _ (rw ran.1 others)
+      (rw ran.2 has) ran.3,
 ))

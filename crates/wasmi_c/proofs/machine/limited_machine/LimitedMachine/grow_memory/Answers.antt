@@ -1,5 +1,5 @@
 use Rattle.wasmi_machine.specs.declared.calls.Call.TheVariants.{GrowMemory}
-use Rattle.wasmi_c.proofs.MachineLemmas.{kept_by_call, machine_replies}
+use Rattle.wasmi_c.proofs.MachineLemmas.{kept_by_call}
 use Rattle.wasmi_c.proofs.machine.limited_machine.LimitedMachine.grow_memory.Goals as goal
 
 pub invariant_of-self : goal.invariant_of-self
@@ -8,8 +8,7 @@ invariant_of-self c =
     (GrowMemory c.args.memory c.args.pages) _ c.grow_memory_lending.ensures.step).0
 
 pub returns-clause-step : goal.returns-clause-step
-returns-clause-step c = machine_replies c.args.self.now _ _ (GrowMemory c.args.memory c.args.pages) _ _ _ c.self.view_is
-    c.grow_memory_lending.ensures.step
+returns-clause-step c = rw (← c.self.view_is) c.grow_memory_lending.ensures.step
 
 pub returns-clause-caps : goal.returns-clause-caps
 returns-clause-caps c =

@@ -1,4 +1,4 @@
-use Rattle.wasmi_c.proofs.MachineLemmas.{kept_by_call, machine_replies}
+use Rattle.wasmi_c.proofs.MachineLemmas.{kept_by_call}
 use Rattle.wasmi_c.proofs.machine.limited_machine.LimitedMachine.reply.Goals as goal
 
 pub invariant_of-self : goal.invariant_of-self
@@ -7,7 +7,7 @@ invariant_of-self c =
     c.step_lending.ensures.step).0
 
 pub returns-clause-step : goal.returns-clause-step
-returns-clause-step c = machine_replies c.args.self.now _ _ _ _ _ _ c.self.view_is c.step_lending.ensures.step
+returns-clause-step c = rw (← c.self.view_is) c.step_lending.ensures.step
 
 pub returns-clause-caps : goal.returns-clause-caps
 returns-clause-caps c =
