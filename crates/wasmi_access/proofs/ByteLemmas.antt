@@ -69,6 +69,11 @@ module _ (v w : Width) {z r : ℤ} {n : ℕ} (le : bits v ≤ bits w) (fits : SF
 -- for the stores of a module
 pub ruleset low_bits = (image_low, wrap_unsigned)
 
+-- the unsigned number with the bits of a signed one is cut to the same number
+pub wrap_of_image : (w : Width) (z : ℤ) → SFits w z → wrap w (pos (cast_unsigned w z)) ≡ wrap w z
+wrap_of_image w z f =
+    ap (λ n. wrap w (pos n)) (sym (wrap_signed w z f)) ∙ wrap_unsigned w (wrap w z) (wrap_below w z)
+
 -- ---- the bytes of a number
 
 -- a power of 256 is above 0
@@ -176,11 +181,6 @@ pub le_bytes-unsigned : (w : Width) (bs : List ℕ) (k n : ℕ) → n < 2 ^ bits
     → ((i : ℕ) → get_or bs i 0 < 256)
     → n ≡ sum_through (λ i. byte_worth i (get_or bs i 0)) k → le_bytes (suc k) (wrap w (pos n)) ≡ bs
 le_bytes-unsigned w bs k n below e h is = ap (le_bytes (suc k)) (wrap_unsigned w n below) ∙ le_bytes-whole bs k n e h is
-
--- the unsigned number with the bits of a signed one is cut to the same number
-pub wrap_of_image : (w : Width) (z : ℤ) → SFits w z → wrap w (pos (cast_unsigned w z)) ≡ wrap w z
-wrap_of_image w z f =
-    ap (λ n. wrap w (pos n)) (sym (wrap_signed w z f)) ∙ wrap_unsigned w (wrap w z) (wrap_below w z)
 
 -- the bytes of the signed number with the bits of a number are those of that number
 pub le_bytes-of_bits : (w : Width) (k n : ℕ) (z : ℤ) (bs : List ℕ) → n < 2 ^ bits w → z ≡ cast_signed w n

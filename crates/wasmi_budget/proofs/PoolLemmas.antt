@@ -1,4 +1,5 @@
--- What stays of a tenant while its machine runs, and what the machines of a pool have together.
+-- What stays of a tenant while its machine runs, what the machines of a pool have together, and what of its caps and its
+-- vacant indices stays over calls.
 use Rattle.std.proofs.Common.{◌≡◌, Option, Some, List, refl, sym, ◌∙◌, subst, ℕ, ◌+◌, ◌-◌, ◌≤◌, ◌<◌, ◌^◌, None, length, get_or, [], ◌∷◌, ◌++◌, sum, ap, arith, inl, inr, ⊎_elim}
 use Rattle.std.proofs.lemmas.Bool.{cases_lt}
 use Rattle.std.proofs.lemmas.List.{get_or_append_left, get_or_past, get_or-set_other, get_or-set_same, length-append, length-set}

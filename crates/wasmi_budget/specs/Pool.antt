@@ -1,4 +1,5 @@
--- A pool of tenants: a tenant's rules, what the machines hold together, what a run of one of them does, and what its errors print.
+-- A pool of tenants: a tenant's rules, what the machines hold together, what a run of one of them does, and what its
+-- errors print.
 use Rattle.wasmi_meter.specs.declared.quota.Holdings.{Holdings}
 use Rattle.wasmi_meter.specs.Capped.{amount_of, nothing, amounts_of, Capped, capped_rules, held_together}
 use Rattle.wasmi_meter.specs.Limiter.{Rules, optional_rules}

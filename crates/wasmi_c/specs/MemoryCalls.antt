@@ -76,7 +76,7 @@ abbrev pub CountsEmbedded : MemoryNumbers → List ℕ → ℕ → ℕ → ℕ �
 CountsEmbedded h region number status number' = ByType of_memory h region status (number' ≡ number) (λ ty.
     (status ≡ DONE) × (number' ≡ h.size / page_bytes ty.page))
 
--- bytes of a memory from an offset on are read by a call where they end within it, and nothing is read else
+-- bytes of a memory from an offset on are read by a call where they end within it, and otherwise nothing is read
 abbrev pub ReadsEmbedded : Placed MemoryNumbers → ℕ → List ℕ → ℕ → List ℕ → Type 0
 ReadsEmbedded a offset old status new = ByType of_memory a.numbers a.region status (new ≡ old) (λ ty.
     ((at (take a.numbers.size a.region) offset (length old) ≡ Some new) × (status ≡ DONE))

@@ -1,5 +1,6 @@
-//! The statuses that calls return, besides the numbers of trap codes. Contracts cite these
-//! constants; `tools/header` compares them with the headers, and with those that were released.
+//! The statuses that calls return, besides the numbers of trap codes, and which one an error has.
+//! Contracts cite these constants; `tools/header` compares them with the headers, and with those that
+//! were released.
 ghost use Rattle.std.specs.Prelude.{◌≡◌};
 ghost use Rattle.wasmi_c.specs.Status.{memory_status, table_status};
 ghost use Rattle.wasmi_c.specs.MemoryCalls.{memory_fuel_needed};
@@ -16,7 +17,7 @@ pub const TEXT_TOO_SHORT: u8 = 5;
 pub const NO_MACHINE: u8 = 16;
 /// The numbers stand for no call.
 pub const NO_CALL: u8 = 17;
-/// There is no such memory, table, element segment, global or register.
+/// There is no such memory, table, element segment, data segment, global or register.
 pub const NO_SUCH: u8 = 18;
 /// There is no spare region.
 pub const NO_REGION: u8 = 19;

@@ -398,7 +398,7 @@ taken_spent rules bounds w turns outcome w' taken left on =
 module _ {S : Type 0} (rules : Rules S) (joins : RunsJoin rules) (spends : ChargesAreSpent rules)
     (bounds : FuelBoundsWriting rules) (program : List Instruction) (w : World S) (turns : List Turn)
     (outcome : Outcome) (w' : World S) (executes : ExecutesProgram rules program w turns outcome w') where
-  -- a program has turns, and takes fuel
+  -- the turns of a program, and the fuel that it takes
   pub execution : (turns : List Turn) × ExecutesProgram rules program w turns outcome w'
       × PaysProgramFuel w.state.meter turns outcome w'.state.meter
   execution = (

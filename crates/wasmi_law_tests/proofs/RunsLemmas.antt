@@ -178,7 +178,7 @@ beside_after hidden pool index calls replies pool' permitted =
     ran.0 ran.3 in
     (permitted.machine, permitted.machine', permitted.tenant', permitted.found, (ran.0, ran.1, ran.2, beside))
 
--- a run of a tenant of which no reply tells of want of memory
+-- a run of a tenant of which no reply tells of lack of memory
 pub record RunsWithMemory (pool : PoolValue) (index : ℕ) (calls : List Call) (pool' : PoolValue) : Type 0 where
   pub replies : List Reply
   pub has : All IsNotOutOfMemory replies

@@ -1,4 +1,4 @@
--- What a caller says of runs, also on pools and by handles, and of lists of types.
+-- What a caller says of runs of machines and pools, also by handles, and of lists of types.
 use Rattle.std.specs.Prelude.{◌≡◌, ◌⊎◌, ◌<◌, ◌≤◌, ◌+◌, ◌*◌, ℕ, true, Option, Some, List, [], ◌∷◌, ◌++◌, length, map, slice_set, All, slice_get, None}
 use Rattle.wasmi_meter.specs.Attempt.{Request, optional_due, covers}
 use Rattle.wasmi_meter.specs.Limiter.{Rules, optional_rules}
@@ -20,8 +20,6 @@ use Rattle.wasmi_machine.specs.Laws.{IsRefusal, Keeps, KeepsMeter}
 use Rattle.wasmi_machine.specs.LentMemory.{FitsRegions}
 use Rattle.wasmi_meter.specs.declared.quota.Quota.{Quota}
 use Rattle.wasmi_laws.specs.Runs.{IsRunInTwo, IsWithinCapsOf, world_with_more}
-use Rattle.wasmi_access.specs.LoadStore.{IsSameOutside}
-use Rattle.wasmi_laws.specs.Places.{NumberStore, stored_size}
 use Rattle.wasmi_meter.specs.declared.quota.Amounts.{Amounts}
 use Rattle.wasmi_budget.specs.declared.tenant.Tenant.{Tenant}
 use Rattle.wasmi_budget.specs.Pool.{tenant_rules, without_others, PoolValue, IsWithinCaps, machine_of, tenant_at}
@@ -159,12 +157,6 @@ StaysWithin rules quota calls w replies w' =
 abbrev pub RunsWithMore : {S : Type 0} → Rules S → List Call → World S → List Reply → World S → Type 0
 RunsWithMore rules calls w replies w' =
     (more : ℕ) → IsRunOf rules calls (world_with_more more w) replies (world_with_more more w')
-
--- the memory of a store has the same bytes before and after it, except those that it writes
-abbrev pub KeepsOtherBytes : NumberStore → State → State → Type 0
-KeepsOtherBytes it s s' =
-    (x x' : MemoryValue) → live_at s.memories it.memory ≡ Some x → live_at s'.memories it.memory ≡ Some x'
-    → IsSameOutside x.bytes x'.bytes (it.ptr + it.offset) (stored_size it.op)
 
 -- whatever calls on a pool follow, its caps are these, and all its machines together are within them
 abbrev pub KeepsCaps : Amounts → PoolValue → Type 0

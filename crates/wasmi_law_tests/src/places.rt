@@ -4,8 +4,7 @@ ghost use Rattle.wasmi_meter.specs.Limiter.{optional_rules};
 ghost use Rattle.wasmi_machine.specs.declared.calls.Reply.TheVariants.{Done, Value};
 ghost use Rattle.wasmi_machine.specs.Steps.{IsRunOf};
 ghost use Rattle.wasmi_machine.specs.State.{world};
-ghost use Rattle.wasmi_law_tests.specs.Runs.{KeepsOtherBytes};
-ghost use Rattle.wasmi_laws.specs.Places.{Content, DropsNot, HasAt, IsIndependent, IsLater, IsLive, IsLocal, LeavesAlone, Location, MemoryAt, NumberStore, StaysAt, content_at, load_call, store_call, stored_part};
+ghost use Rattle.wasmi_laws.specs.Places.{Content, DropsNot, HasAt, IsIndependent, IsLater, IsLive, IsLocal, KeepsOtherBytes, LeavesAlone, Location, MemoryAt, NumberStore, StaysAt, content_at, load_call, store_call, stored_part};
 
 use std::alloc::AllocError;
 use wasmi_machine::{Call, Machine, Reply, run_lending};
@@ -13,8 +12,8 @@ use wasmi_meter::ResourceLimiter;
 
 /// Makes one call. What is at each index that it may not change is as it was: so a call on one
 /// memory leaves every other memory, and all tables, element segments, globals and registers. If it
-/// is a store of a number to a memory that is done, all other bytes of that memory are as they
-/// were.
+/// is a store of a number to a memory that is done, all other bytes of that memory are as they were,
+/// and there are as many.
 pub fn call_elsewhere<L: ResourceLimiter>(
     machine: &mut Machine,
     call: &Call,

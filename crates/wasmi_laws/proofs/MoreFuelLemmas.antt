@@ -9,7 +9,7 @@ use Rattle.wasmi_machine.proofs.AccountLemmas.{grows_takes}
 use Rattle.wasmi_machine.proofs.ToldLemmas.{optional_accepts}
 
 module _ {V E : Type 0} (refusal : E → Reply) (e : Request V E) where
-  -- the reply to the cause of a failure doesn't say that fuel was wanting
+  -- the reply to the cause of a failure doesn't say that fuel ran out
   abbrev Tells : AttemptOutcome E → Type 0
   Tells (Failed cause notice_answer) = HasFuel (refusal cause)
   Tells outcome = Unit {0}
@@ -85,11 +85,11 @@ module _ (more : ℕ) where
       payable : covers (Some m) due ≡ true → covers (Some (richer m)) richer_due ≡ true
       payable enough = rw due_is (still_covers m.left m.costs due enough)
 
-  -- an attempt whose error for want of fuel has a reply that says so
+  -- an attempt whose error for lack of fuel has a reply that says so
   module _ {V E : Type 0} (refusal : E → Reply) (e : Request V E)
       (unpaid : (n : ℕ) → HasFuel (refusal (e.unpaid n)) → ⊥) where
     module _ (m : Meter) where
-      -- a first cause that isn't want of fuel: so much could be paid
+      -- a first cause that isn't lack of fuel: so much could be paid
       tested_cause : (cause : E) → HasFuel (refusal cause) → (tested : Bool) → covers (Some m) (due m e.price) ≡ tested
           → MatchBool tested (e.refuses cause) (cause ≡ e.unpaid (due m e.price))
           → (covers (Some m) (due m e.price) ≡ true) × e.refuses cause

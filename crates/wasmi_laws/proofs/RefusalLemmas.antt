@@ -121,11 +121,11 @@ module _ {S : Type 0} (rules : Rules S) where
       on_live (live_at s.value k) _ _ acts (λ missing. ap (λ (t : MeteredValue (List (Slot X)) S). t.limiter) missing.2)
       (λ x found h. grows x h.1 h.0 h.2 (subst IsPlainRefusal h.3 plain))
 
--- want of memory for a memory is no plain refusal
+-- lack of memory for a memory is no plain refusal
 lacks_loud : (room : Room) (c : MemoryError) → LacksMemory room c → IsLoud (replied.Memory c)
 lacks_loud room c lacks plain = subst (λ x. IsPlainRefusal (replied.Memory x)) (lacks_owned room c lacks) plain
 
--- want of memory for a table is no plain refusal
+-- lack of memory for a table is no plain refusal
 table_lacks_loud : (c : TableError) → c ≡ table_error.OutOfSystemMemory → IsLoud (replied.Table c)
 table_lacks_loud c lacks plain = subst (λ x. IsPlainRefusal (replied.Table x)) lacks plain
 

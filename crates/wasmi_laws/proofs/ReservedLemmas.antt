@@ -19,11 +19,11 @@ use Rattle.wasmi_store.specs.Table as table
 
 -- ---- replies
 
--- an error is another one than want of memory, by the reply that tells it
+-- an error is another one than lack of memory, by the reply that tells it
 abbrev IsOther : {E : Type 0} → (E → Reply) → E → Type 0
 IsOther refusal error = IsNotOutOfMemory (refusal error)
 
--- the reply by an option
+-- a reply by an option tells of no lack of memory, where neither of both does
 option_told : {X : Type 0} (o : Option X) (answer : X → Reply) (missing : Reply) → ((x : X) → IsNotOutOfMemory (answer x))
     → IsNotOutOfMemory missing → IsNotOutOfMemory (option_map_or answer o missing)
 option_told None answer missing found none = none
@@ -54,7 +54,7 @@ module _ {V E : Type 0} (refusal : E → Reply) (e : Request V E)
 
 -- ---- writes over a range
 
--- no cause of a write is want of memory
+-- no cause of a write is lack of memory
 record WritesWithoutWant {V E : Type 0} (refusal : E → Reply) (w : MeteredWrite V E) : Type 0 where
   early : (cause : E) → w.early ≡ Some cause → IsOther refusal cause
   outside : IsOther refusal w.outside
@@ -66,7 +66,7 @@ module _ {V E : Type 0} (refusal : E → Reply) (w : MeteredWrite V E) (no : Wri
   abbrev Tells : Type 0
   Tells = IsNotOutOfMemory (reply_of (λ _. replied.Done) refusal result)
 
-  -- a cause that isn't want of memory
+  -- a cause that isn't lack of memory
   cause_told : (cause : E) → IsOther refusal cause → IsRefusedFor w s result s' cause → Tells
   cause_told cause other is = rw is.0 other
 
@@ -77,13 +77,13 @@ module _ {V E : Type 0} (refusal : E → Reply) (w : MeteredWrite V E) (no : Wri
   write_told None (Some value) is ends = on_test (covers s.meter (write_due w s)) _ _ ends (λ paid. rw paid.0 tt)
       (λ unpaid. cause_told (w.unpaid (write_due w s)) (no.unpaid (write_due w s)) unpaid)
 
--- a write to a memory
+-- a write to a memory has no cause that is lack of memory
 memory_write_told : (len : ℕ) (write : MemoryValue → MemoryWrite) → WritesBytes len write → (x : MemoryValue)
     → WritesWithoutWant replied.Memory (write x)
 memory_write_told len write w x = subst (WritesWithoutWant replied.Memory) (sym (w.is x))
     (record { early = w.told x.ty; outside = tt; unpaid = λ amount. tt })
 
--- a write to a table
+-- a write to a table has no cause that is lack of memory
 table_write_told : (x : TableValue) (typed : Bool) (written : Option (List ℕ)) (outside : TableError) (paid : Option ℕ)
     → IsOther replied.Table outside → WritesWithoutWant replied.Table (elements_write x typed written outside paid)
 table_write_told x typed written outside paid other = record {
@@ -92,13 +92,13 @@ table_write_told x typed written outside paid other = record {
   unpaid = λ amount. tt;
 }
 
--- no cause of a write over a range of a memory is want of memory, whatever its source
+-- no cause of a write over a range of a memory is lack of memory, whatever its source
 bytes_told : (source : ByteSource) (dst len : ℕ) → OnLive (byte_write_of source dst len) (Unit {0})
     (λ w. (x : MemoryValue) → WritesWithoutWant replied.Memory (w x))
 bytes_told source dst len = on_live_too (byte_write_of source dst len) _ _ _ _ (λ missing. missing)
     (memory_write_told len) (source_writes source dst len)
 
--- no cause of a write over a range of a table is want of memory, whatever its source
+-- no cause of a write over a range of a table is lack of memory, whatever its source
 elements_told : (source : Source) (dst len : ℕ) → OnLive (write_of source dst len) (Unit {0})
     (λ w. (x : TableValue) → WritesWithoutWant replied.Table (w x))
 elements_told (OfReference value) dst len = λ x. table_write_told x (same_type x.ty.element value.ty)
@@ -122,7 +122,7 @@ range_told refusal k (Some w) without s reply charge s' writes = on_live (live_a
 
 -- ---- creations and growths of memories in lent regions
 
--- no later cause of a request for a lent region is want of memory
+-- no later cause of a request for a lent region is lack of memory
 lent_told : (region : List ℕ) (ty : MemoryTypeValue)
     → LaterCauses (IsOther replied.Memory) (memory.creation_of (Lent region) ty)
 lent_told region ty = record {
@@ -138,7 +138,7 @@ lent_lacks : (room : Room) (cause : MemoryError) → IsLentRoom room → LacksMe
 lent_lacks Owned cause lent lacks = lent
 lent_lacks (Lent rest) cause lent lacks = lacks
 
--- no later cause of a growth of a lent memory is want of memory
+-- no later cause of a growth of a lent memory is lack of memory
 growth_told : (x : MemoryValue) (pages : ℕ) → IsLent x
     → LaterCauses (IsOther replied.Memory) (memory.growth_of x pages)
 growth_told x pages lent = record {
@@ -176,7 +176,7 @@ elements_there : (x : TableValue) (n : ℕ) → HasElements n x → is_within_ma
 elements_there x n (inl there) within = there
 elements_there x n (inr full) within = within_reserved x.ty.maximum (size_of x + n) x.reserved full within
 
--- no later cause of a growth of a table for which it is reserved is want of memory
+-- no later cause of a growth of a table for which it is reserved is lack of memory
 table_told : (x : TableValue) (n reference : ℕ) → HasElements n x
     → LaterCauses (IsOther replied.Table) (table.growth_of x n reference)
 table_told x n reference has = record {

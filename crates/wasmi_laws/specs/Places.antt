@@ -1,5 +1,5 @@
--- What is at an index of a machine, what a call may change there, what holds of that in every turn and run; and
--- memories
+-- What is at an index of a machine, what a call may change there, what holds of that in every turn and run, and what
+-- memories of the same bytes have alike.
 use Rattle.std.specs.Prelude.{◌≡◌, ◌⊎◌, ◌*◌, ◌+◌, ◌%◌, ◌^◌, ℕ, List, [], ◌∷◌, Option, Some, None, length, map, All, slice_get, MatchOption, Result, Vec, slice_set}
 use Rattle.wasmi_raw.specs.declared.raw.RawVal.{RawVal}
 use Rattle.wasmi_raw.specs.RawVal.{raw_of}
@@ -242,6 +242,12 @@ store_call it = call.Store it.op it.memory it.ptr it.offset it.value
 abbrev pub load_call : NumberStore → Call
 load_call it = call.Load (load_of it.op) it.memory it.ptr it.offset
 
+-- the memory of a store has as many bytes after it, and the same ones except those that it writes
+abbrev pub KeepsOtherBytes : NumberStore → State → State → Type 0
+KeepsOtherBytes it s s' =
+    (x x' : MemoryValue) → live_at s.memories it.memory ≡ Some x → live_at s'.memories it.memory ≡ Some x'
+    → IsSameOutside x.bytes x'.bytes (it.ptr + it.offset) (stored_size it.op) × (length x'.bytes ≡ length x.bytes)
+
 module _ {S : Type 0} (rules : Rules S) where
   -- a turn leaves what is at each index except the one that its call may change
   abbrev pub OthersStay : Type 0
@@ -275,9 +281,7 @@ module _ {S : Type 0} (rules : Rules S) where
   -- an accepted store keeps all other bytes of its memory, and how many there are
   abbrev pub StoresKeepOtherBytes : Type 0
   StoresKeepOtherBytes = (it : NumberStore) (t u : World S) → RepliesWith rules (store_call it) t Done u
-      → (x x' : MemoryValue) → live_at t.state.memories it.memory ≡ Some x
-      → live_at u.state.memories it.memory ≡ Some x'
-      → IsSameOutside x.bytes x'.bytes (it.ptr + it.offset) (stored_size it.op) × (length x'.bytes ≡ length x.bytes)
+      → KeepsOtherBytes it t.state u.state
 
   -- two turns one after the other whose calls are local and independent may be exchanged
   abbrev pub IndependentTurnsSwap : Type 0

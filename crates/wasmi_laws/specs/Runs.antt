@@ -142,7 +142,7 @@ NamesNoFuel (SetFuel fuel) = ⊥
 NamesNoFuel GetFuel = ⊥
 NamesNoFuel call = Unit {0}
 
--- the reply doesn't say that fuel was wanting
+-- the reply doesn't say that fuel ran out
 abbrev pub HasFuel : Reply → Type 0
 HasFuel (Memory (memory.OutOfFuel required)) = ⊥
 HasFuel (Table (table.OutOfFuel required)) = ⊥
@@ -165,7 +165,7 @@ module _ {S : Type 0} (rules : Rules S) where
       → All SetsNoFuel (map Turn.call turns) → amount_left w'.state.meter ≤ amount_left w.state.meter
 
 -- if the limiter accepts each notice, a run of calls that neither set the fuel nor ask for it, in which no reply says
--- that fuel was wanting, is the same run with any more fuel, all of which is left then
+-- that fuel ran out, is the same run with any more fuel, all of which is left then
 abbrev pub MoreFuelChangesNothing : {L : Type 0} → Rules L → Type 0
 MoreFuelChangesNothing {L} rules =
     AcceptsNotices rules → (more : ℕ) (w : World (Option L)) (turns : List Turn) (w' : World (Option L))

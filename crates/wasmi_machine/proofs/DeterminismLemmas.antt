@@ -1,4 +1,4 @@
--- Where the limiter leaves no choice and memory isn't wanting, a turn is decided by its call.
+-- Where the limiter leaves no choice and there is enough memory, a turn is decided by its call.
 use Rattle.std.proofs.Common.{Bool, List, None, Ok, Option, Result, Some, [], ap, arith, false, inl, inr, map, refl, subst, sym, true, ℕ, ◌∙◌, ◌∷◌, ◌≡◌}
 use Rattle.wasmi_machine.proofs.Common.{All-head, All-tail, none-some, same_Some, option_map, MatchBool, memory_growth, table_growth, IsNotOutOfMemory, AreNotOutOfMemory, IsDeterministic, IsOtherFailure, never_out_of_memory, CreatesLent, spare_after, byte_write_of, ActsMetered, ActsMeteredUnasked, Asks, Changes, Creates, OnlyReplies, reply_of, Run, BytesRead, Changed, Effect, FuelSet, LentMemoryMade, MemoryGrown, MemoryMade, RangeWritten, TableGrown, TableMade, MemoryWritten, TableWritten, HasEffect, Told, effect_of, MemoryPart, State, memory_part, Turn, World, write_of, Call, Reply, Slot, Attempt, Denied, Request, Failed, AttemptOutcome, Follows, IsFirstCause, MayEnd, Met, MeteredValue, Unasked, alone, optional_due, answer_of, covers, outcome_charge, value_after, Capped, capped_rules, capped_quota, quota_rules, Answer, AskedIf, NoticedIf, IsDenial, MemoryFailure, Rules, TableFailure, optional_rules, unlimited_rules, Meter, meter_after, MemoryError, TableError, LacksMemory, Lent, Owned, Room, Grows, Growth, Makes, metered_value, metered, GrowsMemoryCharging, MakesMemory, MemoryValue, new_memory, MemoryTypeValue, GrowsTableCharging, MakesTable, TableValue, new_table, same_type, TypedRawRef, TurnOutcome, outcome_of}
 use Rattle.wasmi_machine.proofs.MemoryEffectsLemmas.{lacks_owned, reads_same}
@@ -16,18 +16,18 @@ on_both_tests : {C : Type 0} (test : Bool) (Holds Holds' Fails Fails' : Type 0) 
 on_both_tests true Holds Holds' Fails Fails' h h' holds fails = holds h h'
 on_both_tests false Holds Holds' Fails Fails' h h' holds fails = fails h h'
 
--- the last cause of a request is want of memory
+-- the last cause of a request is lack of memory
 record Wants {V E : Type 0} (e : Request V E) : Type 0 where
   wants : (cause : E) → e.refuses cause → IsOtherFailure (e.notice cause) → ⊥
 
 module _ {S : Type 0} {rules : Rules S} (once : IsDeterministic rules) where
-  -- the rules by which no limiter is told of want of memory
+  -- the rules by which no limiter is told of lack of memory
   abbrev told : Rules S
   told = never_out_of_memory rules
 
   module _ {V E : Type 0} {e : Request V E} (want : Wants e) where
     module _ (m : Option Meter) where
-      -- two first causes that are no want of memory are one
+      -- two first causes that are no lack of memory are one
       first_cause : (late : Option E) (cause cause' : E) → IsFirstCause e m late cause → IsOtherFailure (e.notice cause)
           → IsFirstCause e m late cause' → IsOtherFailure (e.notice cause') → cause ≡ cause'
       first_cause (Some c) cause cause' first other first' other' = first ∙ sym first'
@@ -112,11 +112,11 @@ module _ {S : Type 0} {rules : Rules S} (once : IsDeterministic rules) where
       let same = attempts_same wants s s' s'' a.outcome b.outcome charge charge' a.attempt b.attempt in
       (a.answered ∙ ap (answer_of g.request g.size) same.0 ∙ sym b.answered, same.1, same.2)
 
--- what memory refuses, a limiter is told as want of memory
+-- what memory refuses, a limiter is told as lack of memory
 memory_wants : (room : Room) (cause : MemoryError) → LacksMemory room cause → IsOtherFailure (MemoryFailure cause) → ⊥
 memory_wants room cause lacks other = rw (lacks_owned room cause lacks) at other
 
--- what memory refuses a table, a limiter is told as want of memory
+-- what memory refuses a table, a limiter is told as lack of memory
 table_wants : (cause : TableError) → cause ≡ TableError.OutOfSystemMemory → IsOtherFailure (TableFailure cause) → ⊥
 table_wants cause lacks other = rw lacks at other
 

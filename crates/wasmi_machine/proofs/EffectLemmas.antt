@@ -88,7 +88,7 @@ pub record Creation (A S : Type 0) : Type 0 where
   pub part : A
   pub limiter : S
 
--- a creation ends in one way, where memory isn't wanting
+-- a creation ends in one way, where there is enough memory
 abbrev pub HasOneOutcome : {A S : Type 0} → (Reply → A → S → Type 0) → Type 0
 HasOneOutcome {A} {S} Relation =
     (o o' : Creation A S) → IsNotOutOfMemory o.reply → IsNotOutOfMemory o'.reply → Relation o.reply o.part o.limiter
@@ -113,7 +113,7 @@ pub no_room_too : (reply : Reply) (Lacks Lacks' : Type 0) → (Lacks → Lacks')
 no_room_too replied.NoRoom Lacks Lacks' too lacks = too lacks
 no_room_too reply Lacks Lacks' too lacks = tt
 
--- what holds of an effect on a part: a refusal leaves it, it is decided where memory isn't wanting, and it keeps a fact
+-- what holds of an effect on a part: a refusal leaves it, it is decided where there is enough memory, and it keeps a fact
 pub record EffectFacts {A : Type 0} (Effect : Reply → A → Type 0) (old : A) (Keeps : A → Type 0) : Type 0 where
   pub back : (reply : Reply) (part : A) → IsRefusal reply → Effect reply part → part ≡ old
   pub same : (reply reply' : Reply) (part part' : A) → IsNotOutOfMemory reply → IsNotOutOfMemory reply'

@@ -38,12 +38,12 @@ growth_question_by_request amount e some =
     let none : nat_eq amount 0 ≡ false = grind (arith, nat_tests, some) in
     ap (λ b. if b then None else question_in e) none
 
--- what a limiter is told of is want of memory, and then a price is charged, or it isn't, and then nothing is
+-- what a limiter is told of is lack of memory, and then a price is charged, or it isn't, and then nothing is
 abbrev pub IsOutOfMemoryOrFree : Failure → Type 0
 IsOutOfMemoryOrFree failure = ((IsOtherFailure failure → ⊥) × ((price : ℕ) → failed_charge failure price ≡ price))
     ⊎ ((price : ℕ) → failed_charge failure price ≡ 0)
 
--- a failure is want of memory, and its price is charged, or nothing is charged for it
+-- a failure is lack of memory, and its price is charged, or nothing is charged for it
 pub out_of_memory_or_free : (failure : Failure) → IsOutOfMemoryOrFree failure
 out_of_memory_or_free (MemoryFailure memory_error.OutOfSystemMemory) = inl (λ no. no, λ price. refl)
 out_of_memory_or_free (TableFailure table_error.OutOfSystemMemory) = inl (λ no. no, λ price. refl)
@@ -75,7 +75,7 @@ record IsToldBy {V E : Type 0} (e : Request V E) (refusal : E → Reply) : Type 
   fails : (cause : E) (notice_answer : NoticeAnswer)
       → refusal (error_of_failure e.refusal cause notice_answer) ≡ failed_reply (e.notice cause) notice_answer
 
--- the price of a request is what the meter is due for its question, and its last cause alone is want of memory
+-- the price of a request is what the meter is due for its question, and its last cause alone is lack of memory
 record IsPricedAsAsked {V E : Type 0} (e : Request V E) (m : Meter) : Type 0 where
   price : optional_due (Some m) e.price ≡ growth_due m e.question
   late : (cause : E) → e.late ≡ Some cause → (price : ℕ) → failed_charge (e.notice cause) price ≡ 0

@@ -1,4 +1,5 @@
--- What holds of each write over a range of one part of the state: it is refused, and nothing has changed, or it is paid for.
+-- What holds of each write over a range of one part of the state: it is refused, and nothing has changed, or it is paid
+-- for.
 use Rattle.std.proofs.Common.{List, None, Option, Result, Some, ap, inl, inr, refl, replicate, subst, sym, true, false, Bool, ℕ, arith, ◌∙◌, ◌≡◌, ◌≤◌, ◌⊎◌, length, ◌≢◌}
 use Rattle.wasmi_machine.proofs.Common.{nat_tests, none-some, same_Some, set-set, option_and_then, option_map, nat_eq, nat_le, slice_set, if◌then◌else◌, at, overwrite, MemoryError, TableError, CustomFuelCosts, MeteredValue, optional_due, Meter, amount_left, cut_product, meter_after, metered, IsValidMemory, MemoryTypeValue, MemoryValue, MemoryWrite, bytes_write, IsValidTable, TableValue, element_price, elements_write, size_of, with_elements, Reply, Slot, Live, Gone, IsNotOutOfMemory, ActsMeteredUnasked, IsNoSuch, MeteredSlots, OnLive, WritesAt, WritesFrom, WritesRangeAt, item_bytes, reply_of, NothingGrows, writing_charge, IsValid, State, Turn, World, byte_count, live_at, sizes, with_memories, with_tables, live_value, HasRangeWrite, MemoryWritten, RangeWrite, TableWritten, ByteSource, OfByte, OfBytes, WritesMemoryFrom, byte_write_of, bytes_in, memory_copy_of, OfReference, OfSegment, OfTable, Source, write_of, outcome_of}
 use Rattle.wasmi_meter.specs.declared.error.MemoryError.TheVariants as memory_error
@@ -334,7 +335,7 @@ memory_range s = record {
       slot_kept byte_count IsValidMemory s.memories k x x' found keeps.1 (memory_as_long x x' keeps.0 keeps.1);
 }
 
--- A write over so many bytes: what stands before it depends on the type of the memory, and isn't want of memory;
+-- A write over so many bytes: what stands before it depends on the type of the memory, and isn't lack of memory;
 -- what it writes depends on the bytes, and is as long.
 pub record WritesBytes (len : ℕ) (write : MemoryValue → MemoryWrite) : Type 0 where
   pub early : MemoryTypeValue → Option MemoryError

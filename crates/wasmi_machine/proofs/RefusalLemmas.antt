@@ -106,7 +106,7 @@ module _ {S : Type 0} (rules : Rules S) (w : World S) (turn : Turn) (w' : World 
   stays : PaysCharge w.state.meter turn.charge w'.state.meter → turn.charge ≡ 0 → KeepsMeter rules w turn w'
   stays takes free = inl (free_meter w.state.meter w'.state.meter turn.charge free takes)
 
-  -- a refused growth keeps the meter, but for the price where memory was wanting
+  -- a refused growth keeps the meter, except the price where there wasn't enough memory
   growth_meter : (k : ℕ) × (place_of turn.call ≡ At k) → (exchange : Exchange)
       → AsksFor (question_of w.state turn.call) exchange turn.reply → Passes rules w.limiter exchange w'.limiter
       → RepliesTo exchange turn.reply → turn.charge ≡ growth_charge exchange w.state.meter

@@ -1,4 +1,4 @@
--- Where each notice is accepted, the replies show whether anybody is told of want of memory.
+-- Where each notice is accepted, the replies show whether anybody is told of lack of memory.
 use Rattle.std.proofs.Common.{◌≡◌, ◌∙◌, Option, Some, None, Ok, true, List, map, refl, sym, ap, subst}
 use Rattle.wasmi_machine.proofs.Common.{All, MemoryError, TableError, MemoryFailure, TableFailure, Rules, AskedIf, NoticedIf, unlimited_rules, optional_rules, quota_rules, Request, Failed, error_of_failure, Call, Reply, World, Turn, Run, IsRunOf, AcceptsNotices, StaysAccepting, IsIn, IsOtherFailure, IsDeterministic, never_out_of_memory, IsNotOutOfMemory, AreNotOutOfMemory}
 use Rattle.wasmi_meter.specs.declared.error.MemoryError.TheVariants as memerr
@@ -10,12 +10,12 @@ use Rattle.wasmi_machine.proofs.DeterminismLemmas as determinism
 use Rattle.wasmi_machine.proofs.HoldingLemmas.{Carries, if_there, step_stays}
 use Rattle.wasmi_machine.proofs.RevealingLemmas.{Narrowing, Reveals, run_revealed}
 
--- an error of which a reply that has memory tells is no want of it
+-- an error of which a reply that has memory tells is no lack of it
 no_memory : (c : MemoryError) → IsNotOutOfMemory (replied.Memory c) → IsOtherFailure (MemoryFailure c)
 no_memory memerr.OutOfSystemMemory has = has
 no_memory c has = tt
 
--- an error of a table of which a reply that has memory tells is no want of it
+-- an error of a table of which a reply that has memory tells is no lack of it
 no_table : (c : TableError) → IsNotOutOfMemory (replied.Table c) → IsOtherFailure (TableFailure c)
 no_table taberr.OutOfSystemMemory has = has
 no_table c has = tt
@@ -31,7 +31,7 @@ module _ {S : Type 0} (rules : Rules S) (IsAccepting : S → Type 0) (stays : St
     within = IsAccepting;
   }
 
-  -- the replies to an attempt's errors tell whether the limiter is told of want of memory
+  -- the replies to an attempt's errors tell whether the limiter is told of lack of memory
   want_revealed : {V E : Type 0} (refusal : E → Reply) (e : Request V E)
       → ((c : E) → IsNotOutOfMemory (refusal c) → IsOtherFailure (e.notice c)) → Reveals telling refusal e
   want_revealed refusal e nowant (Failed c notice_answer) l l' within shown (permitted, asks, notices) =
@@ -91,7 +91,7 @@ unlimited_accepts l failure notice_answer l' noticed = noticed.0
 pub quota_accepts : AcceptsNotices quota_rules
 quota_accepts l failure notice_answer l' noticed = noticed.accepts
 
--- a run as a host sees it: its replies, none of which tells of want of memory, and what there is after it
+-- a run as a host sees it: its replies, none of which tells of lack of memory, and what there is after it
 pub record SeenRun {S : Type 0} (rules : Rules S) (calls : List Call) (w : World S) : Type 0 where
   pub replies : List Reply
   pub after : World S

@@ -48,7 +48,7 @@ abbrev pub IfNoRoom : Reply → Type 0 → Type 0
 IfNoRoom NoRoom Lacks = Lacks
 IfNoRoom reply Lacks = Unit {0}
 
--- an item is added to a list, unless there is no memory for it, which may lack as a fact says
+-- an item is added to a list, unless there is no memory for it, which a fact allows
 abbrev pub AddsItem : {X : Type 0} → Type 0 → X → List X → Reply → List X → Type 0
 AddsItem Lacks x items reply items' = ((reply ≡ NoRoom) × (items' ≡ items) × Lacks)
     ⊎ ((reply ≡ Made (length items)) × (items' ≡ items ++ x ∷ []))

@@ -136,8 +136,8 @@ pub record World (S : Type 0) : Type 0 where
 abbrev pub world : {S : Type 0} → State → S → World S
 world machine limiter = record { state = machine; limiter = limiter }
 
--- one call with its reply, the fuel that it was charged, and how many bytes it has written by a growth or over a part of
--- a table
+-- one call with its reply, the fuel that it was charged, and how many bytes it has written by a growth or over a range
+-- of a memory or a table
 pub record Turn : Type 0 where
   pub call : Call
   pub reply : Reply
@@ -154,7 +154,7 @@ pub record TurnOutcome : Type 0 where
 abbrev pub outcome_of : Turn → TurnOutcome
 outcome_of turn = record { reply = turn.reply; charge = turn.charge; written = turn.written }
 
--- a turn is charged nothing, and has written nothing by a growth or over a part of a table
+-- a turn is charged nothing, and has written nothing by a growth or over a range
 abbrev pub IsFree : TurnOutcome → Type 0
 IsFree outcome = (outcome.charge ≡ 0) × (outcome.written ≡ 0)
 

@@ -212,7 +212,7 @@ effect_of s (call.StoreLane op a memory ptr offset) = Changed (BytesStored memor
 
 -- What tools/generate writes ends.
 
--- memory for one more slot may lack, since each one that is reserved is used
+-- memory for one more slot may be refused, since each one that is reserved is used
 abbrev pub LacksSlot : {A : Type 0} → ℕ → List A → Type 0
 LacksSlot reserved list = reserved ≤ length list
 

@@ -21,7 +21,7 @@ IsSegmentOf ty items (Ok segment) = (length items ≤ most_items) × (segment �
 IsSegmentOf ty items (Err TooManyItems) = most_items < length items
 IsSegmentOf ty items (Err OutOfSystemMemory) = 0 < length items
 
--- an element segment is made, unless there is no memory for its slot, which may lack as a fact says
+-- an element segment is made, unless there is no memory for its slot, which a fact allows
 abbrev pub CreatesSegment : Type 0 → RefType → List ℕ → List SegmentValue → Reply → List SegmentValue → Type 0
 CreatesSegment Lacks ty items segments reply segments' = ((reply ≡ NoRoom) × (segments' ≡ segments) × Lacks)
     ⊎ ((result : Result SegmentValue SegmentError) × IsSegmentOf ty items result

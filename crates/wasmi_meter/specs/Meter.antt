@@ -1,4 +1,4 @@
--- What work costs in fuel: what is left, and what is taken of it.
+-- What work costs in fuel: what is left on a meter, also on one that a call may have, and what is taken of it.
 use Rattle.std.specs.Prelude.{◌≡◌, ◌⊎◌, ℕ, ◌-◌, ◌≤◌, ◌<◌, is_some, if◌then◌else◌, Option, Some, None, Result, Ok, Err, ◌*◌, ◌/◌, ◌^◌, min, nat_eq}
 use Rattle.std.proofs.Common.{inl, inr}
 use Rattle.std.specs.Borrow.{MutBor, Bor}
@@ -33,13 +33,12 @@ meter_set m amount = record m { left = option_map (λ left. amount) m.left }
 abbrev pub meter_at_entry : Option (MutBor Meter) → Option Meter
 meter_at_entry lent = option_copied_mut lent
 
--- the meter that an optional reference leaves behind it when a call ends, if there is one, in the terms of a clause's
--- `.exit`
+-- the meter that an optional reference leads to when a call ends, if there is one; a clause has it as `.exit`
 abbrev pub meter_at_exit : {A B C : Type 0} → A ⊎ ((MutBor Meter × B) ⊎ C) → Option Meter
 meter_at_exit (inr (inl lent)) = Some lent.0.now
 meter_at_exit _ = None
 
--- an amount is taken where that much is left, and is refused else
+-- an amount is taken where that much is left, and is refused otherwise
 pub record ConsumesFuel {T : Type 0} (m : Meter) (amount : ℕ) (value : T) (result : Result T FuelError)
     (m' : Meter) : Type 0 where
   pub enough : amount ≤ amount_left m → (result ≡ Ok value) × (m' ≡ meter_after m amount)
@@ -53,7 +52,7 @@ due m price = if is_some m.left then price m.costs else 0
 abbrev pub PaysCharge : Meter → ℕ → Meter → Type 0
 PaysCharge m charge m' = (charge ≤ amount_left m) × (m' ≡ meter_after m charge)
 
--- a charge is taken where that much is left, and refused else with what it needs
+-- a charge is taken where that much is left, and refused otherwise with what it needs
 abbrev pub Charges : Meter → ℕ → Result (Unit {0}) ℕ → Meter → Type 0
 Charges m amount (Ok _) m' = PaysCharge m amount m'
 Charges m amount (Err required) m' = (amount_left m < amount) × (required ≡ amount) × (m' ≡ m)

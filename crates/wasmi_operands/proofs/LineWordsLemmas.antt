@@ -1,4 +1,4 @@
--- What words write one after the other, the digits of a word, and what is accepted, in other words.
+-- What words write one after the other, the digits of a word, and other forms of what is accepted.
 use Rattle.std.proofs.Common.{ℕ, zero, suc, ◌≡◌, ◌<◌, ◌+◌, ◌∷◌, ◌++◌, Err, List, [], false, get_or, length, map, take, refl, sym, ap, subst, arith, rules, tests, Option, Some, None, true, bytes_eq, codes, cond, Result, Ok, OnErr, IfErr, Bor}
 use Rattle.std.specs.List.{AllZip}
 use Rattle.wasmi_operands.specs.declared.error.LineError.{LineError}

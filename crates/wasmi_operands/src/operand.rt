@@ -100,7 +100,7 @@ impl Operand for u64 {
     }
 }
 
-// Where it has 32 bits, a greater number counts as the greatest, which is past the end of every list.
+// Where a `usize` has 32 bits, a greater number counts as the greatest, which is past the end of every list.
 impl Operand for usize {
     ghost writes = { WritesNumber 64 };
 

@@ -1,4 +1,5 @@
-//! Linear memories and tables that are the first of a region, which lies with the caller.
+//! Linear memories and tables that are the first bytes or elements of a region, which lies with the
+//! caller.
 #![tactic(auto)]
 
 pub mod laws;

@@ -1,4 +1,4 @@
--- Where memory isn't wanting the bytes decide what is printed.
+-- Where there is enough memory the bytes decide what is printed.
 use Rattle.std.proofs.Common.{ℕ, ◌≡◌, ◌∙◌, ◌++◌, List, [], ◌∷◌, Vec, All, Option, Some, length, None, Ok, Err, map, codes, slice_set, refl, sym, ap, subst, arith}
 use Rattle.wasmi_script.proofs.Common.{decimal, option_map, option_map_or, drop_at, map-append, take_at, Call, Reply, State, new_state, no_slots, World, world, Turn, BadCommand, OutOfMemory, Parse, TooLong, ReadFault, meter_meaning, meter_off, region_bytes, start_of, tenant_start, line, kind_text, reply_text, error_text, IsNewQuota, IsReplayBy, AnswersParts, new_pool, TenantRun, parts_in, calls_in, replies_text, held_text, answer_list_rules, new_answers}
 use Rattle.std.specs.List.{flat_map}
@@ -125,7 +125,7 @@ module _ {S : Type 0} (rules : Rules S) where
       let again = retold_run turns calls w w' (same ∙ ap (map call_meaning) (sym called)) ran in
       (again.0, again.1, again.2 ∙ replied, again.3)
 
--- the replies of both tell of no want of memory
+-- the replies of both tell of no lack of memory
 abbrev HaveBoth : List Reply → List Reply → Type 0
 HaveBoth replies replies' = All IsNotOutOfMemory replies × All IsNotOutOfMemory replies'
 
@@ -169,7 +169,7 @@ all_parted P xs ys all = (
   subst (All P) (drop_at xs ys _ refl) (All-drop P (length xs) (xs ++ ys) all),
 )
 
--- a run of a tenant whose replies tell of no want of memory
+-- a run of a tenant whose replies tell of no lack of memory
 record TenantRan (pool : PoolValue) (tenant : ℕ) (calls : List Call) : Type 0 where
   pub replies : List Reply
   pub after : PoolValue

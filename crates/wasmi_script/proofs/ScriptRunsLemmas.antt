@@ -93,7 +93,7 @@ quiet_lists = record {
       (accepts.0 ∙ quiet.last, subst NeverComplains (sym accepts.1) quiet);
 }
 
--- where memory isn't wanting, such a limiter leaves the replies no choice
+-- where there is enough memory, such a limiter leaves the replies no choice
 pub quiet_lists_decide : QuietListsDecideReplies
 quiet_lists_decide calls s list quiet replies replies' v v' has has' ran ran' =
     accepted_replies_are_one answer_list_rules NeverComplains quiet_lists answers_unique calls (world s (Some list)) quiet

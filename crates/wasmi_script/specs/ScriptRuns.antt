@@ -76,8 +76,7 @@ AnswersParts pool (part ∷ parts) replies pool' =
     × RunsTenant pool part.tenant part.calls answered middle × AnswersParts middle parts later pool'
 
 -- The replies are those of the parts, one after another, on a pool of new machines with the script's meter and its
--- reserved slots.
--- What is held is what the pool's machines have then.
+-- reserved slots. What is held is what the pool's machines have then.
 abbrev pub IsPoolReplay : TenantsLine → Script → Ran → Type 0
 IsPoolReplay line script ran = (pool : PoolValue) × (ran.held ≡ Holding.Tenants pool)
     × AnswersParts (new_pool line (tenant_start script.header)) (parts_in script.parts) ran.replies.items pool

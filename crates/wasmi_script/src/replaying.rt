@@ -367,7 +367,7 @@ fn run_pool(alloc: Global, script: &Script, line: TenantsLine) -> Result<Ran, Al
     let mut replies = Vec::with_capacity(alloc, parts.calls().len())?;
     for index in 0..parts.len() {
         let (tenant, calls) = parts.get(index).unwrap();
-        // No script names a tenant that its pool lacks, so memory is wanting after an error.
+        // No script names a tenant that its pool lacks, so an error is one of memory.
         let Ok(mut answered) = pool.run(tenant, calls) else {
             return Err(AllocError);
         };
@@ -384,7 +384,7 @@ fn pool_of(alloc: Global, header: &Header, line: TenantsLine) -> Result<Pool<'st
 {
     let mut pool = Pool::new(alloc, line.caps.bytes, line.caps.elements);
     for _index in 0..line.count {
-        // A new machine has nothing, so room alone can be wanting.
+        // A new machine has nothing, so only memory for its place can be refused.
         if pool.add(start(alloc, header, None)?).is_err() {
             return Err(AllocError);
         }

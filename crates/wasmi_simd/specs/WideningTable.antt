@@ -1,4 +1,5 @@
--- The vector instructions (core specification, "Numerics") that widen, narrow or test lanes, by their lanes.
+-- The vector instructions (core specification, "Numerics") that widen, narrow or test lanes, and the relaxed ones, by
+-- their lanes.
 use Rattle.std.specs.Prelude.{ℕ, zero, suc, ◌+◌, ◌-◌, ◌*◌, Bool, true, ◌&&◌, nat_lt, if◌then◌else◌, ◌^◌, not, nat_eq, nat_le, ◌+ℤ◌, ◌*ℤ◌}
 use Rattle.wasmi_types.specs.Numbers.{Width, bits, w8, w16, w32, signed, wrap, clamp_signed, clamp_unsigned}
 use Rattle.wasmi_lanes.specs.Vector.{lane, lane_count, from_lanes, unsigned, with_lane}

@@ -1,4 +1,5 @@
--- Writes over a range: one of a list of items as one of the value that has them, what a write ends in, and a copy a part at a time.
+-- Writes over a range: one of a list of items as one of the value that has them, what a write ends in, and a copy a part
+-- at a time.
 use Rattle.std.proofs.Common.{◌≡◌, ℕ, ◌+◌, ◌⊎◌, inl, inr, Bool, true, false, Option, Some, None, Ok, Err, List, ◌++◌, length, take, drop, refl, sym, ap, subst, ◌∙◌, arith, append_assoc, ◌-◌, ◌≤◌, length-drop, Vec, Global}
 use lib.Seq.{paste, take-add, take-paste, drop-paste}
 use Rattle.wasmi_store.proofs.Common.{MatchBool, refill, MemoryError, TableError, CustomFuelCosts, OutOfFuel, MeteredValue, covers, optional_due, Meter, meter_after, meter_after_nothing, metered, WithCharge, MeteredWrite, EndsBy, IsRefusedFor, Writes, WritesCharging, write_charge, write_due, items_write, WritesItems, BulkWrites, item_price, MemoryValue, bytes_write, elements_write, element_price, with_elements, TableValue, TableTypeValue, TableWrite, same_type, with_items_is, take-take, take_at, drop_at, drop-drop, drop-take}

@@ -1,4 +1,5 @@
--- Linear memories: their types, making one, growing it, reading and writing (core specification, memory types and memory instances; the memory64 and custom-page-sizes proposals).
+-- Linear memories: their types, making one, growing it, reading and writing (core specification, memory types and memory
+-- instances; the memory64 and custom-page-sizes proposals).
 use Rattle.std.specs.Prelude.{◌≤◌, ℕ, Option, Some, None, ◌≡◌, ◌*◌, ◌/◌, ◌-◌, ◌^◌, Bool, true, ◌&&◌, nat_le, nat_lt, nat_eq, min, if◌then◌else◌, ◌+◌, ◌%◌, List, length, Result, Ok, Err}
 use Rattle.std.specs.Option.{option_map, option_map_or, ForSome}
 use Rattle.wasmi_types.specs.declared.index_ty.IndexType.{IndexType}
@@ -184,7 +185,7 @@ abbrev pub GrowsMemory : {S : Type 0} → Rules S → ℕ → MeteredValue Memor
     → MeteredValue MemoryValue S → Type 0
 GrowsMemory rules pages = WithCharge (GrowsMemoryCharging rules pages)
 
--- bytes are written over those from an offset on where they end within the memory, and nothing is written else
+-- bytes are written over those from an offset on where they end within the memory, and otherwise nothing is written
 abbrev pub WritesMemory : MemoryValue → ℕ → List ℕ → Result (Unit {0}) MemoryError → MemoryValue → Type 0
 WritesMemory x offset source (Ok _) x' =
     (overwrite x.bytes offset source ≡ Some x'.bytes) × (x'.ty ≡ x.ty) × (x'.room ≡ x.room)

@@ -1,4 +1,5 @@
--- Tables: their types, making one, growing it, reading and writing its elements (core specification, table types and table instances).
+-- Tables: their types, making one, growing it, reading and writing its elements (core specification, table types and
+-- table instances).
 use Rattle.std.specs.Prelude.{◌≡◌, ◌^◌, ◌≤◌, ◌<◌, ℕ, Bool, true, false, nat_le, nat_lt, Option, ◌+◌, List, [], ◌∷◌, ◌++◌, length, replicate, max, nat_eq, if◌then◌else◌, MatchBool, MatchOption, Some, None, Result, Ok, Err, slice_get}
 use Rattle.std.specs.Option.{option_map_or, ForSome, option_map}
 use Rattle.wasmi_types.specs.declared.value.RefType.{RefType}
@@ -118,7 +119,7 @@ creation_of ty init = record {
 }
 
 -- what is asked and paid where a table grows by n elements, and the causes of a refusal: the maximum is tested after
--- the permission, and memory is wanting only for more elements than it was reserved for
+-- the permission, and memory is refused only for more elements than it was reserved for
 abbrev pub growth_of : TableValue → ℕ → ℕ → Request TableValue TableError
 growth_of x n reference = record {
   early = if is_indexable x.ty (size_of x + n) then None else Some GrowOutOfBounds;

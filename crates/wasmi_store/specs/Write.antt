@@ -1,4 +1,5 @@
--- A write over a range of a memory's bytes or of a table's elements, as a bulk instruction makes it: what stands before it, what it writes, and what it costs.
+-- A write over a range of a memory's bytes or of a table's elements, as a bulk instruction makes it: what stands before
+-- it, what it writes, and what it costs.
 use Rattle.std.specs.Prelude.{◌≡◌, ℕ, Option, Some, None, Result, Ok, Err, List, replicate, MatchBool}
 use Rattle.std.specs.Option.{option_map, option_and_then}
 use Rattle.wasmi_types.specs.Access.{at, overwrite}

@@ -557,9 +557,10 @@ pub mod laws {
     /// exactly the growth that was asked for, or by exactly one notice, which the reply reports, and a
     /// denial by neither.
     ///
-    /// A growth is charged its price if it succeeds or fails for lack of memory, and a call that lets
-    /// nothing grow the elements that it writes over a part of a table. Nothing else is charged. The
-    /// charge was left in the meter, and is taken from it. Without a limiter each question is permitted.
+    /// A growth is charged its price if it succeeds or fails for lack of memory, and a write over a range
+    /// of a memory or a table is charged the bytes or elements that it writes. Nothing else is charged.
+    /// The charge was left in the meter, and is taken from it. Without a limiter each question is
+    /// permitted.
     ///
     /// # Contract
     ///

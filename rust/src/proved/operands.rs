@@ -235,7 +235,7 @@ pub mod operand {
         }
     }
 
-    // Where it has 32 bits, a greater number counts as the greatest, which is past the end of every list.
+    // Where a `usize` has 32 bits, a greater number counts as the greatest, which is past the end of every list.
     /// # Contract
     ///
     /// ```text

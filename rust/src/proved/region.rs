@@ -1,4 +1,5 @@
-//! Linear memories and tables that are the first of a region, which lies with the caller.
+//! Linear memories and tables that are the first bytes or elements of a region, which lies with the
+//! caller.
 #[cfg(any(doc, test))]
 pub mod laws {
     //! What holds of all tables on regions. These functions do nothing: each states a law as its

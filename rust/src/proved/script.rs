@@ -1310,7 +1310,7 @@ mod replaying {
         let mut replies = Vec::with_capacity(parts.calls().len())?;
         for index in 0..parts.len() {
             let (tenant, calls) = parts.get(index).unwrap();
-            // No script names a tenant that its pool lacks, so memory is wanting after an error.
+            // No script names a tenant that its pool lacks, so an error is one of memory.
             let Ok(mut answered) = pool.run(tenant, calls) else {
                 return Err(AllocError);
             };
@@ -1334,7 +1334,7 @@ mod replaying {
     fn pool_of(header: &Header, line: TenantsLine) -> Result<Pool<'static>, AllocError> {
         let mut pool = Pool::new(line.caps.bytes, line.caps.elements);
         for _index in 0..line.count {
-            // A new machine has nothing, so room alone can be wanting.
+            // A new machine has nothing, so only memory for its place can be refused.
             if pool.add(start(header, None)?).is_err() {
                 return Err(AllocError);
             }

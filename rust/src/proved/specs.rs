@@ -1280,7 +1280,7 @@ pub <b id="u32x4_widened">u32x4_widened</b> : <a href="../../widening/WideningPr
 </code></pre>
 "####]
     pub mod WideningProofsSpecs {}
-    #[doc = r####"The vector instructions (core specification, "Numerics") that widen, narrow or test lanes, by their lanes.
+    #[doc = r####"The vector instructions (core specification, "Numerics") that widen, narrow or test lanes, and the relaxed ones, by their lanes.
 
 <pre><code>use Rattle.std.specs.Prelude.{ℕ, zero, suc, ◌+◌, ◌-◌, ◌*◌, Bool, true, ◌&amp;&amp;◌, nat_lt, if◌then◌else◌, ◌^◌, not, nat_eq, nat_le, ◌+ℤ◌, ◌*ℤ◌}
 use Rattle.wasmi_types.specs.Numbers.{Width, bits, w8, w16, w32, signed, <a href="../../types/NumbersSpecs/index.html#wrap">wrap</a>, clamp_signed, clamp_unsigned}
@@ -2589,7 +2589,7 @@ abbrev pub <b id="LendsLimiter">LendsLimiter</b> : (R L : RattleType) → (R.Den
 </code></pre>
 "####]
     pub mod LimiterSpecs {}
-    #[doc = r####"What work costs in fuel: what is left, and what is taken of it.
+    #[doc = r####"What work costs in fuel: what is left on a meter, also on one that a call may have, and what is taken of it.
 
 <pre><code>use Rattle.std.specs.Prelude.{◌≡◌, ◌⊎◌, ℕ, ◌-◌, ◌≤◌, ◌&lt;◌, is_some, if◌then◌else◌, Option, Some, None, Result, Ok, Err, ◌*◌, ◌/◌, ◌^◌, min, nat_eq}
 use Rattle.std.proofs.Common.{inl, inr}
@@ -2625,13 +2625,12 @@ abbrev pub <b id="meter_set">meter_set</b> : <a href="../../meter/MeterSpecs/ind
 abbrev pub <b id="meter_at_entry">meter_at_entry</b> : Option (MutBor <a href="../../meter/MeterSpecs/index.html#Meter">Meter</a>) → Option <a href="../../meter/MeterSpecs/index.html#Meter">Meter</a>
 <a href="../../meter/MeterSpecs/index.html#meter_at_entry">meter_at_entry</a> lent = option_copied_mut lent
 
--- the meter that an optional reference leaves behind it when a call ends, if there is one, in the terms of a clause&#x27;s
--- `.exit`
+-- the meter that an optional reference leads to when a call ends, if there is one; a clause has it as `.exit`
 abbrev pub <b id="meter_at_exit">meter_at_exit</b> : {A B C : Type 0} → A ⊎ ((MutBor <a href="../../meter/MeterSpecs/index.html#Meter">Meter</a> × B) ⊎ C) → Option <a href="../../meter/MeterSpecs/index.html#Meter">Meter</a>
 <a href="../../meter/MeterSpecs/index.html#meter_at_exit">meter_at_exit</a> (inr (inl lent)) = Some lent.0.now
 <a href="../../meter/MeterSpecs/index.html#meter_at_exit">meter_at_exit</a> _ = None
 
--- an amount is taken where that much is left, and is refused else
+-- an amount is taken where that much is left, and is refused otherwise
 pub record <b id="ConsumesFuel">ConsumesFuel</b> {T : Type 0} (m : <a href="../../meter/MeterSpecs/index.html#Meter">Meter</a>) (amount : ℕ) (value : T) (result : Result T FuelError)
     (m&#x27; : <a href="../../meter/MeterSpecs/index.html#Meter">Meter</a>) : Type 0 where
   pub <b id="enough">enough</b> : amount ≤ <a href="../../meter/MeterSpecs/index.html#amount_left">amount_left</a> m → (result ≡ Ok value) × (m&#x27; ≡ <a href="../../meter/MeterSpecs/index.html#meter_after">meter_after</a> m amount)
@@ -2645,7 +2644,7 @@ abbrev pub <b id="due">due</b> : <a href="../../meter/MeterSpecs/index.html#Mete
 abbrev pub <b id="PaysCharge">PaysCharge</b> : <a href="../../meter/MeterSpecs/index.html#Meter">Meter</a> → ℕ → <a href="../../meter/MeterSpecs/index.html#Meter">Meter</a> → Type 0
 <a href="../../meter/MeterSpecs/index.html#PaysCharge">PaysCharge</a> m charge m&#x27; = (charge ≤ <a href="../../meter/MeterSpecs/index.html#amount_left">amount_left</a> m) × (m&#x27; ≡ <a href="../../meter/MeterSpecs/index.html#meter_after">meter_after</a> m charge)
 
--- a charge is taken where that much is left, and refused else with what it needs
+-- a charge is taken where that much is left, and refused otherwise with what it needs
 abbrev pub <b id="Charges">Charges</b> : <a href="../../meter/MeterSpecs/index.html#Meter">Meter</a> → ℕ → Result (Unit {0}) ℕ → <a href="../../meter/MeterSpecs/index.html#Meter">Meter</a> → Type 0
 <a href="../../meter/MeterSpecs/index.html#Charges">Charges</a> m amount (Ok _) m&#x27; = <a href="../../meter/MeterSpecs/index.html#PaysCharge">PaysCharge</a> m amount m&#x27;
 <a href="../../meter/MeterSpecs/index.html#Charges">Charges</a> m amount (Err required) m&#x27; = (<a href="../../meter/MeterSpecs/index.html#amount_left">amount_left</a> m &lt; amount) × (required ≡ amount) × (m&#x27; ≡ m)
@@ -3077,7 +3076,7 @@ abbrev pub <b id="GrowsMemory">GrowsMemory</b> : {S : Type 0} → <a href="../..
     → <a href="../../meter/AttemptSpecs/index.html#MeteredValue">MeteredValue</a> <a href="../../store/MemorySpecs/index.html#MemoryValue">MemoryValue</a> S → Type 0
 <a href="../../store/MemorySpecs/index.html#GrowsMemory">GrowsMemory</a> rules pages = <a href="../../store/GrowthSpecs/index.html#WithCharge">WithCharge</a> (<a href="../../store/MemorySpecs/index.html#GrowsMemoryCharging">GrowsMemoryCharging</a> rules pages)
 
--- bytes are written over those from an offset on where they end within the memory, and nothing is written else
+-- bytes are written over those from an offset on where they end within the memory, and otherwise nothing is written
 abbrev pub <b id="WritesMemory">WritesMemory</b> : <a href="../../store/MemorySpecs/index.html#MemoryValue">MemoryValue</a> → ℕ → List ℕ → Result (Unit {0}) MemoryError → <a href="../../store/MemorySpecs/index.html#MemoryValue">MemoryValue</a> → Type 0
 <a href="../../store/MemorySpecs/index.html#WritesMemory">WritesMemory</a> x offset source (Ok _) x&#x27; =
     (<a href="../../types/AccessSpecs/index.html#overwrite">overwrite</a> x.bytes offset source ≡ Some x&#x27;.<a href="../../store/MemorySpecs/index.html#bytes">bytes</a>) × (x&#x27;.<a href="../../store/MemorySpecs/index.html#ty">ty</a> ≡ x.ty) × (x&#x27;.<a href="../../store/MemorySpecs/index.html#room">room</a> ≡ x.room)
@@ -3300,7 +3299,7 @@ abbrev pub <b id="creation_of">creation_of</b> : <a href="../../store/TableSpecs
 }
 
 -- what is asked and paid where a table grows by n elements, and the causes of a refusal: the maximum is tested after
--- the permission, and memory is wanting only for more elements than it was reserved for
+-- the permission, and memory is refused only for more elements than it was reserved for
 abbrev pub <b id="growth_of">growth_of</b> : <a href="../../store/TableSpecs/index.html#TableValue">TableValue</a> → ℕ → ℕ → <a href="../../meter/AttemptSpecs/index.html#Request">Request</a> <a href="../../store/TableSpecs/index.html#TableValue">TableValue</a> TableError
 <a href="../../store/TableSpecs/index.html#growth_of">growth_of</a> x n reference = record {
   early = if <a href="../../store/TableSpecs/index.html#is_indexable">is_indexable</a> x.ty (<a href="../../store/TableSpecs/index.html#size_of">size_of</a> x + n) then None else Some GrowOutOfBounds;
@@ -3757,7 +3756,7 @@ abbrev pub <b id="IfNoRoom">IfNoRoom</b> : Reply → Type 0 → Type 0
 <a href="../../machine/EffectsSpecs/index.html#IfNoRoom">IfNoRoom</a> NoRoom Lacks = Lacks
 <a href="../../machine/EffectsSpecs/index.html#IfNoRoom">IfNoRoom</a> reply Lacks = Unit {0}
 
--- an item is added to a list, unless there is no memory for it, which may lack as a fact says
+-- an item is added to a list, unless there is no memory for it, which a fact allows
 abbrev pub <b id="AddsItem">AddsItem</b> : {X : Type 0} → Type 0 → X → List X → Reply → List X → Type 0
 <a href="../../machine/EffectsSpecs/index.html#AddsItem">AddsItem</a> Lacks x items reply items&#x27; = ((reply ≡ NoRoom) × (items&#x27; ≡ items) × Lacks)
     ⊎ ((reply ≡ Made (length items)) × (items&#x27; ≡ items ++ x ∷ []))
@@ -4665,8 +4664,8 @@ pub record <b id="World">World</b> (S : Type 0) : Type 0 where
 abbrev pub <b id="world">world</b> : {S : Type 0} → <a href="../../machine/StateSpecs/index.html#State">State</a> → S → <a href="../../machine/StateSpecs/index.html#World">World</a> S
 <a href="../../machine/StateSpecs/index.html#world">world</a> machine <a href="../../machine/StateSpecs/index.html#limiter">limiter</a> = record { <a href="../../machine/StateSpecs/index.html#state">state</a> = machine; <a href="../../machine/StateSpecs/index.html#limiter">limiter</a> = <a href="../../machine/StateSpecs/index.html#limiter">limiter</a> }
 
--- one call with its reply, the fuel that it was charged, and how many bytes it has written by a growth or over a part of
--- a table
+-- one call with its reply, the fuel that it was charged, and how many bytes it has written by a growth or over a range
+-- of a memory or a table
 pub record <b id="Turn">Turn</b> : Type 0 where
   pub <b id="call">call</b> : Call
   pub <b id="reply">reply</b> : Reply
@@ -4683,7 +4682,7 @@ pub record <b id="TurnOutcome">TurnOutcome</b> : Type 0 where
 abbrev pub <b id="outcome_of">outcome_of</b> : <a href="../../machine/StateSpecs/index.html#Turn">Turn</a> → <a href="../../machine/StateSpecs/index.html#TurnOutcome">TurnOutcome</a>
 <a href="../../machine/StateSpecs/index.html#outcome_of">outcome_of</a> turn = record { <a href="../../machine/StateSpecs/index.html#reply">reply</a> = turn.reply; <a href="../../machine/StateSpecs/index.html#charge">charge</a> = turn.charge; <a href="../../machine/StateSpecs/index.html#written">written</a> = turn.written }
 
--- a turn is charged nothing, and has written nothing by a growth or over a part of a table
+-- a turn is charged nothing, and has written nothing by a growth or over a range
 abbrev pub <b id="IsFree">IsFree</b> : <a href="../../machine/StateSpecs/index.html#TurnOutcome">TurnOutcome</a> → Type 0
 <a href="../../machine/StateSpecs/index.html#IsFree">IsFree</a> outcome = (outcome.charge ≡ 0) × (outcome.written ≡ 0)
 
@@ -4961,7 +4960,7 @@ abbrev pub <b id="effect_of">effect_of</b> : <a href="../../machine/StateSpecs/i
 
 -- What tools/generate writes ends.
 
--- memory for one more slot may lack, since each one that is reserved is used
+-- memory for one more slot may be refused, since each one that is reserved is used
 abbrev pub <b id="LacksSlot">LacksSlot</b> : {A : Type 0} → ℕ → List A → Type 0
 <a href="../../machine/StepsSpecs/index.html#LacksSlot">LacksSlot</a> reserved list = reserved ≤ length list
 
@@ -5138,7 +5137,7 @@ abbrev pub <b id="IsSegmentOf">IsSegmentOf</b> : RefType → List ℕ → Result
 <a href="../../machine/ValueEffectsSpecs/index.html#IsSegmentOf">IsSegmentOf</a> ty items (Err TooManyItems) = <a href="../../store/SegmentSpecs/index.html#most_items">most_items</a> &lt; length items
 <a href="../../machine/ValueEffectsSpecs/index.html#IsSegmentOf">IsSegmentOf</a> ty items (Err OutOfSystemMemory) = 0 &lt; length items
 
--- an element segment is made, unless there is no memory for its slot, which may lack as a fact says
+-- an element segment is made, unless there is no memory for its slot, which a fact allows
 abbrev pub <b id="CreatesSegment">CreatesSegment</b> : Type 0 → RefType → List ℕ → List <a href="../../store/SegmentSpecs/index.html#SegmentValue">SegmentValue</a> → Reply → List <a href="../../store/SegmentSpecs/index.html#SegmentValue">SegmentValue</a> → Type 0
 <a href="../../machine/ValueEffectsSpecs/index.html#CreatesSegment">CreatesSegment</a> Lacks ty items segments reply segments&#x27; = ((reply ≡ NoRoom) × (segments&#x27; ≡ segments) × Lacks)
     ⊎ ((result : Result <a href="../../store/SegmentSpecs/index.html#SegmentValue">SegmentValue</a> SegmentError) × <a href="../../machine/ValueEffectsSpecs/index.html#IsSegmentOf">IsSegmentOf</a> ty items result
@@ -5180,7 +5179,7 @@ abbrev pub <b id="get_fuel_reply">get_fuel_reply</b> : <a href="../../meter/Mete
 }
 /// Definitions of `wasmi_laws`.
 pub mod laws {
-    #[doc = r####"What is at an index of a machine, what a call may change there, what holds of that in every turn and run; and memories
+    #[doc = r####"What is at an index of a machine, what a call may change there, what holds of that in every turn and run, and what memories of the same bytes have alike.
 
 <pre><code>use Rattle.std.specs.Prelude.{◌≡◌, ◌⊎◌, ◌*◌, ◌+◌, ◌%◌, ◌^◌, ℕ, List, [], ◌∷◌, Option, Some, None, length, map, All, slice_get, MatchOption, Result, Vec, slice_set}
 use Rattle.wasmi_raw.specs.declared.raw.RawVal.{RawVal}
@@ -5424,6 +5423,12 @@ abbrev pub <b id="store_call">store_call</b> : <a href="../../laws/PlacesSpecs/i
 abbrev pub <b id="load_call">load_call</b> : <a href="../../laws/PlacesSpecs/index.html#NumberStore">NumberStore</a> → Call
 <a href="../../laws/PlacesSpecs/index.html#load_call">load_call</a> it = call.Load (<a href="../../laws/PlacesSpecs/index.html#load_of">load_of</a> it.op) it.memory it.ptr it.offset
 
+-- the memory of a store has as many bytes after it, and the same ones except those that it writes
+abbrev pub <b id="KeepsOtherBytes">KeepsOtherBytes</b> : <a href="../../laws/PlacesSpecs/index.html#NumberStore">NumberStore</a> → <a href="../../machine/StateSpecs/index.html#State">State</a> → <a href="../../machine/StateSpecs/index.html#State">State</a> → Type 0
+<a href="../../laws/PlacesSpecs/index.html#KeepsOtherBytes">KeepsOtherBytes</a> it s s&#x27; =
+    (x x&#x27; : <a href="../../store/MemorySpecs/index.html#MemoryValue">MemoryValue</a>) → <a href="../../machine/StateSpecs/index.html#live_at">live_at</a> s.memories it.memory ≡ Some x → <a href="../../machine/StateSpecs/index.html#live_at">live_at</a> s&#x27;.memories it.memory ≡ Some x&#x27;
+    → <a href="../../accesses/LoadStoreSpecs/index.html#IsSameOutside">IsSameOutside</a> x.bytes x&#x27;.bytes (it.ptr + it.offset) (<a href="../../laws/PlacesSpecs/index.html#stored_size">stored_size</a> it.op) × (length x&#x27;.bytes ≡ length x.bytes)
+
 module _ {S : Type 0} (rules : <a href="../../meter/LimiterSpecs/index.html#Rules">Rules</a> S) where
   -- a turn leaves what is at each index except the one that its call may change
   abbrev pub <b id="OthersStay">OthersStay</b> : Type 0
@@ -5457,9 +5462,7 @@ module _ {S : Type 0} (rules : <a href="../../meter/LimiterSpecs/index.html#Rule
   -- an accepted store keeps all other bytes of its memory, and how many there are
   abbrev pub <b id="StoresKeepOtherBytes">StoresKeepOtherBytes</b> : Type 0
   <a href="../../laws/PlacesSpecs/index.html#StoresKeepOtherBytes">StoresKeepOtherBytes</a> = (it : <a href="../../laws/PlacesSpecs/index.html#NumberStore">NumberStore</a>) (t u : <a href="../../machine/StateSpecs/index.html#World">World</a> S) → <a href="../../machine/StepsSpecs/index.html#RepliesWith">RepliesWith</a> rules (<a href="../../laws/PlacesSpecs/index.html#store_call">store_call</a> it) t Done u
-      → (x x&#x27; : <a href="../../store/MemorySpecs/index.html#MemoryValue">MemoryValue</a>) → <a href="../../machine/StateSpecs/index.html#live_at">live_at</a> t.state.memories it.memory ≡ Some x
-      → <a href="../../machine/StateSpecs/index.html#live_at">live_at</a> u.state.memories it.memory ≡ Some x&#x27;
-      → <a href="../../accesses/LoadStoreSpecs/index.html#IsSameOutside">IsSameOutside</a> x.bytes x&#x27;.bytes (it.ptr + it.offset) (<a href="../../laws/PlacesSpecs/index.html#stored_size">stored_size</a> it.op) × (length x&#x27;.bytes ≡ length x.bytes)
+      → <a href="../../laws/PlacesSpecs/index.html#KeepsOtherBytes">KeepsOtherBytes</a> it t.state u.state
 
   -- two turns one after the other whose calls are local and independent may be exchanged
   abbrev pub <b id="IndependentTurnsSwap">IndependentTurnsSwap</b> : Type 0
@@ -5847,7 +5850,7 @@ abbrev pub <b id="NamesNoFuel">NamesNoFuel</b> : Call → Type 0
 <a href="../../laws/RunsSpecs/index.html#NamesNoFuel">NamesNoFuel</a> GetFuel = ⊥
 <a href="../../laws/RunsSpecs/index.html#NamesNoFuel">NamesNoFuel</a> call = Unit {0}
 
--- the reply doesn&#x27;t say that fuel was wanting
+-- the reply doesn&#x27;t say that fuel ran out
 abbrev pub <b id="HasFuel">HasFuel</b> : Reply → Type 0
 <a href="../../laws/RunsSpecs/index.html#HasFuel">HasFuel</a> (Memory (memory.OutOfFuel required)) = ⊥
 <a href="../../laws/RunsSpecs/index.html#HasFuel">HasFuel</a> (Table (table.OutOfFuel required)) = ⊥
@@ -5870,7 +5873,7 @@ module _ {S : Type 0} (rules : <a href="../../meter/LimiterSpecs/index.html#Rule
       → All <a href="../../machine/AccountSpecs/index.html#SetsNoFuel">SetsNoFuel</a> (map Turn.call turns) → <a href="../../meter/MeterSpecs/index.html#amount_left">amount_left</a> w&#x27;.state.meter ≤ <a href="../../meter/MeterSpecs/index.html#amount_left">amount_left</a> w.state.meter
 
 -- if the limiter accepts each notice, a run of calls that neither set the fuel nor ask for it, in which no reply says
--- that fuel was wanting, is the same run with any more fuel, all of which is left then
+-- that fuel ran out, is the same run with any more fuel, all of which is left then
 abbrev pub <b id="MoreFuelChangesNothing">MoreFuelChangesNothing</b> : {L : Type 0} → <a href="../../meter/LimiterSpecs/index.html#Rules">Rules</a> L → Type 0
 <a href="../../laws/RunsSpecs/index.html#MoreFuelChangesNothing">MoreFuelChangesNothing</a> {L} rules =
     <a href="../../machine/DeterminismSpecs/index.html#AcceptsNotices">AcceptsNotices</a> rules → (more : ℕ) (w : <a href="../../machine/StateSpecs/index.html#World">World</a> (Option L)) (turns : List <a href="../../machine/StateSpecs/index.html#Turn">Turn</a>) (w&#x27; : <a href="../../machine/StateSpecs/index.html#World">World</a> (Option L))
@@ -7531,8 +7534,7 @@ abbrev pub <b id="AnswersParts">AnswersParts</b> : <a href="../../budget/PoolSpe
     × <a href="../../budget/PoolSpecs/index.html#RunsTenant">RunsTenant</a> pool part.tenant part.calls answered middle × <a href="../../script/ScriptRunsSpecs/index.html#AnswersParts">AnswersParts</a> middle parts later pool&#x27;
 
 -- The replies are those of the parts, one after another, on a pool of new machines with the script&#x27;s meter and its
--- reserved slots.
--- What is held is what the pool&#x27;s machines have then.
+-- reserved slots. What is held is what the pool&#x27;s machines have then.
 abbrev pub <b id="IsPoolReplay">IsPoolReplay</b> : TenantsLine → Script → <a href="../../budget/LawsSpecs/index.html#Ran">Ran</a> → Type 0
 <a href="../../script/ScriptRunsSpecs/index.html#IsPoolReplay">IsPoolReplay</a> line script ran = (pool : <a href="../../budget/PoolSpecs/index.html#PoolValue">PoolValue</a>) × (ran.held ≡ Holding.Tenants pool)
     × <a href="../../script/ScriptRunsSpecs/index.html#AnswersParts">AnswersParts</a> (<a href="../../script/ScriptRunsSpecs/index.html#new_pool">new_pool</a> line (<a href="../../grammar/HeadersSpecs/index.html#tenant_start">tenant_start</a> script.header)) (<a href="../../grammar/PartsSpecs/index.html#parts_in">parts_in</a> script.parts) ran.replies.items pool

@@ -2697,7 +2697,7 @@ mod table {
             }
         }
 
-        /// The most elements that leave an index over.
+        /// The most elements of a table by its index type: one fewer than there are indices.
         ///
         /// # Contract
         ///

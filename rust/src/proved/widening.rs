@@ -161,8 +161,8 @@ pub mod simd {
     //! `wasmi_core::simd`.
 
     mod wide {
-        //! Lanes at twice their width, as `core::simd` vectors: those of half a vector, and every second one
-        //! of a vector. LLVM takes plain lanes out one by one.
+        //! Lanes at twice their width, as `core::simd` vectors: those of half a vector, every second one of a
+        //! vector, and their products. LLVM takes plain lanes out one by one.
 
         use crate::proved::lanes::{SimdLane, bytes_of};
         use crate::proved::raw::V128;

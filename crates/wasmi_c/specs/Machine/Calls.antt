@@ -1,4 +1,5 @@
--- What a call does to a machine with its limiter, what lines of calls do, and what holds of all calls and runs.
+-- What a call does to a machine with its limiter, what lines of calls do, what a machine has and reserves in all, and
+-- what holds of all calls and runs.
 use Rattle.std.specs.Prelude.{◌≡◌, ◌⊎◌, ◌≤◌, ◌<◌, ◌-◌, ℕ, List, length, map, Option, Some, None, MatchOption, Vec, ◌≢◌, ◌^◌, nat_lt, if◌then◌else◌, ◌++◌, ◌∷◌, []}
 use Rattle.std.specs.Global.{Global}
 use Rattle.std.specs.Option.{option_and_then, option_map}

@@ -176,7 +176,7 @@ impl TableType {
     }
 }
 
-/// The most elements that leave an index over.
+/// The most elements of a table by its index type: one fewer than there are indices.
 fn most_elements(index: IndexType) -> u64
     ensures { result ≡ 2 ^ address_bits index - 1 }
 {

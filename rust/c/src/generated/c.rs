@@ -5017,8 +5017,9 @@ pub mod script {
     }
 }
 pub mod status {
-    //! The statuses that calls return, besides the numbers of trap codes. Contracts cite these
-    //! constants; `tools/header` compares them with the headers, and with those that were released.
+    //! The statuses that calls return, besides the numbers of trap codes, and which one an error has.
+    //! Contracts cite these constants; `tools/header` compares them with the headers, and with those that
+    //! were released.
 
     use crate::proved::meter::{MemoryError, TableError};
 
@@ -5031,7 +5032,7 @@ pub mod status {
     pub const NO_MACHINE: u8 = 16;
     /// The numbers stand for no call.
     pub const NO_CALL: u8 = 17;
-    /// There is no such memory, table, element segment, global or register.
+    /// There is no such memory, table, element segment, data segment, global or register.
     pub const NO_SUCH: u8 = 18;
     /// There is no spare region.
     pub const NO_REGION: u8 = 19;

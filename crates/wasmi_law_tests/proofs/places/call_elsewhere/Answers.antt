@@ -8,7 +8,7 @@ returns-clause-stays g c = λ location leaves.
 
 pub returns-clause-bytes : goal.returns-clause-bytes
 returns-clause-bytes g c =
-    λ it stores done x x' found found'.
+    λ it stores done.
     let t = world c.args.machine.now (Some c.args.limiter.now) in
     let u = world c.step_lending.new.self (Some c.step_lending.new.limiter) in
-    (c.stores_are_read_back.ensures.others it t u (rw (stores, done) at c.step_lending.ensures.step) x x' found found').0
+    c.stores_are_read_back.ensures.others it t u (rw (stores, done) at c.step_lending.ensures.step)
