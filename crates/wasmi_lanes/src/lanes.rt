@@ -1,5 +1,4 @@
 //! Vectors as lanes of one item, and the lane types; lanes made of narrower lanes, and of wider ones.
-#![tactic(auto, using(std::proofs::lemmas::Grind::common_steps))]
 
 ghost use Rattle.std.specs.Prelude.{◌≡◌, refl, ℕ, ◌+◌, ◌*◌, ◌^◌, ◌<◌, [], ◌∷◌, slice_index_or, if◌then◌else◌, ◌==◌, Bool};
 ghost use Rattle.wasmi_types.specs.Numbers.{bits, w8, w16, clamp_signed};

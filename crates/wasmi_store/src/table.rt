@@ -250,6 +250,7 @@ impl Table {
         with_meter!(fuel => self.grow_raw_metered(delta, init, fuel, limiter))
     }
 
+    #[inline(always)]
     fn grow_raw_metered<L: ResourceLimiter>(
         &mut self,
         delta: u64,

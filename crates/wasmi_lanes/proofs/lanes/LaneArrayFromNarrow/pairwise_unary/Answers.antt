@@ -1,5 +1,5 @@
 use Rattle.std.proofs.Common.{◌+◌, ◌*◌, get_or, arith, rules}
-use Rattle.wasmi_lanes.proofs.Common.{get_or_default}
+use Rattle.wasmi_lanes.proofs.Common.{common_steps, get_or_default}
 use Rattle.wasmi_lanes.proofs.LanesLemmas.{set_more}
 use Rattle.wasmi_lanes.proofs.lanes.LaneArrayFromNarrow.pairwise_unary.Goals as goal
 
@@ -10,3 +10,6 @@ loop-i-preserved g c =
     (get_or c.args.narrow.items (2 * k + 1) default))
     c.loop-i.items c.loop-i.i c.f.result _ (search rules) c.loop-i.invariant
     (grind (arith, get_or_default, g.T.Narrower.twice))
+
+pub offset_bounds-items-i : goal.offset_bounds-items-i
+offset_bounds-items-i g c = grind (arith, common_steps)

@@ -1,5 +1,5 @@
 use Rattle.std.proofs.Common.{get_or, arith, rules}
-use Rattle.wasmi_lanes.proofs.Common.{get_or_default}
+use Rattle.wasmi_lanes.proofs.Common.{common_steps, get_or_default}
 use Rattle.wasmi_lanes.proofs.LanesLemmas.{set_more}
 use Rattle.wasmi_lanes.proofs.lanes.LaneArrayLanes.lanewise_binary.Goals as goal
 
@@ -8,3 +8,6 @@ loop-i-preserved g c =
     let default = g.T.LaneInteger.ALL_ZEROS in
     set_more (λ k. goal.F-post g c.args.f (get_or c.args.self.items k default) (get_or c.args.other.items k default))
     c.loop-i.items c.loop-i.i c.f.result _ (search rules) c.loop-i.invariant (grind (arith, get_or_default))
+
+pub offset_bounds-items-i : goal.offset_bounds-items-i
+offset_bounds-items-i g c = grind (arith, common_steps)

@@ -1,5 +1,5 @@
 use Rattle.std.proofs.Common.{Bool, ◌≡◌, if◌then◌else◌, get_or, arith, rules}
-use Rattle.wasmi_lanes.proofs.Common.{get_or_default}
+use Rattle.wasmi_lanes.proofs.Common.{common_steps, get_or_default}
 use Rattle.wasmi_lanes.proofs.LanesLemmas.{set_more}
 use Rattle.wasmi_lanes.proofs.lanes.LaneArrayLanes.lanewise_comparison.Goals as goal
 
@@ -16,3 +16,6 @@ loop-i-preserved g c =
 
 pub returns : goal.returns
 returns g c = record { lanes = λ i h. c.loop-i.invariant i (omega arith) }
+
+pub offset_bounds-items-i : goal.offset_bounds-items-i
+offset_bounds-items-i g c = grind (arith, common_steps)
