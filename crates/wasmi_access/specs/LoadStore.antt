@@ -19,7 +19,7 @@ value_of_bytes value None = Err MemoryOutOfBounds
 abbrev pub loaded : {V : Type 0} → ℕ → (ℕ → V) → List ℕ → ℕ → Result V TrapCode
 loaded n value memory a = value_of_bytes value (accessed a (at memory a n))
 
--- an instruction gives this, where `number` reads its value
+-- a load, or another instruction that may trap, gives this, where `number` reads its value
 abbrev pub GivesNumber : {V N : Type 0} → (V → N) → Result V TrapCode → Result N TrapCode → Type 0
 GivesNumber number result expected =
     MatchResult result (λ value. expected ≡ Ok (number value)) (λ trap. expected ≡ Err trap)
@@ -36,6 +36,6 @@ IsCopy memory a n old new result = MatchResult result
     (λ _. accessed a (at memory a n) ≡ Some new)
     (λ trap. (trap ≡ MemoryOutOfBounds) × (accessed a (at memory a n) ≡ None) × (new ≡ old))
 
--- the bytes before a and those from a + n on are the same
+-- after a store, the bytes before a and those from a + n on are the same
 abbrev pub IsSameOutside : List ℕ → List ℕ → ℕ → ℕ → Type 0
 IsSameOutside old new a n = (take a new ≡ take a old) × (drop (a + n) new ≡ drop (a + n) old)

@@ -1,4 +1,5 @@
-//! Loads and stores of any type that has little-endian bytes.
+//! Loads and stores of any type that has little-endian bytes, and the traits of these bytes, of
+//! wrapping and of extending.
 //!
 //! A memory is a slice of bytes, and an address counts bytes from its start. An access to `ptr +
 //! offset` has the unbounded sum for its address. The only error is `MemoryOutOfBounds`, where the

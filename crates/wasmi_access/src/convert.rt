@@ -1,4 +1,4 @@
-//! Widening and wrapping between the integers.
+//! Extending and wrapping between the integers: the implementations of `ExtendInto` and `WrapInto`.
 
 use crate::access::{ExtendInto, WrapInto};
 

@@ -1,4 +1,5 @@
-//! The integers of 8 to 128 bits in little-endian bytes.
+//! The integers of 8 to 128 bits in little-endian bytes: the implementations of
+//! `LittleEndianConvert`.
 #![tactic(auto, using(crate::proofs::ByteLemmas::byte_numbers))]
 
 ghost use Rattle.std.specs.Prelude.{refl};

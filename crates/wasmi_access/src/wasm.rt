@@ -3,7 +3,7 @@
 //! A form without `_at` accesses the address `ptr + offset`, a form with `_at` the given one;
 //! addresses count bytes. The only error is `MemoryOutOfBounds`, and then nothing is written. Core
 //! specification: memory instructions. Upstream: `wasmi_core::wasm`.
-#![tactic(auto, using(crate::proofs::ByteLemmas::low_bits))]
+#![tactic(auto, using(crate::proofs::ConvertLemmas::low_bits))]
 
 ghost use Rattle.std.specs.Prelude.{◌≡◌, ◌+◌, ◌%◌, ◌^◌, pos};
 ghost use Rattle.std.specs.Int.{w8, w16, w32, w64, cast_signed, cast_unsigned};

@@ -1,11 +1,12 @@
--- What a tenant is permitted beside others, it is permitted alone.
-use Rattle.std.proofs.Common.{◌≡◌, ◌≢◌, ℕ, ◌+◌, ◌-◌, Bool, Option, Some, None, Ok, true, false, List, [], ◌∷◌, ◌++◌, inl, inr, refl, sym, ap, subst, ◌∙◌, arith}
+-- What a tenant is permitted beside others, it is permitted alone: its runs in a pool, as those of the only tenant, and
+-- its machine, which stays at its index over the calls of others.
+use Rattle.std.proofs.Common.{◌≡◌, ◌≢◌, ℕ, ◌+◌, ◌-◌, Bool, Option, Some, None, Ok, true, false, List, [], ◌∷◌, ◌++◌, inl, inr, refl, sym, ap, ◌∙◌, arith}
 use Rattle.std.proofs.lemmas.Bool.{cases_lt, false≢true}
 use Rattle.std.proofs.lemmas.Bool.Decides.{Decides-eqb}
 use Rattle.std.proofs.lemmas.List.{get_or_append_left, get_or-set_other, get_or-set_same}
 use Rattle.std.proofs.lemmas.Option.{same_Some}
 use Rattle.std.specs.Bool.{Decides}
-use Rattle.std.specs.Prelude.{All, MatchBool, if◌then◌else◌, get_or, nat_eq, slice_set}
+use Rattle.std.specs.Prelude.{MatchBool, if◌then◌else◌, get_or, nat_eq, slice_set}
 use Rattle.std.specs.Option.{option_map}
 use Rattle.wasmi_meter.specs.declared.limiter.Kind.{Kind}
 use Rattle.wasmi_meter.specs.declared.limiter.Kind.TheVariants.{Bytes, Elements}
@@ -18,16 +19,17 @@ use Rattle.wasmi_machine.specs.State.{State}
 use Rattle.wasmi_machine.proofs.HoldingLemmas.{Carries, if_there}
 use Rattle.wasmi_budget.specs.declared.tenant.Tenant.{Tenant}
 use Rattle.wasmi_budget.specs.Pool.{BecomesAt, capped_tenant, tenant_rules, without_others, PoolValue, machine_of, tenant_at, RunsTenantBy, RunsTenant}
-use Rattle.wasmi_budget.proofs.PoolLemmas.{BecomesAlike, becomes_alike, elements_alike, slots_alike, tenant_inside}
+use Rattle.wasmi_budget.proofs.PoolLemmas.{BecomesAlike, becomes_alike, tenant_inside}
+use Rattle.wasmi_budget.proofs.TenantLemmas.{elements_alike, slots_alike}
 use Rattle.wasmi_budget.specs.Laws.{PoolTurn, Added, Ran, Removed, Refused, Reserved, ReservedElements, PoolRun, PoolStep, PermittingRun, own_turns, OthersDontShow, RunsAsAlone, RepliesPermit}
-use Rattle.wasmi_machine.specs.Determinism.{permitting, TellsNoDenial}
+use Rattle.wasmi_machine.specs.Determinism.{permitting}
 use Rattle.wasmi_machine.proofs.RevealingLemmas.{permitted_run, run_carried}
 
 -- an answer isn't both yes and no
 no_permission : {answer : Answer} {taken : Bool} → answer ≡ Ok true → answer ≡ Ok taken → taken ≡ false → ⊥
 no_permission permitted answered denied = cc
 
--- nothing has the amount 0 of each kind
+-- nothing, as is held beside a tenant alone, has the amount 0 of each kind
 amount_of-nothing : (kind : Kind) → amount_of nothing kind ≡ 0
 amount_of-nothing Bytes = refl
 amount_of-nothing Elements = refl
@@ -91,7 +93,7 @@ pub kept_set : (machines : List (Option State)) (index i : ℕ) (s : State) (t :
     → get_or machines index None ≡ Some s → get_or (slice_set machines i t) index None ≡ Some s
 kept_set machines index i s t other found = get_or-set_other machines i index t None other ∙ found
 
--- the machine that was set at an index
+-- a machine is at its index after it was set there in place of another
 pub set_at : (machines : List (Option State)) (index : ℕ) (s t : State) → get_or machines index None ≡ Some s
     → get_or (slice_set machines index (Some t)) index None ≡ Some t
 set_at machines index s t found =
@@ -145,13 +147,11 @@ module _ (caps : Amounts) (index : ℕ) (pool' : PoolValue) where
     own_run : RunsTenantBy (permitting (optional_rules tenant_rules)) pool index calls replies next
         → (t : State) × IsThere next t × RunsTenant (only caps s) 0 calls replies (only caps t)
     own_run runs =
-        let own = same_Some runs.machine s (sym runs.found ∙ there.found) in
-        let step = subst (λ c. RunsTenant (only c runs.machine) 0 calls replies (only c runs.machine')) there.capped
-        (run_alone pool index calls replies next runs) in (
+        let own = same_Some runs.machine s (sym runs.found ∙ there.found) in (
           runs.machine',
           there_among pool s runs.machine' next (slice_set pool.machines index (Some runs.machine')) there runs.after
               (set_at pool.machines index s runs.machine' there.found),
-          subst (λ t. RunsTenant (only caps t) 0 calls replies (only caps runs.machine')) own step,
+          rw (there.capped, own) at (run_alone pool index calls replies next runs),
         )
 
     -- a run of another tenant leaves the machine of the index
@@ -172,9 +172,8 @@ module _ (caps : Amounts) (index : ℕ) (pool' : PoolValue) where
         let is = decides.0 refl in
         let own = same_Some becomes.machine s (sym becomes.found ∙ ap (machine_of pool) is ∙ there.found) in
         let tail = rest t (there_among pool s t next (slice_set pool.machines i (Some t)) there becomes.after
-        (ap (λ k. get_or (slice_set pool.machines i (Some t)) k None) (sym is)
-        ∙ set_at pool.machines i becomes.machine t becomes.found)) in
-        (tail.0, tail.1, (only caps t, subst (λ u. PoolStep (only caps u) turn (only caps t)) own step, tail.2))
+        (rw (← is) (set_at pool.machines i becomes.machine t becomes.found))) in
+        (tail.0, tail.1, (only caps t, rw own at step, tail.2))
     by_alike false decides =
         rest s (there_among pool s s next (slice_set pool.machines i (Some becomes.machine')) there becomes.after
         (kept_set pool.machines index i s (Some becomes.machine')
@@ -236,8 +235,7 @@ replies_permit pool index calls replies pool' shown ran = record {
     ran.ran.0,
     ran.ran.1,
     ran.ran.2,
-    permitted_run (optional_rules tenant_rules) _ ran.ran.0 _
-        (subst (All TellsNoDenial) (sym ran.ran.2) shown) ran.ran.3,
+    permitted_run (optional_rules tenant_rules) _ ran.ran.0 _ (rw (← ran.ran.2) at shown) ran.ran.3,
   );
   after = ran.after;
 }

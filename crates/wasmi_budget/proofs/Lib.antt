@@ -1,3 +1,5 @@
 mod TenantsLemmas
+pub mod TenantLemmas
 pub mod PoolLemmas
+pub mod LawsLemmas
 pub mod IsolationLemmas

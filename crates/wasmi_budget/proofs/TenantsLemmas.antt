@@ -1,4 +1,5 @@
--- Values at their indices: what a change of one of them changes.
+-- Values at their indices: at which place an index lies, what a change of one value changes, and what a change of the
+-- machine at the place of an index is to a pool.
 use Rattle.std.proofs.Common.{◌≡◌, ◌≢◌, ◌∙◌, ◌<◌, ◌≤◌, ◌+◌, ◌++◌, ◌⊎◌, inl, inr, [], ◌∷◌, List, Ok, Err, Result, Option, Some, None, ap, arith, get_or, length, map, refl, set, sym, suc, zero, ℕ, Bool, true, false}
 use Rattle.std.specs.Prelude.{All, MatchResult, ◌↔◌, is_some, nat_eq, remove, if◌then◌else◌}
 use Rattle.std.specs.List.{range_with_len}
@@ -212,11 +213,8 @@ module _ {X : Type 0} where
             at k inside = by (nat_eq k index) (Decides-eqb k index) where
               by : (b : Bool) → Decides b (k ≡ index) → get_or (set (by_index next indices values) index v) k None
                   ≡ value_of changed values' k
-              by true d =
-                  let e = d.0 refl in
-                  ap (λ j. get_or (set (by_index next indices values) index v) j None) e
-                  ∙ get_or-set_same (by_index next indices values) index v None
-                  (omega (arith, length-by_index, index_below)) ∙ sym own ∙ ap (value_of changed values') (sym e)
+              by true d = rw (d.0 refl) (get_or-set_same (by_index next indices values) index v None
+                  (omega (arith, length-by_index, index_below)) ∙ sym own)
               by false d =
                   let other : k ≢ index = λ e. let f : false ≡ true = d.1 e in absurd cc in
                   get_or-set_other (by_index next indices values) index k v None other
@@ -293,8 +291,7 @@ module _ {X : Type 0} {next : ℕ} {indices : List ℕ} {values : List X} (liste
       → indices' ≡ indices ++ next ∷ [] → values' ≡ values ++ x ∷ []
       → by_index next' indices' values' ≡ view ++ Some x ∷ []
   pushed_value next' indices' values' x more index value =
-      (λ i. by_index (more i) (index i) (value i)) ∙ sym (pushed_at next indices values listed x)
-      ∙ ap (λ places. places ++ Some x ∷ []) is
+      rw (more, index, value, ← is) (sym (pushed_at next indices values listed x))
 
   -- with the value that a place has, all lies as it did
   pub value_put_back : (p : ℕ) (x x' : X) → x' ≡ x → x ≡ get_or values p x
@@ -316,17 +313,15 @@ module _ {X : Type 0} {next : ℕ} {indices : List ℕ} {values : List X} (liste
     place_within = omega (arith, place.0, ap length sees)
 
     place_at : get_or indices p 0 ≡ j
-    place_at = ap (λ xs. get_or xs p 0) (sym sees) ∙ place.1
+    place_at = rw sees at place.1
 
     -- the value at the place is that of the index
     pub its_value : {x : X} → x ≡ get_or values p x → get_or view j None ≡ Some x
-    its_value {x} at = ap (λ xs. get_or xs j None) (sym is)
-        ∙ found_at next indices values listed p j x place_within place_at (sym at)
+    its_value {x} at = rw (← is) (found_at next indices values listed p j x place_within place_at (sym at))
 
     -- with another value at the place the index has that
     pub set_value : (x : X) → by_index next indices (set values p x) ≡ set view j (Some x)
-    set_value x = sym (set_at next indices values listed p place_within x)
-        ∙ (λ i. set (is i) (place_at i) (Some x))
+    set_value x = rw (← is, ← place_at) (sym (set_at next indices values listed p place_within x))
 
     -- without the place the index has none
     pub removed_value : by_index next (remove indices p) (remove values p) ≡ set view j None
@@ -336,19 +331,17 @@ module _ {X : Type 0} {next : ℕ} {indices : List ℕ} {values : List X} (liste
   pub in_place : IsPlace seen j (Some j) ↔ HasAllUpTo view j
   in_place = (
     λ place k le.
-        let own = own_before indices listed.rises j (omega (arith, place.0, ap length sees))
-        (ap (λ xs. get_or xs j 0) (sym sees) ∙ place.1) k le in
+        let own = own_before indices listed.rises j (omega (arith, place.0, ap length sees)) (rw sees at place.1)
+        k le in
         let within : k < length indices = omega (arith, le, place.0, ap length sees) in
         let there = something values k (omega (arith, within, listed.same)) in
-        ap is_some (ap (λ xs. get_or xs k None) (sym is)
-        ∙ found_at next indices values listed k k there.0 within own there.1),
+        rw (← is, found_at next indices values listed k k there.0 within own there.1) refl,
     λ has. rw sees (first_places indices values listed.rises j (λ k le. has_value k (cases_lt k next) (has k le))),
   )
     where
       has_value : (k : ℕ) → (k < next) ⊎ (next ≤ k) → is_some (get_or view k None) ≡ true
           → is_some (value_of indices values k) ≡ true
-      has_value k (inl below) has =
-          ap is_some (sym (get_or-by_index next indices values k below) ∙ ap (λ xs. get_or xs k None) is) ∙ has
+      has_value k (inl below) has = rw (← get_or-by_index next indices values k below, is) has
       has_value k (inr past) has =
           let none : get_or view k None ≡ None = get_or_past view k None
           (omega (arith, past, ap length (sym is), length-by_index next indices values)) in

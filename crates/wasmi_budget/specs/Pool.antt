@@ -1,5 +1,5 @@
--- A pool of tenants: a tenant's rules, what the machines hold together, what a run of one of them does, and what its
--- errors print.
+-- A pool of tenants: a tenant's rules, what the machines hold together, how the machine at an index becomes another by
+-- a run, a reservation or a removal, which calls ask no limiter, and what the pool's errors print.
 use Rattle.wasmi_meter.specs.declared.quota.Holdings.{Holdings}
 use Rattle.wasmi_meter.specs.Capped.{amount_of, nothing, amounts_of, Capped, capped_rules, held_together}
 use Rattle.wasmi_meter.specs.Limiter.{Rules, optional_rules}
@@ -41,7 +41,7 @@ capped_tenant = record {
 abbrev pub tenant_rules : Rules Tenant
 tenant_rules = capped_rules capped_tenant
 
--- the tenant where the others hold nothing
+-- a tenant of a pool in which the others hold nothing
 abbrev pub without_others : Tenant → Tenant
 without_others tenant = record tenant { others = nothing }
 

@@ -1,4 +1,5 @@
--- Values that lie at their indices, of which each is given once: what was removed leaves its index empty.
+-- Values of any type that lie at their indices, of which each is given once: the place of an index, the value at one,
+-- and that what was removed leaves its index empty.
 use Rattle.std.specs.Prelude.{◌≡◌, ◌≢◌, ◌<◌, ◌≤◌, ℕ, List, ◌∷◌, Option, Some, None, All, true, is_some, length, map, nat_eq, slice_index_or, if◌then◌else◌}
 use Rattle.std.specs.List.{AllPairs, range_with_len}
 

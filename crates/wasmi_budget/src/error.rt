@@ -1,4 +1,4 @@
-//! Why a pool refuses.
+//! Why a pool adds no machine, runs no tenant, or reserves no slots.
 ghost use Rattle.std.specs.Prelude.{◌≡◌, Some};
 ghost use Rattle.wasmi_budget.specs.Pool.{add_error_text, pool_error_text, reserve_error_text, run_into_error_text};
 ghost use Rattle.wasmi_budget.specs.declared.error.PoolError.TheVariants.{OutOfMemory};

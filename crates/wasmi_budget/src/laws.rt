@@ -5,7 +5,7 @@ ghost use Rattle.wasmi_budget.specs.Pool.{tenant_rules};
 
 /// From a pool whose machines are within its caps, as a new one's are, all calls lead to one whose
 /// machines are within the same caps.
-#[tactic(auto, using(crate::proofs::PoolLemmas::caps_hold))]
+#[tactic(auto, using(crate::proofs::LawsLemmas::caps_hold))]
 pub fn caps_hold()
     ensures { CapsHold }
 {}
@@ -32,7 +32,7 @@ pub fn replies_permit()
 {}
 
 /// A tenant's limiter is deterministic, and accepts each notice.
-#[tactic(auto, using(crate::proofs::PoolLemmas::tenant_unique, crate::proofs::PoolLemmas::tenant_accepts))]
+#[tactic(auto, using(crate::proofs::TenantLemmas::tenant_unique, crate::proofs::TenantLemmas::tenant_accepts))]
 pub fn tenants_leave_no_choice()
     ensures choice { IsDeterministic tenant_rules }
     ensures notices { AcceptsNotices tenant_rules }
@@ -45,7 +45,7 @@ pub fn removals_give_back()
 {}
 
 /// The index of a removed tenant is never another one's: no later call finds a tenant there.
-#[tactic(auto, using(crate::proofs::PoolLemmas::removed_stay_removed))]
+#[tactic(auto, using(crate::proofs::LawsLemmas::removed_stay_removed))]
 pub fn removed_stay_removed()
     ensures { RemovedStayRemoved }
 {}

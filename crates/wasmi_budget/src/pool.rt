@@ -1,4 +1,5 @@
-//! The pool.
+//! The pool: how machines are added, removed, run and reserved for within its caps, and what they
+//! hold.
 ghost use Rattle.std.specs.Prelude.{◌≡◌, ◌↔◌, ◌<◌, ◌≤◌, ◌∷◌, length, [], None, IsTrue, IfOk, IfErr, OnErr, OnOk, IsErrOf, MatchOption};
 ghost use Rattle.std.specs.Option.{option_map, option_copied};
 ghost use Rattle.wasmi_meter.specs.declared.limiter.Kind.TheVariants.{Bytes, Elements};

@@ -1,4 +1,5 @@
-//! One machine of a pool, with what it has, and its limiter.
+//! One machine of a pool with the amounts that it has, the calls on it, and its limiter, the
+//! tenant.
 ghost use Rattle.std.specs.Prelude.{◌≡◌, ◌≤◌, ◌<◌, ◌^◌, ◌∷◌, ◌↔◌, [], Some, IsTrue, IfOk, IsOk, OnErr, OnOk, length};
 ghost use Rattle.wasmi_meter.specs.declared.limiter.Kind.{Kind};
 ghost use Rattle.wasmi_meter.specs.Capped.{amounts_of, held_together};

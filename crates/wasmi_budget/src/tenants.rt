@@ -1,4 +1,4 @@
-//! The machines of a pool at their indices.
+//! The machines of a pool at their indices: where an index lies, and what is done with its machine.
 ghost use Rattle.std.specs.Prelude.{◌≡◌, ◌∷◌, ◌++◌, ◌↔◌, ◌<◌, ◌≤◌, [], length, slice_index_or, slice_set, None, Some, MatchOption, IfOk, IfErr, OnErr, OnOk, IsErrOf, IsTrue};
 ghost use Rattle.std.specs.Option.{option_copied};
 ghost use Rattle.wasmi_machine.specs.Steps.{SomeCopy};

@@ -1,4 +1,5 @@
--- Values on the heap or none, for the proofs by hand.
+-- Values on the heap or none, for the proofs by hand: a box of a machine or a pool, how it is moved, and how its value
+-- is lent.
 use mathlib.Core.Path.{ap, subst}
 use mathlib.Core.List.{List, [], ◌∷◌, ◌++◌}
 use Rattle.wasmi_c.proofs.Common.{Ura, Callee, Fn, Local, Opd, Sym, Ty, addr_of, aggregate, assign, block, copy, deref, dnil, erased, field, impl, local, mut, named, place, return, rv_opd, seq, tcons, tnil, ty_named, ty_ptr, ty_ref, ty_struct, value_local, Val, vptr, vstruct, vcons, vnil, of_list, has_ty, WT, SProp, emp, ent, sep, Fml, GName, Lft, Share, fbor, fex, flft, fobs, fsep, ftrue, Closed, Env, WpFn, Tables, Logic, sem, fact, Running, tables, tables_of, Goal, Seq, Step, Item, ⋆, ‵, raw, ◌⊛◌, some, later, await, pick, at_ret, ◌$◌, ◌∵◌, !, qed, step, by, move, keep, use1, split, join, group, rewrite, fsplit, fsplit3, fjoin, fpick, fpack, feq_l, feq_i, suffices, frame, done, whole, sub, agg, look_in, stop, fld, load, no_more, and_then, of_opd, addr, first, blocks, exec, returns, enter, alloc_all, pass_all, free_all, look_at, get, get_in, through, sets, sets_last, env, Kept, Last, left, no, IsSend, RattleType, Valss, owns, Ptr, RawPtr, block_ptr, null_ptr, ptr_val, Slot, mut_ref_to, plain, nothing, opens, shape, within, Clauses, Ended, closing, Meets, says, needs, Goes-spent_ref, Stays, stay_dropped, walk_of, ends_at, α, Fits, Goes-blank, handle_tells, token, proved_at, IsSome, B, Bx, D, P, R, box_ty, handle, owning, word, τ, box_out, box_in, lies, box_or_none_owns, global_token}
@@ -32,7 +33,7 @@ use Rattle.wasmi_c.specs.contracts.pool.TenantPool as pool_home
 use Rattle.wasmi_c.specs.contracts.pool.pool_box.PoolBox as pool_box
 use Rattle.wasmi_c.proofs.pool.TenantPool.TheLaws as pool_laws
 
--- an option that has a value is that value's
+-- a value on the heap or none, where there is one: an option that isn't empty has a value
 pub found : {X : Type 0} (o : Option X) → IsSome o → (x : X) × (o ≡ Some x)
 found (Some x) there = (x, refl)
 found None there = absurd (true≢false (sym there))
@@ -86,7 +87,7 @@ module _ (E : Bx) where
         fpack t (Valss (RawPtr ∷ P E ∷ [])) (within (shape (owning E)) (c.0, (c.1, tt)) (pair c.0 hv ∷ []))
         (ptr_val c.0 ∷ [], (hv ∷ [], tt)) $ fjoin t $ s)
 
-    -- they are one pair
+    -- what is owned of a value is of one pair
     paired : K → (c : Contents) (vs : List Val)
         → ((hv : Val) → vs ≡ pair c.0 hv ∷ [] → Fits E.al hv → Seq K 𝓛 (‵ (Parts c (pair c.0 hv ∷ [])) ∷ Γ) G)
         → Seq K 𝓛 (‵ (Parts c vs) ∷ Γ) G
@@ -119,7 +120,7 @@ module _ (E : Bx) where
             (seq (assign (place 0 []) (aggregate (arg 4 ∷ arg 3 ∷ []))) return)));
       }
 
-  -- this function returns the pair that it takes, with what is owned with it
+  -- a function that moves a pair returns the pair that it takes, with what is owned with it
   moved : {M : Type 1} {𝓤 : Ura M} (𝓛 : Logic 𝓤) (𝓣 : Tables 𝓤 𝓛.H) (from to : Sym) (Post : Val → SProp 𝓤)
       (c : Contents) (vs : List Val) → ((w : Val) → ent 𝓤 (sem 𝓛 (Parts c (w ∷ []))) (Post w))
       → ent 𝓤 (sem 𝓛 (Parts c vs)) (WpFn 𝓤 𝓛.H 𝓣.C 𝓣.Λ (moving from to) (vs ++ []) Post)
@@ -141,14 +142,14 @@ module _ (E : Bx) where
 abbrev pub one : RattleType → RattleType
 one row = record row { mir = lone row.mir ∷ [] }
 
--- a struct of them
+-- a struct that holds a pointer, an allocator and the value
 pub record Holder (E : Bx) : Type 1 where
   pub given : RattleType
   pub parts : given.Denot → Contents E
   pub make : Contents E → given.Denot
   pub made : (c : Contents E) → parts (make c) ≡ c
 
--- its row, what it owns written out
+-- the row of a holder, what it owns written out
 abbrev row_of : {E : Bx} → Holder E → RattleType
 row_of {E = E} H = record H.given { own_val = λ d. Parts E (H.parts d) }
 
@@ -173,7 +174,7 @@ module _ {E : Bx} (From To : Holder E) (kept : Kept) where
   abbrev spent : Stays (moving_ended).signature.params (moving_ended).kept
   spent = (stay_dropped taken kept, tt)
 
-  -- moves the two fields
+  -- a function that makes one holder of another keeps the value
   pub moves : {M : Type 1} {𝓤 : Ura M} (𝓛 : Logic 𝓤) (𝓜 : Model 𝓤 𝓛.H) (𝓡 : Running 𝓤 𝓛.H 𝓜)
       → ((s : From.given.Denot) → Last (From.given.exit kept) s)
       → ((s : From.given.Denot) (last : Last (From.given.exit kept) s) → T (blank (left (From.given.exit kept) s last)))
@@ -199,7 +200,7 @@ module _ (home : RattleType) (laws : Laws (one home)) where
   Home = system_box (one home) laws
 
   module _ (H : Holder Home) (box name : Sym) where
-    -- the struct
+    -- the row of a box
     abbrev Box : RattleType
     Box = record (row_of H) { mir = pair_ty Home box ∷ [] }
 
@@ -372,7 +373,7 @@ machine_in_box = system_box machine_home.the_row machine_laws.the_row_laws
 abbrev pub pool_in_box : Bx
 pool_in_box = system_box pool_home.the_row pool_laws.the_row_laws
 
--- a box that Rattle has, as such a struct
+-- a box that Rattle has, as a holder
 abbrev pub held_holder : (row : RattleType) (laws : Laws row) → Holder (system_box row laws)
 held_holder row laws = record {
   given = held_box.the_row row Heap.the_row ghosts;
@@ -381,7 +382,7 @@ held_holder row laws = record {
   made = λ c. refl;
 }
 
--- a box that C has with a machine
+-- a box that C has with a machine, as a holder
 abbrev pub machine_holder : Holder machine_in_box
 machine_holder = record {
   given = machine_box.the_row;
@@ -390,7 +391,7 @@ machine_holder = record {
   made = λ c. refl;
 }
 
--- a box that C has with a pool
+-- a box that C has with a pool, as a holder
 abbrev pub pool_holder : Holder pool_in_box
 pool_holder = record {
   given = pool_box.the_row;

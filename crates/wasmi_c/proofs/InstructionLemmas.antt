@@ -1,4 +1,4 @@
--- Arrays that a call of an instruction writes, refusals of such calls, and the lanes of a shuffle.
+-- Arrays that a call of an instruction writes, instructions at a place of a list, and the lanes of a shuffle.
 use Rattle.std.proofs.Common.{◌≡◌, ℕ, ◌<◌, ◌&&◌, Bool, true, false, List, [], ◌∷◌, length, map, get_or, refl, arith, rules, tests, ◌≤◌, Some, None, take, sym, ap, ◌∙◌}
 use Rattle.wasmi_c.proofs.Common.{◌==◌, if◌then◌else◌, nat_lt, same_number_lists, get_or-map, get_or-set_at, get_or-set_other, get_or_default, gets, slice_get-map, length-map, same_lists, take_all, Leaves, each_of, each_of_two, each_of_three, zip3, lanes_of}
 use Rattle.std.specs.Prelude.{Ok, Err}

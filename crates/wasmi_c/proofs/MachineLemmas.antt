@@ -1,4 +1,5 @@
--- What calls and lines do to a machine with its limiter.
+-- What calls and lists of calls do to a machine with its limiter, whether the limiter is kept after calls, writes and
+-- reservations, and how a machine is made.
 use Rattle.std.proofs.Common.{◌≡◌, ◌+◌, ◌<◌, ◌≤◌, ◌++◌, set, take, length, get_or, All, Option, Some, None, false, is_some, map, Ok, Err, List, Result, arith, IfOk, OnErr, [], ◌∷◌, refl, sym, ap, ℕ, ◌∙◌, ◌^◌, sum, inl, inr}
 use Rattle.wasmi_c.proofs.Common.{take_all, take_more, take_more_set, Vec, optional_rules, holdings, quota_rules, SameCaps, Quota, State, with_memories, with_reserved, total, Turn, byte_count, slot_count, world, with_tables, Write, CallsAreRuns, InTurn, ListsAreRuns, MachineReplies, QuotasAreKept, world_of, ReplyStruct}
 use Rattle.std.specs.Global.{Global}
@@ -9,11 +10,10 @@ use Rattle.wasmi_meter.specs.declared.limiter.Kind.{Kind}
 use Rattle.wasmi_meter.specs.declared.limiter.Kind.TheVariants.{Bytes, Elements}
 use Rattle.wasmi_machine.specs.Determinism.{RelatesByKind, RunsKeepKind}
 use Rattle.wasmi_machine.specs.Laws.{HoldsTotalsAlways, QuotasStayWithin}
-use Rattle.wasmi_machine.proofs.StepsLemmas.{write_replies}
-use Rattle.wasmi_machine.proofs.StoreLemmas.{run_of_one}
+use Rattle.wasmi_machine.proofs.StoreLemmas.{run_of_one, write_replies}
 use Rattle.wasmi_machine.specs.Steps.{IsRunOf, Run, RepliesWith, SomeCopy}
 use Rattle.wasmi_machine.specs.TableEffects.{ReservesElementsAt}
-use Rattle.wasmi_budget.proofs.PoolLemmas.{elements_alike}
+use Rattle.wasmi_budget.proofs.TenantLemmas.{elements_alike}
 use Rattle.wasmi_machine.specs.declared.calls.Call.{Call}
 use Rattle.wasmi_machine.specs.declared.calls.Reply.{Reply}
 use Rattle.wasmi_machine.specs.declared.slots.SlotCounts.{SlotCounts}
@@ -119,7 +119,7 @@ pub kept_by_store : (s : State) (l : AnyLimiter) (index a : ℕ) (stored : List 
 kept_by_store s l index a stored full s' stores rest kept =
     kept_by_sizes s l s' ((vector_store_facts index a (Some stored) s.memories).keeps full s'.memories stores).0 rest kept
 
--- a write keeps them
+-- a write keeps the sizes of the memories
 pub kept_by_write : (s : State) (l : AnyLimiter) (index offset : ℕ) (bytes : List ℕ) (full : Reply) (s' : State)
     → WritesMemoryAt index offset bytes s.memories full s'.memories → s' ≡ with_memories s s'.memories → Keeps s l
     → Keeps s' l
@@ -139,12 +139,12 @@ machine_writes machine s l seen memory offset bytes short full s' writes rest =
       rw (← seen) (0, 0, written.2 (Some l)),
     )
 
--- what is reserved counts nowhere
+-- a limiter is kept where slots are reserved, which count nowhere
 pub kept_by_reserve : (s : State) (l : AnyLimiter) (more : SlotCounts) (s' : State) → s' ≡ with_reserved s more
     → Keeps s l → Keeps s' l
 kept_by_reserve s l more s' reserved = kept_by_totals s l s' (λ kind. ap (λ state. total state kind) reserved)
 
--- elements that are reserved count nowhere
+-- a limiter is kept where elements are reserved, which count nowhere
 pub kept_by_elements : (s : State) (l : AnyLimiter) (table elements : ℕ) (reply : Reply) (s' : State)
     → ReservesElementsAt table elements s.tables reply s'.tables → s' ≡ with_tables s s'.tables → Keeps s l → Keeps s' l
 kept_by_elements s l table elements reply s' tables rest =

@@ -1,5 +1,5 @@
--- Creations and growths of what lies with C, and writes to it: what they take of its meter, and under which limiter they
--- are.
+-- Creations and growths of what lies with C, and writes to it: what they take of its meter, and that they are under the
+-- quota of some numbers, or under a limiter that allows the host's answers.
 use Rattle.std.proofs.Common.{◌≡◌, Bool, true, false, ℕ, ◌-◌, Option, Some, None, Result, refl, ap, inl, inr, Ok, List, take, drop, length, ◌++◌, ◌∙◌}
 use Rattle.wasmi_c.proofs.Common.{take_at, drop_at, nat_eq, if◌then◌else◌, option_map, unwrap_or, Rules, Question, Answer, Failure, NoticeAnswer, optional_rules, AskedIf, NoticedIf, Meter, meter_after, meter_of, with_left, KeepsMeter, MeteredRegion, SameRest, limiter_of, quota_numbers_rules, Embedded, embedded, WritesBytesAs, of_memory, WritesTableAs, of_table, TableTypeValue, TableValue, TableWrite, WritesTable, table_of, Quota, quota_rules, Placed, Lent, MemoryTypeValue, creation_of, new_memory}
 use Rattle.std.specs.Prelude.{OnErr}
@@ -100,7 +100,7 @@ table_written_with write ty size s s' after m' result status left writes =
     written_by of_table _ size s s' after m' result status
     (writes.0, write_takes write _ result writes.0 _ writes.1) left writes
 
--- the rules of these numbers, where they are lent
+-- the rules of a quota's numbers, where they are lent
 abbrev lent_rules : Rules (Option QuotaNumbers)
 lent_rules = optional_rules quota_numbers_rules
 
@@ -180,7 +180,7 @@ makes_memory a a' ty q q' named result makes is left = inr (
   },
 )
 
--- what is made is what was to be made
+-- a creation that is done has made what was to be made
 pub made_is : {T E : Type 0} (e : Request (Unit {0}) E) (made x : T) (outcome : AttemptOutcome E)
     → Ok x ≡ answer_of e made outcome → x ≡ made
 made_is e made x Met is = cc

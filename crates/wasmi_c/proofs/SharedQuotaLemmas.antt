@@ -1,5 +1,6 @@
--- What one quota holds, as memories and tables are made and grow under it.
-use Rattle.std.proofs.Common.{◌≡◌, ◌∙◌, ℕ, ◌+◌, ◌-◌, ◌*◌, ◌≤◌, true, false, Option, Some, None, Result, Ok, Err, List, [], ◌∷◌, ◌++◌, length, take, replicate, sum, refl, ap, sym, subst, inl, inr, arith, length-append}
+-- What one quota holds, as memories and tables are made, grow and end under it: what an attempt adds to it, and the
+-- sums of the sizes.
+use Rattle.std.proofs.Common.{◌≡◌, ◌∙◌, ℕ, ◌+◌, ◌-◌, ◌*◌, ◌≤◌, true, false, Option, Some, None, Result, Ok, Err, List, [], ◌∷◌, ◌++◌, length, take, replicate, sum, refl, ap, sym, inl, inr, arith, length-append}
 use Rattle.wasmi_c.proofs.Common.{nat_eq, length-replicate, length-take-le, Quota, Asked, HoldsTheSame, Releases, amount_held, with_less, with_more, IsWithinCaps, holdings, capped_quota, quota_rules, Answer, kind_of, optional_rules, Meter, Lent, creation_of, new_memory, MemoryTypeValue, minimum_bytes, page_bytes, new_table, size_of, TableTypeValue, creation_in, Embedded, KeepsQuota, Placed, limiter_of, quota_of, table_type_of, by_pages, ended_memory, of_memory, by_elements, ended_table, of_table, DONE, byte_count}
 use Rattle.std.specs.Prelude.{slice_get}
 use Rattle.std.proofs.lemmas.List.Elements.{All-cons, All-nil}
@@ -61,7 +62,7 @@ held_less kind n h h' released =
     by_kind Bytes fits = (omega (arith, fits), refl)
     by_kind Elements fits = (omega (arith, fits), refl)
 
--- nothing happened
+-- where nothing has changed, a quota holds the same
 pub nothing_counts : (kind : Kind) (size : ℕ) (quota quota' : Quota) → quota' ≡ quota
     → Counts kind size size quota quota'
 nothing_counts kind size quota quota' same = rw same (record { held = refl; others = refl; within = λ caps. caps })
@@ -71,9 +72,11 @@ abbrev pub TellsOfKind : {V E : Type 0} → Request V E → Type 0
 TellsOfKind {E = E} e = (cause : E) → kind_of (e.notice cause) ≡ e.question.kind
 
 module _ {V E : Type 0} (e : Request V E) where
+  -- the kind that an attempt asks for
   abbrev pub kind : Kind
   kind = e.question.kind
 
+  -- how much an attempt asks for
   abbrev pub asked_for : ℕ
   asked_for = e.question.desired - e.question.current
 
@@ -94,7 +97,7 @@ module _ {V E : Type 0} (e : Request V E) where
       within = λ caps. asked_is_within capped_quota quota_keeps quota quota' caps e.question answer asked;
     }
 
-    -- an attempt, however it ends
+    -- an attempt counts as what it adds, however it ends
     attempt_counts : (m : Option Meter) (outcome : AttemptOutcome E) → MayEnd e m outcome
         → Follows e (optional_rules quota_rules) (Some quota) outcome (Some quota')
         → Counts kind 0 (added outcome) quota quota'
@@ -134,8 +137,8 @@ module _ {T E : Type 0} (e : Request (Unit {0}) E) (made : T) (size : Result T E
       → Makes (optional_rules quota_rules) e made (Some quota) result (Some quota')
       → Counts (kind e) 0 (size result) quota quota'
   creation_counts tells quota quota' result (outcome, attempt, answered) =
-      let counts = attempt_counts e tells quota quota' None outcome attempt.may_end attempt.follows in
-      subst (λ n. Counts (kind e) 0 n quota quota') (size_made outcome ∙ ap size (sym answered)) counts
+      rw (answered, ← size_made outcome)
+      (attempt_counts e tells quota quota' None outcome attempt.may_end attempt.follows)
 
 -- the size of what has grown is that of the value and what was asked for, and notices are of the kind that is asked for
 pub record IsCounted {V E : Type 0} (g : Growth V E) (size : V → ℕ) (x : V) : Type 0 where
@@ -173,12 +176,12 @@ length_made n y = omega (arith, length-replicate {A = ℕ} n y)
 pub length_grown : (xs : List ℕ) (n y : ℕ) → length (xs ++ replicate n y) ≡ length xs + (length xs + n - length xs)
 length_grown xs n y = omega (arith, length-append xs (replicate n y), length-replicate {A = ℕ} n y)
 
--- no error of a memory has the status of a call that is done
+-- no error of a memory has the status of a call that is done, and so a refused creation adds nothing to the sizes
 pub refused_status : (e : MemoryError) → nat_eq (memory_status e) 0 ≡ false
 refused_status (memory_error.OutOfFuel required) = refl
 refused_status other = refl
 
--- no error of a table has the status of a call that is done
+-- no error of a table has the status of a call that is done, and so a refused creation adds nothing to the sizes
 refused_table_status : (e : TableError) → nat_eq (table_status e) 0 ≡ false
 refused_table_status (table_error.OutOfFuel required) = refl
 refused_table_status other = refl
@@ -201,7 +204,7 @@ memory_summed : (ty : MemoryTypeValue) (p p' : Placed MemoryNumbers) (result : R
 memory_summed ty p p' (Ok n) status sizes is left = sum_made sizes _ n _ is (ap of_memory.size left.0) left.1.within
 memory_summed ty p p' (Err e) status sizes is left = rw (is, refused_status e) (omega arith)
 
--- and one of a table
+-- a creation of a table adds the elements that were made to the sum
 table_summed : (ty : TableTypeValue) (p p' : Placed TableNumbers) (result : Result ℕ TableError) (status : ℕ)
     (sizes : List ℕ) → status ≡ status_of of_table result → LeavesAs of_table ty p result p'
     → sum (sizes_made sizes status p'.numbers.size) ≡ sum sizes + made_size size_of (table.made_in ty p'.region result)
@@ -210,14 +213,16 @@ table_summed ty p p' (Err e) status sizes is left = rw (is, refused_table_status
 
 -- ---- calls
 
--- a quota that is on is a limiter
+-- the quota under which memories and tables are made, where it is on, is the limiter of its numbers
 pub limiter_on : (h : QuotaNumbers) → (h.is_on ≡ 0 → ⊥) → limiter_of h ≡ Some (quota_of h)
 limiter_on h on = let some : nat_eq h.is_on 0 ≡ false = grind (arith, nat_tests, on) in rw some refl
 
 module _ (u u' : UnderQuota) (holds : HoldsSums u) (keeps : KeepsQuota u.quota u'.quota) where
+  -- the quota before
   abbrev q : Quota
   q = quota_of u.quota
 
+  -- the quota afterwards
   abbrev q' : Quota
   q' = quota_of u'.quota
 
@@ -254,7 +259,7 @@ module _ (u u' : UnderQuota) (holds : HoldsSums u) (keeps : KeepsQuota u.quota u
   summed_same k limiter sizes same =
       summed k 0 0 (nothing_counts k 0 q q' (same_quota limiter)) (ap (λ (xs : List ℕ). sum xs + 0) sizes) same
 
-  -- a memory is made
+  -- the sums are held after a memory is made
   memory_made : MakesUnder of_memory Bytes MakesEmbedded u u' → HoldsSums u'
   memory_made c =
       elim c.makes [
@@ -269,7 +274,7 @@ module _ (u u' : UnderQuota) (holds : HoldsSums u) (keeps : KeepsQuota u.quota u
             summed Bytes 0 _ counts (omega (arith, sized)) c.others
       ]
 
-  -- a table is made
+  -- the sums are held after a table is made
   table_made : (reference : ℕ) → MakesUnder of_table Elements (MakesTableEmbedded reference) u u' → HoldsSums u'
   table_made reference c =
       on_live (table_type_of c.before.numbers) _ _ c.makes
@@ -308,7 +313,7 @@ module _ (u u' : UnderQuota) (holds : HoldsSums u) (keeps : KeepsQuota u.quota u
     grown c = summed k _ _ (grown_counts c.before c.status c.after c.grows c.asked c.left)
         (rw c.sizes (sum_set (sizes_of u k) c.index _ _ c.there)) c.others
 
-  -- a memory grows
+  -- the sums are held after a growth of a memory
   memory_grown : (pages : ℕ) → GrowsUnder of_memory Bytes (by_pages pages) u u' → HoldsSums u'
   memory_grown pages = grown of_memory (by_pages pages) byte_count Bytes
       (λ h region ty at. length-take-le h.size region at.within)
@@ -318,7 +323,7 @@ module _ (u u' : UnderQuota) (holds : HoldsSums u) (keeps : KeepsQuota u.quota u
       })
       (λ region x. refl)
 
-  -- a table grows
+  -- the sums are held after a growth of a table
   table_grown : (delta reference : ℕ) → GrowsUnder of_table Elements (by_elements delta reference) u u' → HoldsSums u'
   table_grown delta reference = grown of_table (by_elements delta reference) size_of Elements
       (λ h region ty at. length-take-le h.size region at.within)
@@ -370,8 +375,9 @@ one_quota_holds_all u (u' ∷ after) holds calls =
 
 -- a sum is at least each of its parts
 part_of_sum : (sizes : List ℕ) (k size : ℕ) → slice_get sizes k ≡ Some size → size ≤ sum sizes
-part_of_sum sizes k size there = let set = sum_set sizes k size 0 there in omega (arith, set)
+part_of_sum sizes k size there = omega (arith, sum_set sizes k size 0 there)
 
+-- a quota that holds the sums holds the size of each
 pub one_quota_holds_each : OneQuotaHoldsEach
 one_quota_holds_each u holds index size = (
   λ there. let part = part_of_sum u.bytes index size there in omega (arith, part, holds.bytes),

@@ -1,4 +1,4 @@
--- Calls on a tenant's machine.
+-- Calls on a tenant's machine that change nothing or take fuel, and the statuses of their replies.
 use Rattle.std.proofs.Common.{◌≡◌, ◌≤◌, ◌<◌, ◌-◌, ◌∷◌, ◌∙◌, [], ℕ, Option, Some, None, Result, Ok, Err, ap, inl, inr, refl, sym}
 use Rattle.wasmi_c.proofs.Common.{set-get_or, MatchOption, slice_set, State, World, world, SetFuel, Rules, optional_rules, meter_after, meter_set, PoolValue, RunsTenant, machine_of, tenant_at, tenant_rules, word_after, with_machine_at, TenantPaysFuel, TenantReplies, TenantRepliesInStatus, TenantRepliesInWord, DONE, ReplyStruct}
 use Rattle.wasmi_machine.proofs.StoreLemmas.{run_of_one}
@@ -30,13 +30,13 @@ module _ (pool : PoolValue) (tenant : ℕ) (s : State) (found : machine_of pool 
         after = put_back;
       }
 
-  -- such a call leaves a status and a word
+  -- a call that changes nothing on a tenant's machine leaves a status and a word
   pub word_in_place : (word : ℕ) (left : ℕ × ℕ) → left.0 ≡ status_of full → left.1 ≡ word_after full word
       → TenantRepliesInWord tenant (Some call) word left pool pool
   unfolding TenantRepliesInWord
   word_in_place word left status_is word_is = inr (full, runs_in_place, λ i. (status_is i, word_is i))
 
-  -- such a call leaves a struct
+  -- a call that changes nothing on a tenant's machine leaves a struct
   pub struct_in_place : (told : ReplyStruct) → told ≡ reply_struct full → TenantReplies tenant call told pool pool
   unfolding TenantReplies
   struct_in_place told is = inr (full, runs_in_place, is)
@@ -54,7 +54,7 @@ unfolding TenantReplies TenantRepliesInStatus
 tenant_status tenant call told pool pool' (inl (none, refused, same)) = inl (none, ap ReplyStruct.status refused, same)
 tenant_status tenant call told pool pool' (inr (full, run, is)) = inr (full, run, ap ReplyStruct.status is ∙ status_is full)
 
--- a run that sets the fuel of a machine has changed its meter, and nothing else of it
+-- a run that sets the fuel of a machine, as of a tenant's, has changed its meter, and nothing else of it
 set_by_run : {S : Type 0} (rules : Rules S) (fuel : ℕ) (w : World S) (full : Reply) (w' : World S)
     → IsRunOf rules (SetFuel fuel ∷ []) w (full ∷ []) w'
     → w'.state ≡ record w.state { meter = meter_set w.state.meter fuel }
@@ -90,7 +90,7 @@ module _ (pool : PoolValue) (tenant : ℕ) (s : State) (found : machine_of pool 
         (λ left. (amount ≤ left → (told ≡ with_number DONE (left - amount)) × (pool' ≡ paid_pool))
         × (left < amount → (told ≡ fuel_refusal (OutOfFuel amount)) × (pool' ≡ pool)))
 
-    -- what is left of it is set, and told
+    -- the amount is taken where what is left of it is set, and told
     pays_left : (had : Option ℕ) → s.meter.left ≡ had → (left : ℕ) → LeftAfter had amount (Ok left)
         → told ≡ with_number DONE left → (full : Reply)
         → RunsTenant pool tenant (SetFuel left ∷ []) (full ∷ []) pool' → Pays had

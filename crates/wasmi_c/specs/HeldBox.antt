@@ -1,4 +1,4 @@
--- What owns a value on the heap or none, of which a box for C has a machine or a pool.
+-- What is owned by a value on the heap or none, such as the machine or the pool of a box for C.
 use mir.Syntax.{Ty}
 use base.Fml.{Fml, ftrue}
 use denote.RattleType.{RattleType}

@@ -1,4 +1,5 @@
--- A limiter of the host's own: what it answers to a question, and what it answers to a notice.
+-- A limiter of the host's own: what it answers to a question and to a notice, what a growth asks it, and whether the
+-- answers are about that.
 use Rattle.std.specs.Prelude.{◌≡◌, ℕ, Bool, true, false, nat_eq, nat_lt, is_none, is_some, ◌&&◌, if◌then◌else◌, Option, Ok, Err}
 use Rattle.std.specs.Option.{unwrap_or}
 use Rattle.wasmi_meter.specs.declared.error.LimiterError.TheVariants.{ResourceLimiterDeniedAllocation}
@@ -38,7 +39,7 @@ plain_sizes current desired maximum = record {
   has_maximum = if is_some maximum then 1 else 0;
 }
 
--- a growth of a memory by so many pages
+-- a growth of a memory by so many pages, with what it asks a limiter
 abbrev pub memory_growth : MemoryValue → ℕ → Growth MemoryValue MemoryError
 memory_growth x pages = record { amount = pages; size = pages_of x; request = growth_of x pages }
 

@@ -1,4 +1,5 @@
--- What an instruction's call gives, step by step, and what it leaves where C reads it.
+-- The instruction that has a number, what a call of it gives on values and on arrays, step by step, and what it leaves
+-- where C reads it.
 use Rattle.std.specs.Prelude.{◌≡◌, ℕ, ◌==◌, ◌&&◌, if◌then◌else◌, List, map, length, slice_get, codes, Option, Result, Ok, Err, MatchResult, ◌+◌, nat_lt}
 use Rattle.std.specs.Option.{ok_or}
 use Rattle.std.specs.Simd.Lanes.{zip2}
@@ -18,7 +19,7 @@ use Rattle.wasmi_types.specs.declared.trap.TrapCode.TheVariants.{MemoryOutOfBoun
 use Rattle.wasmi_access.specs.LoadStore.{accessed}
 use Rattle.wasmi_ops.specs.LoadStoreOps.{as_raw, loaded_raw, stored_bytes, load_name, store_name}
 use Rattle.wasmi_scalar_ops.specs.ScalarOps.{unary_raw, binary_raw, scalar_unary_name, scalar_binary_name}
-use Rattle.wasmi_ops.specs.VectorOps.{loaded_vector, loaded_lane, stored_lane, made_vector, unary_vector, tested_raw, binary_vector, shifted_vector, ternary_vector, vector_load_name, make_name, unary_name, test_name, binary_name, shift_name}
+use Rattle.wasmi_ops.specs.VectorOps.{loaded_vector, made_vector, unary_vector, tested_raw, binary_vector, shifted_vector, ternary_vector, vector_load_name, make_name, unary_name, test_name, binary_name, shift_name}
 use Rattle.wasmi_c.specs.declared.instruction.numbers.TheConstants.{LOAD_INSTRUCTIONS, STORE_INSTRUCTIONS, UNARY_INSTRUCTIONS, BINARY_INSTRUCTIONS}
 use Rattle.wasmi_c.specs.declared.instruction.load.Load.{Load}
 use Rattle.wasmi_c.specs.declared.instruction.load.Load.TheVariants as load
@@ -30,7 +31,7 @@ use Rattle.wasmi_c.specs.declared.instruction.binary.Binary.{Binary}
 use Rattle.wasmi_c.specs.declared.instruction.binary.Binary.TheVariants as two
 use Rattle.wasmi_ops.specs.declared.vector.TernaryOp.{TernaryOp}
 use Rattle.wasmi_ops.specs.declared.vector.TheConstants.{TERNARIES, EXTRACTIONS, LANE_LOADS, LANE_STORES, REPLACEMENTS}
-use Rattle.wasmi_ops.specs.LaneOps.{extract_op, load_lane_op, replace_op, store_lane_op, extracted_raw, replaced_vector}
+use Rattle.wasmi_ops.specs.LaneOps.{extract_op, load_lane_op, replace_op, store_lane_op, extracted_raw, replaced_vector, loaded_lane, stored_lane}
 use Rattle.wasmi_ops.specs.declared.vector.LoadLaneOp.{LoadLaneOp}
 use Rattle.wasmi_ops.specs.declared.vector.StoreLaneOp.{StoreLaneOp}
 use Rattle.wasmi_ops.specs.declared.vector.ExtractOp.{ExtractOp}

@@ -1,4 +1,4 @@
--- A machine behind a handle.
+-- The parts about a machine behind a handle, which are the files in `Machine/`.
 pub mod Caps
 pub mod NewMachines
 pub mod CallStructs

@@ -21,12 +21,12 @@ use Rattle.wasmi_c.specs.declared.host.Question.{Question}
 use Rattle.wasmi_c.specs.declared.numbers.MemoryNumbers.{MemoryNumbers}
 use Rattle.wasmi_c.specs.declared.numbers.Range.{Range}
 
--- the fuel that is needed, after an error; else the number stays
+-- the fuel that a call on a memory needs, after an error; else the number stays
 abbrev pub memory_fuel_needed : MemoryError → ℕ → ℕ
 memory_fuel_needed (error.OutOfFuel required) before = required
 memory_fuel_needed other before = before
 
--- numbers have no valid type
+-- the numbers of a memory have no valid type
 abbrev pub IsNoType : MemoryNumbers → Type 0
 IsNoType h = (ty : MemoryTypeValue) → named_type (settings_of h) ≡ Some ty → IsValid ty → ⊥
 
@@ -46,7 +46,7 @@ of_memory = record {
 abbrev pub by_pages : ℕ → List ℕ → MemoryValue → Growth MemoryValue MemoryError
 by_pages pages region x = memory_growth x pages
 
--- what a growth asks, by a call
+-- what a growth of a memory asks, by a call
 abbrev pub AsksEmbedded : MemoryNumbers → List ℕ → ℕ → ℕ → Question → Question → Type 0
 AsksEmbedded h region pages status q q' = ByType of_memory h region status (q' ≡ q) (λ ty.
     let x = memory_in ty region h.size in

@@ -1,4 +1,5 @@
--- The numbers that lie with C, as the memories, tables, meters and quotas that they stand for.
+-- The numbers that lie with C, as the memories, tables, meters and quotas that they stand for, what a call keeps of
+-- them and of their region, and what a growth or a write takes besides: a region, a meter and a limiter.
 use Rattle.std.specs.Prelude.{◌≡◌, ◌≤◌, ◌⊎◌, ℕ, List, length, drop, Option, Some, None, Bool, true, nat_eq, if◌then◌else◌}
 use Rattle.std.specs.Option.{unwrap_or}
 use Rattle.wasmi_meter.specs.declared.limiter.Kind.{Kind}
@@ -97,14 +98,16 @@ pub record KeepsQuota (h h' : QuotaNumbers) : Type 0 where
   pub off : h.is_on ≡ 0 → h' ≡ h
   pub last : (h' ≡ h) ⊎ (last_of h'.last_kind h'.last ≡ None → (h'.last_kind ≡ 0) × (h'.last ≡ 0))
 
--- a limiter that may be absent gives up so many of a kind, or not, and has the same caps; an absent one holds nothing
+-- the limiter that a quota's numbers stand for, which may be absent, gives up so many of a kind, or not, and has the
+-- same caps; an absent one holds nothing
 abbrev pub ReleasesIf : Kind → ℕ → Option Quota → Bool → Option Quota → Type 0
 ReleasesIf kind n (Some l) released (Some l') =
     Releases (holdings l) kind n released (holdings l') × (l'.caps ≡ l.caps)
 ReleasesIf kind n None released None = released ≡ true
 ReleasesIf kind n l released l' = ⊥
 
--- the quota of some numbers becomes that of others, by what becomes of a limiter that may be absent
+-- the numbers of a quota become others by a call, by what becomes of the limiter that they stand for, which may be
+-- absent; a call keeps the rest of them
 abbrev pub Becomes : (Option Quota → Option Quota → Type 0) → QuotaNumbers → QuotaNumbers → Type 0
 Becomes Limits h h' = Limits (limiter_of h) (limiter_of h') × KeepsQuota h h'
 
@@ -118,7 +121,8 @@ quota_numbers_rules = record {
 
 -- ---- all that lies with C for a call
 
--- what a growth takes, with the limiter that it asks, if there is one
+-- what a growth takes: the numbers that lie with C, their region, the numbers of a meter, and the limiter that it
+-- asks, if there is one
 pub record Embedded (H S : Type 0) : Type 0 where
   pub numbers : H
   pub region : List ℕ
@@ -126,21 +130,22 @@ pub record Embedded (H S : Type 0) : Type 0 where
   pub limiter : Option S
   pub number : ℕ
 
--- numbers, a region, a meter, a limiter and a number, as what a growth takes
+-- numbers that lie with C, their region, a meter, a limiter and a number, as what a growth takes
 abbrev pub embedded : {H S : Type 0} → H → List ℕ → MeterNumbers → Option S → ℕ → Embedded H S
 embedded numbers region meter limiter number =
     record { numbers = numbers; region = region; meter = meter; limiter = limiter; number = number }
 
--- what a write over a range takes besides the numbers of a memory or a table
+-- what a write over a range takes besides the numbers of a memory or a table: their region, the numbers of a meter,
+-- and a number
 pub record MeteredRegion : Type 0 where
   pub region : List ℕ
   pub meter : MeterNumbers
   pub number : ℕ
 
--- a region, a meter and a number, as what a write takes
+-- a region, the numbers of a meter and a number, as what a write takes
 abbrev pub metered_region : List ℕ → MeterNumbers → ℕ → MeteredRegion
 metered_region region meter number = record { region = region; meter = meter; number = number }
 
--- a region whose first bytes or elements are others, and the rest the same
+-- what a call keeps of a region: all but its first bytes or elements
 abbrev pub SameRest : ℕ → List ℕ → List ℕ → Type 0
 SameRest size region region' = drop size region' ≡ drop size region

@@ -1,4 +1,5 @@
--- What the calls on a memory or a table do to what lies with C, whichever of the two it is.
+-- What the calls on a memory or a table do to what lies with C, whichever of the two it is, and which limiters allow
+-- the host's answers to one.
 use Rattle.std.specs.Prelude.{◌≡◌, ◌<◌, ◌⊎◌, ℕ, Bool, true, false, List, take, MatchBool, OnErr, Some, Result, Ok, Err, nat_eq, if◌then◌else◌, Option}
 use Rattle.wasmi_meter.specs.declared.limiter.Kind.{Kind}
 use Rattle.wasmi_meter.specs.declared.quota.Quota.{Quota}
@@ -135,13 +136,13 @@ module _ {H T V E : Type 0} (p : Placement H T V E) where
       pub status_is : status ≡ status_of result
       pub number_is : s'.number ≡ written_number result s.number
 
--- the three states of a limiter: before the question, after it, and after a notice
+-- the three states of a limiter that allows the host's answers: before the question, after it, and after a notice
 pub record Limited (S : Type 0) : Type 0 where
   pub before : S
   pub asked : S
   pub told : S
 
--- what a limiter is after an attempt that asked and told it as the answers say
+-- what a limiter that allows the host's answers is after an attempt that asked and told it as the answers say
 abbrev pub limiter_after : {S : Type 0} → HostAnswers → Limited S → S
 limiter_after a l = if nat_eq a.told 1 then l.told else (if nat_eq a.asked 1 then l.asked else l.before)
 

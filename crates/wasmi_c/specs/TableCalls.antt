@@ -17,7 +17,7 @@ use Rattle.wasmi_c.specs.declared.host.Question.{Question}
 use Rattle.wasmi_c.specs.declared.numbers.TableNumbers.{TableNumbers}
 use Rattle.wasmi_c.specs.declared.numbers.Range.{Range}
 
--- the fuel that is needed, after an error; else the number stays
+-- the fuel that a call on a table needs, after an error; else the number stays
 abbrev pub table_fuel_needed : TableError → ℕ → ℕ
 table_fuel_needed (error.OutOfFuel required) before = required
 table_fuel_needed other before = before

@@ -21,7 +21,7 @@ if_flag flag x = if nat_eq flag 0 then None else Some x
 abbrev pub where_true : {T : Type 0} → (T → Bool) → T → Option T
 where_true test x = if test x then Some x else None
 
--- a number that 32 bits hold
+-- the number of 32 bits that a plain number stands for, if 32 bits hold it
 abbrev pub u32_of : ℕ → Option ℕ
 u32_of number = where_true (λ n. nat_lt n (2 ^ 32)) number
 

@@ -1,5 +1,5 @@
-//! Memories whose bytes are the first of a region that lies with C. `number` is set to the fuel that
-//! is needed where less is left.
+//! The calls on memories whose bytes are the first of a region that lies with C. `number` is set to
+//! the fuel that is needed where less is left.
 ghost use Rattle.std.specs.Prelude.{◌≡◌, ◌≤◌, ◌+◌, ◌/◌, ◌^◌, ◌⊎◌, false, Some, OnErr, IfOk, length};
 ghost use Rattle.wasmi_meter.specs.Capped.{quota_rules};
 ghost use Rattle.wasmi_meter.specs.Limiter.{optional_rules};
@@ -309,7 +309,7 @@ pub fn write(memory: &MemoryNumbers, region: &mut [u8], offset: usize, bytes: &[
     }
 }
 
-/// Leaves the fuel that is needed where a write is refused for it, and returns the write's status.
+/// Leaves the fuel that a write to a memory needs, if it is refused for it, and returns its status.
 fn leave_write(written: Result<(), MemoryError>, number: &mut u64) -> u8
     ensures status { result ≡ status_of of_memory written }
     ensures number { number.new ≡ written_number of_memory written number.old }

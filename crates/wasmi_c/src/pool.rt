@@ -735,7 +735,7 @@ impl TenantPool {
     }
 }
 
-/// The reply of a machine to the load of an item, which reaches no limiter.
+/// The reply of a tenant's machine to the load of an item, which reaches no limiter.
 #[inline(always)]
 fn load_item(machine: &Machine, op: LoadOp, memory: usize, ptr: u64, offset: u64) -> Reply
     ensures { (tenant : Tenant) → RepliesWith (optional_rules tenant_rules)
@@ -751,7 +751,8 @@ fn load_item(machine: &Machine, op: LoadOp, memory: usize, ptr: u64, offset: u64
     }
 }
 
-/// The reply of a machine to the question for the fuel that is left, which reaches no limiter.
+/// The reply of a tenant's machine to the question for the fuel that is left, which reaches no
+/// limiter.
 #[inline(always)]
 fn fuel_reply(machine: &Machine) -> Reply
     ensures { (tenant : Tenant) → RepliesWith (optional_rules tenant_rules) GetFuel
@@ -763,7 +764,7 @@ fn fuel_reply(machine: &Machine) -> Reply
     }
 }
 
-/// The reply of a machine to a growth of a memory by no page, which reaches no limiter.
+/// The reply of a tenant's machine to a growth of a memory by no page, which reaches no limiter.
 #[inline(always)]
 fn size_reply(machine: &Machine, memory: usize) -> Reply
     ensures { (tenant : Tenant) → RepliesWith (optional_rules tenant_rules) (GrowMemory memory 0)
@@ -775,8 +776,8 @@ fn size_reply(machine: &Machine, memory: usize) -> Reply
     }
 }
 
-/// What is left of a machine's fuel once an amount is taken; or why so much isn't. It is inlined
-/// before LLVM makes one number of both results, for which each call would wait.
+/// What is left of the fuel of a tenant's machine once an amount is taken; or why so much isn't. It
+/// is inlined before LLVM makes one number of both results, for which each call would wait.
 #[inline(always)]
 fn left_after(machine: &Machine, amount: u64) -> Result<u64, FuelError>
     ensures { MatchOption machine.now.meter.left (result ≡ Err FuelMeteringDisabled)

@@ -1,5 +1,5 @@
-//! Tables whose elements are the first of a region of references that lies with C. `number` is set to
-//! the fuel that is needed where less is left.
+//! The calls on tables whose elements are the first of a region of references that lies with C.
+//! `number` is set to the fuel that is needed where less is left.
 ghost use Rattle.std.specs.Prelude.{◌≡◌, ◌≤◌, ◌+◌, ◌⊎◌, false, None, Some, OnErr, IfOk, length};
 ghost use Rattle.wasmi_meter.specs.Capped.{quota_rules};
 ghost use Rattle.wasmi_meter.specs.Limiter.{optional_rules};
@@ -235,7 +235,7 @@ pub fn set(table: &TableNumbers, region: &mut [u32], index: u64, reference: u32)
     }
 }
 
-/// Leaves the fuel that is needed where a write is refused for it, and returns the write's status.
+/// Leaves the fuel that a write to a table needs, if it is refused for it, and returns its status.
 fn leave_write(written: Result<(), TableError>, number: &mut u64) -> u8
     ensures status { result ≡ status_of of_table written }
     ensures number { number.new ≡ written_number of_table written number.old }

@@ -1,9 +1,10 @@
--- What a machine has and was charged, under a quota or a limiter of one's own.
-use Rattle.std.proofs.Common.{ℕ, ◌≡◌, ◌≤◌, Some, List, sym, subst, arith, ◌∙◌, ◌+◌, ◌*◌, true, nat_le, Option, None, Result, length, replicate, ap, inl, inr, length-append, ◌-◌, refl, All}
+-- A plug-in's machine is within the caps of its quota, a memory is within the limit of a limiter of one's own, and the
+-- bill of a run is right.
+use Rattle.std.proofs.Common.{ℕ, ◌≡◌, ◌≤◌, Some, List, sym, arith, ◌∙◌, ◌+◌, ◌*◌, true, nat_le, Option, None, Result, length, replicate, ap, inl, inr, length-append, ◌-◌, refl, All}
 use Rattle.std.proofs.lemmas.Option.{same_Some}
 use Rattle.wasmi_meter.specs.declared.limiter.Kind.TheVariants.{Bytes, Elements}
 use Rattle.wasmi_meter.specs.Meter.{Meter, amount_left}
-use Rattle.wasmi_meter.specs.Capped.{holdings, IsWithinCaps, SameCaps}
+use Rattle.wasmi_meter.specs.Capped.{holdings, IsWithinCaps}
 use Rattle.wasmi_core.specs.Types.{Call, Reply}
 use Rattle.wasmi_core.specs.State.{State, new_state, world, World, total, HoldsTotals}
 use Rattle.wasmi_core.specs.Laws.{QuotasStayWithin, ChargesAreSpent}
@@ -18,7 +19,7 @@ use Rattle.wasmi_example_callers.specs.declared.limiter.AtMost.{AtMost}
 use Rattle.wasmi_core.specs.Account.{SetsNoFuel}
 use Rattle.wasmi_core.specs.Steps.{IsRunOf}
 
--- a machine has no more of either kind
+-- a machine has no more bytes and elements than these
 pub record IsCapped (most_bytes most_elements : ℕ) (s : State) : Type 0 where
   pub bytes : total s Bytes ≤ most_bytes
   pub elements : total s Elements ≤ most_elements
@@ -30,15 +31,15 @@ pub run_capped : {bytes elements : ℕ} {meter : Meter} {calls : List Call} {rep
 run_capped {meter = meter} {s = s} stays run within held =
     let after = stays (new_state meter) run.quota within run.ran.0 (world s (Some run.quota')) run.ran.3 in
     let is : after.0 ≡ run.quota' = sym (same_Some run.quota' after.0 after.1) in
-    let still = subst IsWithinCaps is after.2 in
-    let caps = subst (SameCaps run.quota) is after.3 in
+    let still = rw is at after.2 in
+    let caps = rw is at after.3 in
     record {
       bytes = omega (arith, held.bytes, still Bytes, caps Bytes, run.bytes_cap);
       elements = omega (arith, held.elements, still Elements, caps Elements, run.elements_cap);
     }
 
 module _ (l l' : AtMost) where
-  -- however an attempt ends, the limiter stays
+  -- the limiter of one's own stays, however an attempt ends
   limiter_stays : {V E : Type 0} (e : Request V E) (outcome : AttemptOutcome E)
       → Follows e (optional_rules at_most_rules) (Some l) outcome (Some l') → l' ≡ l
   limiter_stays e (Unasked cause) follows = same_Some l' l follows
@@ -47,7 +48,7 @@ module _ (l l' : AtMost) where
   limiter_stays e (Failed cause notice_answer) (Some p, asked, noticed) = noticed.1 ∙ asked.1
   limiter_stays e (Failed cause notice_answer) (None, asked, noticed) = elim asked [ ]
 
-  -- however an attempt ends, a memory that was within the limit is within it
+  -- a memory that was within the limit is within it, however an attempt ends
   value_within : (x : MemoryValue) (pages : ℕ) (outcome : AttemptOutcome MemoryError)
       → Follows (growth_of x pages) (optional_rules at_most_rules) (Some l) outcome (Some l') → length x.bytes ≤ l.bytes
       → length (value_after (growth_of x pages) x outcome).bytes ≤ l.bytes
@@ -63,6 +64,7 @@ module _ (l l' : AtMost) where
   value_within x pages outcome follows small = small
 
   module _ (x x' : MemoryValue) (m m' : Option Meter) where
+    -- a memory has grown under the limiter
     abbrev Grown : ℕ → Result ℕ MemoryError → ℕ → Type 0
     Grown pages result charge = GrowsMemoryCharging (optional_rules at_most_rules) pages (record {
       value = x;
@@ -88,7 +90,7 @@ module _ (l l' : AtMost) where
 left_is : (m : Meter) (left : ℕ) → m.left ≡ Some left → amount_left m ≡ left
 left_is m left on = rw on refl
 
--- the bill of a run
+-- the bill of a run is right
 pub ran_billed : {S : Type 0} (rules : Rules S) → ChargesAreSpent rules
     → (calls : List Call) (replies : List Reply) (w w' : World S) (charged : ℕ)
     → charged ≡ amount_left w.state.meter - amount_left w'.state.meter → All SetsNoFuel calls
@@ -106,5 +108,5 @@ ran_billed rules law calls replies w w' charged is none ran =
     } in
     (ran.0, ran.1, ran.2, ran.3, billed)
 
--- what a growth leaves
+-- what a growth leaves under a limiter of one's own: the limiter, and a memory within its limit
 pub ruleset growths = (grown_stays, grown_within)

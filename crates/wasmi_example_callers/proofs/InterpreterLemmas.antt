@@ -1,5 +1,6 @@
--- What a program did is a run, and what fuel it took.
-use Rattle.std.proofs.Common.{◌≡◌, ◌∙◌, ◌+◌, ◌-◌, ◌*◌, ◌<◌, ◌≤◌, ◌⊎◌, inl, inr, ℕ, zero, suc, Bool, true, false, ◌==◌, Option, Some, None, MatchOption, MatchBool, Result, Ok, Err, cond, List, [], ◌∷◌, ◌++◌, map, refl, sym, ap, subst, arith, All, if◌then◌else◌, is_some, IsSome, slice_get, add-one, add-zero}
+-- What a program of the interpreter did is a run, whose instructions set no fuel and take one each: the answers to its
+-- calls, its actions and growths, and the fuel that is taken and spent.
+use Rattle.std.proofs.Common.{◌≡◌, ◌∙◌, ◌+◌, ◌-◌, ◌*◌, ◌<◌, ◌≤◌, ◌⊎◌, inl, inr, ℕ, zero, suc, Bool, true, false, ◌==◌, Option, Some, None, MatchOption, MatchBool, Result, Ok, Err, cond, List, [], ◌∷◌, ◌++◌, map, refl, sym, ap, arith, All, if◌then◌else◌, is_some, IsSome, slice_get, add-one, add-zero}
 use Rattle.std.specs.Option.{option_map, option_map_or, option_and_then, unwrap_or}
 use Rattle.std.proofs.Math.Nat.{mul-le-mul_left}
 use Rattle.std.proofs.lemmas.Bool.Decides.{nat_tests}
@@ -27,11 +28,11 @@ use Rattle.wasmi_example_callers.specs.declared.interpreter.Ending.TheVariants a
 use Rattle.wasmi_example_callers.specs.declared.interpreter.Outcome.{Outcome}
 use Rattle.wasmi_example_callers.specs.Interpreter.{action_of, action_at, grow_result, place_after, IsGrowth, CarriesOut, is_out_of_fuel, fuel_taken, Stops, StepsAt, Reaches, ExecutesProgram, HasRun, last_instruction, instructions_of, PaysProgramFuel}
 
--- the state with so much left
+-- the state with so much fuel left
 abbrev with_left : State → Option ℕ → State
 with_left s left = record s { meter = record s.meter { left = left } }
 
--- where metering is off nothing is taken
+-- where metering is off no fuel is taken
 taken_off : (s : State) → s.meter.left ≡ None → fuel_taken s ≡ s
 taken_off s off = ap (with_left s) (ap (option_map (λ n. n - 1)) off ∙ sym off)
 
@@ -44,28 +45,27 @@ module _ (s s' : State) (result : Result ℕ FuelError)
     (on : IsSome s.meter.left → ConsumesFuel s.meter 1 (amount_left s.meter - 1) result s'.meter)
     (off : s.meter.left ≡ None → (result ≡ Err FuelMeteringDisabled) × (s' ≡ s))
     (rest : s' ≡ record s { meter = s'.meter }) where
-  -- whether nothing is left, by what is left
+  -- whether no fuel is left, by what is left
   tested : (o : Option ℕ) → s.meter.left ≡ o → is_out_of_fuel s.meter ≡ option_map_or (λ n. n == 0) o false
   tested o is = ap (λ o. option_map_or (λ n. n == 0) o false) is
 
-  -- the state by its meter
+  -- the state after a request for fuel, by its meter
   metered : (m : Meter) → s'.meter ≡ m → s' ≡ record s { meter = m }
   metered m is = rest ∙ ap (λ m. record s { meter = m }) is
 
-  -- what the answer tells, by what was left
+  -- what the answer to a request for one fuel tells, by what was left
   told_by : (o : Option ℕ) → s.meter.left ≡ o → Tells s s' result
   told_by None is =
-      let answer = off is in
-      subst (Tells s s') (sym answer.0) (tested None is, answer.1 ∙ sym (taken_off s is))
+      let answer = off is in rw answer.0 (tested None is, answer.1 ∙ sym (taken_off s is))
   told_by (Some zero) is =
       let short = (on (ap is_some is)).short (omega (arith, ap (λ o. unwrap_or o 0) is)) in
-      subst (Tells s s') (sym short.0) (tested (Some 0) is, metered s.meter short.1)
+      rw short.0 (tested (Some 0) is, metered s.meter short.1)
   told_by (Some (suc n)) is =
       let enough = (on (ap is_some is)).enough (omega (arith, ap (λ o. unwrap_or o 0) is)) in
       let some : (suc n == 0) ≡ false = grind (arith, nat_tests) in
-      subst (Tells s s') (sym enough.0) (tested (Some (suc n)) is ∙ some, metered (meter_after s.meter 1) enough.1)
+      rw enough.0 (tested (Some (suc n)) is ∙ some, metered (meter_after s.meter 1) enough.1)
 
-  -- what the answer tells, whatever was left
+  -- what the answer to a request for one fuel tells, whatever was left
   pub told : Tells s s' result
   told = told_by s.meter.left refl
 
@@ -90,7 +90,7 @@ module _ {S : Type 0} (rules : Rules S) where
     record { calls_of = refl; replies_of = refl },
   )
 
--- a growth with a result
+-- a growth whose reply gives a result sets a register to it
 pub grown : (dst pages : ℕ) (turns : List Turn) (reply last : Reply) (size : ℕ) → grow_result reply ≡ Some size
     → AreTurns (GrowMemory 0 pages ∷ SetRegister dst (raw_of size) ∷ []) (reply ∷ last ∷ []) turns
     → IsGrowth dst pages turns last
@@ -407,7 +407,7 @@ module _ {S : Type 0} (rules : Rules S) (joins : RunsJoin rules) (spends : Charg
     taken_spent rules bounds w turns outcome w' (program_taken rules joins spends program w turns outcome w' executes),
   )
 
-  -- what it did is a run
+  -- what a program did is a run
   pub execution_run : HasRun rules w w'
   execution_run =
       let taken = program_taken rules joins spends program w turns outcome w' executes in

@@ -1,4 +1,5 @@
--- What a host says of a plug-in and its bill, and the rules of a limiter of its own.
+-- What a host says of a plug-in that ran under a quota, the bill of a run, and the rules of a limiter of one's own,
+-- which permits memories up to a number of bytes.
 use Rattle.std.specs.Prelude.{◌≡◌, ℕ, List, Some, Bool, false, nat_le, Ok, ◌+◌, map}
 use Rattle.wasmi_meter.specs.declared.limiter.Kind.TheVariants.{Bytes, Elements}
 use Rattle.wasmi_meter.specs.declared.quota.Quota.{Quota}
@@ -22,7 +23,7 @@ pub record RunsUnderQuota (bytes elements : ℕ) (meter : Meter) (calls : List C
   pub ran : IsRunOf (optional_rules quota_rules) calls (world (new_state meter) (Some quota)) replies (world s (Some
       quota'))
 
--- whether so many of a kind are permitted
+-- whether the limiter permits so many of a kind
 abbrev pub permits : AtMost → Kind → ℕ → Bool
 permits limiter Bytes desired = nat_le desired limiter.bytes
 permits limiter Elements desired = false

@@ -1,4 +1,5 @@
--- What a program does on a machine.
+-- What each instruction of the interpreter comes to, and what a program of them does on a machine: the places that it
+-- reaches by turns, how it ends, and the fuel that it takes.
 use Rattle.std.specs.Prelude.{◌≡◌, ◌+◌, ◌-◌, ◌^◌, ◌≤◌, ℕ, zero, suc, Bool, false, ◌==◌, if◌then◌else◌, Option, Some, None, MatchOption, MatchBool, Result, Ok, Err, List, [], ◌∷◌, ◌++◌, slice_get}
 use Rattle.std.specs.Int.{w64, cast_unsigned}
 use Rattle.std.specs.Option.{option_map, option_map_or, option_and_then}

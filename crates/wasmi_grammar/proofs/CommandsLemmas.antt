@@ -1,5 +1,6 @@
--- What the operands of a command write, by the word that it begins with.
-use Rattle.std.proofs.Common.{ℕ, ◌≡◌, ◌∙◌, List, [], ◌∷◌, Result, Err, bytes_eq, cond, codes, length, subst}
+-- The forms of commands: the values that the operands of a command write, by the word that it begins with, and when a
+-- command is refused.
+use Rattle.std.proofs.Common.{ℕ, ◌≡◌, ◌∙◌, List, [], ◌∷◌, Result, Err, bytes_eq, cond, codes, length}
 use Rattle.std.specs.Bool.{⊤}
 use Rattle.wasmi_types.specs.declared.value.RefType.{RefType}
 use Rattle.wasmi_grammar.proofs.Common.{MemoryTypeValue, Call, LineError, Accepts, LineWords, WritesNumber, word_at, reference_word, command_word, WritesOperands, NamesAfter, refused_through}
@@ -21,11 +22,11 @@ use Rattle.wasmi_ops.specs.declared.vector.TestOp.{TestOp}
 use Rattle.wasmi_ops.specs.declared.vector.UnaryOp.{UnaryOp}
 use Rattle.wasmi_machine.specs.declared.calls.Call.TheVariants as call
 
--- what parsers make a call of: the values that the operands write
+-- a form: the type of the values that operands write, and how they write them
 abbrev pub Form : Type 1
 Form = (A : Type 0) × (LineWords → A → Type 0)
 
--- the values of which a call is made
+-- the form of operands that write what a call is made of
 abbrev made : (A : Type 0) → (A → Call) → Form
 made A make = (A, λ words a. WritesOperands words (make a))
 
@@ -34,7 +35,7 @@ abbrev form_in : List (List ℕ × Form) → List ℕ → Form
 form_in [] word = made Call (λ call. call)
 form_in (entry ∷ entries) word = cond (bytes_eq entry.0 word) entry.1 (form_in entries word)
 
--- a table, a number of 64 bits and a reference
+-- the form of a table, a number of 64 bits and a reference
 abbrev element_form : Form
 element_form = (
   ℕ × ℕ × RefType × ℕ,
@@ -42,7 +43,7 @@ element_form = (
       × (word_at words 2 ≡ reference_word a.2) × WritesNumber 32 (word_at words 3) a.3,
 )
 
--- the same, and how many elements
+-- the form of these and of how many elements
 abbrev elements_form : Form
 elements_form = (
   ℕ × ℕ × RefType × ℕ × ℕ,
@@ -148,6 +149,4 @@ pub refused_named : {name word : List ℕ} (words : LineWords) {error : LineErro
     → Accepts {A = (form_in forms word).0} (Err error) ((form_in forms word).1 words)
     → Accepts result (NamesAfter name words)
 refused_named words {error} {result} is same =
-    refused_through error result is
-    (λ call names. subst (λ name. (a : (form_in forms name).0) × (form_in forms name).1 words a)
-    (names.0 ∙ same) (form words call names.1))
+    refused_through error result is (λ call names. rw (names.0 ∙ same) at (form words call names.1))

@@ -1,4 +1,4 @@
--- The answers that words stand for, and header lines whose numbers are read at once.
+-- The answers that the words of an `answers` line stand for, and the numbers of a `quota` or a `tenants` line.
 use Rattle.std.proofs.Common.{◌≡◌, List, ℕ, ◌∙◌, codes, length, map, refl, ap, rules, tests}
 use Rattle.wasmi_grammar.proofs.Common.{unwrap_or, LineWords, WritesEach, WritesNumber, word_at, LimiterLine, Quota, Tenants, NamesLimiterAfter, WritesAnswer, answer_text, named, named_is, each_named}
 use Rattle.wasmi_meter.specs.declared.answer_list.LimiterAnswer.{LimiterAnswer}
@@ -24,14 +24,14 @@ pub answers_is : (words : LineWords) (answers : List LimiterAnswer) → WritesEa
 unfolding answers_named
 answers_is = each_named WritesAnswer answer_named (λ word answer is. ap answer_named is ∙ answer_is answer)
 
--- the caps of a quota line
+-- the caps of a `quota` line
 pub caps_of : (words : LineWords) (line : LimiterLine) → NamesLimiterAfter (codes "quota") words line
     → (a : ℕ × ℕ)
     × ((length words ≡ 2) × WritesNumber 64 (word_at words 0) a.0 × WritesNumber 64 (word_at words 1) a.1)
 caps_of words (Quota caps) names = ((caps.bytes, caps.elements), names.1)
 caps_of words line names = absurd (search (rules, tests, names))
 
--- the numbers of a tenants line
+-- the numbers of a `tenants` line
 pub numbers_of : (words : LineWords) (line : LimiterLine) → NamesLimiterAfter (codes "tenants") words line
     → (a : ℕ × ℕ × ℕ) × ((length words ≡ 3) × WritesNumber 64 (word_at words 0) a.0
     × WritesNumber 64 (word_at words 1) a.1 × WritesNumber 64 (word_at words 2) a.2)

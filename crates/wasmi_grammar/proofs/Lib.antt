@@ -1,4 +1,5 @@
 pub mod Common
+pub mod PartsLemmas
 pub mod LinesLemmas
 pub mod CommandsLemmas
 pub mod LimitWordsLemmas

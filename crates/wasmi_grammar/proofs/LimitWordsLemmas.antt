@@ -1,5 +1,6 @@
--- Words write the limits of one type at most, and mean one memory type or table type at most.
-use Rattle.std.proofs.Common.{◌≡◌, ◌∙◌, ℕ, List, Option, Some, Result, refl, sym, subst, ap}
+-- The words of limits: the limits, the page size, the memory type and the table type that words name, of each one at
+-- most.
+use Rattle.std.proofs.Common.{◌≡◌, ◌∙◌, ℕ, List, Option, Some, Result, refl, sym, ap}
 use Rattle.wasmi_grammar.proofs.Common.{option_map, option_and_then, LineError, Accepts, decimal_value, WritesNumber, width_word, reference_word, named, named_is, one_named, accepts_same, limit_named, limit_is, Limits, WritesLimits, NamesType, memory_limits, NamesTableType, table_limits, MemoryTypeValue, page_log2, page_of_log2}
 use Rattle.wasmi_store.specs.declared.memory.ty.PageSize.{PageSize}
 use Rattle.wasmi_store.specs.declared.memory.ty.PageSize.TheVariants.{Byte, Wasm}
@@ -30,9 +31,7 @@ limits_are minimum maximum width limits w = λ i. option_map (λ index. record {
 one_limits : {minimum maximum width : List ℕ} {limits limits' : Limits} → WritesLimits minimum maximum width limits
     → WritesLimits minimum maximum width limits' → limits' ≡ limits
 one_limits {minimum} {maximum} {width} {limits} {limits'} writes writes' =
-    let same : Some limits' ≡ Some limits =
-    sym (limits_are minimum maximum width limits' writes') ∙ limits_are minimum maximum width limits writes in
-    cc
+    cc (limits_are minimum maximum width limits writes, limits_are minimum maximum width limits' writes')
 
 -- a memory type that has the settings which words write is the one that they name
 pub memory_read : {min max width : List ℕ} {limits : Limits} {power : ℕ} {Many : Type 0} (log2 : List ℕ)
@@ -43,15 +42,15 @@ memory_read {min} {max} {width} log2 result many written writes_log2 =
     accepts_same result _ _ (λ ty has. (
       many,
       record {
-        limits_words = subst (WritesLimits min max width) (sym has.0) written;
-        log2_word = subst (WritesNumber 8 log2) (sym has.1) writes_log2;
+        limits_words = rw has.0 written;
+        log2_word = rw has.1 writes_log2;
         valid = has.2;
       },
     )) (λ ty w.
     let names = w.1 in
     (one_limits written names.limits_words, names.log2_word.1 ∙ sym writes_log2.1, names.valid))
 
--- the page size of a power of two
+-- the power of two of a page size is that of no other page size
 page_is : (log2 : ℕ) (page : PageSize) → page_log2 page ≡ log2 → page_of_log2 log2 ≡ Some page
 page_is log2 Byte e = ap page_of_log2 (sym e)
 page_is log2 Wasm e = ap page_of_log2 (sym e)
@@ -85,7 +84,7 @@ table_read {word} {min} {max} {width} element result many writes_element written
       many,
       record {
         element_text = writes_element ∙ ap reference_word (sym has.1);
-        limits_words = subst (WritesLimits min max width) (sym has.0) written;
+        limits_words = rw has.0 written;
         valid = has.2;
       },
     )) (λ ty w.

@@ -1,4 +1,5 @@
--- What a line adds is told by its words: what is said after it is a function of them and of what was said before.
+-- The meaning of a line, as a function of its words, and of the lines of a script: what is said after a line is a
+-- function of its words and of what was said before.
 use Rattle.std.proofs.Common.{ℕ, ◌≡◌, ◌∙◌, ◌++◌, List, [], ◌∷◌, Option, Some, None, bytes_eq, cond, codes, map, drop, inl, inr, refl, sym, ap}
 use Rattle.wasmi_grammar.proofs.Common.{option_map, option_map_or, option_and_then, map-append, Call, Line, Meter, Limiter, Region, Reserve, As, NamesLine, AddsLine, AddsWords, TenantRun, PartsValue, Script, Quota, Answers, Tenants, RegionLine, LineWords, WritesEach, word_at, WritesNumber, decimal_value, IsName, reference_word, value_word, mutability_word, command_word, WritesOperands, named, named_is, reference_named, reference_is, lane_named, lane_is, each_named}
 use Rattle.wasmi_raw.specs.RawVal.{raw_of}
@@ -31,12 +32,12 @@ use Rattle.wasmi_grammar.specs.Meanings.{CallMeaning, WriteMeaning, SegmentMeani
 use Rattle.wasmi_grammar.proofs.LimitWordsLemmas.{memory_named, memory_is, table_named, table_is}
 use Rattle.wasmi_grammar.proofs.HeadersLemmas.{answers_named, answers_is}
 
--- what a list has beside a word, or something else
+-- the meaning that a list has beside a word, or another one
 abbrev found_or : {A : Type 0} → List (List ℕ × A) → List ℕ → A → A
 found_or [] word other = other
 found_or (entry ∷ entries) word other = cond (bytes_eq entry.0 word) entry.1 (found_or entries word other)
 
--- the same of a list that has a thing or none
+-- the meaning that a list has beside a word, if it has one
 abbrev beside : {A : Type 0} → List (List ℕ × Option A) → List ℕ → Option A
 beside entries word = found_or entries word None
 
@@ -58,19 +59,22 @@ line_meaning (Reserve slots) = ReserveMeaning slots
 line_meaning (As tenant) = TenantMeaning tenant
 line_meaning (Command call) = CallTold (call_meaning call)
 
+-- the numbers that words write, as the meaning of their line has them
 abbrev numbers_in : LineWords → List ℕ
 numbers_in words = map decimal_value (map (λ word. word.now) words)
 
--- words that write numbers give those numbers
+-- words that write numbers give those numbers to the meaning of their line
 numbers_is : (bits : ℕ) (words : LineWords) (numbers : List ℕ) → WritesEach (WritesNumber bits) words numbers
     → numbers_in words ≡ numbers
 numbers_is bits = each_named (WritesNumber bits) decimal_value (λ word number writes. sym writes.1)
 
 -- what words write
 module _ (words : LineWords) where
+  -- the text of the word at a place
   abbrev word : ℕ → List ℕ
   word k = word_at words k
 
+  -- the number that the word at a place writes
   abbrev number : ℕ → ℕ
   number k = decimal_value (word_at words k)
 
@@ -302,6 +306,7 @@ module _ (words : LineWords) where
       (codes "as", Some (TenantMeaning (number 0))) ∷
       []
 
+  -- what a line says, by its first word
   abbrev line_named : List ℕ → Option LineMeaning
   line_named name = found_or lines_named name (option_map CallTold (beside calls_named name))
 
@@ -367,7 +372,7 @@ meaning_of header parts = record {
 abbrev pub lines_meaning : Script → LinesMeaning
 lines_meaning script = meaning_of script.header script.parts
 
--- the lines of two scripts say the same
+-- the lines of two scripts have the same meaning
 abbrev pub LinesHaveSameMeaning : Script → Script → Type 0
 LinesHaveSameMeaning script script' = lines_meaning script ≡ lines_meaning script'
 
@@ -401,12 +406,10 @@ line_added old (Command call) new a =
     ∙ ap (λ calls. record (lines_meaning old) { calls = calls }) (map-append call_meaning old.parts.calls (call ∷ []))
 line_added old line new a = λ i. meaning_of (a.header i) (a.parts i)
 
--- and so do words
+-- words lead from what is said before them to what is said after them
 pub added : (old : Script) (words : LineWords) (new : Script) → AddsWords old words new
     → lines_meaning new ≡ meaning_after words (lines_meaning old)
 unfolding meaning_after
-added old words new (inl a) = ap lines_meaning a.1 ∙ ap (λ ws. meaning_after ws (lines_meaning old)) (sym a.0)
+added old words new (inl a) = rw (a.0, a.1)
 added old words new (inr (line, names, adds)) =
-    let said = lines_meaning old in
-    line_added old line new adds ∙ ap (λ told. option_map_or (meaning_with said) told said)
-    (sym (line_is (drop 1 words) (word_at words 0) line names))
+    rw (line_is (drop 1 words) (word_at words 0) line names) (line_added old line new adds)

@@ -1,7 +1,8 @@
--- A text writes one script, and has one first bad line at most.
-use Rattle.std.proofs.Common.{ℕ, ◌≡◌, ◌∙◌, ◌++◌, List, [], ◌∷◌, Option, Some, None, length, map, ◌≤◌, ◌-◌, take, drop, inl, inr, arith, refl, suc, sym, ap, subst}
+-- A text writes one script, and has one first bad line at most: of scripts that say the same, one takes the lines that
+-- the other takes, and both say the same afterwards.
+use Rattle.std.proofs.Common.{ℕ, ◌≡◌, ◌∙◌, ◌++◌, List, [], ◌∷◌, Option, Some, None, length, map, ◌≤◌, ◌-◌, take, drop, inl, inr, arith, refl, suc, sym, ap}
 use Rattle.std.proofs.lemmas.Bool.{cases_lt}
-use Rattle.wasmi_grammar.proofs.Common.{option_map, map-append, take_at, Line, Meter, Limiter, Region, Reserve, As, Script, LimiterLine, Tenants, RegionLine, LineWords, word_at, AreApart, tenants_of, HasNoCommands, NamesLine, AddsLine, AddsWords, AcceptsLine, AcceptsLines, IsNewScript, AreTaken, lines_in, IsBadLine, IsFirstBadLine, TenantRun, PartsValue, parts_in}
+use Rattle.wasmi_grammar.proofs.Common.{option_map, map-append, take_at, Line, Meter, Limiter, Region, Reserve, As, Script, LimiterLine, Tenants, RegionLine, LineWords, word_at, AreApart, tenants_of, HasNoCommands, NamesLine, AddsLine, AddsWords, AcceptsLine, AcceptsLines, IsNewScript, AreTaken, lines_in, IsBadLine, IsFirstBadLine, parts_in}
 use Rattle.std.proofs.Math.Seq.{take-append-add}
 use Rattle.wasmi_grammar.specs.Lines.{AddsHeader}
 use Rattle.wasmi_grammar.specs.declared.header.Header.{Header}
@@ -18,7 +19,7 @@ line_unique line old old' new new' same taken taken' =
     let retold : AddsWords old' words new' = retell taken'.1 words (taken'.2 ∙ sym taken.2) old' new' taken'.3 in
     added old words new taken.3 ∙ ap (meaning_after words) same ∙ sym (added old' words new' retold)
 
--- and so do lines
+-- lines lead from scripts that say the same to scripts that say the same
 lines_unique : (lines : List (List ℕ)) (old old' new new' : Script) → LinesHaveSameMeaning old old'
     → AcceptsLines lines old new → AcceptsLines lines old' new' → LinesHaveSameMeaning new new'
 lines_unique [] old old' new new' same is is' = ap lines_meaning is ∙ same ∙ sym (ap lines_meaning is')
@@ -36,25 +37,21 @@ texts_unique text script script' writes writes' =
     let empties = empties_same writes.empty writes'.empty writes.is_new writes'.is_new in
     let lines = lines_unique
     (lines_in text) writes.empty writes'.empty script script' empties writes.lines writes'.lines in
-    let last : PartsValue → TenantRun = λ parts. record { tenant = parts.tenant; calls = parts.calls } in
-    let parts : map part_meaning (parts_in script.parts) ≡ map part_meaning (parts_in script'.parts) =
-    map-append part_meaning script.parts.earlier (last script.parts ∷ [])
-    ∙ (λ i. (lines i).earlier ++ record { tenant = (lines i).tenant; calls = (lines i).calls } ∷ [])
-    ∙ sym (map-append part_meaning script'.parts.earlier (last script'.parts ∷ [])) in
-    λ i. record {
+    simp map-append (λ i. record {
       meter = (lines i).meter;
       limiter = (lines i).limiter;
       region = (lines i).region;
       reserve = (lines i).reserve;
-      parts = parts i;
-    }
+      parts = (lines i).earlier ++ record { tenant = (lines i).tenant; calls = (lines i).calls } ∷ [];
+    })
 
--- an option whose image is nothing is nothing
+-- an option whose image is nothing is nothing: of scripts that say the same, if one has no limiter line, neither has
+-- the other
 none_of : {A B : Type 0} (f : A → B) (x : Option A) → option_map f x ≡ None → x ≡ None
 none_of f None e = refl
 none_of f (Some x) e = absurd cc
 
--- a limiter line goes with a region, or asks for tenants, by what it says
+-- of scripts whose limiter lines say the same, one may have a region where the other may have one
 apart_too : (limiter limiter' : Option LimiterLine) (region : Option RegionLine)
     → option_map limiter_meaning limiter ≡ option_map limiter_meaning limiter'
     → AreApart limiter region → AreApart limiter' region
@@ -63,12 +60,12 @@ apart_too None (Some (Tenants line)) (Some region) same apart = absurd cc
 apart_too (Some other) (Some (Tenants line)) (Some region) same apart = absurd cc
 apart_too limiter limiter' region same apart = tt
 
--- how many tenants there are, by what the limiter line says
+-- how many tenants a script asks for, by what its limiter line says: as many as all scripts that say the same
 tenants_meaning : Option LimiterMeaning → ℕ
 tenants_meaning (Some (OtherLimiter line)) = tenants_of (Some line)
 tenants_meaning other = 0
 
--- how many tenants a limiter line asks for is how many it says
+-- how many tenants a limiter line asks for is how many it says, so scripts that say the same ask for as many
 tenants_is : (limiter : Option LimiterLine) → tenants_of limiter ≡ tenants_meaning (option_map limiter_meaning limiter)
 unfolding tenants_meaning
 tenants_is (Some (Tenants line)) = refl
@@ -76,7 +73,7 @@ tenants_is limiter = refl
 
 -- of scripts whose lines say the same one takes what the other takes
 module _ (old old' : Script) (same : LinesHaveSameMeaning old old') where
-  -- if one of them has no commands, the other has none
+  -- if one of two scripts whose lines say the same has no commands, the other has none
   none_too : HasNoCommands old → HasNoCommands old'
   none_too none = record {
     no_calls = none_mapped call_meaning old'.parts.calls (ap (λ s. s.calls) (sym same) ∙ ap (map call_meaning) none.no_calls);
@@ -84,7 +81,7 @@ module _ (old old' : Script) (same : LinesHaveSameMeaning old old') where
         (ap (λ s. s.earlier) (sym same) ∙ ap (map part_meaning) none.no_parts);
   }
 
-  -- both ask for as many tenants
+  -- scripts whose lines say the same ask for as many tenants
   tenants_same : tenants_of old.header.limiter_line ≡ tenants_of old'.header.limiter_line
   tenants_same = tenants_is old.header.limiter_line ∙ ap (λ s. tenants_meaning s.limiter) same
       ∙ sym (tenants_is old'.header.limiter_line)
@@ -102,19 +99,17 @@ module _ (old old' : Script) (same : LinesHaveSameMeaning old old') where
       → (new' : Script) × AddsLine old' line' new'
   takes_too (Meter line) (Meter line') says new a = header_too (λ first. ap (λ s. s.meter) (sym same) ∙ first) a
   takes_too (Limiter line) (Limiter line') says new a =
-      let told : limiter_meaning line ≡ limiter_meaning line' = cc in
       header_too (λ allowed. (
         none_of limiter_meaning old'.header.limiter_line
             (ap (λ s. s.limiter) (sym same) ∙ ap (option_map limiter_meaning) allowed.0),
-        apart_too (Some line) (Some line') old'.header.region (ap (λ t. Some t) told)
-            (subst (AreApart (Some line)) (ap (λ s. s.region) same) allowed.1),
+        apart_too (Some line) (Some line') old'.header.region (cc) (rw (ap (λ s. s.region) same) at allowed.1),
       )) a
   takes_too (Region line) (Region line') says new a =
       let told : line ≡ line' = cc in
       header_too (λ allowed. (
         ap (λ s. s.region) (sym same) ∙ allowed.0,
         apart_too old.header.limiter_line old'.header.limiter_line (Some line') (ap (λ s. s.limiter) same)
-            (subst (λ r. AreApart old.header.limiter_line (Some r)) told allowed.1),
+            (rw told at allowed.1),
       )) a
   takes_too (Reserve slots) (Reserve slots') says new a =
       header_too (λ first. ap (λ s. s.reserve) (sym same) ∙ first) a
@@ -139,18 +134,17 @@ module _ (old old' : Script) (same : LinesHaveSameMeaning old old') where
   line_too : (line : List ℕ) (new : Script) → AcceptsLine old line new → (new' : Script) × AcceptsLine old' line new'
   line_too line new taken = let after = words_too taken.1 new taken.3 in (after.0, (taken.0, taken.1, taken.2, after.1))
 
--- words add nothing if a line that they say can't be added
+-- words add nothing to a script if one line that they say can't be added: all lines that words say have one meaning
 pub no_words : (old : Script) (words : LineWords) (line : Line) → 1 ≤ length words
     → NamesLine (word_at words 0) (drop 1 words) line → ((new : Script) → ¬ (AddsLine old line new))
     → (new : Script) → ¬ (AddsWords old words new)
 no_words old words line some names refused new (inl a) = absurd (omega (arith, some, ap length a.0))
 no_words old words line some names refused new (inr (other, names', adds)) =
-    let says : Some (line_meaning other) ≡ Some (line_meaning line) =
-    sym (line_is (drop 1 words) (word_at words 0) other names') ∙ line_is (drop 1 words) (word_at words 0) line names in
-    let same : line_meaning other ≡ line_meaning line = cc in
+    let same : line_meaning other ≡ line_meaning line =
+    cc (line_is (drop 1 words) (word_at words 0) other names', line_is (drop 1 words) (word_at words 0) line names) in
     let after = takes_too old old refl other line same new adds in refused after.0 after.1
 
--- lines with a bad one aren't taken
+-- lines with one that is bad for a script aren't taken from a script that says the same
 not_taken : (before after : List (List ℕ)) (bad : List ℕ) (old old' script new : Script) → LinesHaveSameMeaning old old'
     → AcceptsLines before old script → IsBadLine script bad → ¬ (AcceptsLines (before ++ bad ∷ after) old' new)
 not_taken [] after bad old old' script new same is wrong (middle, taken, later) =
@@ -164,7 +158,7 @@ none_bad : (texts after : List (List ℕ)) (script : Script) (text : List ℕ) (
 none_bad texts after script text number taken bad split =
     not_taken bad.before after bad.bad bad.taken.empty taken.empty bad.script script
     (empties_same bad.taken.empty taken.empty bad.taken.is_new taken.is_new) bad.taken.lines bad.is_bad
-    (subst (λ lines. AcceptsLines lines taken.empty script) split taken.lines)
+    (rw split at taken.lines)
 
 -- a text that writes a script has no bad line
 pub no_bad_line : WrittenTextsHaveNoBadLine

@@ -1,11 +1,11 @@
--- What a line adds is told by the texts of its words alone.
+-- Words with the same texts write the same and add the same to a script.
 use Rattle.std.proofs.Common.{ℕ, ◌≡◌, ◌∙◌, List, [], ◌∷◌, length, map, drop, slice_index_or, inl, inr, refl, sym, ap, subst}
 use Rattle.wasmi_grammar.proofs.Common.{length-map, drop-map, AllZip, Call, Line, Meter, Limiter, Region, Reserve, As, Script, Quota, Answers, Tenants, LineWords, WritesEach, word_at, IsDecimal, WritesNumber, decimal_value, WritesLanes, WritesAnswer, OperandsWrite, WritesOperands, NamesLine, AddsWords}
 use Rattle.wasmi_machine.specs.declared.calls.Call.TheVariants.{Write, NewData, NewSegment, Shuffle}
 use Rattle.wasmi_grammar.specs.declared.script.Line.TheVariants.{Call as Command}
 use Rattle.wasmi_grammar.specs.declared.header.MeterLine.TheVariants.{Off, On}
 
--- words with the same texts
+-- the texts of words
 abbrev texts : LineWords → List (List ℕ)
 texts words = map (λ word. word.now) words
 
@@ -18,27 +18,26 @@ retell_each Writes words words' items same = subst (λ ts. AllZip Writes ts item
 retell_lanes : (words words' : LineWords) (lanes : List ℕ) → texts words ≡ texts words' → WritesLanes words lanes
     → WritesLanes words' lanes
 retell_lanes words words' lanes same writes = record {
-  sixteen = sym (length-map words' (λ word. word.now)) ∙ ap length (sym same) ∙ length-map words (λ word. word.now)
-      ∙ writes.sixteen;
+  sixteen = sym (simp length-map at (ap length same)) ∙ writes.sixteen;
   written = retell_each (WritesNumber 5) words words' lanes same writes.written;
 }
 
--- and so do the operands of a line
+-- the operands of a line, as words with the same texts
 module _ (words words' : LineWords) (same : texts words ≡ texts words') where
   -- words with the same texts are as many
   as_many : length words' ≡ length words
-  as_many = sym (length-map words' (λ word. word.now)) ∙ ap length (sym same) ∙ length-map words (λ word. word.now)
+  as_many = sym (simp length-map at (ap length same))
 
-  -- at each place they have the same text
+  -- words with the same texts have the same text at each place
   at : (k : ℕ) → word_at words k ≡ word_at words' k
   at k = ap (λ ts. slice_index_or ts k []) same
 
-  -- a number that is written at a place of the one is written there in the other
+  -- a number that one of such words writes is written by the other at its place
   number : {n : ℕ} {Fits : Type 0} (k : ℕ) → IsDecimal (word_at words k) × (n ≡ decimal_value (word_at words k)) × Fits
       → IsDecimal (word_at words' k) × (n ≡ decimal_value (word_at words' k)) × Fits
-  number k w = (subst IsDecimal (at k) w.0, w.1 ∙ ap decimal_value (at k), w.2)
+  number k w = rw (at k) at w
 
-  -- without as many of their first words they have the same texts
+  -- words with the same texts, without as many of their first, have the same texts
   later : (k : ℕ) → texts (drop k words) ≡ texts (drop k words')
   later k = sym (drop-map (λ word. word.now) k words) ∙ ap (drop k) same ∙ drop-map (λ word. word.now) k words'
 
@@ -81,7 +80,7 @@ module _ (words words' : LineWords) (same : texts words ≡ texts words') where
   retell_line name (As tenant) (is, (many, index)) = (is, (as_many ∙ many, number 0 index))
   retell_line name (Command call) w = (w.0, retell_operands call w.1)
 
--- what has no image is nothing
+-- a list is empty if that of its images is, as a list of words is if that of their texts is
 pub none_mapped : {A B : Type 0} (f : A → B) (xs : List A) → map f xs ≡ [] → xs ≡ []
 none_mapped f [] e = refl
 none_mapped f (x ∷ xs) e = absurd cc
@@ -91,6 +90,5 @@ pub retell : (words words' : LineWords) → texts words ≡ texts words' → (ol
     → AddsWords old words' new
 retell words words' same old new (inl a) = inl (none_mapped (λ word. word.now) words' (sym same ∙ ap texts a.0), a.1)
 retell words words' same old new (inr (line, names, adds)) =
-    let name = word_at words' 0 in
-    let here = subst (λ name. NamesLine name (drop 1 words) line) (at words words' same 0) names in
-    inr (line, retell_line (drop 1 words) (drop 1 words') (later words words' same 1) name line here, adds)
+    let here = rw (at words words' same 0) at names in
+    inr (line, retell_line (drop 1 words) (drop 1 words') (later words words' same 1) _ line here, adds)

@@ -1,4 +1,5 @@
--- What the words of a command mean, and those of a memory type or a table type.
+-- What the words of a command mean, the limits and the type of a memory or a table that they name, and the words that a
+-- command begins with.
 use Rattle.std.specs.Prelude.{◌≡◌, ◌⊎◌, ℕ, List, Option, ◌≤◌, length, codes, drop}
 use Rattle.wasmi_types.specs.declared.index_ty.IndexType.{IndexType}
 use Rattle.wasmi_operands.specs.LineWords.{WritesNumber, WritesLimit, LineWords, WritesEach, word_at}

@@ -1,4 +1,5 @@
--- What the words of a header line mean, and what the header lines ask for.
+-- What the words of a header line or an `as` line mean, and what the header lines ask for: a meter, tenants, a region,
+-- slots, and the machine that a script starts with.
 use Rattle.std.specs.Prelude.{◌≡◌, ◌≤◌, ℕ, Option, List, Some, None, length, codes, replicate}
 use Rattle.std.specs.Option.{option_map, option_map_or}
 use Rattle.wasmi_meter.specs.Meter.{default_costs, Meter}
@@ -59,7 +60,7 @@ abbrev pub tenants_of : Option LimiterLine → ℕ
 tenants_of (Some (Tenants line)) = line.count
 tenants_of limiter = 0
 
--- a pool has no region
+-- the header lines ask for what goes together: a script with tenants has no region
 abbrev pub AreApart : Option LimiterLine → Option RegionLine → Type 0
 AreApart (Some (Tenants line)) (Some region) = ⊥
 AreApart limiter region = Unit {0}

@@ -1,4 +1,5 @@
--- What the lines of a script add to it, its calls by parts, and why a text is not parsed.
+-- What a line says and adds to a script, the script that the lines of a text lead to, with the list of all its calls,
+-- and the bad lines by which a text isn't parsed.
 use Rattle.std.specs.Prelude.{◌≡◌, ◌<◌, ℕ, ◌⊎◌, List, [], ◌∷◌, ◌++◌, Some, None, ◌==◌, codes, drop, map, ◌+◌, ⊤, length}
 use Rattle.std.specs.List.{slice_split}
 use Rattle.std.specs.Str.{IsUtf8}

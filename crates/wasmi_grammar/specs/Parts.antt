@@ -1,4 +1,4 @@
--- The calls of a script by parts.
+-- The calls of a script by parts, which `as` lines separate, and the places of the parts in the list of all calls.
 use Rattle.std.specs.Prelude.{◌≡◌, ◌≤◌, ◌-◌, ℕ, List, [], ◌∷◌, ◌++◌, take, drop, length, flat_map}
 use Rattle.wasmi_machine.specs.declared.calls.Call.{Call}
 use Rattle.wasmi_grammar.specs.declared.script.Span.{Span}

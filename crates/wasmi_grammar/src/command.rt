@@ -1,4 +1,5 @@
-//! The commands of a script, each of which is one call: what the words after its first say.
+//! The commands of a script, each of which is one call: what the words after its first say, and the
+//! memory type, the table type or the lanes that some of them name.
 ghost use Rattle.std.specs.Prelude.{◌≡◌, ◌<◌, ◌^◌, codes, length, IfErr};
 ghost use Rattle.std.specs.Result.{OkIff};
 ghost use Rattle.wasmi_operands.specs.LineWords.{Accepts, AcceptsWithMemory, word_at};

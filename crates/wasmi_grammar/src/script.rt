@@ -1,4 +1,5 @@
-//! The script's lines: header lines, and then commands.
+//! The script that a text writes: how each line adds to its header or to its calls by parts, and
+//! the parser.
 ghost use Rattle.std.specs.Prelude.{◌≡◌, [], ℕ, ◌+◌, ◌-◌, ◌<◌, ◌≤◌, length, take, drop, IfOk, IfErr, OnOk, OnErr};
 ghost use Rattle.wasmi_operands.specs.LineWords.{AcceptsWithMemory};
 ghost use Rattle.wasmi_grammar.specs.Lines.{WritesScript, NamesLine, calls_of, IsParseError};

@@ -1,4 +1,5 @@
--- Lists by their items: one number in each place, what is computed of other lists' items, and items that a test chooses.
+-- Lists by their items (`AreItems`): one number in each place, what is computed of other lists' items, and items that a
+-- test chooses. Lanes as std::simd has them are such lists.
 use Rattle.std.proofs.Common.{ℕ, ◌-◌, ◌^◌, ◌<◌, ◌≡◌, List, length, get_or, map, replicate, refl, sym, ap, ap₂, ◌∙◌, arith, Bool, false, cond}
 use Rattle.wasmi_lanes.proofs.Common.{zip2, sel_l, length-zip2, get_or-zip2, get_or-sel_l, get_or-replicate, length-replicate, tops_compared, get_or-map, Width, bits}
 use Rattle.std.proofs.lemmas.List.{length-map}
@@ -15,7 +16,7 @@ pub record AreItems {A : Type 0} (n : ℕ) (d : A) (f : ℕ → A) (xs : List A)
 pub items : (n : ℕ) (xs : List ℕ) → length xs ≡ n → AreItems n 0 (λ i. get_or xs i 0) xs
 items n xs long = record { long = long; are = λ i inside. refl }
 
--- n times x
+-- a list of n times x
 pub repeated : (n x : ℕ) → AreItems n 0 (λ _. x) (replicate n x)
 repeated n x = record { long = length-replicate n x; are = λ i inside. get_or-replicate n i x 0 inside }
 
@@ -46,14 +47,10 @@ pub chosen_by : {n : ℕ} {f g p q : ℕ → ℕ} {xs ys ps qs : List ℕ} (w : 
 chosen_by {n} {f} {g} {xs} {ys} {ps} {qs} w test of_x of_y of_p of_q =
     let tests : List Bool = zip2 test xs ys in
     let tested : length tests ≡ n = length-zip2 test xs ys (of_x.long ∙ sym of_y.long) ∙ of_x.long in
-    record {
-      long = ap (λ ms. length (sel_l ms ps qs)) (tops_compared w test xs ys)
-          ∙ length-sel_l tests ps qs (tested ∙ sym of_p.long) (tested ∙ sym of_q.long) ∙ tested;
+    rw (tops_compared w test xs ys) (record {
+      long = length-sel_l tests ps qs (tested ∙ sym of_p.long) (tested ∙ sym of_q.long) ∙ tested;
       are = λ i inside.
-          ap (λ ms. get_or (sel_l ms ps qs) i 0) (tops_compared w test xs ys)
-          ∙ get_or-sel_l tests ps qs i 0 (omega arith) (omega (arith, of_p.long)) (omega (arith, of_q.long))
-          ∙ ap (λ t. cond t (get_or ps i 0) (get_or qs i 0))
-          (get_or-zip2 test xs ys i 0 0 false (omega (arith, of_x.long)) (omega (arith, of_y.long))
-          ∙ ap₂ test (of_x.are i inside) (of_y.are i inside))
-          ∙ ap₂ (cond (test (f i) (g i))) (of_p.are i inside) (of_q.are i inside);
-    }
+          rw (get_or-sel_l tests ps qs i 0 (omega arith) (omega (arith, of_p.long)) (omega (arith, of_q.long)))
+          (rw (get_or-zip2 test xs ys i 0 0 false (omega (arith, of_x.long)) (omega (arith, of_y.long)))
+          (rw (of_x.are i inside, of_y.are i inside, of_p.are i inside, of_q.are i inside)));
+    })

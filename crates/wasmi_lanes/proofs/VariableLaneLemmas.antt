@@ -1,5 +1,6 @@
--- One lane of a vector: by its bytes, and among lanes that are chosen by their numbers.
-use Rattle.std.proofs.Common.{ℕ, ◌+◌, ◌-◌, ◌*◌, ◌/◌, ◌%◌, ◌^◌, ◌<◌, ◌≡◌, List, [], ◌∷◌, get_or, replicate, map, refl, sym, subst, ap, ◌∙◌, arith, true, false, cond, eqb, ltb, bit_and, zero-add, mul_comm, mul-add, mul-one, add-mul, w8}
+-- One lane of a vector at an index: taken out by its bytes, which tables of indices pick, and put in where the number
+-- of a lane is the index.
+use Rattle.std.proofs.Common.{ℕ, ◌+◌, ◌-◌, ◌*◌, ◌/◌, ◌%◌, ◌^◌, ◌<◌, ◌≡◌, List, [], ◌∷◌, get_or, replicate, map, refl, ap, ◌∙◌, arith, true, false, cond, eqb, ltb, bit_and, zero-add, w8}
 use Rattle.wasmi_lanes.proofs.Common.{shr-shr, mod-pow-add, and_mask, zip2, sel_l, number_l, digits_l, ltb-true, swz_l, SwzOk, SwzOk-from_below, Each1-from_get_or, get_or-swz_l_below, Width, bits, lane, with_lane}
 use Rattle.std.proofs.lemmas.List.FromFn.{get_or-range_with_len, length-range_with_len, get_or-map-range_with_len}
 use Rattle.std.specs.List.{range_with_len}
@@ -9,7 +10,7 @@ use Rattle.wasmi_lanes.proofs.VectorLemmas.{lanes_make_vector, lane_below}
 use mir.Val.{hbits}
 use lib.Lanes.{top}
 
--- the numbers below n, in order
+-- the numbers of n lanes, in order
 numbered : (n : ℕ) → AreItems n 0 (λ i. i) (range_with_len 0 n)
 numbered n = record {
   long = length-range_with_len 0 n;
@@ -25,10 +26,9 @@ pub lane_written : (w : Width) (n v at item : ℕ) {r : ℕ} {numbers places : L
     → r < 2 ^ 128 → r ≡ with_lane w v at item
 unfolding with_lane
 lane_written w n v at item {r} lanes filled counted placed of_v written below =
-    let of_numbers = subst (AreItems n 0 (λ i. i)) (sym counted) (numbered n) in
-    let of_places = subst (AreItems n 0 (λ _. at)) (sym placed) (repeated n at) in
-    let chosen = chosen_by w eqb of_numbers of_places (repeated n item) of_v in
-    lanes_make_vector w n r _ filled below (λ i inside. written i inside ∙ chosen.are i inside)
+    let chosen = chosen_by w eqb (numbered n) (repeated n at) (repeated n item) of_v in
+    lanes_make_vector w n r _ filled below
+    (λ i inside. (rw (counted, placed) at (written i inside)) ∙ chosen.are i inside)
 
 -- ---- a lane of 16 or 32 bits, by its bytes
 
@@ -37,7 +37,7 @@ pub record IsByteAt (bytes : List ℕ) (i x : ℕ) : Type 0 where
   pub is : get_or bytes i 0 ≡ x
   pub fits : x < 256
 
--- the lowest 8 bits of the number of bytes are the first byte
+-- a lane of 8 bits, taken out by its bytes: the lowest 8 bits of the number of bytes are the first byte
 pub first_byte : (bytes : List ℕ) (x : ℕ) → IsByteAt bytes 0 x → bit_and (number_l 256 bytes % 2 ^ 32) 255 ≡ x
 first_byte bytes x first = and_mask (number_l 256 bytes % 2 ^ 32) 8 ∙ low bytes first
   where
@@ -45,14 +45,14 @@ first_byte bytes x first = and_mask (number_l 256 bytes % 2 ^ 32) 8 ∙ low byte
     low [] first = omega (arith, first.is)
     low (a ∷ rest) first = omega (arith, first.is, first.fits)
 
--- the lowest 16 bits of the number of bytes are the first two bytes
+-- a lane of 16 bits, taken out by its bytes: the lowest 16 bits of the number of bytes are the first two bytes
 pub first_two_bytes : (bytes : List ℕ) (x y : ℕ) → IsByteAt bytes 0 x → IsByteAt bytes 1 y
     → number_l 256 bytes % 65536 ≡ x + 256 * y
 first_two_bytes [] x y first second = omega (arith, first.is, second.is)
 first_two_bytes (a ∷ []) x y first second = omega (arith, first.is, first.fits, second.is)
 first_two_bytes (a ∷ b ∷ rest) x y first second = omega (arith, first.is, first.fits, second.is, second.fits)
 
--- the lowest 32 bits of the number of bytes are the first four bytes
+-- a lane of 32 bits, taken out by its bytes: the lowest 32 bits of the number of bytes are the first four bytes
 pub first_four_bytes : (bytes : List ℕ) (x y z t : ℕ) → IsByteAt bytes 0 x → IsByteAt bytes 1 y → IsByteAt bytes 2 z
     → IsByteAt bytes 3 t
     → number_l 256 bytes % 2 ^ 32 ≡ (x + 256 * y) + 65536 * (z + 256 * t)
@@ -66,28 +66,22 @@ first_four_bytes (a ∷ b ∷ rest) x y z t first second third fourth =
     (record { is = fourth.is; fits = fourth.fits }) in
     omega (arith, first.is, first.fits, second.is, second.fits, upper)
 
--- a lane is made of its two halves
+-- a lane that is taken out by its bytes is made of its two halves
 pub joined_halves : (b v k : ℕ)
     → v / 2 ^ (b * (2 * k)) % 2 ^ b + 2 ^ b * (v / 2 ^ (b * (2 * k + 1)) % 2 ^ b) ≡ v / 2 ^ ((b + b) * k) % 2 ^ (b + b)
 joined_halves b v k =
-    let n = v / 2 ^ ((b + b) * k) in
-    let twice : 2 * k ≡ k + k = omega arith in
-    let first : b * (2 * k) ≡ (b + b) * k = ap (λ m. b * m) twice ∙ mul-add b k k ∙ sym (add-mul b b k) in
-    let second : b * (2 * k + 1) ≡ (b + b) * k + b = omega (arith, mul-add b (2 * k) 1, mul-one b, first) in
-    let low : v / 2 ^ (b * (2 * k)) % 2 ^ b ≡ n % 2 ^ b = ap (λ m. v / 2 ^ m % 2 ^ b) first in
-    let high : v / 2 ^ (b * (2 * k + 1)) % 2 ^ b ≡ n / 2 ^ b % 2 ^ b =
-    ap (λ m. v / 2 ^ m % 2 ^ b) second ∙ ap (λ m. m % 2 ^ b) (sym (shr-shr v ((b + b) * k) b)) in
-    omega (arith, low, ap (λ m. 2 ^ b * m) high, mul_comm (2 ^ b) (n / 2 ^ b % 2 ^ b), mod-pow-add n b b)
+    let first : b * (2 * k) ≡ (b + b) * k = omega arith in
+    let second : b * (2 * k + 1) ≡ (b + b) * k + b = omega arith in
+    rw (first, second, ← shr-shr v ((b + b) * k) b, mod-pow-add (v / 2 ^ ((b + b) * k)) b b) (omega arith)
 
 -- ---- bytes by indices below 16
 
--- what holds of the numbers below n, as it was computed
+-- two tables of n entries that were computed to be the same have the same entry at each index
 pub computed : {X : Type 0} (f g : ℕ → X) (n k : ℕ) (d : X) → map f (range_with_len 0 n) ≡ map g (range_with_len 0 n)
     → k < n → f k ≡ g k
 computed f g n k d same below =
-    let place : 0 + k ≡ k = omega arith in
-    sym (get_or-map-range_with_len f 0 n k k d below place) ∙ ap (λ l. get_or l k d) same
-    ∙ get_or-map-range_with_len g 0 n k k d below place
+    rw (← get_or-map-range_with_len f 0 n k k d below (zero-add k), same)
+    (get_or-map-range_with_len g 0 n k k d below (zero-add k))
 
 -- a byte of a vector, picked by the index that is a byte of a word of a table
 pub byte_picked : (word f : ℕ → ℕ) (n v k i : ℕ) (xs : List ℕ)
@@ -98,7 +92,7 @@ byte_picked word f n v k i xs is_picked below inside same = record {
   fits = lane_below w8 v (f k);
 }
 
--- where each word of a table has bytes below 16
+-- an index that is a byte of a word of a table is below 16, where those of all its words are
 pub indices_inside : (f : ℕ → ℕ) (n k i : ℕ)
     → map (λ m. map (λ j. ltb (lane w8 (f m) j) 16) (range_with_len 0 16)) (range_with_len 0 n)
     ≡ map (λ _. map (λ _. true) (range_with_len 0 16)) (range_with_len 0 n) → k < n → i < 16
@@ -113,7 +107,7 @@ indices_inside f n k i same below inside =
 abbrev indices_of : ℕ → List ℕ
 indices_of x = digits_l 256 16 (number_l (2 ^ 32) (x ∷ 0 ∷ 0 ∷ 0 ∷ []))
 
--- they are the lanes of the word
+-- the indices that are the bytes of a word are its lanes of 8 bits
 pub indices_are : (x : ℕ) → AreItems 16 0 (lane w8 x) (indices_of x)
 indices_are x =
     let word : ℕ = number_l (2 ^ 32) (x ∷ 0 ∷ 0 ∷ 0 ∷ []) in

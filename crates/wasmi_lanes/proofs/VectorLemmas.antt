@@ -1,5 +1,5 @@
--- A vector is made of its lanes.
-use Rattle.std.proofs.Common.{ℕ, zero, suc, ◌+◌, ◌-◌, ◌*◌, ◌/◌, ◌%◌, ◌^◌, ◌<◌, ◌≡◌, refl, sym, ◌∙◌, ap, ap₂, subst, arith, add_comm, Bool, true, false, if◌then◌else◌, ◌≤◌, inl, inr, add-mul, mul-zero, one-mul, le_refl, mod-eq_of_lt, mod-lt, mul-suc, w8, w64, ◌==◌}
+-- A vector is made of its lanes, and of the items that these are read as; the lanes of a vector that is made of lanes.
+use Rattle.std.proofs.Common.{ℕ, zero, suc, ◌+◌, ◌-◌, ◌*◌, ◌/◌, ◌%◌, ◌^◌, ◌<◌, ◌≡◌, refl, sym, ◌∙◌, ap₂, arith, add_comm, Bool, true, false, if◌then◌else◌, ◌≤◌, inl, inr, mul-zero, le_refl, mod-eq_of_lt, mod-lt, w8, w64, ◌==◌}
 use Rattle.wasmi_lanes.proofs.Common.{pow_pos, mod-pow-add, pow-add, div-mul-add, mod-mul-add, mul-le, mod-one, mod-mod, lane, lane_count, first_lanes, from_lanes, unary_of_lanes, binary_of_lanes, comparison_of_lanes, splat_of, with_lane, Width, w16, w32, bits, cases_eq, field}
 use Rattle.wasmi_lanes.specs.declared.item.LaneInteger.{Ghosts}
 use mir.Syntax.{w128}
@@ -17,27 +17,15 @@ lanes_of_width w32 n e = omega arith
 lanes_of_width w64 n e = omega arith
 lanes_of_width w128 n e = omega arith
 
--- a number of the parts l' and t' is the number of parts that are equal to them
-joined : (l l' t t' p v : ℕ) → l ≡ l' → t ≡ t' → v ≡ t' * p + l' → l + t * p ≡ v
-joined l l' t t' p v e f h = ap (λ k. k + t * p) e ∙ ap (λ k. l' + k * p) f ∙ add_comm l' (t' * p) ∙ sym h
-
 -- where f gives the first n lanes of v, the number of these lanes is the bits of v that they take
 first_lanes_are : (w : Width) (v : ℕ) (f : ℕ → ℕ) (n : ℕ) → ((i : ℕ) → i < n → lane w v i ≡ f i)
     → first_lanes w n f ≡ v % 2 ^ (bits w * n)
 unfolding first_lanes
-first_lanes_are w v f zero each =
-    sym (ap (λ k. v % 2 ^ k) (mul-zero (bits w)) ∙ mod-one v)
+first_lanes_are w v f zero each = rw (mul-zero (bits w)) (sym (mod-one v))
 first_lanes_are w v f (suc n) each =
-    let b = bits w in
-    let low : first_lanes w n f ≡ v % 2 ^ (b * n) = first_lanes_are w v f n (λ i h. each i (omega arith)) in
-    let top : lane w v n ≡ f n = each n (omega arith) in
-    let same : f n % 2 ^ b ≡ v / 2 ^ (b * n) % 2 ^ b =
-    ap (λ k. k % 2 ^ b) (sym top) ∙ mod-eq_of_lt (lane_below w v n) in
-    let e : b * suc n ≡ b + b * n = mul-suc b n ∙ add_comm (b * n) b in
-    let split : v % 2 ^ (b * suc n) ≡ (v / 2 ^ (b * n) % 2 ^ b) * 2 ^ (b * n) + v % 2 ^ (b * n) =
-    ap (λ k. v % 2 ^ k) e ∙ mod-pow-add v b (b * n) in
-    joined (first_lanes w n f) (v % 2 ^ (b * n)) (f n % 2 ^ b) (v / 2 ^ (b * n) % 2 ^ b) (2 ^ (b * n))
-    (v % 2 ^ (b * suc n)) low same split
+    let e : bits w * suc n ≡ bits w + bits w * n = omega arith in
+    rw (first_lanes_are w v f n (λ i h. each i (omega arith)), ← each n (omega arith), e)
+    (rw (mod-mod (v / 2 ^ (bits w * n)) (2 ^ bits w), mod-pow-add v (bits w) (bits w * n)) (add_comm _ _))
 
 -- the lanes of a width make 128 bits
 pub lane_count_fills : (w : Width) → lane_count w * bits w ≡ 128
@@ -48,14 +36,13 @@ pub lanes_make_vector : (w : Width) (n v : ℕ) (f : ℕ → ℕ) → n * bits w
     → ((i : ℕ) → i < n → lane w v i ≡ f i) → v ≡ from_lanes w f
 lanes_make_vector w n v f filled below each =
     let whole : bits w * n ≡ 128 = omega arith in
-    sym (ap (λ k. first_lanes w k f) (lanes_of_width w n filled) ∙ first_lanes_are w v f n each
-    ∙ ap (λ k. v % 2 ^ k) whole ∙ mod-eq_of_lt below)
+    rw (lanes_of_width w n filled, first_lanes_are w v f n each, whole) (sym (mod-eq_of_lt below))
 
 -- lanes as items, an integer each
 module _ {A : Type 0} (item : Ghosts A) where
   -- what is read from a lane is in the range of its type
   pub item_fits : (v i : ℕ) (x : A) → x ≡ item.read (lane item.width v i) → item.Fits x
-  item_fits v i x is = subst item.Fits (sym is) (item.laws.read_fits (lane item.width v i) (lane_below item.width v i))
+  item_fits v i x is = rw is (item.laws.read_fits (lane item.width v i) (lane_below item.width v i))
 
   -- a vector whose lanes read as items has the numbers of these items as its lanes
   pub items_make_vector :
@@ -68,9 +55,8 @@ module _ {A : Type 0} (item : Ghosts A) where
   items_make_vector n items r f filled is below rows =
       lanes_make_vector item.width n r f filled below
       (λ i h.
-      sym (item.laws.image_of_read (lane item.width r i) (lane_below item.width r i))
-      ∙ ap item.image (sym (is i h))
-      ∙ rows i h (item_fits r i (items i) (is i h)))
+      rw (← item.laws.image_of_read (lane item.width r i) (lane_below item.width r i), ← is i h)
+      (rows i h (item_fits r i (items i) (is i h))))
 
   -- the first n items are what is read from the lanes of v
   abbrev pub AreLanesOf : ℕ → ℕ → (ℕ → A) → Type 0
@@ -101,16 +87,14 @@ module _ {A : Type 0} (item : Ghosts A) where
 -- the lanes of a vector that is made of lanes
 lanes_below : (w : Width) (f : ℕ → ℕ) (n : ℕ) → first_lanes w n f < 2 ^ (bits w * n)
 unfolding first_lanes
-lanes_below w f zero =
-    subst (λ k. 0 < 2 ^ k) (sym (mul-zero (bits w))) (omega arith)
+lanes_below w f zero = pow_pos (bits w * 0)
 lanes_below w f (suc n) =
     let p : ℕ = 2 ^ (bits w * n) in
     let x : ℕ = f n % 2 ^ bits w in
-    let next : bits w * suc n ≡ bits w + bits w * n = omega (arith, mul-suc (bits w) n) in
+    let next : bits w * suc n ≡ bits w + bits w * n = omega arith in
     let rows : (x + 1) * p ≤ 2 ^ bits w * p =
     mul-le (x + 1) p (2 ^ bits w) p (omega (arith, mod-lt (f n) (pow_pos (bits w)))) (le_refl p) in
-    subst (λ k. first_lanes w n f + x * p < 2 ^ k) (sym next)
-    (omega (arith, lanes_below w f n, pow-add 2 (bits w) (bits w * n), add-mul x 1 p, one-mul p))
+    rw next (omega (arith, lanes_below w f n, pow-add 2 (bits w) (bits w * n)))
 
 -- lane i of the number whose first n lanes are f is f i at the lane's width, where i is below n
 lane_of_first : (w : Width) (f : ℕ → ℕ) (n i : ℕ) → i < n → lane w (first_lanes w n f) i ≡ f i % 2 ^ bits w
@@ -123,21 +107,18 @@ lane_of_first w f (suc n) i inside =
     let v : ℕ = first_lanes w n f + x * p in
     let parts : v ≡ x * p + first_lanes w n f = omega arith in
     elim (cases_eq i n) as (λ _. lane w v i ≡ f i % 2 ^ b) [
-      | inl last ↦ ap (lane w v) last
-          ∙ ap (λ k. k % 2 ^ b) (ap (λ k. k / p) parts ∙ div-mul-add x p (first_lanes w n f) (lanes_below w f n))
-          ∙ mod-mod (f n) (2 ^ b) ∙ ap (λ k. f k % 2 ^ b) (sym last)
+      | inl last ↦ rw (last, parts, div-mul-add x p (first_lanes w n f) (lanes_below w f n)) (mod-mod (f n) (2 ^ b))
       | inr other ↦
-          let room : b * i + b ≤ b * n = omega (arith, mul-le b (suc i) b n (le_refl b) (omega arith), mul-suc b i) in
-          sym (field_mod (b * i) b (b * n) v room)
-          ∙ ap (λ k. lane w k i) (ap (λ k. k % p) parts ∙ mod-mul-add x p (first_lanes w n f) (lanes_below w f n))
-          ∙ lane_of_first w f n i (omega arith)
+          let room : b * i + b ≤ b * n = omega (arith, mul-le b (suc i) b n (le_refl b) (omega arith)) in
+          rw (← field_mod (b * i) b (b * n) v room, parts, mod-mul-add x p (first_lanes w n f) (lanes_below w f n))
+          (lane_of_first w f n i (omega arith))
     ]
 
 -- lane i of the vector of the lanes f is f i at the lane's width, where n lanes make 128 bits
 pub lane_of_lanes : (w : Width) (f : ℕ → ℕ) (n i : ℕ) → n * bits w ≡ 128 → i < n
     → lane w (from_lanes w f) i ≡ f i % 2 ^ bits w
 lane_of_lanes w f n i filled inside =
-    ap (λ k. lane w (first_lanes w k f) i) (lanes_of_width w n filled) ∙ lane_of_first w f n i inside
+    rw (lanes_of_width w n filled) (lane_of_first w f n i inside)
 
 module _ (w : Width) (i : ℕ) (inside : i < 128 / bits w) where
   -- lane i of the vector of the lanes f is f i at the lane's width
@@ -158,7 +139,7 @@ module _ (w : Width) (i : ℕ) (inside : i < 128 / bits w) where
 
   -- all ones and all zeros are within the width
   choice_fits : (t : Bool) → (if t then 2 ^ bits w - 1 else 0) % 2 ^ bits w ≡ (if t then 2 ^ bits w - 1 else 0)
-  choice_fits true = mod-eq_of_lt (let fits : 2 ^ bits w - 1 < 2 ^ bits w = omega (arith, pow_pos (bits w)) in fits)
+  choice_fits true = mod-eq_of_lt (omega (arith, pow_pos (bits w)))
   choice_fits false = mod-eq_of_lt (pow_pos (bits w))
 
   -- lane i of a comparison is all ones where the test of the operands' lanes i holds, else all zeros

@@ -1,7 +1,10 @@
--- Sums, differences and inequality of the lanes of a word, and a word made of its lanes.
-use Rattle.std.proofs.Common.{◌≡◌, ℕ, zero, suc, ◌+◌, ◌-◌, ◌*◌, ◌%◌, ◌^◌, ◌<◌, ◌≤◌, ◌⊎◌, ap, ap₂, subst, ◌∙◌, arith, mod-eq_of_lt, bit_and, bit_or, bit_xor, cond, eqb, pow-suc, ◌/◌, List, [], ◌∷◌, sum, refl, sym, mul_assoc, mul_comm, add-mul, div-one, mul-one, zero-mul}
+-- Sums, differences and inequality of the lanes of a word, which may have unequal widths, also above the last top; a
+-- word made of its lanes.
+use Rattle.std.proofs.Common.{◌≡◌, ℕ, zero, suc, ◌+◌, ◌-◌, ◌*◌, ◌%◌, ◌^◌, ◌<◌, ◌≤◌, ◌⊎◌, ap, ap₂, ◌∙◌, arith, mod-eq_of_lt, bit_and, bit_or, bit_xor, cond, eqb, pow-suc, ◌/◌, List, [], ◌∷◌, sum, refl, sym, div-one, mul-one}
 use Rattle.wasmi_lanes.proofs.Common.{and_assoc, and_le_l, and_mask, div-add-mod', shr-shr, pow-add, bit_at, field, IsLane, IsLastLane, AreLanes, word_of_lanes, div-eq_of_lt}
 use Rattle.std.specs.Int.Bits.{and_self, and_zero_r, or_zero_r, xor_zero_r}
+use Rattle.std.proofs.Math.Nat.{sub-zero}
+use Rattle.std.proofs.Math.Numerals.{sub-one}
 use Rattle.wasmi_lanes.proofs.FieldLemmas.{field_lt, field_and, field_or, field_xor, field_add, field_mod, field_not, field_wrapping_sub}
 use Rattle.wasmi_lanes.proofs.TopLemmas.{room, filled, lane_add, lane_sub, lane_differ}
 use Rattle.std.proofs.lemmas.List.Sums.{sum_by-cons}
@@ -13,11 +16,11 @@ module _ (tops k w top : ℕ) (fits : tops < 2 ^ 64) (starts : (k ≡ 0) ⊎ (bi
   rest_is : field k w (2 ^ 64 - 1 - tops) ≡ 2 ^ w - 1 - top
   rest_is = field_not k w 64 tops within fits ∙ ap (λ n. 2 ^ w - 1 - n) is
 
-  -- v beside the tops
+  -- the field of what v has beside the tops
   kept : (v : ℕ) → field k w (bit_and v (2 ^ 64 - 1 - tops)) ≡ bit_and (field k w v) (2 ^ w - 1 - top)
   kept v = field_and k w v (2 ^ 64 - 1 - tops) ∙ ap (bit_and (field k w v)) rest_is
 
-  -- the tops of v
+  -- the field of what v has at the tops
   marked : (v : ℕ) → field k w (bit_and v tops) ≡ bit_and (field k w v) top
   marked v = field_and k w v tops ∙ ap (bit_and (field k w v)) is
 
@@ -35,14 +38,11 @@ module _ (tops k w top : ℕ) (fits : tops < 2 ^ 64) (starts : (k ≡ 0) ⊎ (bi
       (bit_and (bit_xor (field k w a) (field k w b)) top)
   sum_at a b =
       let rest : ℕ = 2 ^ 64 - 1 - tops in
-      field_xor k w ((bit_and a rest + bit_and b rest) % 2 ^ 64) (bit_and (bit_xor a b) tops)
-      ∙ ap₂ bit_xor
-      (field_mod k w 64 (bit_and a rest + bit_and b rest) within
-      ∙ field_add k w (bit_and a rest) (bit_and b rest) (omega (arith, below a, below b))
-      ∙ ap₂ (λ m n. (m + n) % 2 ^ w) (kept a) (kept b))
-      (marked (bit_xor a b) ∙ ap (λ n. bit_and n top) (field_xor k w a b))
+      rw (field_xor k w ((bit_and a rest + bit_and b rest) % 2 ^ 64) (bit_and (bit_xor a b) tops), marked (bit_xor a b))
+      (rw (field_mod k w 64 (bit_and a rest + bit_and b rest) within, field_xor k w a b)
+      (rw (field_add k w (bit_and a rest) (bit_and b rest) (omega (arith, below a, below b)), kept a, kept b)))
 
-  -- v with the tops set
+  -- the field of v with the tops set
   biased : (v : ℕ) → field k w (bit_or v tops) ≡ bit_or (field k w v) top
   biased v = field_or k w v tops ∙ ap (bit_or (field k w v)) is
 
@@ -54,13 +54,11 @@ module _ (tops k w top : ℕ) (fits : tops < 2 ^ 64) (starts : (k ≡ 0) ⊎ (bi
       (bit_and (bit_xor (field k w a) (2 ^ w - 1 - field k w b)) top)
   difference_at a b fits_b =
       let rest : ℕ = 2 ^ 64 - 1 - tops in
-      field_xor k w ((bit_or a tops + (2 ^ 64 - bit_and b rest)) % 2 ^ 64) (bit_and (bit_xor a (2 ^ 64 - 1 - b)) tops)
-      ∙ ap₂ bit_xor
-      (field_wrapping_sub k w 64 (bit_or a tops) (bit_and b rest) within (omega (arith, and_le_l b rest))
-      (omega (arith, below b, filled tops k a starts)) ∙ ap₂ (λ m n. (m + (2 ^ w - n)) % 2 ^ w) (biased a) (kept b))
-      (marked (bit_xor a (2 ^ 64 - 1 - b))
-      ∙ ap (λ n. bit_and n top)
-      (field_xor k w a (2 ^ 64 - 1 - b) ∙ ap (bit_xor (field k w a)) (field_not k w 64 b within fits_b)))
+      let wrapped = field_wrapping_sub k w 64 (bit_or a tops) (bit_and b rest) within (omega (arith, and_le_l b rest))
+      (omega (arith, below b, filled tops k a starts)) in
+      rw (field_xor k w ((bit_or a tops + (2 ^ 64 - bit_and b rest)) % 2 ^ 64) (bit_and (bit_xor a (2 ^ 64 - 1 - b)) tops))
+      (rw (marked (bit_xor a (2 ^ 64 - 1 - b)), field_xor k w a (2 ^ 64 - 1 - b), field_not k w 64 b within fits_b)
+      (rw (wrapped, biased a, kept b)))
 
   -- the field of the marks of the lanes in which a and b differ is the mark of their fields
   differ_at : (a b : ℕ) →
@@ -71,28 +69,20 @@ module _ (tops k w top : ℕ) (fits : tops < 2 ^ 64) (starts : (k ≡ 0) ⊎ (bi
   differ_at a b =
       let rest : ℕ = 2 ^ 64 - 1 - tops in
       let x : ℕ = bit_xor a b in
-      let below_rest : 2 * (rest % 2 ^ k) < 2 ^ k = subst (λ n. 2 * (n % 2 ^ k) < 2 ^ k) (and_self rest) (below rest) in
-      let sum : field k w ((bit_and x rest + rest) % 2 ^ 64)
-      ≡ (bit_and (field k w x) (2 ^ w - 1 - top) + (2 ^ w - 1 - top)) % 2 ^ w =
-      field_mod k w 64 (bit_and x rest + rest) within
-      ∙ field_add k w (bit_and x rest) rest (omega (arith, below x, below_rest))
-      ∙ ap₂ (λ m n. (m + n) % 2 ^ w) (kept x) rest_is in
-      marked (bit_or ((bit_and x rest + rest) % 2 ^ 64) x)
-      ∙ ap (λ n. bit_and n top)
-      (field_or k w ((bit_and x rest + rest) % 2 ^ 64) x ∙ ap (λ n. bit_or n (field k w x)) sum)
-      ∙ ap (λ n. bit_and (bit_or ((bit_and n (2 ^ w - 1 - top) + (2 ^ w - 1 - top)) % 2 ^ w) n) top) (field_xor k w a b)
+      let below_rest = rw (and_self rest) at (below rest) in
+      rw (marked (bit_or ((bit_and x rest + rest) % 2 ^ 64) x), field_or k w ((bit_and x rest + rest) % 2 ^ 64) x)
+      (rw (field_mod k w 64 (bit_and x rest + rest) within)
+      (rw (field_add k w (bit_and x rest) rest (omega (arith, below x, below_rest)), kept x, rest_is, field_xor k w a b)))
 
--- a lane has a bit
+-- a lane of tops has a bit, so that none is 0 bits wide
 lane_has_a_bit : {A : Type 0} (tops k : ℕ) → IsLane tops k 0 → A
 lane_has_a_bit tops k lane = absurd (omega (arith, lane.top, field_lt k 0 tops))
 
 -- tops has in its lane of h + 1 bits the bit h alone
 top_is : (tops k h : ℕ) → IsLane tops k (suc h) → field k (suc h) tops ≡ 2 ^ h
-top_is tops k h lane =
-    let back : suc h - 1 ≡ h = omega arith in
-    lane.top ∙ ap (λ n. 2 ^ n) back
+top_is tops k h lane = rw (sub-one (suc h)) at lane.top
 
--- the complement of the top of h + 1 bits is all ones below it
+-- for sums and differences of the lanes of a word: the complement of the top of h + 1 bits is all ones below it
 beside_top : (h : ℕ) → 2 ^ suc h - 1 - 2 ^ h ≡ 2 ^ h - 1
 beside_top h = omega (arith, pow-suc 2 h)
 
@@ -102,11 +92,8 @@ pub add_lane : (tops k w a b : ℕ) → tops < 2 ^ 64 → IsLane tops k w →
     (bit_and (bit_xor a b) tops)) ≡ (field k w a + field k w b) % 2 ^ w
 add_lane tops k zero a b fits lane = lane_has_a_bit tops k lane
 add_lane tops k (suc h) a b fits lane =
-    let x : ℕ = field k (suc h) a in
-    let y : ℕ = field k (suc h) b in
-    sum_at tops k (suc h) (2 ^ h) fits lane.starts lane.within (top_is tops k h lane) a b
-    ∙ ap (λ r. bit_xor ((bit_and x r + bit_and y r) % 2 ^ suc h) (bit_and (bit_xor x y) (2 ^ h))) (beside_top h)
-    ∙ lane_add h x y (field_lt k (suc h) a) (field_lt k (suc h) b)
+    rw (sum_at tops k (suc h) (2 ^ h) fits lane.starts lane.within (top_is tops k h lane) a b, beside_top h)
+    (lane_add h _ _ (field_lt k (suc h) a) (field_lt k (suc h) b))
 
 -- at a lane of tops, the difference of two words without borrows over tops is that of the lanes, wrapped
 pub sub_lane : (tops k w a b : ℕ) → tops < 2 ^ 64 → b < 2 ^ 64 → IsLane tops k w →
@@ -114,12 +101,8 @@ pub sub_lane : (tops k w a b : ℕ) → tops < 2 ^ 64 → b < 2 ^ 64 → IsLane 
     (bit_and (bit_xor a (2 ^ 64 - 1 - b)) tops)) ≡ (field k w a + (2 ^ w - field k w b)) % 2 ^ w
 sub_lane tops k zero a b fits fits_b lane = lane_has_a_bit tops k lane
 sub_lane tops k (suc h) a b fits fits_b lane =
-    let x : ℕ = field k (suc h) a in
-    let y : ℕ = field k (suc h) b in
-    difference_at tops k (suc h) (2 ^ h) fits lane.starts lane.within (top_is tops k h lane) a b fits_b
-    ∙ ap (λ r. bit_xor ((bit_or x (2 ^ h) + (2 ^ suc h - bit_and y r)) % 2 ^ suc h)
-    (bit_and (bit_xor x (2 ^ suc h - 1 - y)) (2 ^ h))) (beside_top h)
-    ∙ lane_sub h x y (field_lt k (suc h) a) (field_lt k (suc h) b)
+    rw (difference_at tops k (suc h) (2 ^ h) fits lane.starts lane.within (top_is tops k h lane) a b fits_b, beside_top h)
+    (lane_sub h _ _ (field_lt k (suc h) a) (field_lt k (suc h) b))
 
 -- at a lane of tops, the marks of the lanes in which a and b differ have its top where these differ, else 0
 pub differ_lane : (tops k w a b : ℕ) → tops < 2 ^ 64 → IsLane tops k w →
@@ -128,51 +111,36 @@ pub differ_lane : (tops k w a b : ℕ) → tops < 2 ^ 64 → IsLane tops k w →
     ≡ cond (eqb (field k w a) (field k w b)) 0 (2 ^ (w - 1))
 differ_lane tops k zero a b fits lane = lane_has_a_bit tops k lane
 differ_lane tops k (suc h) a b fits lane =
-    let back : h ≡ suc h - 1 = omega arith in
-    let x : ℕ = field k (suc h) a in
-    let y : ℕ = field k (suc h) b in
-    differ_at tops k (suc h) (2 ^ h) fits lane.starts lane.within (top_is tops k h lane) a b
-    ∙ ap (λ r. bit_and (bit_or ((bit_and (bit_xor x y) r + r) % 2 ^ suc h) (bit_xor x y)) (2 ^ h)) (beside_top h)
-    ∙ lane_differ h x y (field_lt k (suc h) a) (field_lt k (suc h) b)
-    ∙ ap (λ n. cond (eqb x y) 0 (2 ^ n)) back
+    rw (differ_at tops k (suc h) (2 ^ h) fits lane.starts lane.within (top_is tops k h lane) a b, beside_top h)
+    (rw (sub-one (suc h)) (lane_differ h _ _ (field_lt k (suc h) a) (field_lt k (suc h) b)))
 
 -- ---- above the last top
 
--- all of a lane is beside no top
+-- above the last top of a word, all of a lane is beside the tops, of which it has none
 all_kept : (w x : ℕ) → x < 2 ^ w → bit_and x (2 ^ w - 1 - 0) ≡ x
-all_kept w x fits =
-    let none : 2 ^ w - 1 - 0 ≡ 2 ^ w - 1 = omega arith in
-    ap (bit_and x) none ∙ and_mask x w ∙ mod-eq_of_lt fits
-
--- no top is flipped
-unflipped : (x y : ℕ) → bit_xor x (bit_and y 0) ≡ x
-unflipped x y = ap (bit_xor x) (and_zero_r y) ∙ xor_zero_r x
+all_kept w x fits = rw (sub-zero (2 ^ w - 1), and_mask x w) (mod-eq_of_lt fits)
 
 -- above the last top, the sum of two words without carries over tops is the sum of the lanes, wrapped
 pub add_last : (tops k w a b : ℕ) → tops < 2 ^ 64 → IsLastLane tops k w →
     field k w (bit_xor ((bit_and a (2 ^ 64 - 1 - tops) + bit_and b (2 ^ 64 - 1 - tops)) % 2 ^ 64)
     (bit_and (bit_xor a b) tops)) ≡ (field k w a + field k w b) % 2 ^ w
 add_last tops k w a b fits last =
-    let within : k + w ≤ 64 = omega (arith, last.whole) in
-    sum_at tops k w 0 fits last.starts within last.free a b
-    ∙ unflipped _ _
-    ∙ ap₂ (λ m n. (m + n) % 2 ^ w) (all_kept w (field k w a) (field_lt k w a))
-    (all_kept w (field k w b) (field_lt k w b))
+    rw (sum_at tops k w 0 fits last.starts (omega (arith, last.whole)) last.free a b, and_zero_r, xor_zero_r)
+    (rw (all_kept w (field k w a) (field_lt k w a), all_kept w (field k w b) (field_lt k w b)))
 
 -- above the last top, the difference of two words without borrows over tops is that of the lanes, wrapped
 pub sub_last : (tops k w a b : ℕ) → tops < 2 ^ 64 → b < 2 ^ 64 → IsLastLane tops k w →
     field k w (bit_xor ((bit_or a tops + (2 ^ 64 - bit_and b (2 ^ 64 - 1 - tops))) % 2 ^ 64)
     (bit_and (bit_xor a (2 ^ 64 - 1 - b)) tops)) ≡ (field k w a + (2 ^ w - field k w b)) % 2 ^ w
 sub_last tops k w a b fits fits_b last =
-    let within : k + w ≤ 64 = omega (arith, last.whole) in
-    difference_at tops k w 0 fits last.starts within last.free a b fits_b
-    ∙ unflipped _ _
-    ∙ ap₂ (λ m n. (m + (2 ^ w - n)) % 2 ^ w) (or_zero_r (field k w a)) (all_kept w (field k w b) (field_lt k w b))
+    rw (difference_at tops k w 0 fits last.starts (omega (arith, last.whole)) last.free a b fits_b, and_zero_r)
+    (rw (xor_zero_r, or_zero_r (field k w a), all_kept w (field k w b) (field_lt k w b)))
 
--- a word's bits masked twice are those masked once
+-- for the inequality of the lanes of a word: bits that are masked by the tops twice are those masked once
 pub masked_twice : (x tops : ℕ) → bit_and (bit_and x tops) tops ≡ bit_and x tops
 masked_twice x tops = and_assoc tops x tops ∙ ap (bit_and x) (and_self tops)
 
+-- for `word_differ`: the marks of the lanes in which words differ
 pub ruleset differ = (differ_lane, masked_twice)
 
 -- the bits of v from start on, put together of their lanes
@@ -181,17 +149,13 @@ from_fields : (v start : ℕ) (widths : List ℕ) → v < 2 ^ 64 → start + sum
 unfolding field
 from_fields v start [] fits whole =
     let end : start ≡ 64 = omega arith in
-    sym (ap (λ n. v / 2 ^ n * 2 ^ n) end ∙ ap (λ n. n * 2 ^ 64) (div-eq_of_lt fits) ∙ zero-mul (2 ^ 64))
+    rw (end, div-eq_of_lt fits)
 from_fields v start (width ∷ widths) fits whole =
     let p : ℕ = 2 ^ start in
     let q : ℕ = 2 ^ width in
     let x : ℕ = v / p in
-    let rest : word_of_lanes (λ k w. field k w v) (start + width) widths
-    ≡ v / 2 ^ (start + width) * 2 ^ (start + width) =
-    from_fields v (start + width) widths fits (omega (arith, sum_by-cons (λ x. x) width widths)) in
-    let moved : x / q * (p * q) ≡ x / q * q * p = ap (λ n. x / q * n) (mul_comm p q) ∙ sym (mul_assoc (x / q) q p) in
-    ap (λ n. x % q * p + n) (rest ∙ ap₂ ◌*◌ (sym (shr-shr v start width)) (pow-add 2 start width) ∙ moved)
-    ∙ omega (arith, add-mul (x / q * q) (x % q) p, ap (λ n. n * p) (div-add-mod' x q))
+    let rest = from_fields v (start + width) widths fits (omega (arith, sum_by-cons (λ x. x) width widths)) in
+    rw (rest, ← shr-shr v start width, pow-add 2 start width) (omega (arith, ap (λ n. n * p) (div-add-mod' x q)))
 
 -- a word is the word of its own lanes, whatever their widths are, where these have the sum 64
 pub word_from_lanes : (v : ℕ) (widths : List ℕ) → v < 2 ^ 64 → sum widths ≡ 64

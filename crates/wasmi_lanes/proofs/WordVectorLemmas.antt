@@ -1,6 +1,8 @@
--- Vectors by their two words, and words of equal lanes.
-use Rattle.std.proofs.Common.{◌≡◌, ℕ, zero, suc, ◌+◌, ◌-◌, ◌*◌, ◌/◌, ◌%◌, ◌^◌, ◌<◌, ◌≤◌, ◌⊎◌, inl, inr, refl, sym, ap, ap₂, subst, ◌∙◌, arith, mul-suc, mul-zero, mul-add, mul_comm, w8, w64, one-add}
+-- Vectors by their two words, whose lanes are those of the words. Words with one number in each lane of one width: one
+-- with the highest bit of each lane divides a word into these lanes, also where the word's highest bit is left out.
+use Rattle.std.proofs.Common.{◌≡◌, ℕ, zero, suc, ◌+◌, ◌-◌, ◌*◌, ◌/◌, ◌%◌, ◌^◌, ◌<◌, ◌≤◌, ◌⊎◌, inl, inr, refl, sym, ap, ◌∙◌, arith, mul-zero, w8, w64, one-add, pow-suc}
 use Rattle.wasmi_lanes.proofs.Common.{cases_lt, pow_pos, shr-shr, field_of, zero-mod, mod_self, bit_at, Width, w16, w32, bits, lane, from_lanes, field, IsLane, IsLastLane, lanes_in_word, in_each_lane}
+use Rattle.std.proofs.Math.Numerals.{sub-one}
 use Rattle.std.proofs.Math.Pow.{mod-mod-pow}
 use Rattle.std.proofs.lemmas.Nat.Bits.{bit_at-pow_same}
 use Rattle.wasmi_raw.specs.RawVal.{vector_of}
@@ -35,13 +37,7 @@ module _ (w : Width) (whole : lanes_in_word w * bits w ≡ 64) where
 
   -- the lanes of two words make 128 bits
   pub filled : (lanes_in_word w + lanes_in_word w) * bits w ≡ 128
-  filled = omega (
-    arith,
-    whole,
-    mul_comm (lanes_in_word w) (bits w),
-    mul_comm (lanes_in_word w + lanes_in_word w) (bits w),
-    mul-add (bits w) (lanes_in_word w) (lanes_in_word w),
-  )
+  filled = omega (arith, whole)
 
   -- a lane of a vector, up to as many as a word has, is a lane of its low word
   pub low_lane : (v i : ℕ) → i < lanes_in_word w → lane w v i ≡ field (bits w * i) (bits w) (v % 2 ^ 64)
@@ -52,9 +48,8 @@ module _ (w : Width) (whole : lanes_in_word w * bits w ≡ 64) where
   pub high_lane : (v i : ℕ) → lane w v (lanes_in_word w + i) ≡ field (bits w * i) (bits w) (v / 2 ^ 64)
   unfolding field
   high_lane v i =
-      let place : bits w * (lanes_in_word w + i) ≡ 64 + bits w * i =
-      omega (arith, whole, mul_comm (lanes_in_word w) (bits w), mul-add (bits w) (lanes_in_word w) i) in
-      ap (λ k. v / 2 ^ k % 2 ^ bits w) place ∙ ap (λ x. x % 2 ^ bits w) (sym (shr-shr v 64 (bits w * i)))
+      let place : bits w * (lanes_in_word w + i) ≡ 64 + bits w * i = omega (arith, whole) in
+      rw (place, shr-shr v 64 (bits w * i))
 
   -- the vector of two words whose lanes are f of their numbers
   words_make_vector : (low high r : ℕ) (f : ℕ → ℕ) → MakeVector low high r
@@ -63,20 +58,16 @@ module _ (w : Width) (whole : lanes_in_word w * bits w ≡ 64) where
       → r ≡ from_lanes w f
   words_make_vector low high r f words low_is high_is =
       let n : ℕ = lanes_in_word w in
-      let low_fits : low < 2 ^ 64 = words.low_fits in
-      let high_fits : high < 2 ^ 64 = words.high_fits in
-      let is : r ≡ vector_of low high = words.is in
       let low_word : r % 2 ^ 64 ≡ low = omega arith in
       let high_word : r / 2 ^ 64 ≡ high = omega arith in
       let below : r < 2 ^ 128 = omega arith in
       lanes_make_vector w (n + n) r f filled below
       (λ i inside.
       elim (cases_lt i n) as (λ _. lane w r i ≡ f i) [
-        | inl lower ↦ low_lane r i lower ∙ ap (field (bits w * i) (bits w)) low_word ∙ low_is i lower
+        | inl lower ↦ rw (low_lane r i lower, low_word) (low_is i lower)
         | inr upper ↦
             let at : i ≡ n + (i - n) = omega arith in
-            ap (lane w r) at ∙ high_lane r (i - n) ∙ ap (field (bits w * (i - n)) (bits w)) high_word
-            ∙ high_is (i - n) (omega arith) ∙ ap f (sym at)
+            rw (at, high_lane r (i - n), high_word) (high_is (i - n) (omega arith))
       ])
 
   -- words whose lanes are a row of two operands' make the vector whose lanes are that row of the operands'
@@ -86,15 +77,11 @@ module _ (w : Width) (whole : lanes_in_word w * bits w ≡ 64) where
       → EachLane w (λ k. field k (bits w) high ≡ row (field k (bits w) high_a) (field k (bits w) high_b))
       → r ≡ from_lanes w (λ i. row (lane w a i) (lane w b i))
   words_make_binary {low_a} {high_a} {low_b} {high_b} {low} {high} row a b r of_a of_b of_r low_is high_is =
-      let lower : (v x i : ℕ) → x ≡ v % 2 ^ 64 → i < lanes_in_word w → field (bits w * i) (bits w) x ≡ lane w v i =
-      λ v x i e inside. ap (field (bits w * i) (bits w)) e ∙ sym (low_lane v i inside) in
-      let upper : (v x i : ℕ) → x ≡ v / 2 ^ 64 → field (bits w * i) (bits w) x ≡ lane w v (lanes_in_word w + i) =
-      λ v x i e. ap (field (bits w * i) (bits w)) e ∙ sym (high_lane v i) in
       words_make_vector low high r (λ i. row (lane w a i) (lane w b i)) of_r
-      (λ i inside. low_is i inside ∙ ap₂ row (lower a low_a i of_a.low_is inside) (lower b low_b i of_b.low_is inside))
-      (λ i inside. high_is i inside ∙ ap₂ row (upper a high_a i of_a.high_is) (upper b high_b i of_b.high_is))
+      (λ i inside. rw (low_lane a i inside, low_lane b i inside, ← of_a.low_is, ← of_b.low_is) (low_is i inside))
+      (λ i inside. rw (high_lane a i, high_lane b i, ← of_a.high_is, ← of_b.high_is) (high_is i inside))
 
-  -- and of one operand
+  -- words whose lanes are a row of one operand's make the vector whose lanes are that row of the operand's
   pub words_make_unary : {low_a high_a low high : ℕ} (row : ℕ → ℕ) (a r : ℕ) → AreWords a low_a high_a
       → MakeVector low high r
       → EachLane w (λ k. field k (bits w) low ≡ row (field k (bits w) low_a))
@@ -104,27 +91,25 @@ module _ (w : Width) (whole : lanes_in_word w * bits w ≡ 64) where
 
 -- ---- the highest bits of lanes of one width
 
--- a lane begins at the bottom, or right above the top of the lane below
+-- where a word has the highest bit of each lane of one width, a lane begins at the bottom, or right above such a bit
 top_below : (h n tops : ℕ) → ((j : ℕ) → j < n → field (suc h * j) (suc h) tops ≡ 2 ^ h) → (i : ℕ) → i < n
     → (suc h * i ≡ 0) ⊎ (bit_at tops (suc h * i - 1) ≡ 1)
 top_below h n tops each zero lt = inl (mul-zero (suc h))
 top_below h n tops each (suc j) lt =
-    let place : suc h * suc j - 1 ≡ suc h * j + h = omega (arith, mul-suc (suc h) j) in
-    inr (ap (bit_at tops) place ∙ sym (top_of_lane (suc h * j) h tops) ∙ ap (λ n. bit_at n h) (each j (omega arith))
-    ∙ bit_at-pow_same h)
+    let place : suc h * suc j - 1 ≡ suc h * j + h = omega arith in
+    inr (rw (place, ← top_of_lane (suc h * j) h tops, each j (omega arith)) (bit_at-pow_same h))
 
 -- a word that has the highest bit of each of n lanes of w bits divides its lowest bits into these lanes
 pub tops_each : (w n tops : ℕ) → 0 < w → n * w ≤ 64 → ((j : ℕ) → j < n → field (w * j) w tops ≡ 2 ^ (w - 1)) → (i : ℕ)
     → i < n → IsLane tops (w * i) w
 tops_each zero n tops pos fits each i lt = absurd (omega arith)
 tops_each (suc h) n tops pos fits each i lt = record {
-  starts = top_below h n tops
-      (λ j below. each j below ∙ ap (λ k. 2 ^ k) (let back : suc h - 1 ≡ h = omega arith in back)) i lt;
+  starts = top_below h n tops (λ j below. rw (sub-one (suc h)) at (each j below)) i lt;
   top = each i lt;
   within = omega (arith, lane_ends (suc h) n i lt);
 }
 
--- a width has at least one bit
+-- lanes of one width have a highest bit: a width is at least one bit
 pub some_bits : (w : Width) → 0 < bits w
 some_bits = elim [ w8 ↦ omega arith | w16 ↦ omega arith | w32 ↦ omega arith | w64 ↦ omega arith | w128 ↦ omega arith ]
 
@@ -134,15 +119,10 @@ pub lane_of_each : (w : Width) (n word : ℕ) → n < 2 ^ bits w → word ≡ in
 lane_of_each w n word fits is i inside =
     ap (field (bits w * i) (bits w)) is ∙ repeated_lane (bits w) (lanes_in_word w) i n fits inside
 
--- the highest of b bits alone is a number of b bits
+-- the highest bit of a lane of b bits alone, which a word has in each lane, is a number of b bits
 pub top_in_range : (b : ℕ) → 0 < b → 2 ^ (b - 1) < 2 ^ b
 top_in_range zero pos = absurd (omega arith)
-top_in_range (suc h) pos =
-    let back : suc h - 1 ≡ h = omega arith in
-    subst (λ n. 2 ^ n < 2 ^ suc h) (sym back) (omega (arith, pow_pos h, doubled h))
-  where
-    doubled : (h : ℕ) → 2 ^ suc h ≡ 2 ^ h + 2 ^ h
-    doubled h = omega arith
+top_in_range (suc h) pos = rw (sub-one (suc h), pow-suc 2 h) (omega (arith, pow_pos h))
 
 -- a word with the highest bit of each lane of w bits divides a word into these lanes
 pub equal_lanes : (w : Width) (tops : ℕ) → lanes_in_word w * bits w ≡ 64 → tops ≡ in_each_lane w (2 ^ (bits w - 1))
@@ -167,14 +147,11 @@ unfolding field
 last_is_free tops k zero pos top whole = absurd (omega arith)
 last_is_free tops k (suc h) pos top whole =
     let place : 63 ≡ h + k = omega arith in
-    let back : suc h - 1 ≡ h = omega arith in
     let low : tops / 2 ^ k % 2 ^ h ≡ 0 =
-    sym (mod-mod-pow (tops / 2 ^ k) 1 h) ∙ ap (λ n. tops / 2 ^ k % 2 ^ n % 2 ^ h) (one-add h)
-    ∙ ap (λ n. n % 2 ^ h) (top ∙ ap (λ n. 2 ^ n) back) ∙ mod_self (2 ^ h) in
-    ap (λ n. tops % 2 ^ n / 2 ^ k % 2 ^ suc h) place ∙ ap (λ n. n % 2 ^ suc h) (field_of tops h k ∙ low)
-    ∙ zero-mod (2 ^ suc h)
+    rw (← mod-mod-pow (tops / 2 ^ k) 1 h, one-add h, top, sub-one (suc h)) (mod_self (2 ^ h)) in
+    ap (λ n. tops % 2 ^ n / 2 ^ k % 2 ^ suc h) place ∙ rw (field_of tops h k, low) (zero-mod (2 ^ suc h))
 
--- a lane of tops, or the last one
+-- a lane of tops, or the last one, as where the highest bit of the word is left out
 abbrev pub InnerLane : ℕ → ℕ → ℕ → Type 0
 InnerLane tops start width = IsLane tops start width ⊎ IsLastLane tops start width
 
@@ -182,19 +159,15 @@ InnerLane tops start width = IsLane tops start width ⊎ IsLastLane tops start w
 without_last_top : (tops k w : ℕ) → 0 < w → IsLane tops k w → InnerLane (tops % 2 ^ 63) k w
 without_last_top tops k w pos lane = elim (cases_lt (k + w) 64) [
   | inl inner ↦
-      let start : k ≤ 63 = omega arith in
-      let inside : k + w ≤ 63 = omega arith in
       inl (record {
-        starts = starts_within tops k start lane.starts;
-        top = field_mod k w 63 tops inside
-            ∙ lane.top;
+        starts = starts_within tops k (omega arith) lane.starts;
+        top = field_mod k w 63 tops (omega arith) ∙ lane.top;
         within = lane.within;
       })
   | inr last ↦
-      let start : k ≤ 63 = omega (arith, lane.within) in
       let whole : k + w ≡ 64 = omega (arith, lane.within) in
       inr (record {
-        starts = starts_within tops k start lane.starts;
+        starts = starts_within tops k (omega arith) lane.starts;
         free = last_is_free tops k w pos lane.top whole;
         whole = whole;
       })
@@ -204,9 +177,7 @@ without_last_top tops k w pos lane = elim (cases_lt (k + w) 64) [
 pub inner_lanes : (w : Width) (inner : ℕ) → lanes_in_word w * bits w ≡ 64
     → inner ≡ in_each_lane w (2 ^ (bits w - 1)) % 2 ^ 63 → EachLane w (λ k. InnerLane inner k (bits w))
 inner_lanes w inner whole is i inside =
-    let tops : ℕ = in_each_lane w (2 ^ (bits w - 1)) in
-    subst (λ t. InnerLane t (bits w * i) (bits w)) (sym is)
-    (without_last_top tops (bits w * i) (bits w) (some_bits w) (equal_lanes w tops whole refl i inside))
+    rw is (without_last_top _ (bits w * i) (bits w) (some_bits w) (equal_lanes w _ whole refl i inside))
 
 -- ---- words whose lanes are a row of the operands' lanes make the vector of that row, which may name the width
 

@@ -1,10 +1,12 @@
--- The integers of a width are the items of lanes of the width, and lanes of the words of 64 bits.
+-- The signed and unsigned integers of a width are the items of lanes of the width; the numbers of the lanes of a word.
 use Rattle.std.specs.Prelude.{ℕ, pos, negsuc, ◌-◌, ◌*◌, ◌^◌, ◌<◌, ◌≡◌, refl, FitsSigned}
 use Rattle.std.specs.Int.{cast_unsigned}
 use Rattle.std.proofs.lemmas.Int.{of_z-to_z}
+use Rattle.std.proofs.Math.Facts.{sfits_to_z}
 use mir.Syntax.{w128}
+use mir.Val.{Fits}
 use Rattle.wasmi_types.specs.Numbers.{Width, w8, w16, w32, w64, bits, signed}
-use Rattle.wasmi_lanes.specs.Vector.{ReadsLanes, unsigned, signed_fits}
+use Rattle.wasmi_lanes.specs.Vector.{ReadsLanes, unsigned}
 use Rattle.wasmi_lanes.specs.Words.{IsWordLane, lanes_in_word, in_each_lane}
 
 -- the unsigned integers of a width
@@ -25,6 +27,10 @@ ones_of_minus_one = elim [ w8 ↦ refl | w16 ↦ refl | w32 ↦ refl | w64 ↦ r
 zeros_of_zero : (w : Width) → cast_unsigned w (pos 0) ≡ 0
 zeros_of_zero = elim [ w8 ↦ refl | w16 ↦ refl | w32 ↦ refl | w64 ↦ refl | w128 ↦ refl ]
 
+-- a number of w bits, read signed, is in the range of the signed type
+pub signed_fits : (w : Width) (n : ℕ) → n < 2 ^ bits w → FitsSigned w (signed w n)
+signed_fits w n below = let fits : Fits w n = record { fits = below } in sfits_to_z fits
+
 -- the signed integers of a width
 pub signed_lanes : (w : Width) → ReadsLanes w (signed w) (cast_unsigned w) (FitsSigned w) (negsuc 0) (pos 0)
 signed_lanes w = record {
@@ -34,7 +40,7 @@ signed_lanes w = record {
   read_fits = signed_fits w;
 }
 
--- numbers that are each what a width asks for
+-- the numbers of the lanes of a word are each what the width asks for
 pub word_lane : {w : Width} {lane_bits tops ones : ℕ}
     → lane_bits ≡ bits w
     → lanes_in_word w * bits w ≡ 64

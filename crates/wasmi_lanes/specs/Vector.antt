@@ -1,8 +1,7 @@
 -- A vector is a number below 2 ^ 128; its lanes of one width are its digits to the base 2 ^ width, lane 0 the lowest.
-use Rattle.std.specs.Prelude.{ℕ, zero, suc, ◌-◌, ◌*◌, ◌/◌, ◌%◌, ◌^◌, ◌<◌, ◌≡◌, ◌⊎◌, FitsSigned, ◌+◌, Bool, if◌then◌else◌, ◌==◌}
-use Rattle.std.proofs.Math.Facts.{sfits_to_z}
-use mir.Val.{Fits}
-use Rattle.wasmi_types.specs.Numbers.{Width, bits, signed}
+-- How lanes are read as items, and the vectors that are made of lanes, as of rows over the lanes of operands.
+use Rattle.std.specs.Prelude.{ℕ, zero, suc, ◌-◌, ◌*◌, ◌/◌, ◌%◌, ◌^◌, ◌<◌, ◌≡◌, ◌⊎◌, ◌+◌, Bool, if◌then◌else◌, ◌==◌}
+use Rattle.wasmi_types.specs.Numbers.{Width, bits}
 
 -- lane i of the vector v
 abbrev pub lane : Width → ℕ → ℕ → ℕ
@@ -15,10 +14,6 @@ lane_count w = 128 / bits w
 -- a lane's number as it is; `signed` reads it as a signed number
 abbrev pub unsigned : ℕ → ℕ
 unsigned n = n
-
--- a number of w bits, read signed, is in the range of the signed type
-pub signed_fits : (w : Width) (n : ℕ) → n < 2 ^ bits w → FitsSigned w (signed w n)
-signed_fits w n below = let fits : Fits w n = record { fits = below } in sfits_to_z fits
 
 -- the items of a type are those of lanes of a width: `read` gives the item of a lane's number, `image` the number of an
 -- item, and `Fits` says which items are in the type's range; `ones` is the item whose bits are all ones, `zeros` that
@@ -42,7 +37,7 @@ pub record AreWholeLanes {Item : Type 0} (width : Width) (lanes indices : ℕ)
 abbrev pub IsLaneCount : ℕ → Type 0
 IsLaneCount n = (n ≡ 2) ⊎ (n ≡ 4) ⊎ (n ≡ 8) ⊎ (n ≡ 16) ⊎ (n ≡ 32)
 
--- the steps at 0, 1 and so on, n of them, lead from `first` to `last`
+-- the steps at lanes 0, 1 and so on, n of them, lead from `first` to `last`
 abbrev pub ReducesTo : {A : Type 0} → (ℕ → A → A → Type 0) → ℕ → A → A → Type 0
 ReducesTo Step zero first last = last ≡ first
 ReducesTo {A} Step (suc n) first last = (middle : A) × ReducesTo Step n first middle × Step n middle last

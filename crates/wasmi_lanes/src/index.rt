@@ -1,4 +1,4 @@
-//! Immediate lane indices.
+//! Immediate lane indices: how one is made of a number, and of which numbers of lanes there are.
 
 ghost use Rattle.std.specs.Prelude.{◌≡◌, ◌<◌, ◌≤◌, ◌*◌, ℕ, Ok, Err, refl};
 ghost use Rattle.std.specs.Result.{OkIff};

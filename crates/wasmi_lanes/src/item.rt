@@ -1,4 +1,4 @@
-//! The integers that are lanes.
+//! The integers that are lanes: how a lane is read as one, and a vector as an array of them.
 #![tactic(auto, using(crate::proofs::SimdLaneLemmas::written))]
 
 ghost use Rattle.std.specs.Prelude.{FitsSigned, refl, pos, negsuc, ◌≡◌, ℕ, ◌*◌, ◌^◌, ◌<◌, slice_index_or};

@@ -1,4 +1,5 @@
-//! Vectors as lanes of one item, and the lane types; lanes made of narrower lanes, and of wider ones.
+//! Vectors as lanes of one item, and the lane types; lanes made of narrower lanes, and of wider
+//! ones, and numbers clamped to the range of a narrower lane.
 
 ghost use Rattle.std.specs.Prelude.{◌≡◌, refl, ℕ, ◌+◌, ◌*◌, ◌^◌, ◌<◌, [], ◌∷◌, slice_index_or, if◌then◌else◌, ◌==◌, Bool};
 ghost use Rattle.wasmi_types.specs.Numbers.{bits, w8, w16, clamp_signed};

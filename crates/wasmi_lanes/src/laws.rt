@@ -1,4 +1,4 @@
-//! Laws on lanes.
+//! Laws on the lanes of vectors and of words.
 
 ghost use Rattle.std.specs.Prelude.{◌≡◌, ℕ, ◌+◌, ◌-◌, ◌/◌, ◌%◌, ◌^◌, ◌<◌, ◌==◌, Bool, if◌then◌else◌, List, sum};
 ghost use Rattle.wasmi_types.specs.Numbers.{Width, bits};

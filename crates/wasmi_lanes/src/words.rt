@@ -1,4 +1,5 @@
-//! Sums, differences and inequality of the lanes of a word, without taking the lanes out.
+//! Sums, differences and inequality of the lanes of a word, without taking the lanes out, and the
+//! integers as which lanes of a word are read.
 //!
 //! `tops` has the highest bit of each lane, and no other; the widths may be unequal. No carry or
 //! borrow leaves a lane: at each lane's highest bit the operands are made to leave room. A sum or a

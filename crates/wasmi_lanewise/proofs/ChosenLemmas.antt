@@ -1,5 +1,6 @@
--- Bytes chosen by indices, as std::simd chooses them.
-use Rattle.std.proofs.Common.{ℕ, ◌%◌, ◌<◌, ◌≤◌, ◌≡◌, List, length, get_or, replicate, map, ◌+◌, ◌*◌, ◌/◌, ◌⊎◌, refl, sym, subst, ap, ap₂, ◌∙◌, arith, inl, inr, nat_lt, if◌then◌else◌, true, false, not, ◌||◌, cond, ltb, leb, bit_and, w8, Fits, mod-eq_of_lt, T}
+-- Bytes chosen by indices, as std::simd chooses them for the shuffle and the swizzle: by the low four bits of an index,
+-- and 0 for an index above 15.
+use Rattle.std.proofs.Common.{ℕ, ◌%◌, ◌<◌, ◌≤◌, ◌≡◌, List, length, get_or, replicate, map, ◌+◌, ◌*◌, ◌/◌, ◌⊎◌, refl, ◌∙◌, arith, inl, inr, nat_lt, if◌then◌else◌, true, false, not, ◌||◌, cond, ltb, leb, bit_and, w8, Fits, mod-eq_of_lt, T}
 use Rattle.wasmi_lanewise.proofs.Common.{zip2, sel_l, Each1, cases_lt, lt-ltb, le-ltb, and_mask, swz_l, SwzOk, SwzOk-from_Each1, Each1-from_get_or, Each1-get_or, below_from_Fits, get_or-swz_l, lane, lane_below}
 use Rattle.wasmi_lanes.proofs.ItemLemmas.{AreItems, items, repeated, zipped, chosen_by}
 use Rattle.wasmi_lanes.proofs.VariableLaneLemmas.{computed, indices_may_index, picked_inside_at}
@@ -34,9 +35,8 @@ module _ (js : List ℕ) (long : length js ≡ 16) where
       → get_or (sel_l (map (top 7) (zip2 (λ a b. cond (ltb a b) 255 0) js (replicate 16 16))) low high) i 0
       ≡ (if nat_lt (get_or js i 0) 16 then get_or low i 0 else get_or high i 0)
   chosen_at low high i long_low long_high inside =
-      let chosen =
-      chosen_by w8 ltb (items 16 js long) (repeated 16 16) (items 16 low long_low) (items 16 high long_high) in
-      chosen.are i inside
+      (chosen_by w8 ltb (items 16 js long) (repeated 16 16) (items 16 low long_low) (items 16 high long_high)).are i
+      inside
 
 -- a choice among 16 bytes by the nibbles: that it may be made, and what it gives
 pub ruleset choice_by_nibbles = (nibbles_may_index, picked_at)
@@ -74,7 +74,7 @@ module _ (js : List ℕ) (long : length js ≡ 16) (fits : Each1 (Fits w8) js) w
       let least = chosen_by w8 ltb of_js limits of_js limits in
       let sums = zipped (λ a b. (a + b) % 256) least (repeated 16 112) in
       let masked = zipped bit_and sums (repeated 16 143) in
-      record { long = masked.long; are = masked.are }
+      masked
 
   -- an index is below 256
   index_below : (i : ℕ) → i < 16 → get_or js i 0 < 256
@@ -88,8 +88,7 @@ module _ (js : List ℕ) (long : length js ≡ 16) (fits : Each1 (Fits w8) js) w
       (Each1-from_get_or (λ j. T (leb 128 j || ltb j 16)) (positions js) 0
       (λ i inside.
       let within : i < 16 = omega arith in
-      subst T (sym (ap (λ p. leb 128 p || ltb p 16) (positions_are.are i within)
-      ∙ position_fits (get_or js i 0) (index_below i within))) tt))
+      rw (positions_are.are i within, position_fits (get_or js i 0) (index_below i within)) tt))
 
   -- a position chooses the byte of a table at the index where the index is below 16, else 0
   pub picked_or_zero_at : (table : List ℕ) (i : ℕ) → i < 16
@@ -100,22 +99,15 @@ module _ (js : List ℕ) (long : length js ≡ 16) (fits : Each1 (Fits w8) js) w
       let j : ℕ = get_or js i 0 in
       let is = positions_are.are i inside in
       let place : 16 * ((0 + i) / 16) + get_or (positions js) i 0 ≡ position j = omega (arith, is) in
-      get_or-swz_l w8 16 table 0 (positions js) i (omega arith)
-      ∙ ap₂ (λ p q. cond (leb 128 p) 0 (get_or table q 0)) is place
-      ∙ ap (λ t. cond t 0 (get_or table (position j) 0)) (zero_from_16 j (index_below i inside))
-      ∙ either (cases_lt j 16)
+      rw (get_or-swz_l w8 16 table 0 (positions js) i (omega arith), place, is, zero_from_16 j (index_below i inside))
+      (either (cases_lt j 16))
     where
       either : {j : ℕ} → (j < 16) ⊎ (16 ≤ j)
           → cond (not (ltb j 16)) 0 (get_or table (position j) 0) ≡ (if nat_lt j 16 then get_or table j 0 else 0)
-      either {j} (inl below) =
-          ap (λ t. cond (not t) 0 (get_or table (position j) 0)) (lt-ltb j 16 below)
-          ∙ ap (λ k. get_or table k 0) (same_below_16 j below)
-          ∙ sym (ap (λ t. if t then get_or table j 0 else 0) (lt-ltb j 16 below))
-      either {j} (inr above) =
-          ap (λ t. cond (not t) 0 (get_or table (position j) 0)) (le-ltb j 16 above)
-          ∙ sym (ap (λ t. if t then get_or table j 0 else 0) (le-ltb j 16 above))
+      either {j} (inl below) = rw (same_below_16 j below, lt-ltb j 16 below)
+      either {j} (inr above) = rw (le-ltb j 16 above)
 
--- the bytes of a vector fit into 8 bits
+-- the bytes of a vector, as indices, fit into 8 bits
 pub bytes_fit : (v : ℕ) (xs : List ℕ) → length xs ≡ 16 → ((i : ℕ) → i < 16 → get_or xs i 0 ≡ lane w8 v i)
     → Each1 (Fits w8) xs
 bytes_fit v xs long are =
@@ -128,22 +120,13 @@ bytes_fit v xs long are =
 pub first_or_other : (k low high other : ℕ) (f : ℕ → ℕ) → low ≡ f (k % 16) → (16 ≤ k → high ≡ other)
     → (if nat_lt k 16 then low else high) ≡ (if nat_lt k 16 then f k else other)
 first_or_other k low high other f is_low is_other =
-    elim (cases_lt k 16) as (λ _. (if nat_lt k 16 then low else high) ≡ (if nat_lt k 16 then f k else other)) [
-      | inl below ↦
-          ap (λ t. if t then low else high) (lt-ltb k 16 below) ∙ is_low ∙ ap f (mod-eq_of_lt below)
-          ∙ sym (ap (λ t. if t then f k else other) (lt-ltb k 16 below))
-      | inr above ↦
-          ap (λ t. if t then low else high) (le-ltb k 16 above) ∙ is_other above
-          ∙ sym (ap (λ t. if t then f k else other) (le-ltb k 16 above))
+    elim (cases_lt k 16) [
+      | inl below ↦ rw (lt-ltb k 16 below, is_low, mod-eq_of_lt below)
+      | inr above ↦ rw (le-ltb k 16 above) (is_other above)
     ]
 
--- functions that agree below 16, at the numbers below 16
+-- of two tables that agree below 16, what an index below 16 chooses, else 0, is the same
 pub below_or_zero : (k : ℕ) (f g : ℕ → ℕ) → ((i : ℕ) → i < 16 → f i ≡ g i)
     → (if nat_lt k 16 then f k else 0) ≡ (if nat_lt k 16 then g k else 0)
 below_or_zero k f g same =
-    elim (cases_lt k 16) as (λ _. (if nat_lt k 16 then f k else 0) ≡ (if nat_lt k 16 then g k else 0)) [
-      | inl below ↦ ap (λ t. if t then f k else 0) (lt-ltb k 16 below) ∙ same k below
-          ∙ sym (ap (λ t. if t then g k else 0) (lt-ltb k 16 below))
-      | inr above ↦ ap (λ t. if t then f k else 0) (le-ltb k 16 above)
-          ∙ sym (ap (λ t. if t then g k else 0) (le-ltb k 16 above))
-    ]
+    elim (cases_lt k 16) [ inl below ↦ rw (lt-ltb k 16 below) (same k below) | inr above ↦ rw (le-ltb k 16 above) ]

@@ -1,9 +1,10 @@
--- The one bits of each lane, counted in lanes of twice the width step by step.
-use Rattle.std.proofs.Common.{◌≡◌, ℕ, zero, suc, ◌+◌, ◌-◌, ◌*◌, ◌/◌, ◌%◌, ◌^◌, ◌<◌, refl, sym, ap, ap₂, subst, ◌∙◌, ◌⊎◌, ◌≤◌, inl, inr, arith, mul-add, mul-suc, mul-zero, add-mul, mul-one, mod-lt, mod-eq_of_lt, bit_and, pow-suc, lit<, count_ones}
+-- The one bits of each lane, counted in lanes of twice the width step by step: a lane has those of its two halves,
+-- which masks take from the word.
+use Rattle.std.proofs.Common.{◌≡◌, ℕ, zero, suc, ◌+◌, ◌-◌, ◌*◌, ◌/◌, ◌%◌, ◌^◌, ◌<◌, refl, sym, ap, ap₂, ◌∙◌, ◌⊎◌, inl, inr, arith, mul-add, mul-suc, mul-zero, add-mul, mul-one, mod-lt, mod-eq_of_lt, bit_and, pow-suc, lit<, count_ones, add_comm}
 use Rattle.wasmi_lanewise.proofs.Common.{mod-one, pow_pos, shr-shr, mod-pow-add, and_mask, and_le_l, and_le_r, ones_cat, ones-le, mod-mod-pow, bit_at_and, bit_at_ones_above, bit_at, field, field_and, field_add, field_lt, field_mod, field_wrapping_sub, repeated_lane, top_of_lane}
 use Rattle.std.specs.Int.Count.{ones}
 use Rattle.wasmi_lanes.proofs.TopLemmas.{clear_top}
-use Rattle.wasmi_lanewise.proofs.WordLemmas.{mean_low}
+use Rattle.wasmi_lanewise.proofs.AverageLemmas.{mean_low}
 
 -- a lane, masked by the ones of its lower half, is that half
 lower_half : (w k y mask : ℕ) → field k (w + w) mask ≡ 2 ^ w - 1 → field k (w + w) (bit_and y mask) ≡ field k w y
@@ -17,16 +18,14 @@ upper_half : (w k y mask : ℕ) → field k (w + w) mask ≡ 2 ^ w - 1
     → field k (w + w) (bit_and (y / 2 ^ w) mask) ≡ field (k + w) w y
 unfolding field
 upper_half w k y mask is =
-    let turned : w + k ≡ k + w = omega arith in
-    lower_half w k (y / 2 ^ w) mask is ∙ ap (λ n. n % 2 ^ w) (shr-shr y w k ∙ ap (λ n. y / 2 ^ n) turned)
+    rw (lower_half w k (y / 2 ^ w) mask is, shr-shr y w k, add_comm w k)
 
 -- the one bits of a lane are those of its halves
 halves : (w k v : ℕ) → count_ones (field k (w + w) v) ≡ count_ones (field (k + w) w v) + count_ones (field k w v)
 unfolding field
 halves w k v =
-    ap count_ones (mod-pow-add (v / 2 ^ k) w w)
-    ∙ ones_cat w (v / 2 ^ k / 2 ^ w % 2 ^ w) (v / 2 ^ k % 2 ^ w) (mod-lt (v / 2 ^ k) (pow_pos w))
-    ∙ ap (λ n. count_ones (n % 2 ^ w) + count_ones (v / 2 ^ k % 2 ^ w)) (shr-shr v k w)
+    rw (mod-pow-add (v / 2 ^ k) w w, ← shr-shr v k w)
+    (ones_cat w (v / 2 ^ k / 2 ^ w % 2 ^ w) (v / 2 ^ k % 2 ^ w) (mod-lt (v / 2 ^ k) (pow_pos w)))
 
 -- the highest bit of a lane whose upper half is clear
 mask_off : (h n mask j : ℕ) → ((i : ℕ) → i < n → field ((suc h + suc h) * i) (suc h + suc h) mask ≡ 2 ^ suc h - 1)
@@ -42,15 +41,14 @@ mask_off h n mask j is below =
 half_room : (w n mask v i : ℕ) → 0 < w → ((j : ℕ) → j < n → field ((w + w) * j) (w + w) mask ≡ 2 ^ w - 1) → i < n →
     2 * (bit_and v mask % 2 ^ ((w + w) * i)) < 2 ^ ((w + w) * i)
 half_room w n mask v zero pos is lt =
-    subst (λ k. 2 * (bit_and v mask % 2 ^ k) < 2 ^ k) (sym (mul-zero (w + w))) (omega (arith, mod-one (bit_and v mask)))
+    rw (mul-zero (w + w)) (omega (arith, mod-one (bit_and v mask)))
 half_room zero n mask v (suc j) pos is lt = absurd (omega arith)
 half_room (suc h) n mask v (suc j) pos is lt =
     let top : ℕ = (suc h + suc h) * j + (h + suc h) in
     let place : (suc h + suc h) * suc j ≡ suc top = omega (arith, mul-suc (suc h + suc h) j) in
     let clear : bit_at (bit_and v mask) top ≡ 0 =
     omega (arith, bit_at_and v mask top, mask_off h n mask j is (omega arith)) in
-    subst (λ n. 2 * (bit_and v mask % 2 ^ n) < 2 ^ n) (sym place)
-    (omega (arith, clear_top (bit_and v mask) top clear, pow-suc 2 top))
+    rw place (omega (arith, clear_top (bit_and v mask) top clear, pow-suc 2 top))
 
 -- one step: from the counts of lanes of w bits to those of lanes of twice as many
 pub count_step : (w n v y mask : ℕ) → 0 < w → w + w < 2 ^ (w + w)
@@ -63,10 +61,8 @@ count_step w n v y mask pos fits is counted i lt =
     let k : ℕ = (w + w) * i in
     let even : w * (i + i) ≡ k = omega (arith, mul-add w i i, add-mul w w i) in
     let odd : w * (i + i + 1) ≡ k + w = omega (arith, mul-add w (i + i) 1, mul-one w) in
-    let low : field k w y ≡ count_ones (field k w v) =
-    subst (λ n. field n w y ≡ count_ones (field n w v)) even (counted (i + i) (omega arith)) in
-    let high : field (k + w) w y ≡ count_ones (field (k + w) w v) =
-    subst (λ n. field n w y ≡ count_ones (field n w v)) odd (counted (i + i + 1) (omega arith)) in
+    let low = rw even at (counted (i + i) (omega arith)) in
+    let high = rw odd at (counted (i + i + 1) (omega arith)) in
     let room : bit_and y mask % 2 ^ k + bit_and (y / 2 ^ w) mask % 2 ^ k < 2 ^ k =
     omega (arith, half_room w n mask y i pos is lt, half_room w n mask (y / 2 ^ w) i pos is lt) in
     let small : count_ones (field k w v) + count_ones (field (k + w) w v) < 2 ^ (w + w) =
@@ -88,16 +84,15 @@ pair_split : (k v : ℕ) → field k 2 v ≡ field (k + 1) 1 v * 2 + field k 1 v
 unfolding field
 pair_split k v = mod-pow-add (v / 2 ^ k) 1 1 ∙ ap (λ n. n % 2 * 2 + v / 2 ^ k % 2) (shr-shr v k 1)
 
--- the first step: a pair less its upper bit
+-- the first step of the count: a pair less its upper bit
 first_pairs : (v j : ℕ) → v < 2 ^ 64 → j < 32
     → field (2 * j) 2 ((v + (2 ^ 64 - bit_and (v / 2) 0x5555_5555_5555_5555)) % 2 ^ 64) ≡ count_ones (field (2 * j) 2 v)
 first_pairs v j fits below =
     let k : ℕ = 2 * j in
     let ones : ℕ = 0x5555_5555_5555_5555 in
     let upper : ℕ = bit_and (v / 2) ones in
-    let within : k + 2 ≤ 64 = omega arith in
     let small : upper < 2 ^ 64 = omega (arith, and_le_l (v / 2) ones) in
-    field_wrapping_sub k 2 64 v upper within small (mean_low k v ones (starts j below))
+    field_wrapping_sub k 2 64 v upper (omega arith) small (mean_low k v ones (starts j below))
     ∙ ap (λ n. (field k 2 v + (4 - n)) % 4) (upper_half 1 k v ones (masks j below))
     ∙ omega (
       arith,
@@ -137,36 +132,30 @@ module _ (v z : ℕ) (counted : (j : ℕ) → j < 16 → field (4 * j) 4 z ≡ c
       let first : bit_at z top ≡ 0 = ap (bit_at z) (sym lower) ∙ off (2 * i + 1) (omega arith) in
       let second : bit_at (z / 16) top ≡ 0 =
       ap (λ n. n % 2) (shr-shr z 4 top) ∙ ap (bit_at z) (sym upper) ∙ off (2 * i + 2) (omega arith) in
-      subst (λ k. z % 2 ^ k + z / 16 % 2 ^ k < 2 ^ k) (sym place)
-      (omega (arith, clear_top z top first, clear_top (z / 16) top second, pow-suc 2 top))
+      rw place (omega (arith, clear_top z top first, clear_top (z / 16) top second, pow-suc 2 top))
 
   -- 4 bits of the word moved down by 4 bits are the next 4 bits of the word
   shifted : (k : ℕ) → field k 4 (z / 16) ≡ field (k + 4) 4 z
   unfolding field
-  shifted k =
-      let turned : 4 + k ≡ k + 4 = omega arith in
-      ap (λ n. n % 16) (shr-shr z 4 k) ∙ ap (λ n. z / 2 ^ n % 16) turned
+  shifted k = rw (shr-shr z 4 k, add_comm 4 k)
 
   -- a byte of the masked sum is the number of ones of that byte of v
   last_bytes : (i : ℕ) → i < 8
       → field (8 * i) 8 (bit_and ((z + z / 16) % 2 ^ 64) 0x0f0f_0f0f_0f0f_0f0f) ≡ count_ones (field (8 * i) 8 v)
   last_bytes i below =
       let k : ℕ = 8 * i in
-      let within : k + 4 ≤ 64 = omega arith in
       let even : 4 * (2 * i) ≡ k = omega arith in
       let odd : 4 * (2 * i + 1) ≡ k + 4 = omega arith in
-      let low : field k 4 z ≡ count_ones (field k 4 v) =
-      subst (λ n. field n 4 z ≡ count_ones (field n 4 v)) even (counted (2 * i) (omega arith)) in
-      let high : field (k + 4) 4 z ≡ count_ones (field (k + 4) 4 v) =
-      subst (λ n. field n 4 z ≡ count_ones (field n 4 v)) odd (counted (2 * i + 1) (omega arith)) in
+      let low = rw even at (counted (2 * i) (omega arith)) in
+      let high = rw odd at (counted (2 * i + 1) (omega arith)) in
       let small : count_ones (field k 4 v) + count_ones (field (k + 4) 4 v) < 16 =
       omega (arith, ones-le 4 (field k 4 v) (field_lt k 4 v), ones-le 4 (field (k + 4) 4 v) (field_lt (k + 4) 4 v))
       in
       lower_half 4 k ((z + z / 16) % 2 ^ 64) 0x0f0f_0f0f_0f0f_0f0f (repeated_lane 8 8 i 15 (lit< tt) below)
-      ∙ field_mod k 4 64 (z + z / 16) within ∙ field_add k 4 z (z / 16) (room i below)
+      ∙ field_mod k 4 64 (z + z / 16) (omega arith) ∙ field_add k 4 z (z / 16) (room i below)
       ∙ ap₂ (λ m n. (m + n) % 16) low (shifted k ∙ high) ∙ mod-eq_of_lt small ∙ omega (arith, halves 4 k v)
 
--- the three steps at bytes
+-- the counts of the ones of each byte of a word, by the three steps
 abbrev pub counts : ℕ → ℕ
 counts v =
     let pairs = (v + (2 ^ 64 - bit_and (v / 2) 0x5555_5555_5555_5555)) % 2 ^ 64 in
@@ -185,8 +174,7 @@ counts_at v fits i below =
     let sums : ℕ = bit_and pairs twos + bit_and (pairs / 4) twos in
     last_bytes v (sums % 2 ^ 64)
     (λ j inside.
-    let within : 4 * j + 4 ≤ 64 = omega arith in
-    field_mod (4 * j) 4 64 sums within
+    field_mod (4 * j) 4 64 sums (omega arith)
     ∙ count_step 2 16 v pairs twos (lit< tt) (lit< tt) (λ m mb. repeated_lane 4 16 m 3 (lit< tt) mb)
     (λ m mb. first_pairs v m fits mb) j inside)
     i below

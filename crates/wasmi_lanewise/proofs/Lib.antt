@@ -1,4 +1,5 @@
 pub mod Common
+pub mod AverageLemmas
 pub mod ChosenLemmas
 pub mod CountLemmas
 pub mod MarkLemmas

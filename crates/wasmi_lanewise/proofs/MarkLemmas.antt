@@ -1,7 +1,11 @@
--- Words whose lanes are 0 or their top bit alone, and their lanes filled with ones.
-use Rattle.std.proofs.Common.{◌≡◌, ℕ, zero, suc, ◌+◌, ◌-◌, ◌*◌, ◌/◌, ◌%◌, ◌^◌, ◌<◌, ◌≤◌, ◌⊎◌, inl, inr, cond, eqb, Bool, true, false, not, refl, sym, ap, ap₂, subst, ◌∙◌, arith, mod-eq_of_lt, mod-lt, lit<, bit_and, bit_or, bit_xor, pow-suc, mul_comm, one-mul, mul-add, mul-one, one-add}
-use Rattle.wasmi_lanewise.proofs.Common.{zero-mod, mod_self, div-eq_of_lt, add-mod_right, mod-add-mod, pow_pos, shr-shr, mod-pow-add, field_of, shr_le, and_le_l, and_mask, or_lt, or_shifted, bit_at-zero, bit_at-pow_same, ne_eqb, cases_lt, mod-mod-pow, bit_at, field, IsLane, AreMarks, AreFilled, Width, bits, field_and, field_or, field_sub, field_xor, field_of_zero, same_words, top_of_lane, EachLane}
-use Rattle.std.specs.Int.Bits.{and_zero_r, or_add_and, xor_self, xor_zero_l}
+-- Marks: words whose lanes are 0 or their highest bit alone. They mark the lanes in which two words are equal or
+-- differ, and fill the marked lanes with ones; words are equal where no lane differs.
+use Rattle.std.proofs.Common.{◌≡◌, ℕ, zero, suc, ◌+◌, ◌-◌, ◌*◌, ◌/◌, ◌%◌, ◌^◌, ◌<◌, ◌⊎◌, inl, inr, cond, eqb, Bool, true, false, not, refl, sym, ap, ap₂, ◌∙◌, arith, mod-eq_of_lt, mod-lt, lit<, bit_xor, pow-suc, mul_comm, one-mul, mul-add, mul-one, one-add, add_comm, zero-mul, mul-zero, div-one}
+use Rattle.wasmi_lanewise.proofs.Common.{zero-mod, mod_self, div-eq_of_lt, pow_pos, shr-shr, mod-pow-add, shr_le, bit_at-zero, bit_at-pow_same, ne_eqb, cases_lt, mod-mod-pow, bit_at, field, IsLane, AreMarks, AreFilled, Width, bits, field_xor, field_of_zero, same_words, top_of_lane, EachLane, eq-eqb, tops_each, div-add-mod'}
+use Rattle.wasmi_lanewise.proofs.ShiftLemmas.{scaled_low, lane_scaled}
+use Rattle.wasmi_lanewise.proofs.WordLemmas.{ones_lane}
+use Rattle.std.specs.Int.Bits.{xor_self, xor_zero_l}
+use Rattle.std.proofs.lemmas.Bool.Decides.{eqb_tells}
 
 -- the h bits of v from k are clear
 abbrev Clear : ℕ → ℕ → ℕ → Type 0
@@ -13,102 +17,31 @@ unfolding field
 mark_clear h k v mark =
     let low : v / 2 ^ k % 2 ^ suc h % 2 ^ h ≡ v / 2 ^ k % 2 ^ h =
     ap (λ n. v / 2 ^ k % 2 ^ n % 2 ^ h) (sym (one-add h)) ∙ mod-mod-pow (v / 2 ^ k) 1 h in
-    elim mark [
-      | inl e ↦ sym low ∙ ap (λ n. n % 2 ^ h) e ∙ zero-mod (2 ^ h)
-      | inr e ↦ sym low ∙ ap (λ n. n % 2 ^ h) e
-          ∙ mod_self (2 ^ h)
-    ]
-
--- the bits below k of marks that were shifted down
-low_shifted : (h k v : ℕ) → Clear h v k → v / 2 ^ h % 2 ^ k ≤ v % 2 ^ k
-low_shifted h k v clear =
-    let cut : v % 2 ^ (k + h) / 2 ^ h ≡ v / 2 ^ h % 2 ^ k = field_of v k h in
-    let turned : k + h ≡ h + k = omega arith in
-    let parts : v % 2 ^ (k + h) ≡ 0 * 2 ^ k + v % 2 ^ k =
-    ap (λ n. v % 2 ^ n) turned ∙ mod-pow-add v h k ∙ ap (λ n. n * 2 ^ k + v % 2 ^ k) clear in
-    omega (arith, shr_le (v % 2 ^ (k + h)) h)
+    elim mark [ inl e ↦ rw (← low, e, zero-mod (2 ^ h)) | inr e ↦ rw (← low, e, mod_self (2 ^ h)) ]
 
 -- a lane of marks that were shifted down to its lowest bit
 lane_shifted : (h k v : ℕ) → Clear h v (k + suc h) → field k (suc h) (v / 2 ^ h) ≡ bit_at v (k + h)
 unfolding field
 lane_shifted h k v clear =
-    let place : h + k ≡ k + h = omega arith in
     let more : suc h ≡ h + 1 = omega arith in
     let up : k + h + 1 ≡ k + suc h = omega arith in
-    let high : v / 2 ^ (k + h) / 2 ^ 1 % 2 ^ h ≡ 0 =
-    ap (λ n. n % 2 ^ h) (shr-shr v (k + h) 1) ∙ ap (λ n. v / 2 ^ n % 2 ^ h) up ∙ clear in
+    let high : v / 2 ^ (k + h) / 2 ^ 1 % 2 ^ h ≡ 0 = rw (shr-shr v (k + h) 1, up) clear in
     let split : v / 2 ^ (k + h) % 2 ^ (h + 1) ≡ (v / 2 ^ (k + h) / 2 ^ 1 % 2 ^ h) * 2 ^ 1 + v / 2 ^ (k + h) % 2 ^ 1 =
     mod-pow-add (v / 2 ^ (k + h)) h 1 in
-    ap (λ n. n % 2 ^ suc h) (shr-shr v h k) ∙ ap₂ (λ m n. v / 2 ^ m % 2 ^ n) place more ∙ omega (arith, split, high)
+    rw (shr-shr v h k, add_comm h k, more) (omega (arith, split, high))
 
--- a lane of marks less its lowest bit
-less_case : (h f b : ℕ) → (f ≡ 0) ⊎ (f ≡ 2 ^ h) → b ≡ bit_at f h → (f + (2 ^ suc h - b)) % 2 ^ suc h ≡ f - b
-less_case h f b (inl e) at =
-    let none : b ≡ 0 = at ∙ ap (λ n. bit_at n h) e ∙ bit_at-zero h in
-    let all : f + (2 ^ suc h - b) ≡ 2 ^ suc h = omega arith in
-    let less : 0 ≡ f - b = omega arith in
-    ap (λ n. n % 2 ^ suc h) all ∙ mod_self (2 ^ suc h) ∙ less
-less_case h f b (inr e) at =
-    let one : b ≡ 1 = at ∙ ap (λ n. bit_at n h) e ∙ bit_at-pow_same h in
-    let sum : f + (2 ^ suc h - b) ≡ (f - b) + 2 ^ suc h = omega (arith, pow_pos h, pow_pos (suc h)) in
-    let small : f - b < 2 ^ suc h = omega (arith, pow-suc 2 h, pow_pos h) in
-    ap (λ n. n % 2 ^ suc h) sum ∙ add-mod_right (f - b) (2 ^ suc h) ∙ mod-eq_of_lt small
-
--- a lane of marks less its lowest bit lies below the mark, and fills the lane with it
-fill_case : (h f b : ℕ) → (f ≡ 0) ⊎ (f ≡ 2 ^ h) → b ≡ bit_at f h → bit_or f (f - b) ≡ cond (eqb f 0) 0 (2 ^ suc h - 1)
-fill_case h f b (inl e) at =
-    let less : f - b ≡ 0 = omega arith in
-    ap₂ bit_or e less ∙ ap (λ n. cond (eqb n 0) 0 (2 ^ suc h - 1)) (sym e)
-fill_case h f b (inr e) at =
-    let one : b ≡ 1 = at ∙ ap (λ n. bit_at n h) e ∙ bit_at-pow_same h in
-    let less : f - b ≡ 2 ^ h - 1 = omega arith in
-    let below : 2 ^ h - 1 < 2 ^ h = omega (arith, pow_pos h) in
-    let joined : bit_or (2 ^ h) (2 ^ h - 1) ≡ 2 ^ suc h - 1 =
-    ap (λ n. bit_or n (2 ^ h - 1)) (sym (one-mul (2 ^ h))) ∙ or_shifted 1 h (2 ^ h - 1) below
-    ∙ omega (arith, pow-suc 2 h, pow_pos h) in
+-- the highest bit of a lane of marks, times c
+bit_times : (h f c : ℕ) → (f ≡ 0) ⊎ (f ≡ 2 ^ h) → bit_at f h * c ≡ cond (eqb f 0) 0 c
+bit_times h f c (inl e) = rw (e, bit_at-zero h) (zero-mul c)
+bit_times h f c (inr e) =
     let some : eqb (2 ^ h) 0 ≡ false = ne_eqb (2 ^ h) 0 (λ z. absurd (omega (arith, pow_pos h))) in
-    ap₂ bit_or e less ∙ joined
-    ∙ sym (ap (λ n. cond (eqb n 0) 0 (2 ^ suc h - 1)) e ∙ ap (λ t. cond t 0 (2 ^ suc h - 1)) some)
-
--- a lane of marks less its lowest bit has no bit in common with the lane
-apart_case : (h f b : ℕ) → (f ≡ 0) ⊎ (f ≡ 2 ^ h) → b ≡ bit_at f h → bit_and f (f - b) ≡ 0
-apart_case h f b (inl e) at =
-    let less : f - b ≡ 0 = omega arith in
-    ap (bit_and f) less ∙ and_zero_r f
-apart_case h f b (inr e) at =
-    let one : b ≡ 1 = at ∙ ap (λ n. bit_at n h) e ∙ bit_at-pow_same h in
-    let less : f - b ≡ 2 ^ h - 1 = omega arith in
-    ap₂ bit_and e less ∙ and_mask (2 ^ h) h ∙ mod_self (2 ^ h)
-
-module _ (h k v : ℕ) (mark : (field k (suc h) v ≡ 0) ⊎ (field k (suc h) v ≡ 2 ^ h)) (next : Clear h v (k + suc h)) where
-  abbrev lowest : ℕ
-  lowest = field k (suc h) (v / 2 ^ h)
-
-  -- the lane of the marks that were shifted down is the mark's bit
-  lowest_is : lowest ≡ bit_at (field k (suc h) v) h
-  lowest_is = lane_shifted h k v next ∙ sym (top_of_lane k h v)
-
-  -- the lane of the marks less the shifted ones is the lane less that bit
-  less_lane : field k (suc h) (v - v / 2 ^ h) ≡ field k (suc h) v - lowest
-  less_lane =
-      field_sub k (suc h) v (v / 2 ^ h) (shr_le v h) (low_shifted h k v (mark_clear h k v mark))
-      ∙ less_case h (field k (suc h) v) lowest mark lowest_is
-
-  -- joined with the marks less the shifted ones, a marked lane is all ones, and another all zeros
-  fill_lane : field k (suc h) (bit_or v (v - v / 2 ^ h)) ≡ cond (eqb (field k (suc h) v) 0) 0 (2 ^ suc h - 1)
-  fill_lane = field_or k (suc h) v (v - v / 2 ^ h) ∙ ap (bit_or (field k (suc h) v)) less_lane
-      ∙ fill_case h (field k (suc h) v) lowest mark lowest_is
-
-  -- the marks and the marks less the shifted ones have no bit in common in the lane
-  apart_lane : field k (suc h) (bit_and v (v - v / 2 ^ h)) ≡ 0
-  apart_lane = field_and k (suc h) v (v - v / 2 ^ h) ∙ ap (bit_and (field k (suc h) v)) less_lane
-      ∙ apart_case h (field k (suc h) v) lowest mark lowest_is
+    rw (e, bit_at-pow_same h, some) (one-mul c)
 
 -- in lanes of b bits of a word, n of them, each is 0 or its highest bit alone
 abbrev Marked : ℕ → ℕ → ℕ → Type 0
 Marked b n v = (i : ℕ) → i < n → (field (b * i) b v ≡ 0) ⊎ (field (b * i) b v ≡ 2 ^ (b - 1))
 
--- what follows a lane is the next lane, or nothing
+-- above a lane of marks stands the next lane, or nothing, so that the bits there are clear
 next_clear : (h n v : ℕ) → v < 2 ^ 64 → n * suc h ≡ 64
     → ((i : ℕ) → i < n → (field (suc h * i) (suc h) v ≡ 0) ⊎ (field (suc h * i) (suc h) v ≡ 2 ^ h))
     → (i : ℕ) → i < n → Clear h v (suc h * i + suc h)
@@ -131,34 +64,45 @@ filled v top = ((v + v) % 2 ^ 64 + (2 ^ 64 - v / 2 ^ top)) % 2 ^ 64
 pub filled_below : (v top : ℕ) → filled v top < 2 ^ 64
 filled_below v top = mod-lt ((v + v) % 2 ^ 64 + (2 ^ 64 - v / 2 ^ top)) (lit< tt)
 
--- where no mark stands among what lies below the marks
-filled_is : (v top : ℕ) → v < 2 ^ 64 → bit_and v (v - v / 2 ^ top) ≡ 0 → filled v top ≡ bit_or v (v - v / 2 ^ top)
-filled_is v top fits apart =
-    let half : ℕ = v / 2 ^ top in
-    let less : half ≤ v = shr_le v top in
-    let joined : bit_or v (v - half) ≡ v + (v - half) = omega (arith, or_add_and v (v - half)) in
-    let below : v - half < 2 ^ 64 = omega arith in
-    let sum : (v + v) + (2 ^ 64 - half) ≡ bit_or v (v - half) + 2 ^ 64 = omega arith in
-    mod-add-mod (v + v) (2 ^ 64) (2 ^ 64 - half) ∙ ap (λ n. n % 2 ^ 64) sum
-    ∙ add-mod_right (bit_or v (v - half)) (2 ^ 64) ∙ mod-eq_of_lt (or_lt 64 v (v - half) fits below)
-
 module _ (h n v : ℕ) (fits : v < 2 ^ 64) (whole : n * suc h ≡ 64)
     (marks : (i : ℕ) → i < n → (field (suc h * i) (suc h) v ≡ 0) ⊎ (field (suc h * i) (suc h) v ≡ 2 ^ h)) where
-  -- the marks and the marks less the shifted ones have no bit in common
-  apart : bit_and v (v - v / 2 ^ h) ≡ 0
-  apart =
-      let less : bit_and v (v - v / 2 ^ h) < 2 ^ 64 = omega (arith, and_le_l v (v - v / 2 ^ h)) in
-      same_words (suc h) n (bit_and v (v - v / 2 ^ h)) 0
-      (subst (λ k. bit_and v (v - v / 2 ^ h) < 2 ^ k) (sym whole) less) (pow_pos (n * suc h))
-      (λ i lt. apart_lane h (suc h * i) v (marks i lt) (next_clear h n v fits whole marks i lt)
-      ∙ sym (field_of_zero (suc h * i) (suc h)))
+  -- a lane of all ones
+  abbrev ones : ℕ
+  ones = 2 ^ suc h - 1
+
+  -- a lane of the marks that were shifted down, times all ones, is all ones where it was marked, else all zeros
+  shifted_times : (i : ℕ) → i < n
+      → field (suc h * i) (suc h) (v / 2 ^ h) * ones ≡ cond (eqb (field (suc h * i) (suc h) v) 0) 0 ones
+  shifted_times i lt =
+      rw (lane_shifted h (suc h * i) v (next_clear h n v fits whole marks i lt), ← top_of_lane (suc h * i) h v)
+      (bit_times h (field (suc h * i) (suc h) v) ones (marks i lt))
+
+  -- such a product stays in its lane
+  times_fits : (i : ℕ) → i < n → field (suc h * i) (suc h) (v / 2 ^ h) * ones < 2 ^ suc h
+  times_fits i lt = rw (shifted_times i lt) (chosen_fits (eqb (field (suc h * i) (suc h) v) 0))
+    where
+      chosen_fits : (t : Bool) → cond t 0 ones < 2 ^ suc h
+      chosen_fits true = pow_pos (suc h)
+      chosen_fits false = omega (arith, pow_pos (suc h))
+
+  -- the filled marks are the marks that were shifted down, times all ones
+  filled_is : 0 < n → filled v h ≡ v / 2 ^ h * ones
+  filled_is some =
+      let u : ℕ = v / 2 ^ h in
+      let clear = rw (mul-zero (suc h), div-one v) at (mark_clear h (suc h * 0) v (marks 0 some)) in
+      let sum : ones + 1 ≡ 2 ^ h + 2 ^ h = omega (arith, pow-suc 2 h, pow_pos h) in
+      let twice : u * ones + u ≡ v + v =
+      omega (arith, mul-add u ones 1, mul-one u, ap (λ k. u * k) sum, mul-add u (2 ^ h) (2 ^ h), div-add-mod' v (2 ^ h)) in
+      let small : u < 2 ^ 64 = omega (arith, shr_le v h) in
+      let below = rw (mul_comm (suc h) n, whole, mod-eq_of_lt small) at (scaled_low (suc h) ones u n times_fits) in
+      omega arith
 
   -- a lane of the filled marks is all ones where it was marked, else all zeros
   filled_lane : (i : ℕ) → i < n
       → field (suc h * i) (suc h) (filled v h) ≡ cond (eqb (field (suc h * i) (suc h) v) 0) 0 (2 ^ suc h - 1)
   filled_lane i lt =
-      ap (field (suc h * i) (suc h)) (filled_is v h fits apart)
-      ∙ fill_lane h (suc h * i) v (marks i lt) (next_clear h n v fits whole marks i lt)
+      ap (field (suc h * i) (suc h)) (filled_is (omega arith))
+      ∙ lane_scaled (suc h) n ones (v / 2 ^ h) times_fits i lt ∙ shifted_times i lt
 
 -- a lane of marks that were filled is all ones where it was marked, else all zeros
 pub marks_filled : (b n v top : ℕ) → top ≡ b - 1 → v < 2 ^ 64 → n * b ≡ 64 → Marked b n v → (i : ℕ) → i < n
@@ -166,10 +110,7 @@ pub marks_filled : (b n v top : ℕ) → top ≡ b - 1 → v < 2 ^ 64 → n * b 
 marks_filled zero n v top is fits whole marks i lt = absurd (omega (arith, whole))
 marks_filled (suc h) n v top is fits whole marks i lt =
     let back : suc h - 1 ≡ h = omega arith in
-    ap (λ m. field (suc h * i) (suc h) (filled v m)) (is ∙ back)
-    ∙ filled_lane h n v fits whole
-    (λ j below. subst (λ m. (field (suc h * j) (suc h) v ≡ 0) ⊎ (field (suc h * j) (suc h) v ≡ 2 ^ m)) back
-    (marks j below)) i lt
+    rw (is, back) (filled_lane h n v fits whole (λ j below. rw back at (marks j below)) i lt)
 
 -- ---- the lanes of which a test holds
 
@@ -180,8 +121,7 @@ pub record Marks (w : Width) (t : ℕ → Bool) (r : ℕ) : Type 0 where
 -- what marks lanes is a word of marks
 pub marks_are : {w : Width} {t : ℕ → Bool} {r : ℕ} → Marks w t r → AreMarks w r
 marks_are {w} {t} marks i inside =
-    subst (λ n. (n ≡ 0) ⊎ (n ≡ 2 ^ (bits w - 1))) (sym (marks.marked i inside))
-    (either_mark (t (bits w * i)) (2 ^ (bits w - 1)))
+    rw (marks.marked i inside) (either_mark (t (bits w * i)) (2 ^ (bits w - 1)))
   where
     either_mark : (t : Bool) (p : ℕ) → (cond t p 0 ≡ 0) ⊎ (cond t p 0 ≡ p)
     either_mark true p = inr refl
@@ -191,8 +131,7 @@ marks_are {w} {t} marks i inside =
 pub marked_filled : {w : Width} (t : ℕ → Bool) {r : ℕ} (f : ℕ) → Marks w t r → AreFilled w r f
     → EachLane w (λ k. field k (bits w) f ≡ cond (t k) (2 ^ bits w - 1) 0)
 marked_filled {w} t f marks fills i inside =
-    fills i inside ∙ ap (λ n. cond (eqb n 0) 0 (2 ^ bits w - 1)) (marks.marked i inside)
-    ∙ full (t (bits w * i)) (2 ^ (bits w - 1)) (2 ^ bits w - 1) (pow_pos (bits w - 1))
+    rw (fills i inside, marks.marked i inside) (full (t (bits w * i)) _ (2 ^ bits w - 1) (pow_pos (bits w - 1)))
   where
     full : (t : Bool) (p q : ℕ) → 0 < p → cond (eqb (cond t p 0) 0) 0 q ≡ cond t q 0
     full true p q pos = ap (λ b. cond b 0 q) (ne_eqb p 0 (λ z. absurd (omega arith)))
@@ -202,7 +141,7 @@ marked_filled {w} t f marks fills i inside =
 abbrev pub are_equal : Width → ℕ → ℕ → ℕ → Bool
 are_equal w a b k = eqb (field k (bits w) a) (field k (bits w) b)
 
--- whether they differ
+-- whether the lanes of a and b that begin at k differ
 abbrev pub are_different : Width → ℕ → ℕ → ℕ → Bool
 are_different w a b k = not (are_equal w a b k)
 
@@ -232,3 +171,62 @@ module _ (w : Width) (tops a b r : ℕ) (lanes : EachLane w (λ k. IsLane tops k
       other_mark : (t : Bool) (p : ℕ) → bit_xor (cond t 0 p) p ≡ cond t p 0
       other_mark true p = xor_zero_l p
       other_mark false p = xor_self p
+
+-- ---- words that are equal, where no lane is marked as different
+
+-- r has the highest bits of those of the n lanes of w bits in which a and b differ
+abbrev DiffersIn : ℕ → ℕ → ℕ → ℕ → ℕ → Type 0
+DiffersIn w n a b r =
+    (i : ℕ) → i < n → field (w * i) w r ≡ cond (eqb (field (w * i) w a) (field (w * i) w b)) 0 (2 ^ (w - 1))
+
+-- words of which no lane differs are the same
+same_where_none_differs : (w n a b r : ℕ) → a < 2 ^ (n * w) → b < 2 ^ (n * w) → DiffersIn w n a b r → r ≡ 0 → a ≡ b
+same_where_none_differs w n a b r fits_a fits_b differs none =
+    same_words w n a b fits_a fits_b
+    (λ i inside. same_lane (field (w * i) w a) (field (w * i) w b)
+    (sym (differs i inside) ∙ ap (field (w * i) w) none ∙ field_of_zero (w * i) w))
+  where
+    same_lane : (x y : ℕ) → cond (eqb x y) 0 (2 ^ (w - 1)) ≡ 0 → x ≡ y
+    same_lane x y is = elim (eqb_tells x y) [
+      | inl same ↦ same.1
+      | inr other ↦ absurd (omega (arith, pow_pos (w - 1), sym (ap (λ t. cond t 0 (2 ^ (w - 1))) other.0) ∙ is))
+    ]
+
+-- of two words that are the same, no lane differs
+none_differs_where_same : (w n a b r : ℕ) → r < 2 ^ (n * w) → DiffersIn w n a b r → a ≡ b → r ≡ 0
+none_differs_where_same w n a b r fits differs same =
+    same_words w n r 0 fits (pow_pos (n * w))
+    (λ i inside.
+    rw (differs i inside, eq-eqb _ _ (ap (field (w * i) w) same)) (sym (field_of_zero (w * i) w)))
+
+-- the bits of a word are its lanes of one bit, each with itself as its mark
+bit_lane : (i : ℕ) → i < 64 → IsLane (2 ^ 64 - 1) (1 * i) 1
+bit_lane = tops_each 1 64 (2 ^ 64 - 1) (omega arith) (omega arith) (λ j inside. ones_lane (1 * j) 1 (omega arith))
+
+-- words of which r has the bits that differ
+abbrev DiffersInBits : ℕ → ℕ → ℕ → Type 0
+DiffersInBits a b r =
+    (start width : ℕ) → IsLane (2 ^ 64 - 1) start width
+    → field start width r ≡ cond (eqb (field start width a) (field start width b)) 0 (2 ^ (width - 1))
+
+module _ {a b r : ℕ} (fits_a : a < 2 ^ 64) (fits_b : b < 2 ^ 64) (differs : DiffersInBits a b r) where
+  -- where no bit differs, a choice by whether the words are equal is its first
+  pub equal_where_zero : (p q : ℕ) → r ≡ 0 → p ≡ cond (eqb a b) p q
+  equal_where_zero p q none =
+      rw (eq-eqb a b (same_where_none_differs 1 64 a b r fits_a fits_b
+      (λ i inside. differs (1 * i) 1 (bit_lane i inside)) none))
+
+  -- where some bit differs, it is its second
+  pub different_where_some : (p q : ℕ) → r < 2 ^ 64 → (r ≡ 0 → ⊥) → q ≡ cond (eqb a b) p q
+  different_where_some p q fits some =
+      rw (ne_eqb a b (λ same. some
+      (none_differs_where_same 1 64 a b r fits (λ i inside. differs (1 * i) 1 (bit_lane i inside)) same)))
+
+-- the choice by whether two words are equal, inverted
+pub turned_choice : {x : ℕ} (a b : ℕ) → x ≡ cond (eqb a b) (2 ^ 64 - 1) 0
+    → 2 ^ 64 - 1 - x ≡ cond (not (eqb a b)) (2 ^ 64 - 1) 0
+turned_choice a b is = ap (λ n. 2 ^ 64 - 1 - n) is ∙ turned (eqb a b)
+  where
+    turned : (t : Bool) → 2 ^ 64 - 1 - cond t (2 ^ 64 - 1) 0 ≡ cond (not t) (2 ^ 64 - 1) 0
+    turned true = refl
+    turned false = refl

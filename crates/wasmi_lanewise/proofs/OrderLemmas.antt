@@ -1,8 +1,10 @@
--- The order of lanes, and what is chosen by it. Numbers of w bits, moved by half of their range, stand in the order of
--- the signed numbers with their bits.
-use Rattle.std.proofs.Common.{ℕ, ℤ, suc, ◌+◌, ◌-◌, ◌*◌, ◌%◌, ◌^◌, ◌<◌, ◌≤◌, ◌≡◌, min, max, Bool, true, false, not, cond, if◌then◌else◌, ltb, leb, refl, sym, ap, ap₂, ◌∙◌, arith, inl, inr, pos, negsuc, int_lt, int_le, mod-eq_of_lt, w8}
-use Rattle.wasmi_lanewise.proofs.Common.{pow_pos, int_min, int_max, add-mod_right, cases_lt, lt-ltb, le-ltb, le-leb, lt-leb, ltb-true, ltb-false, Width, w16, w32, w64, bits, signed, wrap, lane, lane_count, from_lanes, comparison_of_lanes, field, field_not, field_of_zero, lane_ends, lanes_make_vector, lane_below, lane_count_fills, lane_of_comparison, v128_not}
+-- Comparisons by an order of lanes, what is chosen by it, and the vectors that are made of such rows of lanes, or of
+-- inverted comparisons. Numbers of w bits, moved by half of their range, stand in the order of the signed numbers with
+-- their bits.
+use Rattle.std.proofs.Common.{ℕ, ℤ, suc, ◌+◌, ◌-◌, ◌*◌, ◌%◌, ◌^◌, ◌<◌, ◌≤◌, ◌≡◌, min, max, Bool, true, false, not, cond, if◌then◌else◌, ltb, leb, refl, sym, ap, ap₂, ◌∙◌, arith, pos, negsuc, int_lt, int_le, mod-eq_of_lt, w8}
+use Rattle.wasmi_lanewise.proofs.Common.{pow_pos, int_min, int_max, add-mod_right, lt-ltb, le-ltb, ltb-true, ltb-false, Width, w16, w32, w64, bits, signed, wrap, lane, lane_count, from_lanes, comparison_of_lanes, field, field_not, field_of_zero, lane_ends, lanes_make_vector, lane_below, lane_count_fills, lane_of_comparison, v128_not}
 use Rattle.wasmi_types.proofs.NumbersLemmas.{wrap_of_bits}
+use Rattle.std.proofs.lemmas.Bool.Decides.{leb_tells}
 use mir.Syntax.{w128}
 use mir.Val.{sel, hbits}
 
@@ -25,18 +27,11 @@ read_as w low x = sel low (pos x) (negsuc (2 ^ bits w - suc x))
 -- two comparisons that follow from each other give the same
 pub same_less : (a b c d : ℕ) → (a < b → c < d) → (b ≤ a → d ≤ c) → ltb a b ≡ ltb c d
 same_less a b c d up down =
-    elim (cases_lt a b) as (λ _. ltb a b ≡ ltb c d) [
-      | inl below ↦ lt-ltb a b below ∙ sym (lt-ltb c d (up below))
-      | inr above ↦ le-ltb a b above ∙ sym (le-ltb c d (down above))
-    ]
+    grind (arith, leb_tells)
 
 -- a number is at most another just where that one isn't less
 pub at_most_is_not_less : (a b : ℕ) → leb a b ≡ not (ltb b a)
-at_most_is_not_less a b =
-    elim (cases_lt b a) as (λ _. leb a b ≡ not (ltb b a)) [
-      | inl above ↦ lt-leb a b above ∙ sym (ap not (lt-ltb b a above))
-      | inr below ↦ le-leb a b below ∙ sym (ap not (le-ltb b a below))
-    ]
+at_most_is_not_less a b = grind (arith, leb_tells)
 
 -- an integer is at most another just where that one isn't less
 pub int_at_most_is_not_less : (a b : ℤ) → int_le a b ≡ not (int_lt b a)
@@ -54,26 +49,23 @@ module _ (w : Width) where
   high_biased : (x : ℕ) → 2 ^ hbits w ≤ x → x < 2 ^ bits w → biased w x ≡ x - 2 ^ hbits w
   high_biased x above fits =
       let sum : x + 2 ^ hbits w ≡ (x - 2 ^ hbits w) + 2 ^ bits w = omega (arith, whole_is w) in
-      ap (λ n. (x + n) % 2 ^ bits w) (half_is w) ∙ ap (λ n. n % 2 ^ bits w) sum
-      ∙ add-mod_right (x - 2 ^ hbits w) (2 ^ bits w) ∙ mod-eq_of_lt (omega arith)
+      rw (half_is w, sum, add-mod_right (x - 2 ^ hbits w) (2 ^ bits w)) (mod-eq_of_lt (omega arith))
 
   module _ (x y : ℕ) (fits_x : x < 2 ^ bits w) (fits_y : y < 2 ^ bits w) where
     -- moved numbers are in the order of the signed numbers, read by the half of the range in which each lies
     less_where : (low_x low_y : Bool) → ltb x (2 ^ hbits w) ≡ low_x → ltb y (2 ^ hbits w) ≡ low_y
         → ltb (biased w x) (biased w y) ≡ int_lt (read_as w low_x x) (read_as w low_y y)
     less_where true true is_x is_y =
-        ap₂ ltb (low_biased x (ltb-true x (2 ^ hbits w) is_x)) (low_biased y (ltb-true y (2 ^ hbits w) is_y))
-        ∙ same_less (x + 2 ^ hbits w) (y + 2 ^ hbits w) x y (λ h. omega arith) (λ h. omega arith)
+        rw (low_biased x (ltb-true x (2 ^ hbits w) is_x), low_biased y (ltb-true y (2 ^ hbits w) is_y))
+        (same_less (x + 2 ^ hbits w) (y + 2 ^ hbits w) x y (λ h. omega arith) (λ h. omega arith))
     less_where true false is_x is_y =
         let below = ltb-true x (2 ^ hbits w) is_x in
-        let above = ltb-false y (2 ^ hbits w) is_y in
-        ap₂ ltb (low_biased x below) (high_biased y above fits_y)
-        ∙ le-ltb (x + 2 ^ hbits w) (y - 2 ^ hbits w) (omega (arith, whole_is w))
+        rw (low_biased x below, high_biased y (ltb-false y (2 ^ hbits w) is_y) fits_y)
+        (le-ltb (x + 2 ^ hbits w) (y - 2 ^ hbits w) (omega (arith, whole_is w)))
     less_where false true is_x is_y =
         let above = ltb-false x (2 ^ hbits w) is_x in
-        let below = ltb-true y (2 ^ hbits w) is_y in
-        ap₂ ltb (high_biased x above fits_x) (low_biased y below)
-        ∙ lt-ltb (x - 2 ^ hbits w) (y + 2 ^ hbits w) (omega (arith, whole_is w))
+        rw (high_biased x above fits_x, low_biased y (ltb-true y (2 ^ hbits w) is_y))
+        (lt-ltb (x - 2 ^ hbits w) (y + 2 ^ hbits w) (omega (arith, whole_is w)))
     less_where false false is_x is_y =
         let above_x = ltb-false x (2 ^ hbits w) is_x in
         let above_y = ltb-false y (2 ^ hbits w) is_y in
@@ -87,17 +79,11 @@ module _ (w : Width) where
 
 -- of two numbers, the second where it is less, else the first, is the smaller
 pub smaller_is : (a b : ℕ) → (if ltb b a then b else a) ≡ min a b
-smaller_is a b = elim (cases_lt b a) as (λ _. (if ltb b a then b else a) ≡ min a b) [
-  | inl below ↦ ap (λ t. if t then b else a) (lt-ltb b a below) ∙ omega arith
-  | inr above ↦ ap (λ t. if t then b else a) (le-ltb b a above) ∙ omega arith
-]
+smaller_is a b = grind (arith, leb_tells)
 
 -- of two numbers, the first where the second is less, else the second, is the larger
 pub larger_is : (a b : ℕ) → (if ltb b a then a else b) ≡ max a b
-larger_is a b = elim (cases_lt b a) as (λ _. (if ltb b a then a else b) ≡ max a b) [
-  | inl below ↦ ap (λ t. if t then a else b) (lt-ltb b a below) ∙ omega arith
-  | inr above ↦ ap (λ t. if t then a else b) (le-ltb b a above) ∙ omega arith
-]
+larger_is a b = grind (arith, leb_tells)
 
 -- the number of the one of two signed numbers that a test chooses
 wrap_chosen : (w : Width) (t : Bool) (x y : ℕ) → x < 2 ^ bits w → y < 2 ^ bits w
@@ -109,22 +95,20 @@ wrap_chosen w false x y fits_x fits_y = sym (wrap_of_bits w y fits_y)
 pub signed_smaller_is : (w : Width) (a b : ℕ) → a < 2 ^ bits w → b < 2 ^ bits w
     → (if ltb (biased w b) (biased w a) then b else a) ≡ wrap w (int_min (signed w a) (signed w b))
 signed_smaller_is w a b fits_a fits_b =
-    ap (λ t. if t then b else a) (biased_is_less w b a fits_b fits_a)
-    ∙ wrap_chosen w (int_lt (signed w b) (signed w a)) b a fits_b fits_a
+    rw (biased_is_less w b a fits_b fits_a) (wrap_chosen w (int_lt (signed w b) (signed w a)) b a fits_b fits_a)
 
 -- the number that is chosen as the larger one has the bits of the larger signed one
 pub signed_larger_is : (w : Width) (a b : ℕ) → a < 2 ^ bits w → b < 2 ^ bits w
     → (if ltb (biased w b) (biased w a) then a else b) ≡ wrap w (int_max (signed w a) (signed w b))
 signed_larger_is w a b fits_a fits_b =
-    ap (λ t. if t then a else b) (biased_is_less w b a fits_b fits_a)
-    ∙ wrap_chosen w (int_lt (signed w b) (signed w a)) a b fits_a fits_b
+    rw (biased_is_less w b a fits_b fits_a) (wrap_chosen w (int_lt (signed w b) (signed w a)) a b fits_a fits_b)
 
 -- all ones or all zeros by a comparison, in the order of the signed numbers
 pub ones_where_less : (w : Width) (n p q : ℕ) → p < 2 ^ bits w → q < 2 ^ bits w
     → (if ltb (biased w p) (biased w q) then n else 0) ≡ (if int_lt (signed w p) (signed w q) then n else 0)
 ones_where_less w n p q fits_p fits_q = ap (λ t. if t then n else 0) (biased_is_less w p q fits_p fits_q)
 
--- a lane of a vector whose bits are inverted
+-- a lane of a vector whose bits are inverted, as those of a comparison are
 lane_of_inverted : (w : Width) (v i : ℕ) → v < 2 ^ 128 → i < lane_count w
     → lane w (v128_not v) i ≡ 2 ^ bits w - 1 - lane w v i
 unfolding field
@@ -133,15 +117,13 @@ lane_of_inverted w v i fits inside =
     omega (arith, lane_count_fills w, lane_ends (bits w) (lane_count w) i inside) in
     field_not (bits w * i) (bits w) 128 v within fits
 
--- a lane of the vector of all ones
+-- a lane of the vector of all ones, which is chosen where a comparison holds
 pub lane_of_ones : (w : Width) (v i : ℕ) → v ≡ 2 ^ 128 - 1 → i < lane_count w → lane w v i ≡ 2 ^ bits w - 1
 unfolding field
 lane_of_ones w v i is inside =
-    let whole : 2 ^ bits w - 1 - 0 ≡ 2 ^ bits w - 1 = omega arith in
-    ap (λ n. lane w n i) is ∙ lane_of_inverted w 0 i (pow_pos 128) inside
-    ∙ ap (λ n. 2 ^ bits w - 1 - n) (field_of_zero (bits w * i) (bits w)) ∙ whole
+    rw (is, lane_of_inverted w 0 i (pow_pos 128) inside, field_of_zero (bits w * i) (bits w)) (omega arith)
 
--- a lane of the vector of all zeros
+-- a lane of the vector of all zeros, which is chosen where a comparison fails
 pub lane_of_zeros : (w : Width) (v i : ℕ) → v ≡ 0 → lane w v i ≡ 0
 unfolding field
 lane_of_zeros w v i is = ap (λ n. lane w n i) is ∙ field_of_zero (bits w * i) (bits w)
@@ -154,11 +136,14 @@ unfolding comparison_of_lanes
 inverted_comparison w read test opposite a b {v} {r} is_opposite fits below is is_r =
     lanes_make_vector w (lane_count w) r _ (lane_count_fills w) below
     (λ i inside.
-    let less = test (read (lane w b i)) (read (lane w a i)) in
-    ap (λ n. lane w n i) is_r ∙ lane_of_inverted w v i fits inside
-    ∙ ap (λ n. 2 ^ bits w - 1 - n) (ap (λ n. lane w n i) is ∙ lane_of_comparison w i inside read test b a)
-    ∙ turned (2 ^ bits w - 1) less
-    ∙ ap (λ t. if t then 2 ^ bits w - 1 else 0) (sym (is_opposite (read (lane w a i)) (read (lane w b i)))))
+    rw (
+      is_r,
+      lane_of_inverted w v i fits inside,
+      is,
+      lane_of_comparison w i inside read test b a,
+      is_opposite (read (lane w a i)) (read (lane w b i)),
+    )
+    (turned (2 ^ bits w - 1) (test (read (lane w b i)) (read (lane w a i)))))
   where
     turned : (n : ℕ) (t : Bool) → n - (if t then n else 0) ≡ (if not t then n else 0)
     turned n true = omega arith

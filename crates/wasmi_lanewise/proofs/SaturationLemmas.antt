@@ -1,17 +1,18 @@
--- Clamped sums and differences, and rounded products of q15 numbers, as std::simd computes them.
-use Rattle.std.proofs.Common.{ℕ, ◌+◌, ◌-◌, ◌%◌, ◌^◌, ◌<◌, ◌≡◌, List, length, get_or, map, refl, sym, ap, subst, ◌∙◌, arith, Bool, true, false, cond, ltb, Fits, pos, ◌+ℤ◌, ◌-ℤ◌, ℤ, negsuc, suc, ◌*◌, ◌/◌, ◌≤◌, ◌⊎◌, inl, inr, ◌*ℤ◌, nat_lt, if◌then◌else◌, ap₂, FitsSigned, unsigned_abs, replicate, bit_xor, mod-lt, mod-eq_of_lt}
-use Rattle.wasmi_lanewise.proofs.Common.{zip2, sel_l, Each1, add-mod_right, mul-le-mul, mod-add-mod, ltb-true, ltb-false, cases_lt, lt-ltb, le-ltb, ints, fits_signed_from_abs, unsigned_abs-mul, of_z-to_z, wrapping_mul_is, int_wrap_fits, Each1-get_or, Each1-from_get_or, below_from_Fits, get_or-replicate, Width, bits, clamp_unsigned, w16, w32, signed, wrap, clamp_signed, lane, lane_count, signed_fits, binary_of_lanes, lane_below, lanes_make_vector, lane_count_fills, add_sat_u, sub_sat_u, q15mulr, cast_unsigned, int_shr, pow_pos, mul-mod, mod-mod-pow}
+-- Clamped sums and differences of lanes read unsigned, and rounded products of q15 numbers by the halves of a product
+-- of lanes whose sign was copied to 32 bits, as std::simd computes them.
+use Rattle.std.proofs.Common.{ℕ, ◌+◌, ◌-◌, ◌%◌, ◌^◌, ◌<◌, ◌≡◌, List, length, get_or, map, refl, sym, ap, ◌∙◌, arith, Bool, true, false, cond, ltb, Fits, pos, ◌+ℤ◌, ◌-ℤ◌, ℤ, negsuc, suc, ◌*◌, ◌/◌, ◌≤◌, ◌⊎◌, inl, inr, ◌*ℤ◌, nat_lt, if◌then◌else◌, ap₂, FitsSigned, unsigned_abs, replicate, bit_xor, mod-lt, mod-eq_of_lt}
+use Rattle.wasmi_lanewise.proofs.Common.{zip2, sel_l, Each1, add-mod_right, mul-le-mul, mod-add-mod, ltb-true, ltb-false, cases_lt, lt-ltb, ints, fits_signed_from_abs, unsigned_abs-mul, of_z-to_z, wrapping_mul_is, int_wrap_fits, Each1-get_or, Each1-from_get_or, below_from_Fits, get_or-replicate, Width, bits, clamp_unsigned, w16, w32, signed, wrap, clamp_signed, lane, lane_count, signed_fits, binary_of_lanes, lane_below, lanes_make_vector, lane_count_fills, add_sat_u, sub_sat_u, q15mulr, cast_unsigned, int_shr, pow_pos, mul-mod, mod-mod-pow}
 use Rattle.wasmi_lanes.proofs.ItemLemmas.{AreItems, items, repeated, mapped, zipped, chosen_by}
 use lib.Lanes.{top}
 use mir.Val.{hbits, sel}
 use Rattle.std.specs.Int.Signed.{shr_z}
 use Rattle.wasmi_lanes.proofs.TopLemmas.{xor_top}
 
--- for each lane, all ones where that of xs is less than that of ys
+-- the tests by which sums and differences are clamped: for each lane, whether that of xs is less than that of ys
 abbrev tests : Width → List ℕ → List ℕ → List Bool
 tests w xs ys = map (top (hbits w)) (zip2 (λ x y. cond (ltb x y) (2 ^ bits w - 1) 0) xs ys)
 
--- the greatest number of w bits, less each of the numbers
+-- what each of the numbers leaves for a sum that is clamped: the greatest number of w bits, less the number
 abbrev inverted : Width → List ℕ → List ℕ
 inverted w = map (λ x. 2 ^ bits w - 1 - x)
 
@@ -74,7 +75,7 @@ module _ (w : Width) (xs ys : List ℕ) (long_x : length xs ≡ lane_count w) (l
 
 -- ---- a product of two lanes, at 32 bits
 
--- a signed number of 16 bits is at most 2 ^ 15 away from 0
+-- a q15 number is at most 2 ^ 15 away from 0
 abs_of_lane : (x : ℤ) → FitsSigned w16 x → unsigned_abs x ≤ 32768
 abs_of_lane (pos n) fits = let below = fits.sfits in omega arith
 abs_of_lane (negsuc n) fits = let below = fits.sfits in omega arith
@@ -138,6 +139,7 @@ lower_half x y fits_x fits_y =
 abbrev pub doubled : ℕ → ℕ
 doubled h = (h + (if nat_lt ((h + 32768) % 65536) 49151 then h else 16383)) % 65536
 
+-- what a lower half, rounded, adds to twice the upper half
 abbrev pub rounded : ℕ → ℕ
 rounded l = (l / 2 + 8192) % 65536 / 16384
 
@@ -150,18 +152,15 @@ doubled_is : (h : ℕ) → HasDouble h → h < 65536 → doubled h ≡ (h + h) %
 doubled_is h part fits = chosen (cases_lt ((h + 32768) % 65536) 49151) part
   where
     chosen : ((h + 32768) % 65536 < 49151) ⊎ (49151 ≤ (h + 32768) % 65536) → HasDouble h → doubled h ≡ (h + h) % 65536
-    chosen (inl below) _ = ap (λ t. (h + (if t then h else 16383)) % 65536) (lt-ltb ((h + 32768) % 65536) 49151 below)
-    chosen (inr above) (inl small) =
-        let last : 16383 ≡ h = omega arith in
-        ap (λ t. (h + (if t then h else 16383)) % 65536) (le-ltb ((h + 32768) % 65536) 49151 above)
-        ∙ ap (λ k. (h + k) % 65536) last
+    chosen (inl below) _ = rw (lt-ltb ((h + 32768) % 65536) 49151 below)
+    chosen (inr above) (inl small) = let last : h ≡ 16383 = omega arith in rw last
     chosen (inr above) (inr large) = absurd (omega arith)
 
 -- the largest half whose double fits, in each lane
 abbrev pub most : List ℕ
 most = replicate 8 16383
 
--- a lane of these
+-- a lane of the largest halves whose double fits
 pub most_at : (i : ℕ) → i < 8 → get_or most i 0 ≡ 16383
 most_at i inside = get_or-replicate 8 i 16383 0 inside
 
@@ -173,10 +172,8 @@ of_halves u = (doubled (u / 65536) + rounded (u % 65536)) % 65536
 halves_rounded : (u : ℕ) → u < 2 ^ 32 → HasDouble (u / 65536) → of_halves u ≡ (u + 16384) / 32768 % 65536
 halves_rounded u fits part =
     let h : ℕ = u / 65536 in
-    let below : h < 65536 = omega arith in
     let sum : (h + h) + rounded (u % 65536) ≡ (u + 16384) / 32768 = omega arith in
-    ap (λ d. (d + rounded (u % 65536)) % 65536) (doubled_is h part below)
-    ∙ mod-add-mod (h + h) 65536 (rounded (u % 65536)) ∙ ap (λ n. n % 65536) sum
+    rw (doubled_is h part (omega arith), mod-add-mod (h + h) 65536 (rounded (u % 65536)), sum)
 
 -- a product with its rounding added, in 17 bits
 rounded_negative : (n : ℕ) (t : Bool) → ltb 16384 (suc n) ≡ t → suc n ≤ 2 ^ 30
@@ -189,28 +186,21 @@ rounded_negative n false is small = let below = ltb-false 16384 (suc n) is in om
 by_product : (z : ℤ) → unsigned_abs z ≤ 2 ^ 30 → (unsigned_abs z ≤ 2 ^ 30 - 2 ^ 15) ⊎ (2 ^ 30 ≤ unsigned_abs z)
     → of_halves (cast_unsigned w32 z) ≡ wrap w16 (clamp_signed w16 (int_shr (z +ℤ pos 16384) 15))
 by_product (pos n) small (inl below) =
-    let fits : n < 2 ^ 32 = omega arith in
-    let part : n / 65536 < 16384 = omega arith in
-    halves_rounded n fits (inl part) ∙ omega arith
-by_product (pos n) small (inr above) =
-    let most : 2 ^ 30 ≡ n = omega arith in
-    subst (λ k. of_halves k ≡ wrap w16 (clamp_signed w16 (pos ((k + 16384) / 32768)))) most refl
+    halves_rounded n (omega arith) (inl (omega arith)) ∙ omega arith
+by_product (pos n) small (inr above) = let most : n ≡ 2 ^ 30 = omega arith in rw most
 by_product (negsuc n) small _ =
-    let fits : 2 ^ 32 - suc n < 2 ^ 32 = omega arith in
-    let part : 32768 ≤ (2 ^ 32 - suc n) / 65536 = omega arith in
-    halves_rounded (2 ^ 32 - suc n) fits (inr part) ∙ rounded_negative n (ltb 16384 (suc n)) refl small
+    halves_rounded (2 ^ 32 - suc n) (omega arith) (inr (omega arith)) ∙ rounded_negative n (ltb 16384 (suc n)) refl small
 
--- the row of a lane
+-- the product of two q15 numbers, rounded and clamped, by its halves
 pub rounded_product : (x y : ℕ) → x < 65536 → y < 65536
     → (doubled (extended x * extended y % 2 ^ 32 / 65536) + rounded (x * y % 65536)) % 65536
     ≡ wrap w16 (clamp_signed w16 (q15mulr (signed w16 x) (signed w16 y)))
 rounded_product x y fits_x fits_y =
     let in_x = signed_fits w16 x fits_x in
     let in_y = signed_fits w16 y fits_y in
-    ap (λ l. (doubled (extended x * extended y % 2 ^ 32 / 65536) + rounded l) % 65536) (lower_half x y fits_x fits_y)
-    ∙ ap of_halves (product_in_32_bits (signed w16 x) (signed w16 y) in_x in_y)
-    ∙ by_product (signed w16 x *ℤ signed w16 y) (product_is_small (signed w16 x) (signed w16 y) in_x in_y)
-    (product_has_gap (signed w16 x) (signed w16 y) in_x in_y)
+    rw (lower_half x y fits_x fits_y, product_in_32_bits (signed w16 x) (signed w16 y) in_x in_y)
+    (by_product (signed w16 x *ℤ signed w16 y) (product_is_small (signed w16 x) (signed w16 y) in_x in_y)
+    (product_has_gap (signed w16 x) (signed w16 y) in_x in_y))
 
 -- ---- as std::simd has it
 
@@ -245,8 +235,7 @@ module _ (xs ys : List ℕ) (long_x : length xs ≡ 8) (long_y : length ys ≡ 8
   uppers_are : AreItems 8 0 (λ i. get_or xs i 0 * get_or ys i 0 % 2 ^ 32 / 65536) (uppers xs ys)
   uppers_are =
       let products = zipped (λ a b. a * b % 2 ^ 32) (items 8 xs long_x) (items 8 ys long_y) in
-      let halves = zipped (λ a b. a / 2 ^ b) products (repeated 8 16) in
-      record { long = halves.long; are = halves.are }
+      zipped (λ a b. a / 2 ^ b) products (repeated 8 16)
 
   -- the upper halves fit into 16 bits
   pub uppers_fit : Each1 (Fits w16) (uppers xs ys)
@@ -263,7 +252,7 @@ module _ (xs ys : List ℕ) (long_x : length xs ≡ 8) (long_y : length ys ≡ 8
       → get_or (map (λ x. x) (uppers xs ys)) i 0 ≡ get_or xs i 0 * get_or ys i 0 % 2 ^ 32 / 65536
   upper_halves_at = let cast = mapped uppers_are (λ x. x) in cast.are
 
--- halved, 2 ^ 13 added and divided by 2 ^ 14
+-- lower halves, rounded: halved, 2 ^ 13 added and divided by 2 ^ 14
 abbrev pub quotients : List ℕ → List ℕ
 quotients xs =
     zip2 (λ a b. a / 2 ^ b)
@@ -275,5 +264,4 @@ pub quotients_are : {f : ℕ → ℕ} {xs : List ℕ} → AreItems 8 0 f xs → 
 quotients_are of_x =
     let halved = zipped (λ a b. a / 2 ^ b) of_x (repeated 8 1) in
     let biased = zipped (λ a b. (a + b) % 65536) halved (repeated 8 8192) in
-    let divided = zipped (λ a b. a / 2 ^ b) biased (repeated 8 14) in
-    record { long = divided.long; are = divided.are }
+    zipped (λ a b. a / 2 ^ b) biased (repeated 8 14)

@@ -1,6 +1,7 @@
--- Lanes of words that are shifted, with the bits masked that would leave their lane.
-use Rattle.std.proofs.Common.{◌≡◌, ℕ, zero, suc, ◌+◌, ◌-◌, ◌*◌, ◌/◌, ◌%◌, ◌^◌, ◌<◌, ◌≤◌, refl, sym, ap, ap₂, subst, ◌∙◌, arith, add-mul, mul-suc, mul-zero, mul_assoc, mul_right_comm, one-mul, zero-mul, le_refl, mod-lt, mod-eq_of_lt, lit<, le_of_eq, bit_and, List, [], ◌∷◌, map, replicate, length, get_or}
-use Rattle.wasmi_lanewise.proofs.Common.{length-replicate, Each1-replicate, mod-one, and_le_l, pow_pos, pow-add, mod-pow-add, and_mask, mul-mod_first, div-add-mod', div-mul-add, mod-mul-add, mul-le, shl_below, shr_le, pow_mono, Width, bits, lane, unsigned, unary_of_lanes, from_lanes, field, lanes_in_word, in_each_lane, number_below, field_and, field_mod, lane_ends, lane_shr, EachLane, lane_of_each, u64x2_of, words_make_unary, some_bits, shl, shr_u}
+-- Products of a word that keep each lane within its width, as shifts to the left do; lanes of words that are shifted,
+-- with the bits masked that would leave their lane; and the tables of the masks.
+use Rattle.std.proofs.Common.{◌≡◌, ℕ, zero, suc, ◌+◌, ◌-◌, ◌*◌, ◌/◌, ◌%◌, ◌^◌, ◌<◌, ◌≤◌, refl, sym, ap, ◌∙◌, arith, add-mul, mul-suc, mul-zero, mul_assoc, mul_right_comm, one-mul, zero-mul, le_refl, mod-lt, mod-eq_of_lt, lit<, le_of_eq, bit_and, List, [], ◌∷◌, map, replicate, length, get_or}
+use Rattle.wasmi_lanewise.proofs.Common.{length-replicate, Each1-replicate, mod-one, and_le_l, pow_pos, pow-add, mod-pow-add, and_mask, mul-mod_first, div-add-mod', div-mul-add, mod-mul-add, mul-le, shl_below, shr_le, pow_mono, Width, bits, unsigned, unary_of_lanes, field, lanes_in_word, in_each_lane, number_below, field_and, field_mod, lane_ends, lane_shr, EachLane, lane_of_each, u64x2_of, words_make_unary, some_bits, shl, shr_u}
 use Rattle.std.specs.List.{range_with_len}
 use Rattle.std.proofs.lemmas.List.FromFn.{get_or-map-range_with_len}
 use Rattle.wasmi_raw.specs.RawVal.{vector_of}
@@ -13,29 +14,26 @@ unfolding field
 field_mul k w u c low =
     let p : ℕ = 2 ^ k in
     let parts : u * c ≡ (u / p * c) * p + u % p * c =
-    ap (λ n. n * c) (sym (div-add-mod' u p)) ∙ add-mul (u / p * p) (u % p) c
-    ∙ ap (λ n. n + u % p * c) (mul_right_comm (u / p) p c) in
-    ap (λ n. n / p % 2 ^ w) parts ∙ ap (λ n. n % 2 ^ w) (div-mul-add (u / p * c) p (u % p * c) low)
-    ∙ sym (mul-mod_first (u / p) c (2 ^ w))
+    omega (arith, ap (λ n. n * c) (div-add-mod' u p), add-mul (u / p * p) (u % p) c, mul_right_comm (u / p) p c) in
+    rw (parts, div-mul-add (u / p * c) p (u % p * c) low) (sym (mul-mod_first (u / p) c (2 ^ w)))
 
--- the bits below lane i, times c
-scaled_low : (w c u i : ℕ) → ((j : ℕ) → j < i → field (w * j) w u * c < 2 ^ w) → (u % 2 ^ (w * i)) * c < 2 ^ (w * i)
+-- the bits below lane i, times c, stay below it, where the product of each lane fits
+pub scaled_low : (w c u i : ℕ) → ((j : ℕ) → j < i → field (w * j) w u * c < 2 ^ w) → (u % 2 ^ (w * i)) * c < 2 ^ (w * i)
 unfolding field
 scaled_low w c u zero each =
-    subst (λ k. (u % 2 ^ k) * c < 2 ^ k) (sym (mul-zero w)) (omega (arith, ap (λ n. n * c) (mod-one u), zero-mul c))
+    rw (mul-zero w) (omega (arith, ap (λ n. n * c) (mod-one u), zero-mul c))
 scaled_low w c u (suc i) each =
     let q : ℕ = 2 ^ (w * i) in
     let x : ℕ = u / q % 2 ^ w in
     let place : w * suc i ≡ w + w * i = omega (arith, mul-suc w i) in
     let parts : (u % 2 ^ (w + w * i)) * c ≡ (x * c) * q + u % q * c =
-    ap (λ n. n * c) (mod-pow-add u w (w * i)) ∙ add-mul (x * q) (u % q) c
-    ∙ ap (λ n. n + u % q * c) (mul_right_comm x q c) in
+    rw (mod-pow-add u w (w * i), add-mul (x * q) (u % q) c, mul_right_comm x q c) in
     let low : u % q * c < q = scaled_low w c u i (λ j lt. each j (omega arith)) in
     let here : x * c < 2 ^ w = each i (omega arith) in
     let rows : (x * c + 1) * q ≤ 2 ^ w * q = mul-le (x * c + 1) q (2 ^ w) q (omega arith) (le_refl q) in
     let fits : (u % 2 ^ (w + w * i)) * c < 2 ^ (w + w * i) =
     omega (arith, parts, pow-add 2 w (w * i), add-mul (x * c) 1 q, one-mul q) in
-    subst (λ k. (u % 2 ^ k) * c < 2 ^ k) (sym place) fits
+    rw place fits
 
 -- a product that keeps each lane within its width
 pub lane_scaled : (w n c u : ℕ) → ((j : ℕ) → j < n → field (w * j) w u * c < 2 ^ w) → (i : ℕ) → i < n
@@ -53,8 +51,8 @@ shl_cut w s r x e =
     let parts : x * 2 ^ s ≡ x / 2 ^ r * 2 ^ w + m * 2 ^ s =
     ap (λ n. n * 2 ^ s) (sym (div-add-mod' x (2 ^ r))) ∙ add-mul (x / 2 ^ r * 2 ^ r) m (2 ^ s)
     ∙ ap (λ n. n + m * 2 ^ s) (mul_assoc (x / 2 ^ r) (2 ^ r) (2 ^ s) ∙ ap (λ n. x / 2 ^ r * n) whole) in
-    sym (ap (λ n. n % 2 ^ w) parts ∙ mod-mul-add (x / 2 ^ r) (2 ^ w) (m * 2 ^ s)
-    (subst (λ n. m * 2 ^ s < 2 ^ n) e (shl_below m r s (mod-lt x (pow_pos r)))))
+    let below = rw e at (shl_below m r s (mod-lt x (pow_pos r))) in
+    rw (parts, mod-mul-add (x / 2 ^ r) (2 ^ w) (m * 2 ^ s) below)
 
 -- a lane of v, masked to r bits a lane and shifted to the left by s, is the lane, shifted, at its width
 pub lane_shl : (w n s r v mask : ℕ) → n * w ≤ 64 → r + s ≡ w → ((j : ℕ) → j < n → field (w * j) w mask ≡ 2 ^ r - 1)
@@ -66,16 +64,17 @@ lane_shl w n s r v mask whole e is i lt =
     λ j below. field_and (w * j) w v mask ∙ ap (bit_and (field (w * j) w v)) (is j below)
     ∙ and_mask (field (w * j) w v) r in
     let small : (j : ℕ) → j < n → field (w * j) w (bit_and v mask) * 2 ^ s < 2 ^ w =
-    λ j below. subst (λ n. n < 2 ^ w) (sym (ap (λ n. n * 2 ^ s) (kept j below) ∙ shl_cut w s r (field (w * j) w v) e))
-    (mod-lt (field (w * j) w v * 2 ^ s) (pow_pos w)) in
+    λ j below. rw (kept j below, shl_cut w s r (field (w * j) w v) e) (mod-lt _ (pow_pos w)) in
     field_mod (w * i) w 64 (bit_and v mask * 2 ^ s) within ∙ lane_scaled w n (2 ^ s) (bit_and v mask) small i lt
     ∙ ap (λ n. n * 2 ^ s) (kept i lt) ∙ shl_cut w s r (field (w * i) w v) e
 
--- ---- a table of vectors, entry d with the low bits of each lane, all but its d highest ones
+-- ---- the tables of masks
 
+-- the mask of a shift by d: the low bits of each lane, all but its d highest ones
 abbrev pub shift_masks : Width → ℕ → ℕ
 shift_masks w d = in_each_lane w (2 ^ (bits w - d) - 1)
 
+-- the table of masks: entry d has the mask of a shift by d in both words
 abbrev pub masks : Width → List ℕ
 masks w = map (λ d. vector_of (shift_masks w d) (shift_masks w d)) (range_with_len 0 (bits w))
 
@@ -92,9 +91,8 @@ module _ (w : Width) (d : ℕ) (less : d < bits w) where
   word_below : lanes_in_word w * bits w ≡ 64 → shift_masks w d < 2 ^ 64
   word_below whole =
       let lanes : List ℕ = replicate (lanes_in_word w) (2 ^ (bits w - d) - 1) in
-      let long : length lanes * bits w ≡ 64 =
-      ap (λ n. n * bits w) (length-replicate (lanes_in_word w) (2 ^ (bits w - d) - 1)) ∙ whole in
-      subst (λ n. shift_masks w d < 2 ^ n) long
+      let long : length lanes * bits w ≡ 64 = rw (length-replicate (lanes_in_word w) (2 ^ (bits w - d) - 1)) whole in
+      rw long at
       (number_below (bits w) lanes
       (Each1-replicate (λ x. x < 2 ^ bits w) (lanes_in_word w) (2 ^ (bits w - d) - 1) low_bits_fit))
 
@@ -108,8 +106,7 @@ module _ (w : Width) (d : ℕ) (less : d < bits w) where
       at ∙ ap (λ l. get_or l d 0) is
       ∙ get_or-map-range_with_len (λ i. vector_of (shift_masks w i) (shift_masks w i)) 0 (bits w) d d 0 less
       (omega arith) in
-      ap₂ (λ x y. x ∷ y ∷ []) (ap (λ n. n % 2 ^ 64) entry ∙ mod-mul-add k (2 ^ 64) k fits)
-      (ap (λ n. n / 2 ^ 64) entry ∙ div-mul-add k (2 ^ 64) k fits)
+      rw (entry, mod-mul-add k (2 ^ 64) k fits, div-mul-add k (2 ^ 64) k fits)
 
 -- ---- vectors whose words are those of another, shifted
 
@@ -125,14 +122,13 @@ module _ (w : Width) (whole : lanes_in_word w * bits w ≡ 64) (v amount s : ℕ
       let high : ℕ = v / 2 ^ 64 in
       let fits_low : low < 2 ^ 64 = omega arith in
       let fits_high : high < 2 ^ 64 = omega arith in
-      words_make_unary w whole (row s) v r (u64x2_of refl refl)
+      rw (← is_s) (words_make_unary w whole (row s) v r (u64x2_of refl refl)
       (record { low_fits = fits_f low fits_low; high_fits = fits_f high fits_high; is = is })
-      (each low fits_low) (each high fits_high)
-      ∙ ap (λ n. from_lanes w (λ i. row n (lane w v i))) is_s
+      (each low fits_low) (each high fits_high))
 
   -- the amount is below the width
   amount_below : s < bits w
-  amount_below = subst (λ k. k < bits w) (sym is_s) (mod-lt amount (some_bits w))
+  amount_below = rw is_s (mod-lt amount (some_bits w))
 
   -- words that are masked, then shifted to the left
   pub words_shifted_left : {r : ℕ}

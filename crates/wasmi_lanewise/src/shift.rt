@@ -1,7 +1,7 @@
 //! Shifts of lanes of 8, 16 and 32 bits without sign, by an amount modulo their width.
 //!
 //! The two words of the vector are shifted together, and the bits are masked that would leave their
-//! lane.
+//! lane. The masks, the low bits of each lane, come from a table for each width.
 
 ghost use Rattle.std.specs.Prelude.{◌≡◌, ◌-◌, ◌^◌, ◌<◌, replicate};
 ghost use Rattle.wasmi_types.specs.Numbers.{bits};

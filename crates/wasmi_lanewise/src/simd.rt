@@ -3,6 +3,8 @@
 //! Each function is the instruction of its name: `i8x16_add` is `i8x16.add`, of 16 lanes of 8 bits;
 //! lane 0 is the lowest. `i8x16_mul` is no instruction of WebAssembly. Core specification: vector
 //! instructions; what each gives stands in `specs/VectorTable.antt`. Upstream: `wasmi_core::simd`.
+//! Private functions here are steps of the instructions of one width; what is generic in the lane
+//! type is in `order` and `words`.
 
 ghost use Rattle.std.specs.Prelude.{◌≡◌, ℕ, ◌+◌, ◌-◌, ◌*◌, ◌/◌, ◌%◌, ◌^◌, ◌<◌, ◌==◌, nat_lt, slice_index, if◌then◌else◌};
 ghost use Rattle.wasmi_types.specs.Numbers.{w8, w16, w32, w64, signed};
@@ -304,7 +306,7 @@ pub fn i16x8_q15mulr_sat_s(lhs: V128, rhs: V128) -> V128
     u16::vector_of(twice(upper_halves(x, y)) + rounded)
 }
 
-// The lanes, read signed, at twice their width.
+// For `i16x8_q15mulr_sat_s`: the lanes, read signed, at twice their width.
 #[tactic(auto, using(crate::proofs::SaturationLemmas::extended_at))]
 #[inline(always)]
 fn sign_copied(items: u16x8) -> u32x8
@@ -315,7 +317,7 @@ fn sign_copied(items: u16x8) -> u32x8
     (items.cast::<u32>() ^ tops) - tops
 }
 
-// The upper halves of the products of lanes that are read signed.
+// For `i16x8_q15mulr_sat_s`: the upper halves of the products of lanes that are read signed.
 #[inline(always)]
 fn upper_halves(x: u16x8, y: u16x8) -> u16x8
     ensures lanes { (i : ℕ) → i < 8 → slice_index result i
@@ -326,8 +328,8 @@ fn upper_halves(x: u16x8, y: u16x8) -> u16x8
     (products >> u32x8::splat(16)).cast::<u16>()
 }
 
-/// Twice the lanes, read signed, and the largest number in the place of the one double that doesn't
-/// fit, that of 2 to the power 14.
+/// For `i16x8_q15mulr_sat_s`: twice the lanes, read signed, and the largest number in the place of
+/// the one double that doesn't fit, that of 2 to the power 14.
 #[tactic(auto, using(crate::proofs::SaturationLemmas::most_at))]
 #[inline(always)]
 fn twice(items: u16x8) -> u16x8
@@ -500,8 +502,8 @@ pub fn i64x2_ne(lhs: V128, rhs: V128) -> V128
     V128::from_word_pair(!ones_if_equal(a_low, b_low), !ones_if_equal(a_high, b_high))
 }
 
-// All ones if two words are equal, else 0. They are compared as lanes of one bit, of which
-// `word_differ` masks nothing.
+// For `i64x2_eq` and `i64x2_ne`: all ones if two words are equal, else 0. They are compared as
+// lanes of one bit, of which `word_differ` masks nothing.
 #[inline(always)]
 fn ones_if_equal(a: u64, b: u64) -> u64
     ensures { result ≡ (if a == b then 2 ^ 64 - 1 else 0) }
@@ -833,7 +835,7 @@ pub fn i8x16_swizzle(a: V128, s: V128) -> V128
     from_bytes(bytes_of(a).swizzle_dyn_within::<16>(biased & u8x16::splat(0x8f)))
 }
 
-// The lanes of `table` at the low four bits of the indices.
+// For `i8x16_shuffle`: the lanes of `table` at the low four bits of the indices.
 #[tactic(auto, using(crate::proofs::ChosenLemmas::choice_by_nibbles))]
 #[inline(always)]
 fn picked(table: u8x16, indices: u8x16) -> u8x16
@@ -843,6 +845,7 @@ fn picked(table: u8x16, indices: u8x16) -> u8x16
     table.swizzle_dyn_within::<16>(indices & u8x16::splat(15))
 }
 
+// For `i8x16_shuffle`: the indices, a byte each.
 #[inline(always)]
 fn bytes_of_indices(indices: [ImmLaneIdx32; 16]) -> u8x16
     ensures lanes { (i : ℕ) → i < 16 → slice_index result i ≡ slice_index indices i }

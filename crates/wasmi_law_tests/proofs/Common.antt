@@ -15,9 +15,10 @@ pub use Rattle.wasmi_machine.specs.State.{live_at, with_memories, World, Turn, o
 pub use Rattle.wasmi_machine.specs.Steps.{Run, Sequence, MemoryGrown, HasEffect, Step, IsRunOf}
 pub use Rattle.wasmi_machine.specs.declared.calls.Reply.{Reply}
 pub use Rattle.wasmi_machine.specs.declared.calls.Reply.TheVariants.{Number, Memory, Done, NoRoom, NoSuch}
-pub use Rattle.wasmi_meter.specs.Capped.{IsWithinCaps, holdings, cap_of, SameCaps, quota_rules}
+pub use Rattle.wasmi_meter.specs.Capped.{IsWithinCaps, holdings, quota_rules}
 pub use Rattle.wasmi_meter.specs.Limiter.{Rules, optional_rules, Question, kind_of}
 pub use Rattle.wasmi_meter.specs.declared.quota.Quota.{Quota}
 pub use Rattle.wasmi_store.specs.Memory.{MemoryValue, GrowsMemoryCharging, pages_of, growth_of, page_bytes, MemoryTypeValue}
 pub use Rattle.wasmi_store.specs.Table.{TableValue}
-pub use Rattle.wasmi_law_tests.specs.Runs.{RelatesForward, CanGrowInRegion, IsGrownOrDenied, GrowsInRegion, RunsAlone, FitsAnyRegions, HasRegionFor, IsRunInParts, RunsBeside, KeepsCaps, KeepsTenant, RunsBoth, RunsList}
+pub use Rattle.wasmi_law_tests.specs.Runs.{CanGrowInRegion, IsGrownOrDenied, GrowsInRegion, RunsAlone, FitsAnyRegions, HasRegionFor, IsRunInParts, RunsBeside, KeepsCaps, KeepsTenant, RunsBoth, RunsList}
+pub use Rattle.wasmi_law_tests.specs.Chains.{RelatesForward}

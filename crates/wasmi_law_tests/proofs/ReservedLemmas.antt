@@ -1,5 +1,6 @@
--- Results of runs into memory that is kept for replies, and tables that are reserved.
-use Rattle.std.proofs.Common.{Bool, Err, IsOk, List, Ok, OnOk, Result, Some, [], ap, refl, subst, sym, ℕ, ◌++◌, ◌∙◌, ◌∷◌, ◌≡◌, ◌≢◌, ⊎_elim, arith, if◌then◌else◌, slice_get}
+-- Calls for which enough was reserved: results of runs into memory that is kept for the replies, runs of a tenant whose
+-- replies are those of the machine alone, and a table that is reserved up to its maximum.
+use Rattle.std.proofs.Common.{Bool, Err, IsOk, List, Ok, OnOk, Result, Some, [], ap, refl, sym, ℕ, ◌++◌, ◌∙◌, ◌∷◌, ◌≡◌, ◌≢◌, ⊎_elim, arith, if◌then◌else◌, slice_get}
 use Rattle.wasmi_law_tests.proofs.Common.{append-nil, same_Some, max, nat_eq, TableValue, optional_rules, Reply, Done, NoRoom, NoSuch, AcceptsNotices, IsDeterministic, RepliesAreOne, State, live_at, IsReservedFor, IsReservedTable, ReservedRunsSucceed, RunsAlone}
 use Rattle.std.proofs.lemmas.Bool.{eq-eqb, ne_eqb}
 use Rattle.wasmi_machine.specs.declared.calls.Call.{Call}
@@ -20,7 +21,7 @@ module _ {E : Type 0} where
   accepted (Ok done) is = refl
   accepted (Err error) is = absurd cc
 
-  -- a fact where it is accepted
+  -- a fact of a result that is accepted
   pub accepted_fact : {Fact : Type 0} (result : Result (Unit {0}) E) → IsOk result → OnOk result Fact → Fact
   accepted_fact (Ok done) is fact = fact
   accepted_fact (Err error) is fact = absurd cc
@@ -59,12 +60,11 @@ as_alone one once accepts suffices pool pool' alone alone' index calls replies r
     let has : (m : State) → machine_of start 0 ≡ Some m → IsReservedFor m calls =
     λ m there. rw (same_Some s m there) at (reserved s found) in
     let same = pools_same one once accepts start end alone' 0 calls
-    (run_with_memory suffices start 0 calls replies end has
-    (subst (λ p. RunsTenant start 0 calls replies p) (sym ended) ran))
+    (run_with_memory suffices start 0 calls replies end has (rw ended ran))
     (run_with_memory suffices start 0 calls replies' alone' has (rw (equal s found) at second)) in
     (same.0, found' ∙ ap (λ p. machine_of p 0) same.1)
 
--- a table that was reserved up to its maximum is
+-- a table for whose elements up to its maximum memory was reserved is reserved
 pub reserved_table : (k n : ℕ) (slots : List (Slot TableValue)) (reply : Reply) (slots' : List (Slot TableValue))
     → OnLive (live_at slots k) (Unit {0}) (λ x. x.ty.maximum ≡ Some n) → ReservesElementsAt k n slots reply slots'
     → reply ≡ Done → IsReservedTable slots' k
@@ -77,7 +77,7 @@ reserved_table k n slots reply slots' most reserves done = on_live (live_at slot
     (let is : h.1.0.reserved ≡ max x.reserved n = ap (λ (t : TableValue). t.reserved) kept.1 in grind (arith, is))))
     (λ refused. let other : NoRoom ≡ Done = sym refused.0 ∙ done in absurd cc) h.1.1)
 
--- of what a run of another tenant and one of a tenant have, the tenant has that of its own
+-- of the calls or replies of a run of another tenant and of one of a tenant, the tenant has those of its own
 pub own_alone : {A : Type 0} (index other : ℕ) → other ≢ index → (between own : List A)
     → (let rest = if nat_eq index index then own ++ [] else [] in
     if nat_eq other index then between ++ rest else rest) ≡ own

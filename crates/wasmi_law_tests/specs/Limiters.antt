@@ -1,4 +1,5 @@
--- What a limiter holds after what it permitted: a quota, and a recorder with its trace.
+-- The rules of a recorder, a limiter that keeps what it permitted and each failure in its trace, and how the trace and
+-- the sizes of a machine have grown by one call.
 use Rattle.std.specs.Prelude.{◌≡◌, ℕ, Ok, Err, length, ◌<◌, ◌⊎◌, ◌++◌, Bool, true, false, Some, List, [], ◌∷◌, slice_get, slice_set}
 use Rattle.wasmi_meter.specs.declared.limiter.Kind.{Kind}
 use Rattle.std.specs.Vec.{vec_capacity}

@@ -1,5 +1,6 @@
--- What a caller says of runs of machines and pools, also by handles, and of lists of types.
-use Rattle.std.specs.Prelude.{◌≡◌, ◌⊎◌, ◌<◌, ◌≤◌, ◌+◌, ◌*◌, ℕ, true, Option, Some, List, [], ◌∷◌, ◌++◌, length, map, slice_set, All, slice_get, None}
+-- What a caller says of a run of a machine or of a tenant of a pool, also by a handle: its bill, its refused turns, its
+-- growths in lent regions, its exchange with a limiter, valid states, caps, and other runs of the same calls.
+use Rattle.std.specs.Prelude.{◌≡◌, ◌⊎◌, ◌<◌, ◌≤◌, ◌+◌, ◌*◌, ℕ, true, Option, Some, List, [], ◌∷◌, ◌++◌, length, map, slice_set, All, None}
 use Rattle.wasmi_meter.specs.Attempt.{Request, optional_due, covers}
 use Rattle.wasmi_meter.specs.Limiter.{Rules, optional_rules}
 use Rattle.wasmi_meter.specs.Meter.{Meter}
@@ -197,8 +198,3 @@ RunsList calls machine told machine' =
 abbrev pub KeepsTenant : ℕ → PoolValue → Option PoolValue → Type 0
 KeepsTenant index pool held' = (pool' : PoolValue) × (held' ≡ Some pool')
     × (machine_of pool' index ≡ machine_of pool index)
-
--- Every one of the first n items of a list stands in a relation to itself and to each that follows among them.
-abbrev pub RelatesForward : {X : Type 0} → (X → X → Type 0) → List X → ℕ → Type 0
-RelatesForward {X} Relates xs n =
-    (i j : ℕ) (a b : X) → i ≤ j → j < n → slice_get xs i ≡ Some a → slice_get xs j ≡ Some b → Relates a b

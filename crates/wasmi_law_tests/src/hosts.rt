@@ -1,5 +1,5 @@
-//! Callers of the laws of `wasmi_c`: of calls by a handle, of one quota over many, of a limiter that
-//! only a host sees, and of the numbers of instructions.
+//! Callers of the laws of `wasmi_c`: of calls by a handle, of memories and tables under one quota,
+//! of growths and creations by the answers of any limiter, and of the numbers of instructions.
 ghost use Rattle.std.specs.Prelude.{◌≡◌, ◌≢◌, ℕ, IfSome, List, Some, true, Option, length, map, slice_get};
 ghost use Rattle.std.specs.Option.{option_map};
 ghost use Rattle.wasmi_machine.specs.declared.calls.Call.{Call};

@@ -1,5 +1,5 @@
-//! Callers of the laws on lanes: what one lane of a vector is, one bit of a number that is made of
-//! lanes, and the lanes of words.
+//! Callers of the laws on lanes: what one lane of a vector or of a word is, numbers that are
+//! wrapped to the width of a lane, and one bit of a number that is made of lanes or of tests.
 ghost use Rattle.std.specs.Prelude.{◌≡◌, ◌↔◌, ℕ, ℤ, FitsSigned, All, List, map, ◌+◌, ◌-◌, ◌*◌, ◌%◌, ◌^◌, ◌<◌, ◌≤◌, ◌*ℤ◌, ◌+ℤ◌, ◌==◌, nat_lt, nat_le, nat_eq, not, Bool, IsTrue, slice_index, if◌then◌else◌, ◌∷◌, []};
 ghost use Rattle.std.specs.Int.{bit_at};
 ghost use Rattle.wasmi_types.specs.Numbers.{Width, w8, w16, w32, signed, wrap, clamp_unsigned};

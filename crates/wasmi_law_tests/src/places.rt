@@ -1,4 +1,5 @@
-//! Callers of the laws of what is at an index of a machine.
+//! Callers of the laws of what is at an index of a machine: what calls leave there, a stored number
+//! that is loaded again, and calls in either order.
 ghost use Rattle.std.specs.Prelude.{◌≡◌, ◌≢◌, [], ◌∷◌, Some, IfOk, All};
 ghost use Rattle.wasmi_meter.specs.Limiter.{optional_rules};
 ghost use Rattle.wasmi_machine.specs.declared.calls.Reply.TheVariants.{Done, Value};

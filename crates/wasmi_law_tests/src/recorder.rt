@@ -1,4 +1,4 @@
-//! A limiter that keeps a trace of what it is asked and told.
+//! A limiter that keeps a trace of what it is asked and told, and one call under it.
 ghost use Rattle.std.specs.Prelude.{◌≡◌, IfOk, length};
 ghost use Rattle.wasmi_machine.specs.State.{sizes};
 ghost use Rattle.wasmi_law_tests.specs.Limiters.{recorder_rules, LeavesTrace};

@@ -7,7 +7,7 @@ ghost use Rattle.wasmi_store.specs.Memory as memory_type;
 ghost use Rattle.wasmi_store.specs.Memory.{IsSubtype, page_bytes, in_bounds};
 ghost use Rattle.wasmi_store.specs.Table.{IsSized, size_of, is_within_maximum};
 ghost use Rattle.wasmi_store.specs.Table as table_type;
-ghost use Rattle.wasmi_law_tests.specs.Runs.{RelatesForward};
+ghost use Rattle.wasmi_law_tests.specs.Chains.{RelatesForward};
 
 use wasmi_access::access::{LittleEndianConvert, load_at, store_at};
 use wasmi_access::laws;

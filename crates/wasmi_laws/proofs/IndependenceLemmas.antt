@@ -1,4 +1,5 @@
--- Turns whose calls are local and independent may be exchanged.
+-- Turns whose calls are local and independent may be exchanged. What a local call does is an edit, which puts something
+-- at one index at most: effects go by what is at indices, and edits at different indices may be exchanged.
 use Rattle.std.proofs.Common.{Err, List, None, Ok, Option, Result, Some, [], ap, refl, set, subst, sym, ℕ, ◌∙◌, ◌∷◌, ◌≡◌}
 use Rattle.wasmi_laws.proofs.Common.{changes_too, All-head, All-tail, set_comm, option_and_then, All, slice_get, slice_set, ChangesFound, ChangesPart, DropsAt, OnLive, reply_of, StoresMemory, WritesMemoryAt, StoresVectorAt, SetsAt, SetsRegister, Run, BytesRead, BytesStored, BytesWritten, Change, Changed, DataDropped, DataMade, Effect, ElementSet, GlobalMade, GlobalSet, ItemsDropped, MemoryDropped, RegisterSet, SegmentMade, Step, TableDropped, HasChange, HasEffect, Told, effect_of, State, live_at, live_value, with_data_segments, with_globals, with_memories, with_registers, with_segments, with_tables, byte_count, Turn, outcome_of, World, SetsElementAt, DropsDataAt, DropsItemsAt, SetsGlobalAt, Call, Reply, Done, NoSuch, Trap, Slot, Gone, Live, set_other, Content, DataAt, GlobalAt, IndependentTurnsSwap, IsIndependent, IsLocal, Location, MemoryAt, RegisterAt, SegmentAt, TableAt, changed_location, content_at, read_locations, Rules, RawVal, MemoryValue, size_of, TrapCode}
 use Rattle.wasmi_machine.specs.declared.calls.Call.TheVariants as call
@@ -191,7 +192,7 @@ abbrev part_of : {location : Location} (index : ℕ) (read : State → List (Con
 part_of index read with_part puts whole found =
     record { index = index; read = read; with_part = with_part; puts = puts; whole = whole; found = found }
 
--- the part of each location
+-- the list of a state in which each location is
 abbrev part_at : (location : Location) → Part location
 part_at (MemoryAt k) = part_of k State.memories with_memories (λ x s. refl) (λ s. refl) (λ s t same. same)
 part_at (TableAt k) = part_of k State.tables with_tables (λ x s. refl) (λ s. refl) (λ s t same. same)
@@ -275,14 +276,14 @@ change_moves s reply s' (GlobalSet k value) local c =
     (found_moves k (λ x. x) (λ x. x) _ s.globals reply c.part c.effect)
 change_moves s reply s' change local c = absurd local
 
--- an effect that is local
+-- an effect of a local call: it acts on what is at indices alone
 abbrev IsLocalEffect : Effect → Type 0
 IsLocalEffect (Told told) = Unit {0}
 IsLocalEffect (BytesRead k offset len) = Unit {0}
 IsLocalEffect (Changed change) = IsLocalChange change
 IsLocalEffect effect = ⊥
 
--- what the effect of a read needs to know
+-- the indices of which an effect reads what is there
 abbrev read_in : Effect → List Location
 read_in (BytesRead k offset len) = MemoryAt k ∷ []
 read_in effect = []
@@ -327,12 +328,12 @@ module _ {S : Type 0} (rules : Rules S) (w : World S) (turn : Turn) (w' : World 
       }
   effect_moves effect local step = absurd local
 
--- a call that is local has such an effect
+-- the effect of a local call is local
 local_effect : (s : State) (c : Call) → IsLocal c → IsLocalEffect (effect_of s c)
 local_effect s call.GetFuel local = tt
 local_effect s c local = local
 
--- what its effect reads is what the call reads
+-- what the effect of a call reads is what the call reads
 reads_in : (s t : State) (c : Call) → SameAll (read_locations c) s t → SameAll (read_in (effect_of s c)) s t
 reads_in s t (call.Read k offset len) same = same
 reads_in s t c same = tt

@@ -1,7 +1,7 @@
--- What becomes of each item of a list, as one item changes or one comes to the end.
+-- What becomes of each item or slot of a list, as one is set, changed or dropped, or one is added at the end.
 use Rattle.std.proofs.Common.{Err, List, None, Ok, Option, Result, Some, [], ap, arith, inl, inr, length, length-set, refl, subst, suc, zero, ℕ, ◌+◌, ◌++◌, ◌≤◌, ◌∙◌, ◌∷◌, ◌≡◌, ◌⊎◌, ⊎_elim}
 use Rattle.std.proofs.lemmas.Bool.{cases_eq}
-use Rattle.wasmi_laws.proofs.Common.{length-append, slice_get, slice_set, both_live, on_live, value_kept, live_slot, set_other, set_same, ActsAt, AddsEntry, ChangesAt, ChangesItem, Creates, DropsAt, MeteredSlots, OnLive, WritesRangeAt, reply_of, live_at, Reply, Done, Slot, Gone, Live, MeteredValue, with_value, MeteredWrite, WritesCharging}
+use Rattle.wasmi_laws.proofs.Common.{length-append, slice_get, slice_set, both_live, on_live, value_kept, live_slot, set_other, set_same, ActsAt, AddsEntry, AddsItem, ChangesAt, ChangesItem, Creates, DropsAt, MeteredSlots, OnLive, WritesRangeAt, reply_of, live_at, Reply, Done, Slot, Gone, Live, MeteredValue, with_value, MeteredWrite, WritesCharging}
 
 module _ {X : Type 0} where
   -- an index of a list with one item more has what it had, or it had nothing and has this item
@@ -19,18 +19,18 @@ EachAfter {X} more Becomes xs xs' =
     × (length xs' ≤ length xs + more)
 
 module _ {X : Type 0} (Becomes : ℕ → Option X → Option X → Type 0) (xs xs' : List X) where
-  -- the same list
+  -- every item stays in the same list
   pub unchanged : (more : ℕ) → xs' ≡ xs → EachAfter more Becomes xs xs'
   unchanged more same j = (inl (ap (λ ys. slice_get ys j) same), omega (arith, ap length same))
 
-  -- a new item at the end
+  -- every item stays where a new one is added at the end of a list
   pub appended : (y : X) → ((j : ℕ) → Becomes j None (Some y)) → xs' ≡ xs ++ y ∷ [] → EachAfter 1 Becomes xs xs'
   appended y new is j = (
     rw is (⊎_elim (λ same. inl same) (λ made. inr (rw (made.0, made.1) (new j))) (at_appended xs y j)),
     omega (arith, ap length is, length-append xs (y ∷ [])),
   )
 
-  -- one item was set
+  -- every other item stays where one item of a list is set
   pub put : (k : ℕ) (x y : X) → slice_get xs k ≡ Some x → Becomes k (Some x) (Some y) → xs' ≡ slice_set xs k y
       → EachAfter 0 Becomes xs xs'
   put k x y found becomes is j = (
@@ -40,7 +40,7 @@ module _ {X : Type 0} (Becomes : ℕ → Option X → Option X → Type 0) (xs x
     omega (arith, ap length is, length-set xs k y),
   )
 
--- an entry that is made
+-- an entry is added to a list, or its error is replied
 pub entry_added : {X A E : Type 0} (Becomes : ℕ → Option A → Option A → Type 0) (entry : X → A) (refusal : E → Reply)
     (result : Result X E) (list : List A) (reply : Reply) (list' : List A)
     → ((j : ℕ) (x : X) → result ≡ Ok x → Becomes j None (Some (entry x)))
@@ -49,7 +49,14 @@ entry_added Becomes entry refusal (Ok x) list reply list' new adds =
     appended Becomes list list' (entry x) (λ j. new j x refl) adds.1
 entry_added Becomes entry refusal (Err error) list reply list' new adds = unchanged Becomes list list' 1 adds.1
 
--- a change of an item
+-- an item is added at the end of a list, or there is no place for it
+pub item_added : {Lacks X : Type 0} (Becomes : ℕ → Option X → Option X → Type 0) (x : X) (items : List X)
+    (reply : Reply) (items' : List X) → ((j : ℕ) → Becomes j None (Some x)) → AddsItem Lacks x items reply items'
+    → EachAfter 1 Becomes items items'
+item_added Becomes x items reply items' new (inl none) = unchanged Becomes items items' 1 none.1
+item_added Becomes x items reply items' new (inr made) = appended Becomes items items' x new made.1
+
+-- a call changes an item of a list
 pub item_changed : {X : Type 0} (Becomes : ℕ → Option X → Option X → Type 0) (k : ℕ) (items : List X) (reply : Reply)
     (items' : List X) (Change : X → X → Type 0) → ((x x' : X) → Change x x' → Becomes k (Some x) (Some x'))
     → ChangesItem k items reply items' Change → EachAfter 0 Becomes items items'
@@ -58,13 +65,13 @@ item_changed Becomes k items reply items' Change becomes changes = on_live (slic
     (λ x found h. put Becomes items items' k x h.0 found (becomes x h.0 h.1) h.2)
 
 module _ {X : Type 0} (Becomes : ℕ → Option (Slot X) → Option (Slot X) → Type 0) where
-  -- a live value becomes another, or is dropped
+  -- the live value of one slot becomes another, or is dropped
   pub slot_put : (k : ℕ) (slots slots' : List (Slot X)) (x : X) (slot : Slot X) → live_at slots k ≡ Some x
       → Becomes k (Some (Live x)) (Some slot) → slots' ≡ slice_set slots k slot → EachAfter 0 Becomes slots slots'
   slot_put k slots slots' x slot found becomes is =
       put Becomes slots slots' k (Live x) slot (live_slot (slice_get slots k) x found) becomes is
 
-  -- a change of a live value
+  -- a call changes the live value of one slot
   pub slot_changed : (k : ℕ) (slots : List (Slot X)) (reply : Reply) (slots' : List (Slot X))
       (Change : X → X → Type 0) → ((x x' : X) → Change x x' → Becomes k (Some (Live x)) (Some (Live x')))
       → ChangesAt k slots reply slots' Change → EachAfter 0 Becomes slots slots'
@@ -72,7 +79,7 @@ module _ {X : Type 0} (Becomes : ℕ → Option (Slot X) → Option (Slot X) →
       (λ missing. unchanged Becomes slots slots' 0 missing.1)
       (λ x found h. slot_put k slots slots' x (Live h.0) found (becomes x h.0 h.1) h.2)
 
-  -- a drop
+  -- a call drops the live value of one slot
   pub slot_dropped : (count : X → ℕ) (k : ℕ) (slots : List (Slot X)) (reply : Reply) (slots' : List (Slot X))
       → ((x : X) → Becomes k (Some (Live x)) (Some (Gone (count x)))) → DropsAt count k slots reply slots'
       → EachAfter 0 Becomes slots slots'
@@ -80,7 +87,7 @@ module _ {X : Type 0} (Becomes : ℕ → Option (Slot X) → Option (Slot X) →
       (λ missing. unchanged Becomes slots slots' 0 missing.1)
       (λ x found h. slot_put k slots slots' x (Gone (count x)) found (becomes x) h.1)
 
-  -- a creation
+  -- a creation adds a slot to a list
   pub slot_made : {E S : Type 0} (refusal : E → Reply) (Makes : S → Result X E → S → Type 0) (slots : List (Slot X))
       (l : S) (reply : Reply) (slots' : List (Slot X)) (l' : S)
       → ((j : ℕ) (x : X) → Makes l (Ok x) l' → Becomes j None (Some (Live x)))
@@ -89,7 +96,7 @@ module _ {X : Type 0} (Becomes : ℕ → Option (Slot X) → Option (Slot X) →
   slot_made refusal Makes slots l reply slots' l' new (inr (result, makes, adds)) = entry_added Becomes Live refusal result
       slots reply slots' (λ j x is. new j x (subst (λ r. Makes l r l') is makes)) adds
 
-  -- a call with a charge
+  -- a call with a charge changes the live value of one slot
   pub slot_acted : {R S : Type 0} (k : ℕ) (reply_to : R → Reply)
       (Acts : MeteredValue X S → R → ℕ → MeteredValue X S → Type 0) (s s' : MeteredValue (List (Slot X)) S)
       (reply : Reply) (charge : ℕ) → ((x x' : X) (result : R) → Acts (with_value s x) result charge (with_value s' x')
@@ -98,7 +105,7 @@ module _ {X : Type 0} (Becomes : ℕ → Option (Slot X) → Option (Slot X) →
       (λ missing. unchanged Becomes s.value s'.value 0 (ap (λ (t : MeteredValue (List (Slot X)) S). t.value) missing.2))
       (λ x found h. slot_put k s.value s'.value x (Live h.1) found (becomes x h.1 h.0 h.2) h.4)
 
-  -- a write over a range, which may be missing
+  -- a write over a range, which may be missing, changes the live value of one slot
   pub slot_written : {E : Type 0} (refusal : E → Reply) (Keeps : X → X → Type 0) → ((x : X) → Keeps x x) → (k : ℕ)
       → ((x x' : X) → Keeps x x' → Becomes k (Some (Live x)) (Some (Live x')))
       → (write : Option (X → MeteredWrite X E))

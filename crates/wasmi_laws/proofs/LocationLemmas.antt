@@ -1,7 +1,9 @@
--- What becomes of what is at each index of a machine, in a step and in a run.
+-- What becomes of what is at each index of a machine, by each effect, in a turn and in a run: a memory keeps its type
+-- and its lent region, a table its type and what is reserved. What a call may not change stays as it is, and what was
+-- made stays at its index.
 use Rattle.std.proofs.Common.{Err, List, None, Ok, Option, Result, Some, [], ap, ⊎_elim, arith, inl, inr, length, map, refl, subst, sym, ℕ, ◌*◌, ◌+◌, ◌≤◌, ◌∙◌, ◌∷◌, ◌≡◌, ◌⊎◌}
-use Rattle.wasmi_laws.proofs.Common.{All-head, All-tail, none-some, same_Some, option_and_then, option_map, slice_get, on_live, on_live_too, source_writes, AddsItem, OnLive, reply_of, ByteSource, CreatesLent, byte_write_of, StoresVectorAt, SetsAt, MemoryPart, State, Turn, outcome_of, World, byte_count, live_value, memory_part, BytesStored, BytesWritten, Change, Changed, DataDropped, DataMade, Effect, ElementSet, FuelSet, GlobalMade, GlobalSet, ItemsDropped, LentMemoryMade, MemoryDropped, MemoryGrown, MemoryMade, RangeWritten, RegisterSet, SegmentMade, Step, TableDropped, TableGrown, TableMade, MemoryWritten, TableWritten, HasChange, HasEffect, effect_of, OfReference, OfSegment, OfTable, Source, write_of, CreatesSegment, Call, SetFuel, Reply, Slot, Gone, Live, Content, DataAt, DropsNot, GlobalAt, HasAt, IndicesLast, IsLater, IsLaterSlot, IsLive, LeavesAlone, LiveUntilDropped, Location, MemoryAt, OthersStay, OthersStayInRuns, RegisterAt, SegmentAt, TableAt, changed_location, content_at, dropped_location, IsLent, IsLentRoom, IsReservedToMaximum, AttemptOutcome, Met, MeteredValue, answer_of, value_after, Rules, Meter, meter_set, MemoryError, TableError, RawVal, on_test, Lent, Owned, Room, room_after, Grows, Growth, metered, metered_value, GrowsMemoryCharging, MakesMemory, MemoryTypeValue, MemoryValue, MemoryWrite, WritesMemory, new_memory, page_bytes, copied, filled, GrowsTableCharging, MakesTable, SetsTable, TableValue, same_type, size_of, with_elements, TypedRawRef, overwrite, TrapCode, RefType, memory_growth, table_growth}
-use Rattle.wasmi_laws.proofs.ListLemmas.{EachAfter, appended, entry_added, item_changed, put, slot_acted, slot_changed, slot_dropped, slot_made, slot_written, unchanged}
+use Rattle.wasmi_laws.proofs.Common.{All-head, All-tail, none-some, same_Some, option_and_then, option_map, slice_get, on_live, on_live_too, source_writes, OnLive, reply_of, ByteSource, CreatesLent, byte_write_of, StoresVectorAt, SetsAt, MemoryPart, State, Turn, outcome_of, World, byte_count, live_value, memory_part, BytesStored, BytesWritten, Change, Changed, DataDropped, DataMade, Effect, ElementSet, FuelSet, GlobalMade, GlobalSet, ItemsDropped, LentMemoryMade, MemoryDropped, MemoryGrown, MemoryMade, RangeWritten, RegisterSet, SegmentMade, Step, TableDropped, TableGrown, TableMade, MemoryWritten, TableWritten, HasChange, HasEffect, effect_of, OfReference, OfSegment, OfTable, Source, write_of, CreatesSegment, Call, SetFuel, Reply, Slot, Gone, Live, Content, DataAt, DropsNot, GlobalAt, HasAt, IndicesLast, IsLater, IsLaterSlot, IsLive, LeavesAlone, LiveUntilDropped, Location, MemoryAt, OthersStay, OthersStayInRuns, RegisterAt, SegmentAt, TableAt, changed_location, content_at, dropped_location, IsLent, IsLentRoom, IsReservedToMaximum, AttemptOutcome, Met, MeteredValue, answer_of, value_after, Rules, Meter, meter_set, MemoryError, TableError, RawVal, on_test, Lent, Owned, Room, room_after, Grows, Growth, metered, metered_value, GrowsMemoryCharging, MakesMemory, MemoryTypeValue, MemoryValue, MemoryWrite, WritesMemory, new_memory, page_bytes, copied, filled, GrowsTableCharging, MakesTable, SetsTable, TableValue, same_type, size_of, with_elements, TypedRawRef, overwrite, TrapCode, RefType, memory_growth, table_growth}
+use Rattle.wasmi_laws.proofs.ListLemmas.{EachAfter, entry_added, item_added, item_changed, put, slot_acted, slot_changed, slot_dropped, slot_made, slot_written, unchanged}
 use Rattle.wasmi_store.specs.Memory as memory
 use Rattle.wasmi_store.specs.Segment.{SegmentValue}
 use Rattle.wasmi_typed.specs.Global.{GlobalInstance, SetsGlobal}
@@ -28,19 +30,19 @@ StaysTable x x' = (x'.ty ≡ x.ty) × (IsReservedToMaximum x → IsReservedToMax
 table_stays : (x : TableValue) → StaysTable x x
 table_stays x = (refl, λ full. full)
 
--- a memory that is written stays
+-- a memory that is written keeps its type and its region
 written_stays : (x x' : MemoryValue) (offset : ℕ) (source : List ℕ) (result : Result (Unit {0}) MemoryError)
     → WritesMemory x offset source result x' → StaysMemory x x'
-written_stays x x' offset source (Ok _) writes = (writes.1, λ lent. subst IsLentRoom (sym writes.2) lent)
-written_stays x x' offset source (Err error) writes = subst (StaysMemory x) (sym writes.2) (memory_stays x)
+written_stays x x' offset source (Ok _) writes = (writes.1, λ lent. rw writes.2 lent)
+written_stays x x' offset source (Err error) writes = rw writes.2 (memory_stays x)
 
--- a memory over a range of which is written stays
+-- a memory over a range of which is written keeps its type and its region
 bytes_stay : (x : MemoryValue) (written : Option (List ℕ)) (x' : MemoryValue)
     → option_map (λ bytes. record x { bytes = bytes }) written ≡ Some x' → StaysMemory x x'
 bytes_stay x None x' is = absurd (none-some x' is)
 bytes_stay x (Some bytes) x' is = subst (StaysMemory x) (same_Some (record x { bytes = bytes }) x' is) (memory_stays x)
 
--- a memory stays in a write over a range of it, whatever its source
+-- a memory keeps its type and its region in a write over a range of it, whatever its source
 range_stays : (source : ByteSource) (dst len : ℕ) → OnLive (byte_write_of source dst len) (Unit {0})
     (λ w. (x x' : MemoryValue) → (w x).written ≡ Some x' → StaysMemory x x')
 range_stays source dst len = on_live_too (byte_write_of source dst len) _ _ _ _ (λ missing. missing)
@@ -55,27 +57,25 @@ rest_lent (Lent rest) n lent = lent
 -- a memory that is made in a region lies in it
 made_lent : (region : List ℕ) (ty : MemoryTypeValue) (outcome : AttemptOutcome MemoryError) (x : MemoryValue)
     → Ok x ≡ answer_of (memory.creation_of (Lent region) ty) (new_memory (Lent region) ty) outcome → IsLent x
-made_lent region ty Met x is =
-    let same : x ≡ new_memory (Lent region) ty = cc in subst IsLent (sym same) tt
+made_lent region ty Met x is = let same : x ≡ new_memory (Lent region) ty = cc in rw same tt
 made_lent region ty outcome x is = absurd cc
 
--- a table whose element is set stays
+-- a table whose element is set keeps its type and what is reserved
 set_stays : (index : ℕ) (value : TypedRawRef) (x : TableValue) (result : Result (Unit {0}) TableError) (x' : TableValue)
     → SetsTable index value x result x' → StaysTable x x'
 set_stays index value x result x' sets = on_test (same_type x.ty.element value.ty) _ _ sets
     (λ raw. on_live (overwrite x.elements index (value.raw ∷ [])) _ _ raw
-    (λ outside. subst (StaysTable x) (sym outside.1) (table_stays x))
-    (λ elements found set. subst (StaysTable x) (sym set.1) (table_stays x)))
-    (λ other. subst (StaysTable x) (sym other.1) (table_stays x))
+    (λ outside. rw outside.1 (table_stays x)) (λ elements found set. rw set.1 (table_stays x)))
+    (λ other. rw other.1 (table_stays x))
 
--- a table over a range of which is written stays
+-- a table over a range of which is written keeps its type and what is reserved
 elements_stay : (x : TableValue) (written : Option (List ℕ)) (x' : TableValue)
     → option_map (with_elements x) written ≡ Some x' → StaysTable x x'
 elements_stay x None x' is = absurd (none-some x' is)
 elements_stay x (Some elements) x' is =
     subst (StaysTable x) (same_Some (with_elements x elements) x' is) (table_stays x)
 
--- a table stays in a write over a range of it, whatever its source
+-- a table keeps its type and what is reserved in a write over a range of it, whatever its source
 table_range_stays : (source : Source) (dst len : ℕ) → OnLive (write_of source dst len) (Unit {0})
     (λ w. (x x' : TableValue) → (w x).written ≡ Some x' → StaysTable x x')
 table_range_stays (OfReference value) dst len = λ x. elements_stay x (filled x.elements dst value.raw len)
@@ -84,31 +84,30 @@ table_range_stays (OfTable (Some source) src) dst len = λ x. elements_stay x (c
 table_range_stays (OfSegment None src) dst len = tt
 table_range_stays (OfSegment (Some segment) src) dst len = λ x. elements_stay x (copied x.elements dst segment.items src len)
 
--- what was attempted to grow stays, if what it grows into does
+-- what an attempt to grow keeps of a memory or a table, if the grown one keeps it
 attempted_stays : {V E : Type 0} (Stays : V → V → Type 0) (g : Growth V E) (value : V) → Stays value value
     → Stays value g.request.grown → (outcome : AttemptOutcome E) → Stays value (value_after g.request value outcome)
 attempted_stays Stays g value same grown Met = grown
 attempted_stays Stays g value same grown outcome = same
 
--- what grows stays, if what it grows into does
+-- what a growth keeps of a memory or a table, if the grown one keeps it
 grown_stays : {V E S : Type 0} (Stays : V → V → Type 0) (rules : Rules S) (g : Growth V E) (s s' : MeteredValue V S)
     (result : Result ℕ E) (charge : ℕ) → Stays s.value s.value → Stays s.value g.request.grown
     → Grows rules g s result charge s' → Stays s.value s'.value
-grown_stays {V} {E} {S} Stays rules g s s' result charge same grown (inl none) =
-    subst (λ (t : MeteredValue V S). Stays s.value t.value) (sym none.same) same
+grown_stays Stays rules g s s' result charge same grown (inl none) = rw none.same same
 grown_stays Stays rules g s s' result charge same grown (inr some) =
-    subst (Stays s.value) (sym some.attempt.value) (attempted_stays Stays g s.value same grown some.outcome)
+    rw some.attempt.value (attempted_stays Stays g s.value same grown some.outcome)
 
--- a table that grows stays
+-- a table that grows keeps its type and what is reserved
 table_grown_stays : {S : Type 0} (rules : Rules S) (n : ℕ) (init : TypedRawRef) (s s' : MeteredValue TableValue S)
     (result : Result ℕ TableError) (charge : ℕ) → GrowsTableCharging rules n init s result charge s'
     → StaysTable s.value s'.value
-table_grown_stays {S} rules n init s s' result charge grows = on_test (same_type s.value.ty.element init.ty) _ _ grows
+table_grown_stays rules n init s s' result charge grows = on_test (same_type s.value.ty.element init.ty) _ _ grows
     (grown_stays StaysTable rules (table_growth n init.raw s.value) s s' result charge (table_stays s.value)
     (table_stays s.value))
-    (λ other. subst (λ (t : MeteredValue TableValue S). StaysTable s.value t.value) (sym other.2) (table_stays s.value))
+    (λ other. rw other.2 (table_stays s.value))
 
--- a memory that grows stays
+-- a memory that grows keeps its type and its region
 memory_grown_stays : {S : Type 0} (rules : Rules S) (pages : ℕ) (s s' : MeteredValue MemoryValue S)
     (result : Result ℕ MemoryError) (charge : ℕ) → GrowsMemoryCharging rules pages s result charge s'
     → StaysMemory s.value s'.value
@@ -156,7 +155,7 @@ abbrev pub dropped_in : Effect → Option Location
 dropped_in (Changed change) = dropped_by change
 dropped_in effect = None
 
--- what an effect makes may take memory that isn't reserved
+-- an effect makes a memory or a table that may take memory that isn't reserved
 abbrev pub TakesMemory : Effect → Type 0
 TakesMemory (MemoryMade ty) = Unit {0}
 TakesMemory (TableMade ty init) = Unit {0}
@@ -181,8 +180,8 @@ count_at (DataAt k) s = length s.data_segments
 count_at (GlobalAt k) s = length s.globals
 count_at (RegisterAt k) s = length s.registers
 
--- what is at an index has its memory reserved, if there is something that can have it: a memory lies in a lent region, and
--- a table is reserved up to its maximum
+-- what is at an index of a machine has its memory reserved, if there is something that can have it: a memory its lent
+-- region, a table what is reserved up to its maximum
 abbrev pub IsReservedIn : (location : Location) → Option (Content location) → Type 0
 IsReservedIn (MemoryAt k) slot = OnLive (option_and_then live_value slot) (Unit {0}) IsLent
 IsReservedIn (TableAt k) slot = OnLive (option_and_then live_value slot) (Unit {0}) IsReservedToMaximum
@@ -230,7 +229,7 @@ module _ (effect : Effect) (location : Location) where
   item_after x (Some y) (Some z) found (inr may) Holds own becomes =
       (z, refl, becomes z (subst (λ v. May (changed_in effect) (dropped_in effect) location v z) (same_Some y x found) may))
 
-  -- what is reserved there stays so, where nothing is made that takes memory
+  -- what is reserved at an index stays so, where nothing is made that takes memory
   pub stays_reserved : (TakesMemory effect → ⊥) → (old new : Option (Content location))
       → (new ≡ old) ⊎ MayAt effect location old new → IsReservedIn location old → IsReservedIn location new
   stays_reserved none old new (inl same) holds = subst (IsReservedIn location) (sym same) holds
@@ -245,7 +244,7 @@ at_metered : (s : State) (m : Meter) (location : Location)
 at_metered s m (MemoryAt k) = (refl, refl)
 at_metered s m location = (refl, refl)
 
--- a store to a memory, whose bytes may be missing
+-- what becomes of the memories where a store, whose bytes may be missing, is made to one
 memory_stored : (Becomes : ℕ → Option (Slot MemoryValue) → Option (Slot MemoryValue) → Type 0) (k a : ℕ)
     (slots : List (Slot MemoryValue)) (reply : Reply) (slots' : List (Slot MemoryValue)) (stored : Option (List ℕ))
     → ((x x' : MemoryValue) → StaysMemory x x' → Becomes k (Some (Live x)) (Some (Live x')))
@@ -254,7 +253,7 @@ memory_stored Becomes k a slots reply slots' None becomes stores = unchanged Bec
 memory_stored Becomes k a slots reply slots' (Some stored) becomes stores = slot_changed Becomes k slots reply slots' _
     (λ x x' c. becomes x x' (c.1.1, λ lent. subst IsLentRoom (sym c.1.2) lent)) stores
 
--- a register that takes what it is given
+-- what becomes of the registers where one takes what it is given
 register_set : (Becomes : ℕ → Option RawVal → Option RawVal → Type 0) (dst : ℕ) (registers : List RawVal)
     (reply : Reply) (registers' : List RawVal) (given : Option (Result RawVal TrapCode)) (old : Option RawVal)
     → ((x x' : RawVal) → Becomes dst (Some x) (Some x')) → slice_get registers dst ≡ old
@@ -266,7 +265,7 @@ register_set Becomes dst registers reply registers' (Some (Ok value)) (Some old)
 register_set Becomes dst registers reply registers' given old becomes is takes =
     unchanged Becomes registers registers' 0 takes.1
 
--- an element segment that is made
+-- what becomes of the element segments where one is made
 segment_made : {Lacks : Type 0} (Becomes : ℕ → Option SegmentValue → Option SegmentValue → Type 0) (ty : RefType)
     (items : List ℕ) (segments : List SegmentValue) (reply : Reply) (segments' : List SegmentValue)
     → ((j : ℕ) (x : SegmentValue) → Becomes j None (Some x))
@@ -275,14 +274,7 @@ segment_made Becomes ty items segments reply segments' new (inl none) = unchange
 segment_made Becomes ty items segments reply segments' new (inr (result, is, adds)) =
     entry_added Becomes (λ x. x) replied.Segment result segments reply segments' (λ j x is. new j x) adds
 
--- an item that is added
-item_added : {Lacks X : Type 0} (Becomes : ℕ → Option X → Option X → Type 0) (x : X) (items : List X) (reply : Reply)
-    (items' : List X) → ((j : ℕ) → Becomes j None (Some x)) → AddsItem Lacks x items reply items'
-    → EachAfter 1 Becomes items items'
-item_added Becomes x items reply items' new (inl none) = unchanged Becomes items items' 1 none.1
-item_added Becomes x items reply items' new (inr made) = appended Becomes items items' x new made.1
-
--- a memory that is made in the spare region
+-- what becomes of the memories where one is made in the spare region
 lent_made : {S : Type 0} (rules : Rules S) (ty : MemoryTypeValue) (part : MemoryPart) (l : S) (reply : Reply)
     (part' : MemoryPart) (l' : S) → CreatesLent rules ty part l reply part' l'
     → EachAfter 1 (λ j. MayAt (LentMemoryMade ty) (MemoryAt j)) part.slots part'.slots
@@ -361,7 +353,7 @@ module _ {S : Type 0} (rules : Rules S) (w : World S) (turn : Turn) (w' : World 
       → EachLocation effect w.state w'.state
   effect_locations (FuelSet fuel) step location =
       let same = at_metered w.state (meter_set w.state.meter fuel) location in (
-        inl (ap (λ (v : World S). content_at location v.state) step.after ∙ ap (content_at location) step.effect.1 ∙ same.0),
+        inl (rw (step.after, step.effect.1) same.0),
         rw step.after (rw step.effect.1 (omega (arith, same.1))),
       )
   effect_locations (Changed change) step location =
@@ -426,12 +418,12 @@ others_stay_in_runs rules w (turn ∷ turns) w' (v, step, ran) location leaves x
     others_stay_in_runs rules v turns w' ran location
     (All-tail (LeavesAlone location) turn.call (map Turn.call turns) leaves) x first
 
--- a slot may stay as it is
+-- what may become of a slot: it stays as it is
 later_same_slot : {X T : Type 0} (type : X → T) (x : Slot X) → IsLaterSlot type x x
 later_same_slot type (Live x) = refl
 later_same_slot type (Gone size) = refl
 
--- what is at an index may stay as it is
+-- what may become of what is at an index: it stays as it is
 pub later_same : (location : Location) (x : Content location) → IsLater location x x
 later_same (MemoryAt k) x = later_same_slot (λ (m : MemoryValue). m.ty) x
 later_same (TableAt k) x = later_same_slot (λ (t : TableValue). t.ty) x
@@ -448,7 +440,7 @@ later_twice_slot type (Live x) (Gone size) (Live z) first second = absurd cc
 later_twice_slot type (Live x) y (Gone last) first second = tt
 later_twice_slot type (Gone size) y z first second = subst (λ v. IsLaterSlot type v z) first second
 
--- items that are kept or lost, and then kept or lost again, are kept or lost
+-- items of a segment that are kept or dropped, and then kept or dropped again, are kept or dropped
 items_twice : (xs ys zs : List ℕ) → (ys ≡ xs) ⊎ (ys ≡ []) → (zs ≡ ys) ⊎ (zs ≡ []) → (zs ≡ xs) ⊎ (zs ≡ [])
 items_twice xs ys zs first (inr none) = inr none
 items_twice xs ys zs (inl same) (inl second) = inl (second ∙ same)

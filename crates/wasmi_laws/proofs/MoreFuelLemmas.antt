@@ -1,4 +1,5 @@
--- A run that never ran short of fuel, with more of it.
+-- A run that never ran short of fuel is the same with more fuel: what is due and paid, attempts, growths, writes over a
+-- range, changes of one part, and turns.
 use Rattle.std.proofs.Common.{◌≡◌, ◌∙◌, ◌≤◌, ℕ, Bool, true, false, Option, Some, None, Result, Ok, Err, List, [], ◌∷◌, map, refl, sym, ap, subst, arith}
 use Rattle.wasmi_laws.proofs.Common.{nat_tests, All-head, All-tail, option_map, All, MatchBool, is_none, nat_le, ◌&&◌, if◌then◌else◌, acts_too, asks_too, changes_too, unasked_too, TypedRawRef, TableError, AttemptOutcome, Met, Failed, Follows, IsFirstCause, MayEnd, MeteredValue, Request, answer_of, covers, optional_due, outcome_charge, with_value, Rules, optional_rules, Meter, meter_after, Grows, Growth, metered, metered_value, GrowsMemoryCharging, GrowsTableCharging, TableValue, same_type, EndsBy, MeteredWrite, WritesCharging, write_charge, Call, SetFuel, GetFuel, Reply, Slot, AcceptsNotices, ActsAt, OnLive, WritesRangeAt, reply_of, Run, BytesRead, BytesWritten, Change, Changed, Effect, FuelSet, MemoryGrown, RangeWritten, Step, TableGrown, MemoryWritten, TableWritten, HasChange, HasEffect, Told, effect_of, State, live_at, Turn, World, byte_write_of, write_of, both_live, on_live_too, on_test_too, grows_too, IsRange, KeepsMemory, KeepsTable, byte_range, source_range, HasFuel, MoreFuelChangesNothing, NamesNoFuel, meter_with_more, world_with_more, memory_growth, table_growth, outcome_of}
 use Rattle.wasmi_meter.specs.declared.error.TableError.TheVariants as table_error
@@ -9,12 +10,12 @@ use Rattle.wasmi_machine.proofs.AccountLemmas.{grows_takes}
 use Rattle.wasmi_machine.proofs.ToldLemmas.{optional_accepts}
 
 module _ {V E : Type 0} (refusal : E → Reply) (e : Request V E) where
-  -- the reply to the cause of a failure doesn't say that fuel ran out
+  -- an attempt doesn't fail for lack of fuel: the reply to the cause of a failure doesn't say that fuel ran out
   abbrev Tells : AttemptOutcome E → Type 0
   Tells (Failed cause notice_answer) = HasFuel (refusal cause)
   Tells outcome = Unit {0}
 
-  -- the cause doesn't say so where the limiter accepts each notice and the reply to the attempt doesn't say so
+  -- an attempt whose reply doesn't say that fuel ran out doesn't fail for that, where the limiter accepts each notice
   tells : {S T : Type 0} (rules : Rules S) → AcceptsNotices rules → (answer : T → Reply) (value : T) (l l' : S)
       (outcome : AttemptOutcome E) → HasFuel (reply_of answer refusal (answer_of e value outcome))
       → Follows e rules l outcome l' → Tells outcome
@@ -35,20 +36,20 @@ module _ (more : ℕ) where
   abbrev meter_of : Option ℕ → CustomFuelCosts → Meter
   meter_of left costs = record { left = left; costs = costs }
 
-  -- the same is due
+  -- the same is due of a meter with more fuel
   same_due : (left : Option ℕ) (costs : CustomFuelCosts) (price : Option (CustomFuelCosts → ℕ))
       → optional_due (Some (richer (meter_of left costs))) price ≡ optional_due (Some (meter_of left costs)) price
   same_due None costs None = refl
   same_due left costs price = refl
 
-  -- what could be paid still can
+  -- what could be paid can be paid with more fuel, by what is left
   still_covers : (left : Option ℕ) (costs : CustomFuelCosts) (amount : ℕ)
       → covers (Some (meter_of left costs)) amount ≡ true → covers (Some (richer (meter_of left costs))) amount ≡ true
   still_covers None costs amount enough = enough
   still_covers (Some n) costs amount enough =
       let within : nat_le amount n ≡ true = enough in grind (arith, nat_tests, within)
 
-  -- a charge leaves as much more
+  -- a meter with more fuel has as much more after a charge
   same_after : (left : Option ℕ) (costs : CustomFuelCosts) (charge : ℕ)
       → covers (Some (meter_of left costs)) charge ≡ true
       → richer (meter_after (meter_of left costs) charge) ≡ meter_after (richer (meter_of left costs)) charge
@@ -58,7 +59,7 @@ module _ (more : ℕ) where
       let left : charge ≤ n = grind (arith, nat_tests, within) in
       ap (λ k. meter_of (Some k) costs) (omega (arith, left))
 
-  -- the meter after a charge
+  -- the meter after a charge, with more fuel
   after_is : (m m' : Option Meter) (charge : ℕ) → covers m charge ≡ true
       → m' ≡ option_map (λ m. meter_after m charge) m
       → option_map richer m' ≡ option_map (λ m. meter_after m charge) (option_map richer m)
@@ -158,7 +159,7 @@ module _ (more : ℕ) where
         (grows_richer replied.Table (table_growth n init.raw s.value) (λ n none. none) s s' result charge has)
         (λ h. (h.0, h.1, ap enriched h.2))
 
-  -- a call with a charge on what an index names
+  -- a call with a charge on what an index names is one with more fuel
   acts_richer : {X R S : Type 0} (k : ℕ) (reply_to : R → Reply)
       (Acts : MeteredValue X S → R → ℕ → MeteredValue X S → Type 0) (s s' : MeteredValue (List (Slot X)) S)
       (reply : Reply) (charge : ℕ) → HasFuel reply
@@ -173,24 +174,22 @@ module _ (more : ℕ) where
   module _ {X E : Type 0} (refusal : E → Reply) (w : MeteredWrite X E)
       (unpaid : (n : ℕ) → HasFuel (refusal (w.unpaid n)) → ⊥) (x : X) (m : Meter) (result : Result (Unit {0}) E)
       (x' : X) (m' : Meter) (has : HasFuel (reply_of (λ _. replied.Done) refusal result)) where
-    -- before and after it
+    -- the value and the meter before a write over a range
     abbrev write_from : MeteredValue X (Unit {0})
     write_from = metered x (Some m)
 
+    -- the value and the meter after it
     abbrev write_to : MeteredValue X (Unit {0})
     write_to = metered x' (Some m')
 
-    -- what becomes of the meter and the value by a charge
+    -- what becomes of the meter and the value by the charge for a write, with more fuel
     paid_after : (value : X) (charge : ℕ) → covers (Some m) charge ≡ true
         → write_to ≡ metered value (Some (meter_after m charge))
         → enriched write_to ≡ metered value (Some (meter_after (richer m) charge))
     paid_after value charge enough after =
-        let values : x' ≡ value = ap (λ (t : MeteredValue X (Unit {0})). t.value) after in
-        let meters = after_is (Some m) (Some m') charge enough
-        (ap (λ (t : MeteredValue X (Unit {0})). t.meter) after) in
-        λ i. metered (values i) (meters i)
+        ap enriched after ∙ ap (λ left. metered value (Some left)) (same_after m.left m.costs charge enough)
 
-    -- where so much can be paid, it can be with more fuel
+    -- a write that is paid, is paid with more fuel
     paid_richer : (value : X) (enough : Bool) → covers (Some m) (due m w.price) ≡ enough
         → MatchBool enough ((result ≡ Ok tt) × (write_to ≡ metered value (Some (meter_after m (due m w.price)))))
         ((result ≡ Err (w.unpaid (due m w.price))) × (write_to ≡ write_from))
@@ -216,7 +215,7 @@ module _ (more : ℕ) where
     charged_richer (Ok done) = sym (due_is m w.price)
     charged_richer (Err error) = refl
 
-  -- a write over a range with more fuel
+  -- a write over a range is one with more fuel
   write_richer : {X E : Type 0} (refusal : E → Reply) (write : X → MeteredWrite X E)
       → ((x : X) (n : ℕ) → HasFuel (refusal ((write x).unpaid n)) → ⊥)
       → (x : X) (m : Meter) (result : Result (Unit {0}) E) (charge : ℕ) (x' : X) (m' : Meter)
@@ -229,7 +228,7 @@ module _ (more : ℕ) where
     charged = writing.charged ∙ charged_richer refusal (write x) (unpaid x) x m result x' m' has result;
   }
 
-  -- a write that may be missing
+  -- a write over a range of the value of an index, which may be missing, is one with more fuel
   range_richer : {X E : Type 0} (refusal : E → Reply) (Keeps : X → X → Type 0)
       (price : Option (CustomFuelCosts → ℕ)) (unpaid : ℕ → E) → ((n : ℕ) → HasFuel (refusal (unpaid n)) → ⊥)
       → (k : ℕ) (part : Option (X → MeteredWrite X E)) → OnLive part (Unit {0}) (IsRange Keeps price unpaid)
@@ -250,7 +249,7 @@ module _ (more : ℕ) where
   abbrev richer_state : State → State
   richer_state s = record s { meter = richer s.meter }
 
-  -- a change of one part
+  -- a change of one part is one with more fuel
   change_richer : (change : Change) (s : State) (reply : Reply) (s' : State) → HasChange change s reply s'
       → HasChange change (richer_state s) reply (richer_state s')
   change_richer (BytesWritten k offset bytes) s reply s' changes =

@@ -1,7 +1,8 @@
--- What was stored is read back, and memories and tables by themselves, as those at an index of a machine.
-use Rattle.std.proofs.Common.{Err, List, Ok, Result, Some, ap, length, mod-eq_of_lt, pos, pow_pos, refl, sym, ℕ, ◌%◌, ◌*◌, ◌+◌, ◌^◌, ◌∙◌, ◌≡◌, Option, None, inr}
-use Rattle.std.proofs.lemmas.Nat.{mod_below}
-use Rattle.wasmi_laws.proofs.Common.{stored_count, same_Some, option_and_then, slice_get, MatchOption, slice_set, acts, alters, replies, on_live, reply_of, StoresMemory, load_reply, State, live_at, live_value, World, RepliesWith, Read, Done, NoSuch, Trap, Value, Memory, Live, live_slot, set_same, MemoryAt, NumberStore, StoresAreReadBack, StoresKeepOtherBytes, load_of, store_call, stored_part, stored_size, MemoriesGrowAlike, TablesGrowAlike, MemoriesReadAlike, MemoriesWriteAlike, Rules, RawVal, MemoryValue, TrapCode, at}
+-- A stored number is read back by a load, a store keeps the other bytes of its memory, and a memory or a table by
+-- itself grows, is read and is written as the one at an index of a machine.
+use Rattle.std.proofs.Common.{Err, List, Ok, Result, Some, ap, length, pos, refl, sym, ℕ, ◌%◌, ◌*◌, ◌+◌, ◌^◌, ◌∙◌, ◌≡◌, Option, None, inr}
+use Rattle.std.proofs.Math.Nat.{mod-mod}
+use Rattle.wasmi_laws.proofs.Common.{stored_count, same_Some, option_and_then, slice_get, MatchOption, slice_set, acts, alters, replies, on_live, reply_of, StoresMemory, State, live_at, live_value, World, RepliesWith, Read, Done, NoSuch, Trap, Memory, Live, live_slot, set_same, MemoryAt, NumberStore, StoresAreReadBack, StoresKeepOtherBytes, load_of, store_call, stored_part, stored_size, MemoriesGrowAlike, TablesGrowAlike, MemoriesReadAlike, MemoriesWriteAlike, Rules, RawVal, MemoryValue, TrapCode, at}
 use Rattle.std.specs.Int.{Width, w32, w64}
 use Rattle.wasmi_access.proofs.AccessLemmas.{loaded-stored, outside-stored}
 use Rattle.wasmi_access.specs.LoadStore.{IsSameOutside, IsStore, loaded}
@@ -14,17 +15,12 @@ use Rattle.wasmi_types.specs.Numbers.{le_bytes}
 use Rattle.wasmi_meter.specs.declared.error.MemoryError.TheVariants.{OutOfBoundsAccess}
 use Rattle.wasmi_ops.specs.declared.load_store.StoreOp.TheVariants as store
 
--- a number cut twice to as many bits
-cut_twice : (n k : ℕ) → n % 2 ^ k % 2 ^ k ≡ n % 2 ^ k
-cut_twice n k = mod-eq_of_lt (mod_below n (2 ^ k) (pow_pos k))
-
 module _ (value : RawVal) (a : ℕ) (old new : List ℕ) where
   -- what a load without a sign gives of the low bits of a value that were stored
   narrow_read : (w : Width) (k n : ℕ) → (is : IsStore old a (le_bytes k (value.lo % 2 ^ n)) new (Ok (tt {0})))
       → 8 * k ≡ n → as_raw (signed_raw w) (loaded k pos new a) ≡ Ok (raw_of (value.lo % 2 ^ n))
-  narrow_read w k n is bits = ap (as_raw (signed_raw w)) (loaded-stored k (value.lo % 2 ^ n) a old new pos is)
-      ∙ ap (λ m. Ok (raw_of (value.lo % 2 ^ n % 2 ^ m))) bits
-      ∙ ap (λ m. Ok (raw_of m)) (cut_twice value.lo n)
+  narrow_read w k n is bits =
+      rw (loaded-stored k (value.lo % 2 ^ n) a old new pos is, bits, mod-mod value.lo (2 ^ n)) refl
 
   -- the load of as many bytes gives what a store has written
   read_back : (op : StoreOp) → IsStore old a (stored_bytes op value) new (Ok (tt {0}))
@@ -34,9 +30,9 @@ module _ (value : RawVal) (a : ℕ) (old new : List ℕ) where
   read_back store.I64Store8 is = narrow_read w64 1 8 is refl
   read_back store.I64Store16 is = narrow_read w64 2 16 is refl
   read_back store.I64Store32 is = narrow_read w64 4 32 is refl
-  read_back store.Store32 is = ap (as_raw raw_of) (loaded-stored 4 (value.lo % 2 ^ 32) a old new (λ n. n) is)
-      ∙ ap (λ m. Ok (raw_of m)) (cut_twice value.lo 32)
-  read_back store.Store64 is = ap (as_raw raw_of) (loaded-stored 8 value.lo a old new (λ n. n) is)
+  read_back store.Store32 is =
+      rw (loaded-stored 4 (value.lo % 2 ^ 32) a old new (λ n. n) is, mod-mod value.lo (2 ^ 32)) refl
+  read_back store.Store64 is = rw (loaded-stored 8 value.lo a old new (λ n. n) is) refl
 
   -- a store keeps the bytes outside of those that it writes
   outside : (op : StoreOp) → IsStore old a (stored_bytes op value) new (Ok (tt {0}))
@@ -59,11 +55,11 @@ accepted x x' a stored (Ok done) is stores = stores
 accepted x x' a stored (Err trap) is stores = absurd cc
 
 module _ {S : Type 0} (rules : Rules S) (it : NumberStore) where
-  -- where it is stored
+  -- the address of a store
   abbrev address : ℕ
   address = it.ptr + it.offset
 
-  -- what is stored
+  -- the bytes that a store writes
   abbrev bytes : List ℕ
   bytes = stored_bytes it.op it.value
 
@@ -76,11 +72,8 @@ module _ {S : Type 0} (rules : Rules S) (it : NumberStore) where
         before = x;
         after = h.0;
         was = found;
-        here = ap (λ (v : World S). slice_get v.state.memories it.memory) step.after
-            ∙ ap (λ (s : State). slice_get s.memories it.memory) step.effect.after
-            ∙ ap (λ slots. slice_get slots it.memory) h.2
-            ∙ set_same t.state.memories it.memory (Live h.0) (Live x)
-            (live_slot (slice_get t.state.memories it.memory) x found);
+        here = rw (step.after, step.effect.after, h.2) (set_same t.state.memories it.memory (Live h.0) (Live x)
+            (live_slot (slice_get t.state.memories it.memory) x found));
         store = accepted x h.0 address bytes h.1.0 h.1.2 h.1.1;
       })
 
@@ -88,13 +81,9 @@ module _ {S : Type 0} (rules : Rules S) (it : NumberStore) where
 pub stores_are_read_back : {S : Type 0} (rules : Rules S) → StoresAreReadBack rules
 stores_are_read_back rules it t u v w turns reply stores ran leaves (charge, written, step) =
     let stored = stored_by rules it t u stores in
-    let there = others_stay_in_runs rules u turns v ran (MemoryAt it.memory) leaves (Live stored.after) stored.here in (
-      step.effect
-          ∙ ap (λ slot. load_reply (load_of it.op) (it.ptr + it.offset) (option_and_then live_value slot)) there
-          ∙ ap (reply_of Value Trap)
-          (read_back it.value (it.ptr + it.offset) stored.before.bytes stored.after.bytes it.op stored.store.0),
-      step.after,
-    )
+    let there = others_stay_in_runs rules u turns v ran (MemoryAt it.memory) leaves (Live stored.after) stored.here in
+    let back = read_back it.value (it.ptr + it.offset) stored.before.bytes stored.after.bytes it.op stored.store.0 in
+    (rw (step.effect, there, back) refl, step.after)
 
 -- a store keeps the other bytes of its memory
 pub stores_keep_other_bytes : {S : Type 0} (rules : Rules S) → StoresKeepOtherBytes rules
@@ -111,17 +100,17 @@ stores_keep_other_bytes rules it t u stores x x' found found' =
     ) in rw (before, after) at left
 
 module _ {S : Type 0} (rules : Rules S) where
-  -- a memory grows
+  -- a memory by itself grows as the one at an index
   pub memories_grow : MemoriesGrowAlike rules
   memories_grow w k pages x x' result m' l' found (charge, grows) =
       acts (slice_set w.state.memories k (Live x')) (charge, rw found (result, x', grows, refl, refl))
 
-  -- a table grows
+  -- a table by itself grows as the one at an index
   pub tables_grow : TablesGrowAlike rules
   tables_grow w k n init x x' result m' l' found (charge, grows) =
       acts (slice_set w.state.tables k (Live x')) (charge, rw found (result, x', grows, refl, refl))
 
-  -- a read, by what is found of the memory
+  -- a memory by itself is read as the one at an index, by what is found
   read_by : (w : World S) (k offset len : ℕ) (x : MemoryValue) → live_at w.state.memories k ≡ Some x
       → (found : Option (List ℕ)) → at x.bytes offset len ≡ found
       → MatchOption found (RepliesWith rules (Read k offset len) w (Memory OutOfBoundsAccess) w)
@@ -129,11 +118,11 @@ module _ {S : Type 0} (rules : Rules S) where
   read_by w k offset len x live None is = replies (rw (live, is) refl)
   read_by w k offset len x live (Some bytes) is = replies (rw (live, is) (inr refl))
 
-  -- a memory is read
+  -- a memory by itself is read as the one at an index
   pub memories_read : MemoriesReadAlike rules
   memories_read w k offset len x live = read_by w k offset len x live (at x.bytes offset len) refl
 
-  -- a memory is written
+  -- a memory by itself is written as the one at an index
   pub memories_write : MemoriesWriteAlike rules
   memories_write w k offset bytes x x' result found writes =
       alters (slice_set w.state.memories k (Live x')) (rw found (x', (result, writes, refl), refl))

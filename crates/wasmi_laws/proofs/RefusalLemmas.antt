@@ -1,4 +1,6 @@
--- Refusals that leave the whole world.
+-- Refusals that change nothing: a plain refusal is found before the limiter is asked, since none of the later causes of
+-- an attempt is one. The limiter, the meter and the spare region stay, also where a call that lets nothing grow is
+-- refused.
 use Rattle.std.proofs.Common.{◌≡◌, ◌∙◌, ℕ, Bool, Option, Some, None, Result, Ok, Err, List, [], ◌∷◌, length, map, inl, inr, refl, sym, ap, subst}
 use Rattle.wasmi_laws.proofs.Common.{lacks_owned, All-head, All-tail, none-some, if◌then◌else◌, RefType, TypedRawRef, MemoryError, TableError, Attempt, AttemptOutcome, Unasked, Denied, Met, Failed, IsFirstCause, MeteredValue, Request, alone, answer_of, covers, optional_due, with_value, Failure, MemoryFailure, TableFailure, NoticeAnswer, Rules, Meter, LacksMemory, Lent, Owned, Room, Grows, Growth, Makes, metered_value, GrowsMemoryCharging, MakesMemory, MemoryValue, new_memory, MemoryTypeValue, GrowsTableCharging, TableValue, new_table, TableTypeValue, same_type, on_test, Call, NewMemory, NewLentMemory, GrowMemory, NewTable, GrowTable, Reply, Slot, Live, IsOtherFailure, ActsAt, AddsEntry, Creates, reply_of, CreatesLent, spare_after, MemoryPart, State, live_at, memory_part, IsRefusal, Turn, World, Effect, LentMemoryMade, MemoryGrown, MemoryMade, RangeWritten, Step, TableGrown, TableMade, HasEffect, effect_of, Creation, on_live, range_holds, IsPlainRefusal, OtherRefusalsChangeNothing, PlainRefusalsChangeNothing, PlainlyRefusedRunsChangeNothing, memory_growth, table_growth, outcome_of}
 use Rattle.wasmi_meter.specs.declared.error.MemoryError.TheVariants as memory_error
@@ -6,12 +8,12 @@ use Rattle.wasmi_meter.specs.declared.error.TableError.TheVariants as table_erro
 use Rattle.wasmi_store.specs.Memory as memory
 use Rattle.wasmi_store.specs.Table as table
 use Rattle.wasmi_machine.specs.declared.calls.Reply.TheVariants as replied
-use Rattle.wasmi_machine.specs.Exchange.{AsksFor, At, Denial, Exchange, New, Nothing, Notice, Nowhere, Passes, Permission, failed_reply, place_of, question_of}
+use Rattle.wasmi_machine.specs.Exchange.{AsksFor, Denial, Exchange, Nothing, Notice, Nowhere, Passes, Permission, failed_reply, place_of, question_of}
 use Rattle.wasmi_machine.specs.Laws.{Keeps, KeepsMeter, KeepsSpare}
 use Rattle.wasmi_machine.proofs.ExchangeLemmas.{growths_are_permitted, late_is}
 use Rattle.wasmi_machine.proofs.RefusalLemmas.{refusals_keep_contents}
 
--- a plain refusal is one
+-- a plain refusal is a refusal
 plain_refusal : (reply : Reply) → IsPlainRefusal reply → IsRefusal reply
 plain_refusal (replied.Memory error) plain = tt
 plain_refusal (replied.Table error) plain = tt
@@ -34,7 +36,7 @@ pub first_has : {V E : Type 0} (Fact : E → Type 0) (e : Request V E) → Later
     (late : Option E) → e.late ≡ late → (cause : E) → IsFirstCause e m late cause → Fact cause
 first_has Fact e has m (Some c) is cause first = has.late cause (is ∙ ap Some (sym first))
 first_has Fact e has m None is cause first = on_test (covers m (optional_due m e.price)) _ _ first
-    (has.refuses is cause) (λ unpaid. subst Fact (sym unpaid) (has.unpaid (optional_due m e.price)))
+    (has.refuses is cause) (λ unpaid. rw unpaid (has.unpaid (optional_due m e.price)))
 
 -- a cause that a test finds has a fact
 pub tested : {E : Type 0} (Fact : E → Type 0) (test : Bool) (cause : E) → Fact cause → (c : E)
@@ -59,7 +61,7 @@ record IsUnasked {V E S : Type 0} (refusal : E → Reply) (e : Request V E) (l l
   same : l' ≡ l
 
 module _ {V E : Type 0} (refusal : E → Reply) (e : Request V E) (loud : AllLoud refusal e) where
-  -- an attempt
+  -- a plain refusal of an attempt is its early cause
   attempt_unasked : {S T : Type 0} (rules : Rules S) (met : Success T) (s s' : MeteredValue V S) (charge : ℕ)
       (outcome : AttemptOutcome E) → Attempt rules e s outcome charge s'
       → IsPlainRefusal (reply_of met.answer refusal (answer_of e met.value outcome))
@@ -80,7 +82,7 @@ adds_reply entry refusal (Ok x) list reply list' adds = adds.0
 adds_reply entry refusal (Err error) list reply list' adds = adds.0
 
 module _ {S : Type 0} (rules : Rules S) where
-  -- a creation whose slot there is place for
+  -- a plain refusal of a creation for whose slot there is place is its early cause
   makes_unasked : {X E : Type 0} (refusal : E → Reply) (e : Request (Unit {0}) E) → AllLoud refusal e → (made : X)
       → (slots : List (Slot X)) (l : S) (o : Creation (List (Slot X)) S) (result : Result X E)
       → Makes rules e made l result o.limiter → AddsEntry Live refusal result slots o.reply o.part
@@ -91,7 +93,7 @@ module _ {S : Type 0} (rules : Rules S) where
       attempt_unasked refusal e loud rules (record { answer = answer; value = made; loud = λ p. p }) (alone l)
       (alone o.limiter) 0 outcome attempt (subst IsPlainRefusal told plain)
 
-  -- any creation
+  -- a plain refusal of any creation leaves the limiter
   creates_unasked : {X E : Type 0} (refusal : E → Reply) (e : Request (Unit {0}) E) → AllLoud refusal e → (made : X)
       → (slots : List (Slot X)) (l : S) (o : Creation (List (Slot X)) S)
       → Creates refusal (Makes rules e made) slots l o.reply o.part o.limiter → IsPlainRefusal o.reply → o.limiter ≡ l
@@ -99,7 +101,7 @@ module _ {S : Type 0} (rules : Rules S) where
   creates_unasked refusal e loud made slots l o (inr (result, makes, adds)) plain =
       (makes_unasked refusal e loud made slots l o result makes adds plain).same
 
-  -- a growth
+  -- a plain refusal of a growth leaves the limiter
   grows_unasked : {V E : Type 0} (refusal : E → Reply) (g : Growth V E) → AllLoud refusal g.request
       → (s s' : MeteredValue V S) (result : Result ℕ E) (charge : ℕ) → Grows rules g s result charge s'
       → IsPlainRefusal (reply_of replied.Number refusal result) → s'.limiter ≡ s.limiter
@@ -109,7 +111,7 @@ module _ {S : Type 0} (rules : Rules S) where
       (record { answer = replied.Number; value = g.size; loud = λ p. p }) s s' charge some.outcome some.attempt
       (subst (λ r. IsPlainRefusal (reply_of replied.Number refusal r)) some.answered plain)).same
 
-  -- a growth of what an index names
+  -- a plain refusal of a growth of what an index names leaves the limiter
   acts_unasked : {X E : Type 0} (k : ℕ) (refusal : E → Reply)
       (Acts : MeteredValue X S → Result ℕ E → ℕ → MeteredValue X S → Type 0)
       (s s' : MeteredValue (List (Slot X)) S) (reply : Reply) (charge : ℕ)
@@ -123,11 +125,11 @@ module _ {S : Type 0} (rules : Rules S) where
 
 -- lack of memory for a memory is no plain refusal
 lacks_loud : (room : Room) (c : MemoryError) → LacksMemory room c → IsLoud (replied.Memory c)
-lacks_loud room c lacks plain = subst (λ x. IsPlainRefusal (replied.Memory x)) (lacks_owned room c lacks) plain
+lacks_loud room c lacks plain = rw (lacks_owned room c lacks) at plain
 
 -- lack of memory for a table is no plain refusal
 table_lacks_loud : (c : TableError) → c ≡ table_error.OutOfSystemMemory → IsLoud (replied.Table c)
-table_lacks_loud c lacks plain = subst (λ x. IsPlainRefusal (replied.Table x)) lacks plain
+table_lacks_loud c lacks plain = rw lacks at plain
 
 -- no later cause of a creation of a memory is a plain refusal
 memory_made_loud : (room : Room) (ty : MemoryTypeValue) → AllLoud replied.Memory (memory.creation_of room ty)
@@ -190,7 +192,7 @@ module _ {S : Type 0} (rules : Rules S) where
       let same = region_unasked region ty part.slots l (record { reply = reply; part = part'.slots; limiter = l' }) h.0
       plain in (same.0, h.1 ∙ ap (λ r. spare_after r part.spare) same.1))
 
-  -- a growth of a table, whose type is tested first
+  -- a plain refusal of a growth of a table, whose type is tested first, leaves the limiter
   table_grows_unasked : (n : ℕ) (init : TypedRawRef) (s s' : MeteredValue TableValue S) (result : Result ℕ TableError)
       (charge : ℕ) → GrowsTableCharging rules n init s result charge s'
       → IsPlainRefusal (reply_of replied.Number replied.Table result) → s'.limiter ≡ s.limiter
@@ -200,41 +202,41 @@ module _ {S : Type 0} (rules : Rules S) where
       (λ h. ap (λ (t : MeteredValue TableValue S). t.limiter) h.2)
 
   module _ (w : World S) (turn : Turn) (w' : World S) (plain : IsPlainRefusal turn.reply) where
-    -- the limiter stays, by each effect
+    -- a plain refusal leaves the limiter, by each effect
     limiter_stays : (effect : Effect) → HasEffect rules effect w (outcome_of turn) w' → w'.limiter ≡ w.limiter
-    limiter_stays (MemoryMade ty) step = ap (λ (v : World S). v.limiter) step.after
-        ∙ creates_unasked rules replied.Memory (memory.creation_of Owned ty) (memory_made_loud Owned ty)
+    limiter_stays (MemoryMade ty) step = rw step.after
+        (creates_unasked rules replied.Memory (memory.creation_of Owned ty) (memory_made_loud Owned ty)
         (new_memory Owned ty) w.state.memories w.limiter
-        (record { reply = turn.reply; part = step.part; limiter = step.limiter }) step.effect plain
-    limiter_stays (LentMemoryMade ty) step = ap (λ (v : World S). v.limiter) step.after
-        ∙ (lent_unasked ty (memory_part w.state) w.limiter turn.reply step.part step.limiter step.effect plain).0
-    limiter_stays (MemoryGrown k pages) step = ap (λ (v : World S). v.limiter) step.after
-        ∙ acts_unasked rules k replied.Memory (GrowsMemoryCharging rules pages) _ _ turn.reply turn.charge
+        (record { reply = turn.reply; part = step.part; limiter = step.limiter }) step.effect plain)
+    limiter_stays (LentMemoryMade ty) step = rw step.after
+        (lent_unasked ty (memory_part w.state) w.limiter turn.reply step.part step.limiter step.effect plain).0
+    limiter_stays (MemoryGrown k pages) step = rw step.after
+        (acts_unasked rules k replied.Memory (GrowsMemoryCharging rules pages) _ _ turn.reply turn.charge
         (λ x x' result. grows_unasked rules replied.Memory (memory_growth pages x) (memory_grown_loud x pages)
         (metered_value x (Some w.state.meter) w.limiter)
-        (metered_value x' (Some step.meter) step.limiter) result turn.charge) step.effect plain
-    limiter_stays (TableMade ty init) step = ap (λ (v : World S). v.limiter) step.after
-        ∙ creates_unasked rules replied.Table (table.creation_of ty init.ty) (table_made_loud ty init.ty)
+        (metered_value x' (Some step.meter) step.limiter) result turn.charge) step.effect plain)
+    limiter_stays (TableMade ty init) step = rw step.after
+        (creates_unasked rules replied.Table (table.creation_of ty init.ty) (table_made_loud ty init.ty)
         (new_table ty init.raw) w.state.tables w.limiter
-        (record { reply = turn.reply; part = step.part; limiter = step.limiter }) step.effect plain
-    limiter_stays (TableGrown k n init) step = ap (λ (v : World S). v.limiter) step.after
-        ∙ acts_unasked rules k replied.Table (GrowsTableCharging rules n init) _ _ turn.reply turn.charge
+        (record { reply = turn.reply; part = step.part; limiter = step.limiter }) step.effect plain)
+    limiter_stays (TableGrown k n init) step = rw step.after
+        (acts_unasked rules k replied.Table (GrowsTableCharging rules n init) _ _ turn.reply turn.charge
         (λ x x' result. table_grows_unasked n init (metered_value x (Some w.state.meter) w.limiter)
-        (metered_value x' (Some step.meter) step.limiter) result turn.charge) step.effect plain
+        (metered_value x' (Some step.meter) step.limiter) result turn.charge) step.effect plain)
     limiter_stays (RangeWritten write) step = (range_holds w write turn w' step).unasked
-    limiter_stays effect step = ap (λ (v : World S). v.limiter) step.after
+    limiter_stays effect step = rw step.after refl
 
-    -- the spare region stays
+    -- a plain refusal leaves the spare region
     spare_stays : (call : Call) → turn.call ≡ call → Step rules w turn w'
         → KeepsSpare call turn.reply w.state w'.state → w'.state.spare ≡ w.state.spare
     spare_stays (NewLentMemory ty) is step keeps =
         let made : HasEffect rules (LentMemoryMade ty) w (outcome_of turn) w' =
         subst (λ call. HasEffect rules (effect_of w.state call) w (outcome_of turn) w') is step in
-        ap (λ (v : World S). v.state.spare) made.after
-        ∙ (lent_unasked ty (memory_part w.state) w.limiter turn.reply made.part made.limiter made.effect plain).1
+        rw made.after
+        (lent_unasked ty (memory_part w.state) w.limiter turn.reply made.part made.limiter made.effect plain).1
     spare_stays call is step keeps = keeps
 
--- a growth that fails after its charge has no plain refusal
+-- the reply to a growth that fails after its charge is no plain refusal
 want_loud : (failure : Failure) (notice_answer : NoticeAnswer) → (IsOtherFailure failure → ⊥)
     → IsLoud (failed_reply failure notice_answer)
 want_loud (MemoryFailure error) (Err _) wants plain = plain
@@ -261,37 +263,28 @@ same_world rules w turn w' keeps meter spare limiter = λ i. record {
   limiter = limiter i;
 }
 
--- a new index is a place
-new_place : New ≡ Nowhere → ⊥
-new_place is = cc
-
--- an index that is there is a place
-old_place : (k : ℕ) → At k ≡ Nowhere → ⊥
-old_place k is = cc
-
 -- a call that lets nothing grow asks nothing
 no_question : (s : State) (call : Call) → place_of call ≡ Nowhere → question_of s call ≡ None
-no_question s (NewMemory ty) is = absurd (new_place is)
-no_question s (NewLentMemory ty) is = absurd (new_place is)
-no_question s (GrowMemory k pages) is = absurd (old_place k is)
-no_question s (NewTable ty init) is = absurd (new_place is)
-no_question s (GrowTable k n init) is = absurd (old_place k is)
+no_question s (NewMemory ty) is = absurd cc
+no_question s (NewLentMemory ty) is = absurd cc
+no_question s (GrowMemory k pages) is = absurd cc
+no_question s (NewTable ty init) is = absurd cc
+no_question s (GrowTable k n init) is = absurd cc
 no_question s call is = refl
 
 -- a call that lets nothing grow keeps the spare region where it is refused
 other_spare : (s s' : State) (call : Call) (reply : Reply) → place_of call ≡ Nowhere → KeepsSpare call reply s s'
     → s'.spare ≡ s.spare
-other_spare s s' (NewLentMemory ty) reply is keeps = absurd (new_place is)
+other_spare s s' (NewLentMemory ty) reply is keeps = absurd cc
 other_spare s s' call reply is keeps = keeps
 
--- where nothing is asked, the limiter stays
+-- the limiter stays where a call asks nothing
 unasked_limiter : {S : Type 0} (rules : Rules S) (question : Option _) (l : S) (reply : Reply) (l' : S)
     → question ≡ None → (exchange : Exchange) → AsksFor question exchange reply → Passes rules l exchange l' → l' ≡ l
 unasked_limiter rules question l reply l' none Nothing asks passes = passes
-unasked_limiter rules question l reply l' none (Denial q answer) asks passes = absurd (none-some q (sym none ∙ asks))
-unasked_limiter rules question l reply l' none (Permission q) asks passes = absurd (none-some q (sym none ∙ asks))
-unasked_limiter rules question l reply l' none (Notice q failure notice_answer) asks passes =
-    absurd (none-some q (sym none ∙ asks))
+unasked_limiter rules question l reply l' none (Denial q answer) asks passes = absurd cc
+unasked_limiter rules question l reply l' none (Permission q) asks passes = absurd cc
+unasked_limiter rules question l reply l' none (Notice q failure notice_answer) asks passes = absurd cc
 
 module _ {S : Type 0} (rules : Rules S) (w : World S) (turn : Turn) (w' : World S) where
   -- the meter stays where a growth would have to fail after its charge
@@ -303,7 +296,7 @@ module _ {S : Type 0} (rules : Rules S) (w : World S) (turn : Turn) (w' : World 
   -- the meter stays where a call that lets nothing grow is refused
   other_meter : place_of turn.call ≡ Nowhere → KeepsMeter rules w turn w' → w'.state.meter ≡ w.state.meter
   other_meter is (inl same) = same
-  other_meter is (inr fails) = absurd (old_place fails.index (sym fails.grows ∙ is))
+  other_meter is (inr fails) = let grows = fails.grows in absurd cc
 
 module _ {S : Type 0} (rules : Rules S) where
   -- a turn with a plain refusal changes nothing

@@ -1,4 +1,5 @@
--- What is reserved is enough: no call that needs nothing else lacks memory, and a call takes no more than its slot.
+-- What is reserved is enough: no reply to a call that needs no other memory says out of memory, as no cause of its
+-- attempts, writes, reads and changes is lack of memory. A call takes its slot alone, and what is reserved stays so.
 use Rattle.wasmi_laws.proofs.Common.{nat_tests, append-nil, All-cons, All-head, All-nil, All-tail, All-weaker, none-some, same_Some, option_map, option_map_or, All, MatchOption, count_by, if◌then◌else◌, is_some, max, nat_eq, nat_le, slice_get, slice_set, at, overwrite, TrapCode, RefType, RawVal, TypedRawRef, AttemptOutcome, Denied, Failed, MayEnd, Met, MeteredValue, Request, Unasked, answer_of, covers, with_value, Rules, Meter, MemoryError, TableError, on_test, LacksMemory, Lent, Owned, Room, metered, metered_value, GrowsMemoryCharging, MakesMemory, MemoryTypeValue, MemoryValue, MemoryWrite, WritesMemory, new_memory, pages_of, GrowsTableCharging, SetsTable, TableValue, elements_write, is_within_maximum, same_type, size_of, with_elements_reserved, EndsBy, IsRefusedFor, MeteredWrite, copied, filled, write_due, both_live, on_live, on_live_too, WritesBytes, source_writes, IsNotOutOfMemory, AddsEntry, AddsItem, ChangesFound, Creates, IfNoRoom, MeteredSlots, OnLive, WritesRangeAt, reply_of, ByteSource, ReadsBytes, byte_write_of, SetsAt, StoresVectorAt, vector_at, State, Turn, World, live_at, with_reserved, with_tables, BytesRead, BytesStored, BytesWritten, Change, Changed, DataDropped, DataMade, Effect, ElementSet, FuelSet, GlobalMade, GlobalSet, HasChange, HasEffect, IsRunOf, ItemsDropped, LacksSlot, LentMemoryMade, MemoryDropped, MemoryGrown, MemoryMade, MemoryWritten, RangeWritten, RegisterSet, Run, SegmentMade, Step, TableDropped, TableGrown, TableMade, TableWritten, Told, effect_of, ReservesElementsAt, OfReference, OfSegment, OfTable, Source, write_of, CreatesSegment, IsSegmentOf, Call, Extract, GetElement, GetFuel, GetGlobal, GetRegister, GrowMemory, GrowTable, Load, NewData, NewGlobal, NewLentMemory, NewMemory, NewSegment, Test, Reply, Slot, Live, DataAt, GlobalAt, Location, MemoryAt, SegmentAt, TableAt, content_at, HasElements, HasElementsAt, HasSlot, HasSlots, SlotKind, Memories, Segments, DataSegments, Globals, made_of, slots_for, takes_slot, IsReservedToMaximum, IsLent, IsLentRoom, IsReservedFor, IsReservedTable, NeedsNoMemory, NeedsOnlySlot, ReservedCallsSucceed, ReservedRunsSucceed, SlotsSuffice, IsInRegion, outcome_of}
 use Rattle.std.proofs.Common.{◌++◌, Bool, Err, List, None, Ok, Option, Result, Some, [], ap, arith, cond, drop, false, inl, inr, length, map, refl, subst, sym, take, true, ℕ, ◌+◌, ◌<◌, ◌≤◌, ◌∙◌, ◌∷◌, ◌≡◌, ◌⊎◌, ⊎_elim}
 use Rattle.std.proofs.lemmas.List.Sums.{sum_by-cons}
@@ -23,13 +24,13 @@ use Rattle.wasmi_store.specs.Table as table
 abbrev IsOther : {E : Type 0} → (E → Reply) → E → Type 0
 IsOther refusal error = IsNotOutOfMemory (refusal error)
 
--- a reply by an option tells of no lack of memory, where neither of both does
+-- a reply by an option doesn't say out of memory, where neither of both replies does
 option_told : {X : Type 0} (o : Option X) (answer : X → Reply) (missing : Reply) → ((x : X) → IsNotOutOfMemory (answer x))
     → IsNotOutOfMemory missing → IsNotOutOfMemory (option_map_or answer o missing)
 option_told None answer missing found none = none
 option_told (Some x) answer missing found none = found x
 
--- the reply by a result
+-- the reply by a result doesn't say out of memory
 result_told : {T E : Type 0} (result : Result T E) (answer : T → Reply) (refusal : E → Reply)
     → ((t : T) → IsNotOutOfMemory (answer t)) → ((error : E) → result ≡ Err error → IsOther refusal error)
     → IsNotOutOfMemory (reply_of answer refusal result)
@@ -41,7 +42,7 @@ result_told (Err error) answer refusal done refused = refused error refl
 module _ {V E : Type 0} (refusal : E → Reply) (e : Request V E)
     (early : (cause : E) → e.early ≡ Some cause → IsOther refusal cause) (later : LaterCauses (IsOther refusal) e)
     (m : Option Meter) where
-  -- the reply to an attempt
+  -- the reply to an attempt none of whose causes is lack of memory doesn't say out of memory
   attempt_told : {T : Type 0} (answer : T → Reply) → ((t : T) → IsNotOutOfMemory (answer t)) → (value : T)
       (outcome : AttemptOutcome E) → MayEnd e m outcome
       → IsNotOutOfMemory (reply_of answer refusal (answer_of e value outcome))
@@ -62,15 +63,15 @@ record WritesWithoutWant {V E : Type 0} (refusal : E → Reply) (w : MeteredWrit
 
 module _ {V E : Type 0} (refusal : E → Reply) (w : MeteredWrite V E) (no : WritesWithoutWant refusal w)
     (s : MeteredValue V (Unit {0})) (result : Result (Unit {0}) E) (s' : MeteredValue V (Unit {0})) where
-  -- the reply to a write that was refused for a cause
+  -- the reply to a write doesn't say out of memory
   abbrev Tells : Type 0
   Tells = IsNotOutOfMemory (reply_of (λ _. replied.Done) refusal result)
 
-  -- a cause that isn't lack of memory
+  -- the reply to a write that was refused for a cause other than lack of memory
   cause_told : (cause : E) → IsOther refusal cause → IsRefusedFor w s result s' cause → Tells
   cause_told cause other is = rw is.0 other
 
-  -- the reply to a write
+  -- the reply to a write no cause of which is lack of memory
   write_told : (early : Option E) (written : Option V) → w.early ≡ early → EndsBy w s result s' early written → Tells
   write_told (Some cause) written is ends = cause_told cause (no.early cause is) ends
   write_told None None is ends = cause_told w.outside no.outside ends
@@ -80,8 +81,7 @@ module _ {V E : Type 0} (refusal : E → Reply) (w : MeteredWrite V E) (no : Wri
 -- a write to a memory has no cause that is lack of memory
 memory_write_told : (len : ℕ) (write : MemoryValue → MemoryWrite) → WritesBytes len write → (x : MemoryValue)
     → WritesWithoutWant replied.Memory (write x)
-memory_write_told len write w x = subst (WritesWithoutWant replied.Memory) (sym (w.is x))
-    (record { early = w.told x.ty; outside = tt; unpaid = λ amount. tt })
+memory_write_told len write w x = rw (w.is x) (record { early = w.told x.ty; outside = tt; unpaid = λ amount. tt })
 
 -- a write to a table has no cause that is lack of memory
 table_write_told : (x : TableValue) (typed : Bool) (written : Option (List ℕ)) (outside : TableError) (paid : Option ℕ)
@@ -133,7 +133,7 @@ lent_told region ty = record {
   refuses = λ late cause lacks. absurd lacks;
 }
 
--- what a lent room lacks
+-- a lent room never lacks memory
 lent_lacks : (room : Room) (cause : MemoryError) → IsLentRoom room → LacksMemory room cause → ⊥
 lent_lacks Owned cause lent lacks = lent
 lent_lacks (Lent rest) cause lent lacks = lacks
@@ -170,7 +170,7 @@ within_reserved (Some n) size reserved enough within =
     let below : nat_le size n ≡ true = within in
     grind (arith, nat_tests, above, below)
 
--- a growth within the maximum has its memory
+-- a growth of a table within the maximum has its memory
 elements_there : (x : TableValue) (n : ℕ) → HasElements n x → is_within_maximum x.ty (size_of x + n) ≡ true
     → size_of x + n ≤ x.reserved
 elements_there x n (inl there) within = there
@@ -191,7 +191,7 @@ table_told x n reference has = record {
 
 -- ---- entries
 
--- the reply to an entry
+-- the reply to an entry whose error isn't lack of memory
 entry_told : {X A E : Type 0} (entry : X → A) (refusal : E → Reply) (result : Result X E) (list : List A)
     (reply : Reply) (list' : List A) → ((error : E) → result ≡ Err error → IsOther refusal error)
     → AddsEntry entry refusal result list reply list' → IsNotOutOfMemory reply
@@ -204,8 +204,7 @@ made_told : (region : List ℕ) (ty : MemoryTypeValue) (outcome : AttemptOutcome
     → answer_of (memory.creation_of (Lent region) ty) (new_memory (Lent region) ty) outcome ≡ Err error
     → IsOther replied.Memory error
 made_told region ty outcome may error is =
-    subst IsNotOutOfMemory (ap (reply_of (λ x. replied.Done) replied.Memory) is)
-    (attempt_told replied.Memory (memory.creation_of (Lent region) ty)
+    rw is at (attempt_told replied.Memory (memory.creation_of (Lent region) ty)
     (tested (IsOther replied.Memory) _ MemoryError.MinimumSizeOverflow tt) (lent_told region ty) None (λ x. replied.Done)
     (λ x. tt) (new_memory (Lent region) ty) outcome may)
 
@@ -219,16 +218,15 @@ creation_told rules region ty slots l reply slots' l' room (inr (result, (outcom
     entry_told Live replied.Memory result slots reply slots'
     (λ error is. made_told region ty outcome attempt.may_end error (sym answered ∙ is)) adds
 
--- a reply that there is no room, where a slot is reserved
+-- no reply says that there is no room for a slot, where one is reserved
 slot_there : {A : Type 0} (reserved : ℕ) (list : List A) (reply : Reply) → length list < reserved
     → IfNoRoom reply (LacksSlot reserved list) → reply ≡ replied.NoRoom → ⊥
 slot_there reserved list reply has room is =
-    let lacks : LacksSlot reserved list = subst (λ r. IfNoRoom r (LacksSlot reserved list)) is room in
-    omega (arith, has, lacks)
+    let lacks : LacksSlot reserved list = rw is at room in omega (arith, has, lacks)
 
 -- ---- reads
 
--- no byte is read
+-- no byte is found by a read of none
 none_read : (xs : List ℕ) (test : Bool) (bytes : List ℕ)
     → (if test then Some (take 0 xs) else None) ≡ Some bytes → length bytes ≡ 0
 none_read xs true bytes is = ap length (sym (same_Some (take 0 xs) bytes is))
@@ -245,13 +243,12 @@ read_told (Some bytes) reply none (inr read) = rw read tt
 bytes_read_told : (xs : List ℕ) (offset len : ℕ) (reply : Reply) → len ≡ 0 → ReadsBytes (at xs offset len) reply
     → IsNotOutOfMemory reply
 bytes_read_told xs offset len reply none reads =
-    let reads_none = subst (λ n. ReadsBytes (at xs offset n) reply) none reads in
-    read_told (at xs offset 0) reply
-    (λ bytes. none_read (drop offset xs) (nat_le (offset + 0) (length xs)) bytes) reads_none
+    read_told (at xs offset 0) reply (λ bytes. none_read (drop offset xs) (nat_le (offset + 0) (length xs)) bytes)
+    (rw none at reads)
 
 -- ---- changes of one part
 
--- the reply to an addition
+-- the reply to an addition of an item for which there is memory
 added_told : {Lacks X : Type 0} (x : X) (items : List X) (reply : Reply) (items' : List X) → (Lacks → ⊥)
     → AddsItem Lacks x items reply items' → IsNotOutOfMemory reply
 added_told x items reply items' has (inl none) = absurd (has none.2)
@@ -282,12 +279,12 @@ found_told : {X A : Type 0} (found : Option X) (put : X → A) (part : A) (reply
 found_told found put part reply part' Change told changes = on_live found _ _ changes
     (λ missing. rw missing.0 tt) (λ x is h. told x h.0 h.1)
 
--- the error of a write
+-- the error of a write to a memory isn't lack of memory
 write_error_told : (x : MemoryValue) (offset : ℕ) (source : List ℕ) (result : Result (Unit {0}) MemoryError)
     (x' : MemoryValue) → WritesMemory x offset source result x'
     → IsNotOutOfMemory (reply_of (λ _. replied.Done) replied.Memory result)
 write_error_told x offset source (Ok done) x' writes = tt
-write_error_told x offset source (Err error) x' writes = subst (IsOther replied.Memory) (sym writes.0) tt
+write_error_told x offset source (Err error) x' writes = rw writes.0 tt
 
 -- the reply to a store, whose bytes may be missing
 store_told : (k a : ℕ) (stored : Option (List ℕ)) (slots : List (Slot MemoryValue)) (reply : Reply)
@@ -389,7 +386,7 @@ effect_has s (Extract op a) needs =
 effect_has s call needs = needs
 
 module _ {S : Type 0} (rules : Rules S) (w : World S) (turn : Turn) (w' : World S) where
-  -- the fuel is set, or the meter is off
+  -- the reply to a call that sets the fuel
   set_fuel_told : (on : Bool)
       → turn.reply ≡ (if on then replied.Done else replied.Fuel FuelError.FuelMeteringDisabled)
       → IsNotOutOfMemory turn.reply
@@ -456,19 +453,18 @@ takes_none s effect has takes = takes
 -- a change of one part leaves how many slots are reserved
 change_reserves : (s : State) (reply : Reply) (s' : State) (change : Change) → HasChange change s reply s'
     → s'.reserved ≡ s.reserved
-change_reserves s reply s' (DataMade bytes) c = ap (λ (t : State). t.reserved) c.after
-change_reserves s reply s' change c = ap (λ (t : State). t.reserved) c.after
+change_reserves s reply s' (DataMade bytes) c = rw c.after refl
+change_reserves s reply s' change c = rw c.after refl
 
 module _ {S : Type 0} (rules : Rules S) (w : World S) (turn : Turn) (w' : World S) where
   -- an effect leaves how many slots are reserved
   effect_reserves : (effect : Effect) → HasEffect rules effect w (outcome_of turn) w'
       → w'.state.reserved ≡ w.state.reserved
-  effect_reserves (FuelSet fuel) step =
-      ap (λ (v : World S). v.state.reserved) step.after ∙ ap (λ (t : State). t.reserved) step.effect.1
-  effect_reserves (Changed change) step = ap (λ (v : World S). v.state.reserved) step.after
-      ∙ change_reserves w.state turn.reply step.machine change step.effect
-  effect_reserves (RangeWritten (TableWritten k source dst len)) step = ap (λ (v : World S). v.state.reserved) step.after
-  effect_reserves effect step = ap (λ (v : World S). v.state.reserved) step.after
+  effect_reserves (FuelSet fuel) step = rw (step.after, step.effect.1) refl
+  effect_reserves (Changed change) step =
+      rw step.after (change_reserves w.state turn.reply step.machine change step.effect)
+  effect_reserves (RangeWritten (TableWritten k source dst len)) step = rw step.after refl
+  effect_reserves effect step = rw step.after refl
 
   -- what is reserved at an index stays so where no memory is needed
   still_reserved : (effect : Effect) → EffectHas w.state effect → HasEffect rules effect w (outcome_of turn) w'
@@ -569,8 +565,7 @@ module _ {S : Type 0} (rules : Rules S) where
     -- no turn of the first calls is out of memory, and what is left is reserved for the others
     turns_told : (w : World S) (turns : List Turn) (w' : World S) → IsReservedFor w.state (map Turn.call turns ++ rest)
         → Run rules w turns w' → All IsNotOutOfMemory (map Turn.reply turns) × IsReservedFor w'.state rest
-    turns_told w [] w' r ran =
-        (All-nil IsNotOutOfMemory, subst (λ (v : World S). IsReservedFor v.state rest) (sym ran) r)
+    turns_told w [] w' r ran = (All-nil IsNotOutOfMemory, rw ran r)
     turns_told w (turn ∷ turns) w' r (v, step, ran) =
         let calls = map Turn.call turns ++ rest in
         let told = reserved_calls_succeed rules w turn v step (first_needs w.state turn.call calls r) in
@@ -583,13 +578,12 @@ module _ {S : Type 0} (rules : Rules S) where
         → IsReservedFor w.state (calls ++ rest) → IsRunOf rules calls w replies w'
         → All IsNotOutOfMemory replies × IsReservedFor w'.state rest
     front_told calls w replies w' r (turns, made, told, ran) =
-        let both = turns_told w turns w' (subst (λ first. IsReservedFor w.state (first ++ rest)) (sym made) r) ran in
-        (subst (All IsNotOutOfMemory) told both.0, both.1)
+        let both = turns_told w turns w' (rw made r) ran in (rw told at both.0, both.1)
 
   -- no reply to calls for which enough was reserved says out of memory
   pub reserved_runs_succeed : ReservedRunsSucceed rules
   reserved_runs_succeed calls w replies w' r ran =
-      (front_told [] calls w replies w' (subst (IsReservedFor w.state) (sym (append-nil calls)) r) ran).0
+      (front_told [] calls w replies w' (rw (append-nil calls) r) ran).0
 
 -- ---- what is reserved beside runs
 
@@ -600,10 +594,11 @@ kind_reserved : (s : State) (more : SlotCounts) (kind : SlotKind) → (made_of (
 kind_reserved s more Memories = (refl, refl)
 kind_reserved s more kind = (refl, refl)
 
--- the slots that are found are reserved with those in addition
+-- the calls find their slots of a kind: in what is reserved, or in what is reserved in addition
 abbrev FindSlots : State → SlotCounts → List Call → SlotKind → Type 0
 FindSlots s more calls kind = HasSlots s calls kind ⊎ (count_by (takes_slot kind) calls ≤ slots_for more kind)
 
+-- slots that calls find are there once more slots are reserved
 slots_found : (s : State) (more : SlotCounts) (calls : List Call) (kind : SlotKind) → FindSlots s more calls kind
     → HasSlots (with_reserved s more) calls kind
 slots_found s more calls kind (inl has) =
@@ -632,7 +627,7 @@ slots_suffice s more calls fits = with_more_slots s more calls fits.needs (λ ki
 -- a table for which so many elements are reserved stays reserved up to its maximum
 more_elements : (n : ℕ) (x x' : TableValue) → x' ≡ with_elements_reserved x n → IsReservedToMaximum x
     → IsReservedToMaximum x'
-more_elements n x x' is full = subst IsReservedToMaximum (sym is) (up x.ty.maximum full)
+more_elements n x x' is full = rw is (up x.ty.maximum full)
   where
     up : (most : Option ℕ) → MatchOption most ⊥ (λ m. m ≤ x.reserved)
         → MatchOption most ⊥ (λ m. m ≤ max x.reserved n)

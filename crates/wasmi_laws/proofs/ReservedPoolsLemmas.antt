@@ -1,12 +1,13 @@
--- What a tenant has reserved stays reserved for its calls, whatever else is done with its pool.
+-- What a tenant of a pool has reserved stays reserved for its calls, whatever else is done with the pool, and no reply
+-- to them says out of memory.
 use Rattle.std.proofs.Common.{◌≡◌, ◌++◌, ◌∷◌, ◌∙◌, Bool, List, None, Some, [], ap, false, refl, subst, sym, true, ℕ}
-use Rattle.wasmi_laws.proofs.Common.{Decides-eqb, All-append, All-nil, none-some, same_Some, All, get_or, if◌then◌else◌, nat_eq, slice_set, optional_rules, IsNotOutOfMemory, State, world, Call, FitsSlots, IsReservedFor}
+use Rattle.wasmi_laws.proofs.Common.{Decides-eqb, All-append, All-nil, none-some, same_Some, All, if◌then◌else◌, nat_eq, slice_set, optional_rules, IsNotOutOfMemory, State, world, Call, IsReservedFor}
 use Rattle.std.proofs.lemmas.Bool.{false≢true}
 use Rattle.std.specs.Bool.{Decides}
 use Rattle.wasmi_laws.proofs.ReservedLemmas.{elements_stay_reserved, front_told, more_reserved, slots_suffice}
 use Rattle.wasmi_laws.specs.ReservedPools.{ReservedTenantsSucceed, SlotsSufficeForTenants, calls_of, replies_of}
 use Rattle.wasmi_budget.proofs.IsolationLemmas.{kept_added, kept_set, set_at}
-use Rattle.wasmi_budget.proofs.PoolLemmas.{IsVacant, removal_vacates, vacant_stays}
+use Rattle.wasmi_budget.proofs.LawsLemmas.{IsVacant, removal_vacates, vacant_stays}
 use Rattle.wasmi_budget.specs.Laws.{PoolTurn, Added, Ran, Reserved, ReservedElements, Removed, Refused, PoolRun}
 use Rattle.wasmi_budget.specs.Pool.{PoolValue, machine_of, tenant_at, tenant_rules}
 
@@ -48,21 +49,19 @@ module _ (index : ℕ) where
         let own = same_Some it.machine s (sym it.found ∙ ap (machine_of pool) (sym is) ∙ found) in
         record {
           machine = s';
-          found = ap (λ p. machine_of p index) after
-              ∙ ap (machine_of (record pool { machines = slice_set pool.machines i (Some s') })) (sym is)
-              ∙ set_at pool.machines i s s' found;
-          ready = keeps (subst (λ t. IsReservedFor t calls) own it.ready);
+          found = rw (after, ← is) (set_at pool.machines i s s' found);
+          ready = keeps (rw own at it.ready);
         }
-    becomes_ready i s s' found after keeps false decides = stays_at (ap (λ p. machine_of p index) after
-        ∙ kept_set pool.machines index i it.machine (Some s') (λ same. false≢true (decides.1 (sym same))) it.found)
+    becomes_ready i s s' found after keeps false decides = stays_at (rw after
+        (kept_set pool.machines index i it.machine (Some s') (λ same. false≢true (decides.1 (sym same))) it.found))
 
   -- no reply to the calls of a tenant whose machine has reserved what they need says out of memory
   ready_told : (pool : PoolValue) (turns : List PoolTurn) → IsReady pool (calls_of index turns) → (pool' : PoolValue)
       → PoolRun pool turns pool' → All IsNotOutOfMemory (replies_of index turns)
   ready_told pool [] it pool' ran = All-nil IsNotOutOfMemory
   ready_told pool (Added s ∷ turns) it pool' (next, adds, ran) =
-      ready_told next turns (stays_at pool (calls_of index turns) it next (ap (λ p. machine_of p index) adds.added
-      ∙ kept_added pool.machines index it.machine (Some s) it.found)) pool' ran
+      ready_told next turns (stays_at pool (calls_of index turns) it next
+      (rw adds.added (kept_added pool.machines index it.machine (Some s) it.found))) pool' ran
   ready_told pool (Reserved i more ∷ turns) it pool' (next, (caps, reserves), ran) =
       ready_told next turns (becomes_ready pool (calls_of index turns) it next i reserves.machine reserves.machine'
       reserves.found (λ k. record { caps = caps k; machines = reserves.after k })
@@ -73,8 +72,7 @@ module _ (index : ℕ) where
       (elements_stay_reserved reserves.machine table elements reply reserves.machine' (calls_of index turns)
       reserves.becomes.0 reserves.becomes.1) (nat_eq i index) (Decides-eqb i index)) pool' ran
   ready_told pool (Refused ∷ turns) it pool' (next, same, ran) =
-      ready_told next turns
-      (stays_at pool (calls_of index turns) it next (ap (λ p. machine_of p index) same ∙ it.found)) pool' ran
+      ready_told next turns (stays_at pool (calls_of index turns) it next (rw same it.found)) pool' ran
   ready_told pool (Removed i s ∷ turns) it pool' (next, removes, ran) =
       by (λ ready. ready_told next turns ready pool' ran) (nat_eq i index) (Decides-eqb i index)
     where
@@ -83,8 +81,8 @@ module _ (index : ℕ) where
       by rest true decides =
           none_told next (subst (IsVacant next) (decides.0 refl) (removal_vacates pool i s next removes)) turns pool' ran
       by rest false decides =
-          rest (stays_at pool (calls_of index turns) it next (ap (λ p. machine_of p index) removes.removed
-          ∙ kept_set pool.machines index i it.machine None (λ same. false≢true (decides.1 (sym same))) it.found))
+          rest (stays_at pool (calls_of index turns) it next (rw removes.removed
+          (kept_set pool.machines index i it.machine None (λ same. false≢true (decides.1 (sym same))) it.found)))
   ready_told pool (Ran i calls replies ∷ turns) it pool' (next, runs, ran) =
       by (λ ready. ready_told next turns ready pool' ran) (nat_eq i index) (Decides-eqb i index) it.ready
     where
@@ -97,21 +95,18 @@ module _ (index : ℕ) where
           let own = same_Some it.machine runs.machine (sym it.found ∙ ap (machine_of pool) (sym is) ∙ runs.found) in
           let w = world runs.machine (Some (tenant_at pool i runs.machine)) in
           let w' = world runs.machine' (Some runs.tenant') in
-          let r = subst (λ t. IsReservedFor t (calls ++ calls_of index turns)) own ready in
-          let front = front_told (optional_rules tenant_rules) (calls_of index turns) calls w replies w' r runs.ran in
+          let front = front_told (optional_rules tenant_rules) (calls_of index turns) calls w replies w'
+          (rw own at ready) runs.ran in
           All-append IsNotOutOfMemory replies (replies_of index turns) front.0
           (rest (record {
             machine = runs.machine';
-            found = ap (λ p. machine_of p index) runs.after
-                ∙ ap (machine_of (record pool { machines = slice_set pool.machines i (Some runs.machine') })) (sym is)
-                ∙ set_at pool.machines i runs.machine runs.machine' runs.found;
+            found = rw (runs.after, ← is) (set_at pool.machines i runs.machine runs.machine' runs.found);
             ready = front.1;
           }))
       by rest false decides ready = rest (record {
         machine = it.machine;
-        found = ap (λ p. machine_of p index) runs.after
-            ∙ kept_set pool.machines index i it.machine (Some runs.machine')
-            (λ same. false≢true (decides.1 (sym same))) it.found;
+        found = rw runs.after (kept_set pool.machines index i it.machine (Some runs.machine')
+            (λ same. false≢true (decides.1 (sym same))) it.found);
         ready = ready;
       })
 
@@ -126,8 +121,6 @@ slots_suffice_for_tenants pool index s found more turns pool' fits (next, (caps,
     let own = same_Some s reserves.machine (sym found ∙ reserves.found) in
     ready_told index next turns (record {
       machine = reserves.machine';
-      found = ap (λ machines. get_or machines index None) reserves.after
-          ∙ set_at pool.machines index reserves.machine reserves.machine' reserves.found;
-      ready = rw reserves.becomes (slots_suffice reserves.machine more (calls_of index turns)
-          (subst (λ t. FitsSlots t more (calls_of index turns)) own fits));
+      found = rw reserves.after (set_at pool.machines index reserves.machine reserves.machine' reserves.found);
+      ready = rw reserves.becomes (slots_suffice reserves.machine more (calls_of index turns) (rw own at fits));
     }) pool' ran

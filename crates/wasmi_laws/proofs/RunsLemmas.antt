@@ -1,4 +1,5 @@
--- Runs that are cut, and what runs keep: sizes, caps and the meter.
+-- Runs of turns and of calls that are cut in two, and what runs keep: sizes and totals don't shrink, caps hold, and the
+-- meter keeps its costs and its switch, and has no more fuel left than before, where no call sets it.
 use Rattle.std.proofs.Common.{◌≡◌, ◌∙◌, ◌≤◌, ◌++◌, ℕ, suc, Some, List, [], ◌∷◌, length, map, take, drop, sum, refl, sym, ap, subst, arith, ◌-◌, Option, None, ⊎_elim}
 use Rattle.wasmi_laws.proofs.Common.{none-some, same_Some, take-map, drop-map, take_at, drop_at, take-append-drop, ◌≢◌, slice_get, is_some, Question, Rules, optional_rules, State, World, Turn, world, sizes, HoldsTotals, Step, Sequence, Run, runs_joined, CapsHoldInRuns, IsWithinCapsOf, RunsOfCallsAreCut, SizesNeverShrink, TotalsNeverShrink, CostsAreKept, FuelNeverRises, SwitchIsKept, All-head, All-tail, option_map, unwrap_or, Meter, amount_left, Call, SetFuel}
 use Rattle.std.proofs.lemmas.List.Sums.{sum_by-cons}
@@ -13,32 +14,30 @@ use Rattle.wasmi_laws.proofs.ListLemmas.{EachAfter, appended, put, unchanged}
 use Rattle.wasmi_machine.specs.Account.{ChangesMeter, SetsNoFuel}
 use Rattle.wasmi_machine.proofs.AccountLemmas.{costs_kept, step_meter}
 
--- where two lists are made of one, the first is made of as many as it has
+-- where two lists are made of one that is cut, the first is made of as many items as it has
 made_first : {X Y : Type 0} (f : X → Y) (xs : List X) (ys zs : List Y) → map f xs ≡ ys ++ zs
     → map f (take (length ys) xs) ≡ ys
-made_first f xs ys zs made =
-    sym (take-map f (length ys) xs) ∙ ap (take (length ys)) made ∙ take_at ys zs (length ys) refl
+made_first f xs ys zs made = rw (← (take-map f (length ys) xs), made) (take_at ys zs (length ys) refl)
 
--- where two lists are made of one, the second is made of those that follow the first
+-- where two lists are made of one that is cut, the second is made of the items that follow
 made_rest : {X Y : Type 0} (f : X → Y) (xs : List X) (ys zs : List Y) → map f xs ≡ ys ++ zs
     → map f (drop (length ys) xs) ≡ zs
-made_rest f xs ys zs made =
-    sym (drop-map f (length ys) xs) ∙ ap (drop (length ys)) made ∙ drop_at ys zs (length ys) refl
+made_rest f xs ys zs made = rw (← (drop-map f (length ys) xs), made) (drop_at ys zs (length ys) refl)
 
 module _ {S : Type 0} (rules : Rules S) where
-  -- a run of turns
+  -- a run of turns is cut at each place
   pub run_is_cut : (u : World S) (turns turns' : List Turn) (w : World S) → Run rules u (turns ++ turns') w
       → (v : World S) × Run rules u turns v × Run rules v turns' w
   run_is_cut u [] turns' w ran = (u, refl, ran)
   run_is_cut u (turn ∷ turns) turns' w (t, step, ran) =
       let rest = run_is_cut t turns turns' w ran in (rest.0, (t, step, rest.1), rest.2)
 
-  -- a run of calls
+  -- a run of calls is cut at each place
   pub run_of_calls_is_cut : RunsOfCallsAreCut rules
   run_of_calls_is_cut calls calls' u replies w (turns, made, told, ran) =
       let n = length calls in
       let cut = run_is_cut u (take n turns) (drop n turns) w
-      (subst (λ ts. Run rules u ts w) (sym (take-append-drop n turns)) ran) in
+      (rw (take-append-drop n turns) ran) in
       record {
         between = cut.0;
         first_run = (
@@ -150,7 +149,7 @@ pub held_within : (s : State) (first quota : Quota) → HoldsTotals (holdings qu
 held_within s first quota held within caps Bytes = omega (arith, held.bytes, within Bytes, caps Bytes)
 held_within s first quota held within caps Elements = omega (arith, held.elements, within Elements, caps Elements)
 
--- under a quota, at each turn of a run
+-- under a quota the caps hold after each turn of a run
 pub caps_hold_in_runs : HoldsTotalsAlways quota_rules holdings → QuotasStayWithin → CapsHoldInRuns
 caps_hold_in_runs held stays s quota holds within =
     holds_throughout (optional_rules quota_rules) (world s (Some quota)) (λ v. IsWithinCapsOf quota v.state)
@@ -160,7 +159,7 @@ caps_hold_in_runs held stays s quota holds within =
     let same : later.0 ≡ total.0 = same_Some later.0 total.0 (sym later.1 ∙ total.1) in
     held_within v.state quota total.0 total.2 (subst IsWithinCaps same later.2) (subst (SameCaps quota) same later.3))
 
--- a number of which another is made is there or not, as that is
+-- what is left is there or not, as what it was changed from
 same_switch : (change : ℕ → ℕ) (left : Option ℕ) → is_some (option_map change left) ≡ is_some left
 same_switch change None = refl
 same_switch change (Some n) = refl
@@ -170,35 +169,32 @@ left_falls : (amount : ℕ) (left : Option ℕ) → unwrap_or (option_map (λ n.
 left_falls amount None = omega arith
 left_falls amount (Some n) = omega arith
 
--- a call keeps the switch
+-- a call keeps the switch of the meter
 switch_kept : (call : Call) (m : Meter) (charge : ℕ) (m' : Meter) → ChangesMeter call m charge m'
     → is_some m'.left ≡ is_some m.left
-switch_kept (SetFuel fuel) m charge m' changes =
-    ap (λ (x : Meter). is_some x.left) changes ∙ same_switch (λ n. fuel) m.left
-switch_kept call m charge m' changes =
-    ap (λ (x : Meter). is_some x.left) changes.1 ∙ same_switch (λ n. n - charge) m.left
+switch_kept (SetFuel fuel) m charge m' changes = rw changes (same_switch (λ n. fuel) m.left)
+switch_kept call m charge m' changes = rw changes.1 (same_switch (λ n. n - charge) m.left)
 
--- a call that doesn't set the fuel leaves no more
+-- a call that doesn't set the fuel leaves no more of it
 fuel_falls : (call : Call) → SetsNoFuel call → (m : Meter) (charge : ℕ) (m' : Meter) → ChangesMeter call m charge m'
     → amount_left m' ≤ amount_left m
 fuel_falls (SetFuel fuel) other m charge m' changes = absurd other
-fuel_falls call other m charge m' changes =
-    subst (λ (x : Meter). amount_left x ≤ amount_left m) (sym changes.1) (left_falls charge m.left)
+fuel_falls call other m charge m' changes = rw changes.1 (left_falls charge m.left)
 
 module _ {S : Type 0} (rules : Rules S) where
-  -- a run keeps the costs
+  -- a run keeps the costs of the meter
   pub costs_are_kept : CostsAreKept rules
   costs_are_kept w [] w' ran = ap (λ (v : World S). v.state.meter.costs) ran
   costs_are_kept w (turn ∷ turns) w' (v, step, ran) = costs_are_kept v turns w' ran
       ∙ costs_kept turn.call w.state.meter turn.charge v.state.meter (step_meter rules w turn v step)
 
-  -- a run keeps the switch
+  -- a run keeps the switch of the meter
   pub switch_is_kept : SwitchIsKept rules
   switch_is_kept w [] w' ran = ap (λ (v : World S). is_some v.state.meter.left) ran
   switch_is_kept w (turn ∷ turns) w' (v, step, ran) = switch_is_kept v turns w' ran
       ∙ switch_kept turn.call w.state.meter turn.charge v.state.meter (step_meter rules w turn v step)
 
-  -- a run of calls that don't set the fuel leaves no more
+  -- a run of calls that don't set the fuel leaves no more of it
   pub fuel_never_rises : FuelNeverRises rules
   fuel_never_rises w [] w' ran others = omega (arith, ap (λ (v : World S). amount_left v.state.meter) ran)
   fuel_never_rises w (turn ∷ turns) w' (v, step, ran) others = omega (

@@ -1,5 +1,6 @@
--- What is at an index of a machine, what a call may change there, what holds of that in every turn and run, and what
--- memories of the same bytes have alike.
+-- What is at an index of a machine: which calls may change, drop or read it, and what it may become in turns and runs.
+-- The laws over it: independent calls may be exchanged, a stored number is loaded again, and a memory or a table that a
+-- host keeps by itself does as the one at an index.
 use Rattle.std.specs.Prelude.{◌≡◌, ◌⊎◌, ◌*◌, ◌+◌, ◌%◌, ◌^◌, ℕ, List, [], ◌∷◌, Option, Some, None, length, map, All, slice_get, MatchOption, Result, Vec, slice_set}
 use Rattle.wasmi_raw.specs.declared.raw.RawVal.{RawVal}
 use Rattle.wasmi_raw.specs.RawVal.{raw_of}
@@ -234,11 +235,11 @@ pub record NumberStore : Type 0 where
   pub offset : ℕ
   pub value : RawVal
 
--- the call that makes it
+-- the call that makes a store of a number
 abbrev pub store_call : NumberStore → Call
 store_call it = call.Store it.op it.memory it.ptr it.offset it.value
 
--- the call that loads as many bytes from the same address, without a sign
+-- the call that loads as many bytes from the address of a store, without a sign
 abbrev pub load_call : NumberStore → Call
 load_call it = call.Load (load_of it.op) it.memory it.ptr it.offset
 
@@ -297,7 +298,7 @@ with_memory_at s k x = with_memories s (slice_set s.memories k (Live x))
 abbrev pub with_table_at : State → ℕ → TableValue → State
 with_table_at s k x = with_tables s (slice_set s.tables k (Live x))
 
--- the state with another meter
+-- the state with another meter, as a growth of what is at an index leaves it
 abbrev pub with_meter : State → Meter → State
 with_meter s m = record s { meter = m }
 

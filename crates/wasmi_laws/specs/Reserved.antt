@@ -1,4 +1,5 @@
--- Calls and runs that need no memory but what was reserved: none of their replies says out of memory.
+-- What is reserved on a machine: lent regions of memories, elements of tables, and free slots of each kind. Calls and
+-- runs that need no other memory: none of their replies says out of memory.
 use Rattle.std.specs.Prelude.{◌≡◌, ◌<◌, ◌≤◌, ◌+◌, ◌⊎◌, ℕ, Bool, true, false, List, [], length, All, MatchOption, count_by}
 use Rattle.wasmi_store.specs.Buffer.{Room, Owned, Lent}
 use Rattle.wasmi_store.specs.Memory.{MemoryValue}
@@ -50,14 +51,14 @@ pub data SlotKind : Type 0 where
   DataSegments : SlotKind
   Globals : SlotKind
 
--- how many of a kind were made
+-- how many of a kind were made on a machine, each in a slot
 abbrev pub made_of : State → SlotKind → ℕ
 made_of s Memories = length s.memories
 made_of s Segments = length s.segments
 made_of s DataSegments = length s.data_segments
 made_of s Globals = length s.globals
 
--- how many slots for a kind there are among those for each
+-- how many slots are reserved for a kind, of the numbers for each
 abbrev pub slots_for : SlotCounts → SlotKind → ℕ
 slots_for counts Memories = counts.memories
 slots_for counts Segments = counts.segments

@@ -1,4 +1,5 @@
--- Tenants of a pool that have reserved what their calls need: no reply to them says out of memory.
+-- The calls and replies of all runs of a tenant of a pool, and tenants that have reserved what their calls need: no
+-- reply to them says out of memory.
 use Rattle.std.specs.Prelude.{◌≡◌, ◌++◌, ◌∷◌, ℕ, List, [], Some, All, nat_eq, if◌then◌else◌}
 use Rattle.wasmi_machine.specs.declared.calls.Call.{Call}
 use Rattle.wasmi_machine.specs.declared.calls.Reply.{Reply}
@@ -24,7 +25,7 @@ of_runs list index (Refused ∷ turns) = of_runs list index turns
 abbrev pub calls_of : ℕ → List PoolTurn → List Call
 calls_of = of_runs (λ calls replies. calls)
 
--- the replies to them
+-- the replies in all runs of the tenant of an index, one after another
 abbrev pub replies_of : ℕ → List PoolTurn → List Reply
 replies_of = of_runs (λ calls replies. replies)
 

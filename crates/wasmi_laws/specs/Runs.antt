@@ -1,4 +1,5 @@
--- Laws of whole runs, and of the meter over them.
+-- Laws over turns and runs: runs that are cut in two, sizes and totals that never shrink, plain refusals that change
+-- nothing, the caps of a quota, what a run keeps of its meter, and the same run with more fuel.
 use Rattle.std.specs.Prelude.{◌≡◌, ◌≤◌, ◌++◌, ℕ, List, length, take, drop, map, Option, Some, slice_get, All, ◌+◌, is_some}
 use Rattle.wasmi_meter.specs.declared.limiter.Kind.{Kind}
 use Rattle.wasmi_meter.specs.Limiter.{Rules, optional_rules}

@@ -1,7 +1,7 @@
--- What each turn takes of the meter.
-use Rattle.std.proofs.Common.{Bool, List, None, Option, Result, Some, [], ap, arith, false, inl, inr, refl, subst, true, ℕ, ◌+◌, ◌-◌, ◌∙◌, ◌∷◌, ◌≡◌, ◌≤◌}
+-- What each turn takes of the meter, also by a growth or a write over a range, and that the account of a run balances.
+use Rattle.std.proofs.Common.{Bool, List, None, Option, Result, Some, [], arith, false, inl, inr, refl, true, ℕ, ◌+◌, ◌-◌, ◌∷◌, ◌≡◌, ◌≤◌}
 use Rattle.std.proofs.Math.Dec.{leb-zero}
-use Rattle.wasmi_machine.proofs.Common.{and_parts, nat_tests, same_Some, option_map, unwrap_or, if◌then◌else◌, is_none, nat_le, ◌&&◌, Account, Balances, ChangesMeter, account_after, charged_by, opened, ActsAt, reply_of, Run, Changed, Effect, FuelSet, MemoryGrown, HasRangeWrite, RangeWrite, RangeWritten, Step, TableGrown, HasEffect, effect_of, State, live_at, Turn, outcome_of, World, Grows, Growth, Call, SetFuel, Reply, Slot, Attempt, Request, Failed, AttemptOutcome, Met, MeteredValue, optional_due, covers, with_value, Rules, Meter, amount_left, meter_after, meter_set, PaysCharge, TableError, on_test, GrowsMemoryCharging, GrowsTableCharging, TableValue, same_type, TypedRawRef, memory_growth, table_growth}
+use Rattle.wasmi_machine.proofs.Common.{and_parts, nat_tests, same_Some, option_map, if◌then◌else◌, is_none, nat_le, ◌&&◌, Account, Balances, ChangesMeter, account_after, charged_by, opened, ActsAt, reply_of, Run, Changed, Effect, FuelSet, MemoryGrown, HasRangeWrite, RangeWrite, RangeWritten, Step, TableGrown, HasEffect, effect_of, State, live_at, Turn, outcome_of, World, Grows, Growth, Call, SetFuel, Reply, Slot, Attempt, Request, Failed, AttemptOutcome, Met, MeteredValue, optional_due, covers, with_value, Rules, Meter, amount_left, meter_after, meter_set, PaysCharge, TableError, on_test, GrowsMemoryCharging, GrowsTableCharging, TableValue, same_type, TypedRawRef, memory_growth, table_growth}
 use Rattle.wasmi_machine.proofs.EffectLemmas.{on_live}
 use Rattle.wasmi_machine.proofs.RangeLemmas.{range_facts}
 use Rattle.wasmi_machine.proofs.StepsLemmas.{change_facts}
@@ -23,22 +23,18 @@ pays_nothing : (m m' : Meter) (charge : ℕ) → charge ≡ 0 → m' ≡ m → P
 pays_nothing m m' charge free same =
     rw (free, same) (omega arith, same_Some m (meter_after m 0) (meter_after_nothing (Some m)))
 
--- a meter that is on stays on, and what is left and the charge are what was left
+-- a meter that is on stays on, and what is left and the charge are what was left before
 pub rest_left : (m m' : Meter) (charge : ℕ) → PaysCharge m charge m' → (left : ℕ) → m.left ≡ Some left
     → (rest : ℕ) × (m'.left ≡ Some rest) × (rest + charge ≡ left)
 rest_left m m' charge takes left on =
-    let within : charge ≤ left = subst (λ (o : Option ℕ). charge ≤ unwrap_or o 0) on takes.0 in (
-      left - charge,
-      ap (λ (m : Meter). m.left) takes.1 ∙ ap (option_map (λ n. n - charge)) on,
-      omega (arith, within),
-    )
+    let within : charge ≤ left = rw on at takes.0 in (left - charge, rw (takes.1, on), omega (arith, within))
 
 -- a call keeps the costs
 pub costs_kept : (call : Call) (m : Meter) (charge : ℕ) (m' : Meter) → ChangesMeter call m charge m' → m'.costs ≡ m.costs
-costs_kept (SetFuel fuel) m charge m' changes = ap (λ (x : Meter). x.costs) changes
-costs_kept call m charge m' changes = ap (λ (x : Meter). x.costs) changes.1
+costs_kept (SetFuel fuel) m charge m' changes = rw changes
+costs_kept call m charge m' changes = rw changes.1
 
--- nothing can always be paid
+-- a charge of nothing can always be paid
 covers_nothing : (m : Option Meter) → covers m 0 ≡ true
 covers_nothing None = refl
 covers_nothing (Some m) = leb-zero (amount_left m)
@@ -93,8 +89,7 @@ acts_takes k reply_to Acts takes s s' reply charge acts = on_live (live_at s.val
 range_takes : {S : Type 0} (w : World S) (write : RangeWrite) (turn : Turn) (w' : World S)
     → HasRangeWrite write w (outcome_of turn) w' → PaysCharge w.state.meter turn.charge w'.state.meter
 range_takes w write turn w' step = elim (range_facts w write turn w' step) [
-  | inl idle ↦ pays_nothing w.state.meter w'.state.meter turn.charge idle.uncharged
-      (ap (λ (v : World _). v.state.meter) idle.same)
+  | inl idle ↦ pays_nothing w.state.meter w'.state.meter turn.charge idle.uncharged (rw idle.same)
   | inr paid ↦ (paid.enough, paid.meter)
 ]
 
@@ -119,8 +114,7 @@ module _ {S : Type 0} (rules : Rules S) (w : World S) (turn : Turn) (w' : World 
   -- an effect makes of the meter what its kind says
   effect_meter : (effect : Effect) → HasEffect rules effect w (outcome_of turn) w'
       → ChangesMeterBy effect w.state.meter turn.charge w'.state.meter
-  effect_meter (FuelSet fuel) step =
-      ap (λ (v : World S). v.state.meter) step.after ∙ ap (λ (s : State). s.meter) step.effect.1
+  effect_meter (FuelSet fuel) step = rw (step.after, step.effect.1)
   effect_meter (Changed change) step = free_in w turn w' step.after step.free.0
       ((change_facts w.state change).meter turn.reply step.machine step.effect)
   effect_meter (MemoryGrown k pages) step = rw step.after (pays w.state.meter step.meter turn.charge
@@ -141,11 +135,7 @@ module _ {S : Type 0} (rules : Rules S) (w : World S) (turn : Turn) (w' : World 
 -- an account that balances does so after a call that changes the meter
 call_balances : (account : Account) (call : Call) (m : Meter) (charge : ℕ) (m' : Meter)
     → ChangesMeter call m charge m' → Balances account m → Balances (charged_by account call charge) m'
-call_balances account (SetFuel fuel) m charge m' changes balances = (
-  fuel,
-  ap (λ (m : Meter). m.left) changes ∙ ap (option_map (λ n. fuel)) balances.1,
-  omega arith,
-)
+call_balances account (SetFuel fuel) m charge m' changes balances = (fuel, rw (changes, balances.1), omega arith)
 call_balances account call m charge m' changes balances =
     let rest = rest_left m m' charge changes balances.0 balances.1 in
     (rest.0, rest.1, omega (arith, rest.2, balances.2))

@@ -1,12 +1,12 @@
 -- Names that many proofs of this crate cite, passed on from one place.
-pub use Rattle.std.proofs.lemmas.Bool.{and_parts, cond-false, cond-true, leb-true}
+pub use Rattle.std.proofs.lemmas.Bool.{and_parts, leb-true}
 pub use Rattle.std.proofs.lemmas.Bool.Decides.{nat_tests}
 pub use Rattle.std.proofs.lemmas.Grind.{common_steps}
 pub use Rattle.std.proofs.lemmas.List.{length-append, length-replicate, map-set, map_push, length-map, set-set, set-get_or, take_more, map-append, append-nil, nil_from_length, same_lists, get_or-replicate}
 pub use Rattle.std.proofs.lemmas.List.Elements.{All-get_or, All-push, All-set, All-head, All-tail}
 pub use Rattle.std.proofs.lemmas.List.Sums.{sum_by-cons, sum_by-set, sum_by_push}
 pub use Rattle.std.proofs.lemmas.Option.{same_Some, none-some, get_or_from_slice_get, slice_get_within, slice_get-map, cond_some}
-pub use Rattle.std.specs.Option.{option_map, unwrap_or, option_and_then, option_map_or, option_copied_mut}
+pub use Rattle.std.specs.Option.{option_map, unwrap_or, option_and_then, option_map_or}
 pub use Rattle.std.specs.Prelude.{if◌then◌else◌, is_none, nat_le, ◌&&◌, MatchBool, All, slice_get, slice_set, nat_eq, MatchOption, is_some, Vec, cond, nat_lt, sum_by}
 pub use Rattle.wasmi_meter.specs.Attempt.{Attempt, Denied, Request, Failed, AttemptOutcome, Met, MeteredValue, Unasked, optional_due, covers, with_value, Follows, IsFirstCause, MayEnd, alone, answer_of, outcome_charge, value_after, error_of_answer, error_of_failure}
 pub use Rattle.wasmi_meter.specs.Capped.{Capped, capped_rules, capped_quota, quota_rules, HoldsTheSame, Reserves, GivesBack, with_more, SameCaps, IsWithinCaps}
@@ -23,7 +23,7 @@ pub use Rattle.wasmi_store.proofs.TableLemmas.{table_growth}
 pub use Rattle.wasmi_store.specs.Buffer.{LacksMemory, Lent, Owned, Room, fits_room}
 pub use Rattle.wasmi_store.specs.Growth.{Grows, Growth, metered_value, Makes, metered, IsDenied, WithCharge}
 pub use Rattle.wasmi_store.specs.Memory.{GrowsMemoryCharging, MemoryValue, MakesMemory, new_memory, MemoryTypeValue, minimum_bytes, page_bytes, GrowsMemory, MemoryWrite, WritesMemory, bytes_write, pages_of, in_bounds, IsValidMemory, greatest_pages}
-pub use Rattle.wasmi_store.specs.Segment.{SegmentValue, dropped, most_items, IsReading, IsReadingOf}
+pub use Rattle.wasmi_store.specs.Segment.{SegmentValue, dropped, IsReading, IsReadingOf}
 pub use Rattle.wasmi_store.specs.Table.{GrowsTableCharging, TableValue, same_type, MakesTable, new_table, size_of, TableTypeValue, is_within_maximum, IsValidTable, element_price, elements_write, with_elements, SetsTable, SetsTableRaw, copy_of}
 pub use Rattle.wasmi_typed.specs.declared.typed_ref.TypedRawRef.{TypedRawRef}
 pub use Rattle.wasmi_types.specs.Access.{at, overwrite}

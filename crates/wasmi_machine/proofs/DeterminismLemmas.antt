@@ -1,5 +1,6 @@
--- Where the limiter leaves no choice and there is enough memory, a turn is decided by its call.
-use Rattle.std.proofs.Common.{Bool, List, None, Ok, Option, Result, Some, [], ap, arith, false, inl, inr, map, refl, subst, sym, true, ℕ, ◌∙◌, ◌∷◌, ◌≡◌}
+-- Where the limiter is deterministic and there is enough memory, two attempts, effects, turns or runs of the same calls
+-- are one; and which limiters are deterministic.
+use Rattle.std.proofs.Common.{Bool, List, None, Ok, Option, Result, Some, [], ap, arith, false, inl, inr, map, refl, sym, true, ℕ, ◌∙◌, ◌∷◌, ◌≡◌}
 use Rattle.wasmi_machine.proofs.Common.{All-head, All-tail, none-some, same_Some, option_map, MatchBool, memory_growth, table_growth, IsNotOutOfMemory, AreNotOutOfMemory, IsDeterministic, IsOtherFailure, never_out_of_memory, CreatesLent, spare_after, byte_write_of, ActsMetered, ActsMeteredUnasked, Asks, Changes, Creates, OnlyReplies, reply_of, Run, BytesRead, Changed, Effect, FuelSet, LentMemoryMade, MemoryGrown, MemoryMade, RangeWritten, TableGrown, TableMade, MemoryWritten, TableWritten, HasEffect, Told, effect_of, MemoryPart, State, memory_part, Turn, World, write_of, Call, Reply, Slot, Attempt, Denied, Request, Failed, AttemptOutcome, Follows, IsFirstCause, MayEnd, Met, MeteredValue, Unasked, alone, optional_due, answer_of, covers, outcome_charge, value_after, Capped, capped_rules, capped_quota, quota_rules, Answer, AskedIf, NoticedIf, IsDenial, MemoryFailure, Rules, TableFailure, optional_rules, unlimited_rules, Meter, meter_after, MemoryError, TableError, LacksMemory, Lent, Owned, Room, Grows, Growth, Makes, metered_value, metered, GrowsMemoryCharging, MakesMemory, MemoryValue, new_memory, MemoryTypeValue, GrowsTableCharging, MakesTable, TableValue, new_table, same_type, TypedRawRef, TurnOutcome, outcome_of}
 use Rattle.wasmi_machine.proofs.MemoryEffectsLemmas.{lacks_owned, reads_same}
 use Rattle.wasmi_machine.proofs.EffectLemmas.{Acted, HasOneEnding, HasOneOutcome, acts_same, creates_same, on_both}
@@ -10,7 +11,7 @@ use Rattle.wasmi_store.specs.Memory as memory
 use Rattle.wasmi_machine.specs.declared.calls.Reply.TheVariants as replied
 use Rattle.wasmi_store.specs.Table as table
 
--- two facts by one test
+-- two facts by one test, as of two attempts
 on_both_tests : {C : Type 0} (test : Bool) (Holds Holds' Fails Fails' : Type 0) → MatchBool test Holds Fails
     → MatchBool test Holds' Fails' → (Holds → Holds' → C) → (Fails → Fails' → C) → C
 on_both_tests true Holds Holds' Fails Fails' h h' holds fails = holds h h'
@@ -46,7 +47,7 @@ module _ {S : Type 0} {rules : Rules S} (once : IsDeterministic rules) where
         denied_met : (answer : Answer) (l' p : S) → IsDenial answer → rules.asked l e.question answer l'
             → rules.asked l e.question (Ok true) p → ⊥
         denied_met answer l' p denial asks asks' =
-            subst IsDenial (once.asked l e.question answer (Ok true) l' p asks asks').0 denial
+            rw (once.asked l e.question answer (Ok true) l' p asks asks').0 at denial
 
         -- an attempt ends in one way
         same_outcome : (outcome outcome' : AttemptOutcome E) (l' l'' : S) → MayEnd e m outcome
@@ -70,8 +71,7 @@ module _ {S : Type 0} {rules : Rules S} (once : IsDeterministic rules) where
         same_outcome (Failed d h) (Failed d' h') l' l'' may f may' f' =
             let permitted = (once.asked l e.question (Ok true) (Ok true) f.0 f'.0 f.1 f'.1).1 in
             let cause = first_cause e.late d d' may.1 f.2.1 may'.1 f'.2.1 in
-            let notices : rules.noticed f.0 (e.notice d) h' l'' = subst (λ p. rules.noticed p (e.notice d) h' l'')
-            (sym permitted) (subst (λ c. rules.noticed f'.0 (e.notice c) h' l'') (sym cause) f'.2.0) in
+            let notices : rules.noticed f.0 (e.notice d) h' l'' = rw (permitted, cause) f'.2.0 in
             let s = once.noticed f.0 (e.notice d) h h' l' l'' f.2.0 notices in
             (rw (cause, s.0) refl, s.1)
 
@@ -93,11 +93,8 @@ module _ {S : Type 0} {rules : Rules S} (once : IsDeterministic rules) where
       → (made : T) (l : S) (result result' : Result T E) (l' l'' : S) → Makes told e made l result l'
       → Makes told e made l result' l'' → (result ≡ result') × (l' ≡ l'')
   makes_same e wants made l result result' l' l'' (outcome, a, answered) (outcome', b, answered') =
-      let same = attempts_same wants (alone l) (alone l') (alone l'') outcome outcome' 0 0 a b in (
-        answered ∙ ap (answer_of e made) same.0
-            ∙ sym answered',
-        ap (λ (s : MeteredValue (Unit {0}) S). s.limiter) same.2,
-      )
+      let same = attempts_same wants (alone l) (alone l') (alone l'') outcome outcome' 0 0 a b in
+      (answered ∙ ap (answer_of e made) same.0 ∙ sym answered', λ i. (same.2 i).limiter)
 
   -- two growths
   grows_same : {V E : Type 0} (g : Growth V E) → Wants g.request
@@ -120,7 +117,7 @@ memory_wants room cause lacks other = rw (lacks_owned room cause lacks) at other
 table_wants : (cause : TableError) → cause ≡ TableError.OutOfSystemMemory → IsOtherFailure (TableFailure cause) → ⊥
 table_wants cause lacks other = rw lacks at other
 
--- a memory is made
+-- under a deterministic limiter, two creations of a memory end in one way
 memory_same : {S : Type 0} {rules : Rules S} → IsDeterministic rules → (room : Room) (ty : MemoryTypeValue)
     (slots : List (Slot MemoryValue)) (l : S)
     → HasOneOutcome (Creates replied.Memory (MakesMemory (never_out_of_memory rules) room ty) slots l)
@@ -128,7 +125,7 @@ memory_same {rules = rules} once room ty slots l =
     creates_same replied.Memory (MakesMemory (never_out_of_memory rules) room ty)
     (makes_same once (memory.creation_of room ty) (record { wants = memory_wants room }) (new_memory room ty)) slots l
 
--- a memory is made in the spare region
+-- under a deterministic limiter, two creations of a memory in the spare region end in one way
 lent_same : {S : Type 0} {rules : Rules S} → IsDeterministic rules → (ty : MemoryTypeValue) (part : MemoryPart) (l : S)
     → HasOneOutcome (CreatesLent (never_out_of_memory rules) ty part l)
 lent_same once ty part l o o' has has' a b =
@@ -152,17 +149,12 @@ module _ {S : Type 0} (w : World S) (t t' : TurnOutcome) (v v' : World S) where
   abbrev Same : Type 0
   Same = (t.reply ≡ t'.reply) × (t.charge ≡ t'.charge) × (t.written ≡ t'.written) × (v ≡ v')
 
-  -- turns that only reply
+  -- two turns that only reply are one
   told_unique : {Relation : Reply → Type 0} → OnlyReplies w t v Relation → OnlyReplies w t' v' Relation
       → (Relation t.reply → Relation t'.reply → t.reply ≡ t'.reply) → Same
-  told_unique step step' once = (
-    once step.effect step'.effect,
-    step.free.0 ∙ sym step'.free.0,
-    step.free.1 ∙ sym step'.free.1,
-    step.after ∙ sym step'.after,
-  )
+  told_unique step step' once = (once step.effect step'.effect, cc, cc, cc)
 
-  -- turns that change the state
+  -- two turns that change the state are one
   changed_unique : {Relation : Reply → State → Type 0} → Changes w t v Relation → Changes w t' v' Relation
       → ((s s' : State) → Relation t.reply s → Relation t'.reply s' → (t.reply ≡ t'.reply) × (s ≡ s')) → Same
   changed_unique step step' once =
@@ -174,7 +166,7 @@ module _ {S : Type 0} (w : World S) (t t' : TurnOutcome) (v v' : World S) where
       )
 
   module _ {A : Type 0} {with_part : A → State} where
-    -- turns that make something under the limiter
+    -- two turns that make something under the limiter are one
     made_unique : {Lacks : Type 0} {Relation : S → Reply → A → S → Type 0} → Asks w t v Lacks with_part Relation
         → Asks w t' v' Lacks with_part Relation
         → IsNotOutOfMemory t.reply → IsNotOutOfMemory t'.reply → HasOneOutcome (Relation w.limiter) → Same
@@ -189,7 +181,7 @@ module _ {S : Type 0} (w : World S) (t t' : TurnOutcome) (v v' : World S) where
         )
 
     module _ {old : A} {bytes : Reply → ℕ} where
-      -- turns with a charge
+      -- two turns with a charge are one
       paid_unique : {Relation : MeteredValue A S → Reply → ℕ → MeteredValue A S → Type 0}
           → ActsMetered w t v old with_part Relation bytes → ActsMetered w t' v' old with_part Relation bytes
           → HasOneEnding (Relation (metered_value old (Some w.state.meter) w.limiter)) → Same
@@ -197,18 +189,17 @@ module _ {S : Type 0} (w : World S) (t t' : TurnOutcome) (v v' : World S) where
           let same =
           once (acted t step.part step.meter step.limiter) (acted t' step'.part step'.meter step'.limiter) step.effect
           step'.effect in
-          let parts = ap (λ (s : MeteredValue A S). s.value) same.2 in
-          let meters = same_Some step.meter step'.meter (ap (λ (s : MeteredValue A S). s.meter) same.2) in
-          let limiters = ap (λ (s : MeteredValue A S). s.limiter) same.2 in (
+          let meters = same_Some step.meter step'.meter (ap (λ (s : MeteredValue A S). s.meter) same.2) in (
             same.0,
             same.1,
             step.wrote ∙ ap bytes same.0 ∙ sym step'.wrote,
-            step.after
-                ∙ (λ i. record { state = record (with_part (parts i)) { meter = meters i }; limiter = limiters i })
-                ∙ sym step'.after,
+            step.after ∙ (λ i. record {
+              state = record (with_part (same.2 i).value) { meter = meters i };
+              limiter = (same.2 i).limiter;
+            }) ∙ sym step'.after,
           )
 
-      -- turns with a charge that do not reach the limiter are one
+      -- two turns with a charge that do not reach the limiter are one
       unasked_unique : {Relation : MeteredValue A (Unit {0}) → Reply → ℕ → MeteredValue A (Unit {0}) → Type 0}
           → ActsMeteredUnasked w t v old with_part Relation bytes
           → ActsMeteredUnasked w t' v' old with_part Relation bytes
@@ -216,17 +207,16 @@ module _ {S : Type 0} (w : World S) (t t' : TurnOutcome) (v v' : World S) where
       unasked_unique step step' once =
           let same =
           once (acted t step.part step.meter tt) (acted t' step'.part step'.meter tt) step.effect step'.effect in
-          let parts = ap (λ (s : MeteredValue A (Unit {0})). s.value) same.2 in
           let meters = same_Some step.meter step'.meter (ap (λ (s : MeteredValue A (Unit {0})). s.meter) same.2) in (
             same.0,
             same.1,
             step.wrote ∙ ap bytes same.0 ∙ sym step'.wrote,
             step.after
-                ∙ (λ i. record { state = record (with_part (parts i)) { meter = meters i }; limiter = w.limiter })
+                ∙ (λ i. record { state = record (with_part (same.2 i).value) { meter = meters i }; limiter = w.limiter })
                 ∙ sym step'.after,
           )
 
--- two growths of a table
+-- under a deterministic limiter, two growths of a table are one
 table_growth_same : {S : Type 0} {rules : Rules S} → IsDeterministic rules
     → (n : ℕ) (init : TypedRawRef) (s : MeteredValue TableValue S) (result result' : Result ℕ TableError)
     (charge charge' : ℕ) (s' s'' : MeteredValue TableValue S)
@@ -271,7 +261,7 @@ module _ {S : Type 0} (rules : Rules S) (once : IsDeterministic rules) (w : Worl
       unasked_unique w t t' v v' step step' (range_once replied.Memory k (byte_write_of source dst len) _)
 
 module _ {S : Type 0} (rules : Rules S) (once : IsDeterministic rules) where
-  -- two runs
+  -- two runs of the same calls are one
   pub runs_are_one : (w : World S) (turns turns' : List Turn) (v v' : World S)
       → map Turn.call turns ≡ map Turn.call turns' → AreNotOutOfMemory turns → AreNotOutOfMemory turns'
       → Run (never_out_of_memory rules) w turns v → Run (never_out_of_memory rules) w turns' v'
@@ -284,12 +274,10 @@ module _ {S : Type 0} (rules : Rules S) (once : IsDeterministic rules) where
       let room = All-head IsNotOutOfMemory t.reply (map Turn.reply turns) rooms in
       let room' = All-head IsNotOutOfMemory t'.reply (map Turn.reply turns') rooms' in
       let one = effect_same rules once w (outcome_of t) (outcome_of t') u u' room room' (effect_of w.state t.call) step
-      (subst (λ c. HasEffect (never_out_of_memory rules) (effect_of w.state c) w (outcome_of t') u') (sym call.0)
-      step') in
+      (rw call.0 step') in
       let rest = runs_are_one u turns turns' v v' call.1
       (All-tail IsNotOutOfMemory t.reply (map Turn.reply turns) rooms)
-      (All-tail IsNotOutOfMemory t'.reply (map Turn.reply turns') rooms') ran
-      (subst (λ x. Run (never_out_of_memory rules) x turns' v') (sym one.3) ran') in
+      (All-tail IsNotOutOfMemory t'.reply (map Turn.reply turns') rooms') ran (rw one.3 ran') in
       let turn : t ≡ t' = λ i. record { call = call.0 i; reply = one.0 i; charge = one.1 i; written = one.2 i } in
       (λ i. turn i ∷ rest.0 i, rest.1)
     where
@@ -311,7 +299,7 @@ once_if Answers known once none stays None a a' None None h h' = (none a h ∙ s
 once_if Answers known once none stays None a a' (Some l') l'' h h' = absurd ((stays l' a).1 h)
 once_if Answers known once none stays None a a' None (Some l'') h h' = absurd ((stays l'' a').1 h')
 
--- a limiter that may be absent leaves no choice where the limiter leaves none
+-- a limiter that may be absent is deterministic where the limiter is
 pub optional_unique : {L : Type 0} (rules : Rules L) → IsDeterministic rules → IsDeterministic (optional_rules rules)
 optional_unique rules once = record {
   asked = λ l question. once_if (λ l. AskedIf rules l question) (Ok true)
@@ -320,17 +308,17 @@ optional_unique rules once = record {
       (λ l. once.noticed l failure) (λ a h. h) (λ l a. (λ h. h, λ h. h)) l;
 }
 
--- the limiter that permits everything
+-- the limiter that permits everything is deterministic
 pub unlimited_unique : {S : Type 0} → IsDeterministic (unlimited_rules {S = S})
 unlimited_unique = record {
   asked = λ l question a a' l' l'' h h'. (h.0 ∙ sym h'.0, h.1 ∙ sym h'.1);
   noticed = λ l failure a a' l' l'' h h'. (h.0 ∙ sym h'.0, h.1 ∙ sym h'.1);
 }
 
--- limiters with caps
+-- limiters with caps are deterministic
 pub capped_unique : {L : Type 0} (c : Capped L) → IsDeterministic (capped_rules c)
 capped_unique c = record { asked = asked_unique c; noticed = noticed_unique c }
 
--- a quota leaves no choice
+-- a quota is deterministic
 pub quota_unique : IsDeterministic quota_rules
 quota_unique = capped_unique capped_quota

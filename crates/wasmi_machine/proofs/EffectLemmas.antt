@@ -1,18 +1,19 @@
--- What holds of each effect, and of each kind of effect.
-use Rattle.std.proofs.Common.{Err, List, None, Ok, Option, Result, Some, ap, inl, inr, length, map, refl, set, subst, sym, ℕ, ◌∙◌, ◌≡◌, ◌⊎◌}
+-- What holds of an effect on slots or on a list, whatever they are of: a refusal leaves them, two effects of one call
+-- are one, and sizes and validity are kept.
+use Rattle.std.proofs.Common.{Err, List, None, Ok, Option, Result, Some, ap, inl, inr, length, map, refl, subst, sym, ℕ, ◌∙◌, ◌≡◌, ◌⊎◌}
 use Rattle.wasmi_machine.proofs.Common.{All-get_or, All-push, All-set, get_or_from_slice_get, slice_get_within, All, slice_get, slice_set, IsNotOutOfMemory, ActsAt, AddsEntry, ChangesAt, ChangesFound, Creates, DropsAt, IfNoRoom, OnLive, reply_of, live_at, slot_count, IsValidSlot, Change, Reply, Slot, Gone, Live, AttemptOutcome, Met, MeteredValue, answer_of, value_after, with_value, Rules, Grows, Growth, Makes}
 use Rattle.wasmi_machine.proofs.SlotsLemmas.{live_slot, set_read}
 use Rattle.wasmi_machine.proofs.TotalLemmas.{counts_kept}
 use Rattle.wasmi_machine.specs.Laws.{IsRefusal}
 use Rattle.wasmi_machine.specs.declared.calls.Reply.TheVariants as replied
 
--- whether an index names something live, and what it names
+-- a fact of an effect on the live value of an index, by whether the index names one, and which
 pub on_found : {X C : Type 0} (o : Option X) (Missing : Type 0) (Fact : X → Type 0) → OnLive o Missing Fact
     → (o ≡ None → Missing → C) → ((x : X) → o ≡ Some x → Fact x → C) → C
 on_found None Missing Fact h missing live = missing refl h
 on_found (Some x) Missing Fact h missing live = live x refl h
 
--- whether an index names something live
+-- a fact of an effect on the live value of an index, by whether the index names one
 pub on_live : {X C : Type 0} (o : Option X) (Missing : Type 0) (Fact : X → Type 0) → OnLive o Missing Fact
     → (Missing → C) → ((x : X) → o ≡ Some x → Fact x → C) → C
 on_live o Missing Fact h missing live = on_found o Missing Fact h (λ none. missing) live
@@ -26,8 +27,7 @@ both_live (Some x) Missing Missing' Fact Fact' h h' = (h, h')
 -- the same value is put back into its slot
 pub put_back : {X : Type 0} (slots : List (Slot X)) (k : ℕ) (x x' : X) → live_at slots k ≡ Some x → x' ≡ x
     → slice_set slots k (Live x') ≡ slots
-put_back slots k x x' found same =
-    ap (λ z. set slots k (Live z)) same ∙ set_read slots k (Live x) (live_slot (slice_get slots k) x found)
+put_back slots k x x' found same = rw same (set_read slots k (Live x) (live_slot (slice_get slots k) x found))
 
 -- what a refusal leaves
 module _ {E : Type 0} (refusal : E → Reply) where
@@ -56,7 +56,7 @@ module _ {E : Type 0} (refusal : E → Reply) where
     -- a refused growth leaves the value
     pub grows_back : (result : Result ℕ E) → IsRefusal (reply_of replied.Number refusal result)
         → Grows rules g s result charge s' → s'.value ≡ s.value
-    grows_back result refused (inl none) = ap (λ (t : MeteredValue V S). t.value) none.same
+    grows_back result refused (inl none) = rw none.same
     grows_back result refused (inr some) = attempt_back some.outcome (rw some.answered at refused) some.attempt.value
 
 -- a refused call with a charge leaves the slots, if it leaves what it acts on
@@ -65,17 +65,17 @@ pub acts_back : {X R S : Type 0} (k : ℕ) (reply_to : R → Reply)
     → ((s s' : MeteredValue X S) (charge : ℕ) (result : R) → IsRefusal (reply_to result) → Acts s result charge s'
     → s'.value ≡ s.value) → (s s' : MeteredValue (List (Slot X)) S) (reply : Reply) (charge : ℕ) → IsRefusal reply
     → ActsAt k reply_to Acts s reply charge s' → s'.value ≡ s.value
-acts_back {X} {R} {S} k reply_to Acts back s s' reply charge refused acts = on_live (live_at s.value k) _ _ acts
-    (λ missing. ap (λ (t : MeteredValue (List (Slot X)) S). t.value) missing.2)
+acts_back k reply_to Acts back s s' reply charge refused acts = on_live (live_at s.value k) _ _ acts
+    (λ missing. rw missing.2)
     (λ x found a. a.4 ∙ put_back s.value k x a.1 found (back _ _ charge a.0 (rw a.3 at refused) a.2))
 
--- two facts of one live value, or of none
+-- two facts of one live value, or of none, taken apart at once
 pub on_both : {X C : Type 0} (o : Option X) (Missing Missing' : Type 0) (Fact Fact' : X → Type 0)
     → OnLive o Missing Fact → OnLive o Missing' Fact' → (Missing → Missing' → C) → ((x : X) → Fact x → Fact' x → C) → C
 on_both None Missing Missing' Fact Fact' h h' missing live = missing h h'
 on_both (Some x) Missing Missing' Fact Fact' h h' missing live = live x h h'
 
--- effects on lists and slots
+-- two additions of one entry to a list are one
 pub appends_same : {X A E : Type 0} (entry : X → A) (refusal : E → Reply) (result : Result X E) (list : List A)
     (reply reply' : Reply) (list' list'' : List A) → AddsEntry entry refusal result list reply list'
     → AddsEntry entry refusal result list reply' list'' → (reply ≡ reply') × (list' ≡ list'')
@@ -94,7 +94,7 @@ HasOneOutcome {A} {S} Relation =
     (o o' : Creation A S) → IsNotOutOfMemory o.reply → IsNotOutOfMemory o'.reply → Relation o.reply o.part o.limiter
     → Relation o'.reply o'.part o'.limiter → (o.reply ≡ o'.reply) × (o.part ≡ o'.part) × (o.limiter ≡ o'.limiter)
 
--- two creations in a new slot
+-- two creations in a new slot end in one way
 pub creates_same : {X E S : Type 0} (refusal : E → Reply) (Makes : S → Result X E → S → Type 0)
     → ((l : S) (result result' : Result X E) (l' l'' : S) → Makes l result l' → Makes l result' l''
     → (result ≡ result') × (l' ≡ l'')) → (slots : List (Slot X)) (l : S) → HasOneOutcome (Creates refusal Makes slots l)
@@ -104,7 +104,7 @@ creates_same refusal Makes same slots l o o' room room' (inr (result, makes, app
     (inr (result', makes', appends')) =
     let made = same l result result' o.limiter o'.limiter makes makes' in
     let put = appends_same Live refusal result slots o.reply o'.reply o.part o'.part appends
-    (subst (λ r. AddsEntry Live refusal r slots o'.reply o'.part) (sym made.0) appends') in
+    (rw made.0 appends') in
     (put.0, put.1, made.1)
 
 -- what may be so where there is no room, from what is then so
@@ -123,17 +123,17 @@ pub record EffectFacts {A : Type 0} (Effect : Reply → A → Type 0) (old : A) 
 -- the facts of an effect that has this reply and makes the part this one
 pub settled_facts : {A : Type 0} {told : Reply} {new old : A} {Keeps : A → Type 0} → (IsRefusal told → new ≡ old)
     → Keeps new → EffectFacts (λ reply part. (reply ≡ told) × (part ≡ new)) old Keeps
-settled_facts {Keeps = Keeps} back keeps = record {
-  back = λ reply part refused effect. effect.1 ∙ back (subst IsRefusal effect.0 refused);
+settled_facts back keeps = record {
+  back = λ reply part refused effect. effect.1 ∙ back (rw effect.0 at refused);
   same = λ reply reply' part part' has has' effect effect'. (effect.0 ∙ sym effect'.0, effect.1 ∙ sym effect'.1);
-  keeps = λ reply part effect. subst Keeps (sym effect.1) keeps;
+  keeps = λ reply part effect. rw effect.1 keeps;
 }
 
 -- the facts of an effect that leaves the part where there is no room
 pub room_facts : {A Lacks : Type 0} {Effect : Reply → A → Type 0} {old : A} {Keeps : A → Type 0} → Keeps old
     → EffectFacts Effect old Keeps
     → EffectFacts (λ reply part. ((reply ≡ replied.NoRoom) × (part ≡ old) × Lacks) ⊎ Effect reply part) old Keeps
-room_facts {Keeps = Keeps} keeps facts = record {
+room_facts keeps facts = record {
   back = λ reply part refused effect. elim effect [
     | inl none ↦ none.1
     | inr made ↦ facts.back reply part refused made
@@ -146,7 +146,7 @@ room_facts {Keeps = Keeps} keeps facts = record {
     ]
   ];
   keeps = λ reply part effect. elim effect [
-    | inl none ↦ subst Keeps (sym none.1) keeps
+    | inl none ↦ rw none.1 keeps
     | inr made ↦ facts.keeps reply part made
   ];
 }
@@ -162,14 +162,14 @@ pub found_facts : {X A : Type 0} {found : Option X} {put : X → A} {old : A} {C
     → ((reply : Reply) → IsRefusal reply → (x x' : X) → Change reply x x' → x' ≡ x) → ChangesOnce Change → Keeps old
     → ((x : X) → found ≡ Some x → (reply : Reply) (x' : X) → Change reply x x' → Keeps (put x'))
     → EffectFacts (λ reply part. ChangesFound found put old reply part (Change reply)) old Keeps
-found_facts {found = found} {put = put} {Keeps = Keeps} read back once keeps kept = record {
+found_facts {found = found} {put = put} read back once keeps kept = record {
   back = λ reply part refused changes. on_live found _ _ changes (λ missing. missing.1)
       (λ x is h. h.2 ∙ ap put (back reply refused x h.0 h.1) ∙ read x is);
   same = λ reply reply' part part' has has' changes changes'. on_both found _ _ _ _ changes changes'
       (λ h h'. (h.0 ∙ sym h'.0, h.1 ∙ sym h'.1))
       (λ x h h'. let both = once x reply reply' h.0 h'.0 h.1 h'.1 in (both.0, h.2 ∙ ap put both.1 ∙ sym h'.2));
-  keeps = λ reply part changes. on_live found _ _ changes (λ missing. subst Keeps (sym missing.1) keeps)
-      (λ x is h. subst Keeps (sym h.2) (kept x is reply h.0 h.1));
+  keeps = λ reply part changes. on_live found _ _ changes (λ missing. rw missing.1 keeps)
+      (λ x is h. rw h.2 (kept x is reply h.0 h.1));
 }
 
 -- what a call on what an index names ends in
@@ -184,7 +184,7 @@ HasOneEnding {A} {S} Relation =
     (o o' : Acted A S) → Relation o.reply o.charge o.after → Relation o'.reply o'.charge o'.after
     → (o.reply ≡ o'.reply) × (o.charge ≡ o'.charge) × (o.after ≡ o'.after)
 
--- two calls on what an index names
+-- two calls with a charge on what an index names end in one way
 pub acts_same : {X R S : Type 0} (Acts : MeteredValue X S → R → ℕ → MeteredValue X S → Type 0)
     → ((s : MeteredValue X S) (result result' : R) (charge charge' : ℕ) (s' s'' : MeteredValue X S)
     → Acts s result charge s' → Acts s result' charge' s'' → (result ≡ result') × (charge ≡ charge') × (s' ≡ s''))
@@ -195,12 +195,10 @@ acts_same {X = X} {S = S} Acts same k reply_to s o o' a b =
     let both =
     same (with_value s x) result result' o.charge o'.charge (with_value o.after x') (with_value o'.after x'') acts
     acts' in
-    let value = put ∙ ap (λ (t : MeteredValue X S). slice_set s.value k (Live t.value)) both.2 ∙ sym put' in
-    let meter = ap (λ (t : MeteredValue X S). t.meter) both.2 in
-    let limiter = ap (λ (t : MeteredValue X S). t.limiter) both.2 in (
+    let value = put ∙ ap (λ (t : MeteredValue X S). slice_set s.value k (Live t.value)) both.2 ∙ sym put' in (
       replies ∙ ap reply_to both.0 ∙ sym replies',
       both.1,
-      λ i. record { value = value i; meter = meter i; limiter = limiter i },
+      λ i. record { value = value i; meter = (both.2 i).meter; limiter = (both.2 i).limiter },
     ))
 
 -- a change that keeps the count keeps the sizes
@@ -208,8 +206,8 @@ pub changes_kept : {X : Type 0} (count : X → ℕ) (k : ℕ) (slots : List (Slo
     (Change : X → X → Type 0) → ((x x' : X) → Change x x' → count x' ≡ count x) → ChangesAt k slots reply slots' Change
     → map (slot_count count) slots' ≡ map (slot_count count) slots
 changes_kept count k slots reply slots' Change same changes = on_live (live_at slots k) _ _ changes
-    (λ missing. ap (map (slot_count count)) missing.1)
-    (λ x found h. ap (map (slot_count count)) h.2 ∙ counts_kept count slots k x (Live h.0) found (same x h.0 h.1))
+    (λ missing. rw missing.1)
+    (λ x found h. rw h.2 (counts_kept count slots k x (Live h.0) found (same x h.0 h.1)))
 
 module _ {X : Type 0} (Valid : X → Type 0) where
   -- an item that is read of a list of valid ones
@@ -217,13 +215,13 @@ module _ {X : Type 0} (Valid : X → Type 0) where
   read_valid items k x found valid = subst Valid (get_or_from_slice_get items k x x found)
       (All-get_or Valid items k x (slice_get_within items k x found) valid)
 
-  -- a new entry at the end
+  -- valid items stay so with a valid new entry at the end
   pub appended_valid : {E : Type 0} (refusal : E → Reply) (result : Result X E) (list : List X) (reply : Reply)
       (list' : List X) → ((x : X) → result ≡ Ok x → Valid x) → AddsEntry (λ x. x) refusal result list reply list'
       → All Valid list → All Valid list'
   appended_valid refusal (Ok x) list reply list' made appends valid =
-      subst (All Valid) (sym appends.1) (All-push Valid list x valid (made x refl))
-  appended_valid refusal (Err error) list reply list' made appends valid = subst (All Valid) (sym appends.1) valid
+      rw appends.1 (All-push Valid list x valid (made x refl))
+  appended_valid refusal (Err error) list reply list' made appends valid = rw appends.1 valid
 
 module _ {X : Type 0} (Valid : X → Type 0) where
   -- what is in the slots is valid
@@ -235,43 +233,42 @@ module _ {X : Type 0} (Valid : X → Type 0) where
   live_valid slots k x found valid =
       read_valid (IsValidSlot Valid) slots k (Live x) (live_slot (slice_get slots k) x found) valid
 
-  -- a slot is written anew
+  -- valid slots stay so where one is set to a valid one
   pub put_valid : (slots slots' : List (Slot X)) (k : ℕ) (slot : Slot X) → slots' ≡ slice_set slots k slot
       → IsValidSlot Valid slot → AllValid slots → AllValid slots'
   put_valid slots slots' k slot is one valid =
-      subst AllValid (sym is) (All-set (IsValidSlot Valid) slots k slot one valid)
+      rw is (All-set (IsValidSlot Valid) slots k slot one valid)
 
-  -- a change of a live value
+  -- valid slots stay so by a change of a live value that keeps it valid
   pub changes_valid : (k : ℕ) (slots : List (Slot X)) (reply : Reply) (slots' : List (Slot X))
       (Change : X → X → Type 0) → ((x x' : X) → Valid x → Change x x' → Valid x')
       → ChangesAt k slots reply slots' Change → AllValid slots → AllValid slots'
   changes_valid k slots reply slots' Change keeps changes valid = on_live (live_at slots k) _ _ changes
-      (λ missing. subst AllValid (sym missing.1) valid)
+      (λ missing. rw missing.1 valid)
       (λ x found h. put_valid slots slots' k (Live h.0) h.2 (keeps x h.0 (live_valid slots k x found valid) h.1) valid)
 
-  -- a call with a charge on a live value
+  -- valid slots stay so by a call with a charge that keeps a live value valid
   pub acts_valid : {R S : Type 0} (k : ℕ) (reply_to : R → Reply)
       (Acts : MeteredValue X S → R → ℕ → MeteredValue X S → Type 0)
       → ((s s' : MeteredValue X S) (result : R) (charge : ℕ) → Valid s.value → Acts s result charge s' → Valid s'.value)
       → (s s' : MeteredValue (List (Slot X)) S) (reply : Reply) (charge : ℕ) → ActsAt k reply_to Acts s reply charge s'
       → AllValid s.value → AllValid s'.value
   acts_valid k reply_to Acts keeps s s' reply charge acts valid = on_live (live_at s.value k) _ _ acts
-      (λ missing. subst (λ (t : MeteredValue (List (Slot X)) _). AllValid t.value) (sym missing.2) valid)
+      (λ missing. rw missing.2 valid)
       (λ x found h. put_valid s.value s'.value k (Live h.1) h.4
       (keeps _ _ h.0 charge (live_valid s.value k x found valid) h.2) valid)
 
-  -- a creation
+  -- valid slots stay so by a creation of a valid value
   pub creates_valid : {E S : Type 0} (refusal : E → Reply) (Makes : S → Result X E → S → Type 0)
       → ((l l' : S) (x : X) → Makes l (Ok x) l' → Valid x)
       → (slots : List (Slot X)) (l : S) (reply : Reply) (slots' : List (Slot X)) (l' : S)
       → Creates refusal Makes slots l reply slots' l' → AllValid slots → AllValid slots'
-  creates_valid refusal Makes made slots l reply slots' l' (inl none) valid = subst AllValid (sym none.1) valid
+  creates_valid refusal Makes made slots l reply slots' l' (inl none) valid = rw none.1 valid
   creates_valid refusal Makes made slots l reply slots' l' (inr (Ok x, makes, appends)) valid =
-      subst AllValid (sym appends.1) (All-push (IsValidSlot Valid) slots (Live x) valid (made l l' x makes))
-  creates_valid refusal Makes made slots l reply slots' l' (inr (Err error, makes, appends)) valid =
-      subst AllValid (sym appends.1) valid
+      rw appends.1 (All-push (IsValidSlot Valid) slots (Live x) valid (made l l' x makes))
+  creates_valid refusal Makes made slots l reply slots' l' (inr (Err error, makes, appends)) valid = rw appends.1 valid
 
--- a fact of a live value, or of none, from another one of it
+-- a fact of an effect on a live value, or on none, from another one of it
 pub on_live_too : {X : Type 0} (o : Option X) (Missing Missing' : Type 0) (Fact Fact' : X → Type 0)
     → (Missing → Missing') → ((x : X) → Fact x → Fact' x) → OnLive o Missing Fact → OnLive o Missing' Fact'
 on_live_too None Missing Missing' Fact Fact' missing live h = missing h
@@ -291,12 +288,12 @@ slot_kept count Valid slots k x x' found same valid = (
   λ all. put_valid Valid slots _ k (Live x') refl (valid (live_valid Valid slots k x found all)) all,
 )
 
--- what holds of a change of slots
+-- what holds of a change of slots: the facts of an effect that keeps their sizes and validity
 abbrev pub SlotFacts : {X : Type 0} → (X → ℕ) → (X → Type 0) → (List (Slot X) → Reply → List (Slot X) → Type 0) → Type 0
 SlotFacts {X} count Valid Becomes =
     (slots : List (Slot X)) → EffectFacts (Becomes slots) slots (KeepsSlots count Valid slots)
 
--- a drop
+-- the facts of a drop of a live value from its slot
 pub drop_facts : {X : Type 0} (count : X → ℕ) (Valid : X → Type 0) (k : ℕ) → SlotFacts count Valid (DropsAt count k)
 drop_facts count Valid k slots = record {
   back = λ reply slots' refused drops.
@@ -304,9 +301,9 @@ drop_facts count Valid k slots = record {
   same = λ reply reply' slots' slots'' has has' drops drops'. on_both (live_at slots k) _ _ _ _ drops drops'
       (λ h h'. (h.0 ∙ sym h'.0, h.1 ∙ sym h'.1)) (λ x h h'. (h.0 ∙ sym h'.0, h.1 ∙ sym h'.1));
   keeps = λ reply slots' drops. on_live (live_at slots k) _ _ drops
-      (λ missing. (ap (map (slot_count count)) missing.1, λ valid. subst (AllValid Valid) (sym missing.1) valid))
+      (λ missing. (rw missing.1, λ valid. rw missing.1 valid))
       (λ x found h. (
-        ap (map (slot_count count)) h.1 ∙ counts_kept count slots k x (Gone (count x)) found refl,
+        rw h.1 (counts_kept count slots k x (Gone (count x)) found refl),
         λ valid. put_valid Valid slots slots' k (Gone (count x)) h.1 tt valid,
       ));
 }
@@ -346,8 +343,8 @@ module _ {X E : Type 0} (count : X → ℕ) (Valid : X → Type 0) (refusal : E 
   -- the change keeps the count and validity
   setting_kept : (reply : Reply) (x x' : X) → Setting reply x x' → (count x' ≡ count x) × (Valid x → Valid x')
   setting_kept reply x x' c = on_live (written x) _ _ (puts x c.0 x' c.1)
-      (λ none. (ap count none.1, λ valid. subst Valid (sym none.1) valid))
-      (λ items is done. subst (λ y. (count y ≡ count x) × (Valid x → Valid y)) (sym done.1) (keeps x items (long x items is)))
+      (λ none. (ap count none.1, λ valid. rw none.1 valid))
+      (λ items is done. rw done.1 (keeps x items (long x items is)))
 
   -- the facts of a change of a slot by it
   pub setting_facts : (k : ℕ)

@@ -1,12 +1,13 @@
--- What passes between a machine and its limiter in each turn, what has grown by it, and what was charged for it.
-use Rattle.std.proofs.Common.{Bool, Err, List, None, Ok, Option, Result, Some, [], ap, arith, false, inl, inr, length, map, refl, replicate, subst, sym, true, ℕ, ◌*◌, ◌++◌, ◌+◌, ◌-◌, ◌<◌, ◌∙◌, ◌∷◌, ◌≡◌, ◌≢◌, ◌≤◌, ◌⊎◌}
-use Rattle.wasmi_machine.proofs.Common.{nat_tests, length-append, length-replicate, map-set, map_push, none-some, same_Some, option_and_then, MatchBool, if◌then◌else◌, is_none, nat_eq, slice_get, slice_set, ◌&&◌, CustomFuelCosts, IsOtherFailure, AsksFor, At, Denial, Exchange, Exchanges, GrowsAsAsked, GrowsBy, New, Nothing, NothingGrows, Notice, Nowhere, Passes, Permission, Place, RepliesTo, charge_at, writing_price, failed_charge, failed_reply, growth_charge, growth_due, growth_question, place_of, question_in, question_of, table_growth_question, writing_charge, RunsGrowAsPermitted, CreatesLent, ActsAt, AddsEntry, Creates, reply_of, MemoryPart, live_at, memory_part, byte_count, sizes, slot_count, Turn, outcome_of, World, Changed, Effect, FuelSet, LentMemoryMade, MemoryGrown, MemoryMade, RangeWritten, Step, TableGrown, TableMade, HasEffect, effect_of, Grows, Growth, Makes, metered_value, Call, GrowMemory, GrowTable, NewLentMemory, NewMemory, NewTable, Reply, Slot, Live, AttemptOutcome, Denied, Failed, Follows, IsFirstCause, MayEnd, Met, MeteredValue, Request, Unasked, answer_of, covers, error_of_answer, error_of_failure, optional_due, outcome_charge, value_after, copy_cost, Meter, due, Failure, MemoryFailure, NoticeAnswer, Question, Rules, TableFailure, kind_of, MemoryError, TableError, Kind, Bytes, Elements, Lent, Owned, Room, fits_room, GrowsMemoryCharging, MakesMemory, MemoryValue, new_memory, MemoryTypeValue, minimum_bytes, page_bytes, GrowsTableCharging, MakesTable, TableValue, new_table, size_of, TableTypeValue, is_within_maximum, same_type, TypedRawRef, memory_growth, table_growth}
+-- What passes between a machine and its limiter in each turn, what has grown by it, and what was charged for it: of an
+-- attempt, a creation, a growth, and each effect.
+use Rattle.std.proofs.Common.{Bool, Err, List, None, Ok, Option, Result, Some, ap, arith, false, inl, inr, length, map, refl, sym, true, ℕ, ◌*◌, ◌+◌, ◌-◌, ◌<◌, ◌∙◌, ◌≡◌, ◌≢◌, ◌≤◌, ◌⊎◌}
+use Rattle.wasmi_machine.proofs.Common.{nat_tests, length-append, length-replicate, map-set, map_push, none-some, same_Some, option_and_then, MatchBool, if◌then◌else◌, is_none, nat_eq, slice_set, ◌&&◌, CustomFuelCosts, IsOtherFailure, AsksFor, At, Denial, Exchange, Exchanges, GrowsAsAsked, GrowsBy, New, Nothing, NothingGrows, Notice, Nowhere, Passes, Permission, Place, RepliesTo, charge_at, writing_price, failed_charge, failed_reply, growth_charge, growth_due, growth_question, place_of, question_in, question_of, table_growth_question, writing_charge, RunsGrowAsPermitted, CreatesLent, ActsAt, AddsEntry, Creates, reply_of, MemoryPart, live_at, memory_part, byte_count, sizes, slot_count, Turn, outcome_of, World, Changed, Effect, FuelSet, LentMemoryMade, MemoryGrown, MemoryMade, RangeWritten, Step, TableGrown, TableMade, HasEffect, effect_of, Grows, Growth, Makes, metered_value, Call, GrowMemory, GrowTable, NewLentMemory, NewMemory, NewTable, Reply, Slot, Live, AttemptOutcome, Denied, Failed, Follows, IsFirstCause, MayEnd, Met, MeteredValue, Request, Unasked, answer_of, covers, error_of_answer, error_of_failure, optional_due, outcome_charge, value_after, copy_cost, Meter, due, Failure, MemoryFailure, NoticeAnswer, Question, Rules, TableFailure, kind_of, MemoryError, TableError, Kind, Bytes, Elements, Lent, Owned, Room, fits_room, GrowsMemoryCharging, MakesMemory, MemoryValue, new_memory, MemoryTypeValue, minimum_bytes, page_bytes, GrowsTableCharging, MakesTable, TableValue, new_table, size_of, TableTypeValue, is_within_maximum, same_type, TypedRawRef, memory_growth, table_growth}
 use Rattle.wasmi_machine.proofs.EffectLemmas.{on_found}
 use Rattle.wasmi_machine.proofs.MemoryEffectsLemmas.{lacks_owned}
 use Rattle.wasmi_machine.proofs.AccountLemmas.{step_meter}
 use Rattle.wasmi_machine.proofs.RangeLemmas.{range_holds, range_price}
 use Rattle.wasmi_machine.proofs.StepsLemmas.{change_facts}
-use Rattle.wasmi_machine.proofs.TotalLemmas.{count_at, counts_kept, each_kind}
+use Rattle.wasmi_machine.proofs.TotalLemmas.{count_at, counts_kept, each_kind, of_each}
 use Rattle.wasmi_machine.proofs.StoreLemmas.{each_turn}
 use Rattle.wasmi_machine.specs.State.{IsRefusal}
 use Rattle.wasmi_store.specs.Memory as memory
@@ -15,12 +16,7 @@ use Rattle.wasmi_machine.specs.declared.calls.Reply.TheVariants as replied
 use Rattle.wasmi_meter.specs.declared.error.MemoryError.TheVariants as memory_error
 use Rattle.wasmi_meter.specs.declared.error.TableError.TheVariants as table_error
 
--- what holds of one kind, and of the other, holds of each
-of_each : (P : Kind → Type 0) (one : Kind) → P one → ((kind : Kind) → kind ≢ one → P kind) → (kind : Kind) → P kind
-of_each P Bytes own others = each_kind P own (others Elements (λ e. cc))
-of_each P Elements own others = each_kind P (others Bytes (λ e. cc)) own
-
--- a test, with what it found
+-- a fact by a test, as of the type of the elements of a table that grows, with what the test found
 on_tested : {C : Type 0} (test : Bool) (Holds Fails : Type 0) → MatchBool test Holds Fails
     → (test ≡ true → Holds → C) → (test ≡ false → Fails → C) → C
 on_tested true Holds Fails h holds fails = holds refl h
@@ -29,14 +25,13 @@ on_tested false Holds Fails h holds fails = fails refl h
 -- what is asked, where no cause is found before the question
 question_unrefused : {V E : Type 0} (e : Request V E) (early : Option E) → e.early ≡ early
     → question_in e ≡ (if is_none early then Some e.question else None)
-question_unrefused {E = E} e early = ap (λ (o : Option E). if is_none o then Some e.question else None)
+question_unrefused e early is = rw is
 
 -- a growth by some asks what its request does
 growth_question_by_request : {V E : Type 0} (amount : ℕ) (e : Request V E) → 0 < amount
     → growth_question amount e ≡ question_in e
 growth_question_by_request amount e some =
-    let none : nat_eq amount 0 ≡ false = grind (arith, nat_tests, some) in
-    ap (λ b. if b then None else question_in e) none
+    let none : nat_eq amount 0 ≡ false = grind (arith, nat_tests, some) in rw none
 
 -- what a limiter is told of is lack of memory, and then a price is charged, or it isn't, and then nothing is
 abbrev pub IsOutOfMemoryOrFree : Failure → Type 0
@@ -89,15 +84,13 @@ module _ {V E : Type 0} (e : Request V E) (m : Meter) (charge : ℕ) (priced : I
       → charge ≡ (if is_none late && payable then optional_due (Some m) e.price else 0)
       → charge ≡ failed_charge (e.notice cause) (growth_due m e.question)
   failed_charged cause (Some c) is payable enough first charged =
-      charged ∙ sym (subst (λ x. failed_charge (e.notice x) (growth_due m e.question) ≡ 0) (sym first)
-      (priced.late c is (growth_due m e.question)))
+      rw (charged, first) (sym (priced.late c is (growth_due m e.question)))
   failed_charged cause None is true enough first charged =
       charged ∙ priced.price ∙ sym (priced.refuses cause (rw enough at first) (growth_due m e.question))
   failed_charged cause None is false enough first charged =
       let due = optional_due (Some m) e.price in
       let short : cause ≡ e.unpaid due = rw enough at first in
-      charged ∙ sym (subst (λ x. failed_charge (e.notice x) (growth_due m e.question) ≡ 0) (sym short)
-      (priced.unpaid due (growth_due m e.question)))
+      rw (charged, short) (sym (priced.unpaid due (growth_due m e.question)))
 
   -- the charge of a growth, by its outcome
   charged_by_outcome : (outcome : AttemptOutcome E) → MayEnd e (Some m) outcome
@@ -120,8 +113,8 @@ growth_replies : {V E : Type 0} (g : Growth V E) (refusal : E → Reply) → IsT
     → RepliesTo (exchange_of g.request outcome) reply
 growth_replies g refusal told reply (Unasked cause) is = tt
 growth_replies g refusal told reply (Denied answer) is =
-    subst IsRefusal (sym is) (told.refuses (error_of_answer g.request.denial g.request.refusal answer))
-growth_replies g refusal told reply Met is = λ refused. subst IsRefusal is refused
+    rw is (told.refuses (error_of_answer g.request.denial g.request.refusal answer))
+growth_replies g refusal told reply Met is = λ refused. rw is at refused
 growth_replies g refusal told reply (Failed cause notice_answer) is = is ∙ told.fails cause notice_answer
 
 module _ {S : Type 0} (rules : Rules S) (t : Meeting S) (place : Place) where
@@ -237,8 +230,7 @@ module _ {S X : Type 0} (rules : Rules S) (v : Watch S X) where
   -- a value that has replaced one of the same size keeps the count
   same_count : (k : ℕ) (x x' : X) → Replaced v k x x' → v.count x' ≡ v.count x
       → map (slot_count v.count) v.later ≡ map (slot_count v.count) v.slots
-  same_count k x x' replaced same =
-      ap (map (slot_count v.count)) replaced.put ∙ counts_kept v.count v.slots k x (Live x') replaced.found same
+  same_count k x x' replaced same = rw replaced.put (counts_kept v.count v.slots k x (Live x') replaced.found same)
 
   -- something is made
   module _ {E : Type 0} (e : Request (Unit {0}) E) (made : X) (new : IsCreationOf v.count made e)
@@ -247,14 +239,9 @@ module _ {S X : Type 0} (rules : Rules S) (v : Watch S X) where
     made_sizes : (refusal : E → Reply) (outcome : AttemptOutcome E) (reply : Reply)
         → AddsEntry Live refusal (answer_of e made outcome) v.slots reply v.later
         → GrowsByOutcome rules v.meeting New e new.tells watched.others outcome
-    made_sizes refusal Met reply appends = (
-      new.fresh,
-      watched.own' ∙ ap (map (slot_count v.count)) appends.1 ∙ map_push (slot_count v.count) v.slots (Live made)
-          ∙ ap (λ n. map (slot_count v.count) v.slots ++ n ∷ []) new.full
-          ∙ ap (λ (ns : List ℕ). ns ++ e.question.desired ∷ []) (sym watched.own),
-    )
-    made_sizes refusal outcome reply appends =
-        watched.own' ∙ ap (map (slot_count v.count)) appends.1 ∙ sym watched.own
+    made_sizes refusal Met reply appends =
+        (new.fresh, rw (watched.own', appends.1, watched.own, map_push, new.full))
+    made_sizes refusal outcome reply appends = rw (watched.own', appends.1, watched.own)
 
     -- the reply to it
     made_replies : (refusal : E → Reply) → IsToldBy e refusal → (outcome : AttemptOutcome E)
@@ -262,8 +249,8 @@ module _ {S X : Type 0} (rules : Rules S) (v : Watch S X) where
         → RepliesTo (exchange_of e outcome) v.meeting.reply
     made_replies refusal told (Unasked cause) appends = tt
     made_replies refusal told (Denied answer) appends =
-        subst IsRefusal (sym appends.0) (told.refuses (error_of_answer e.denial e.refusal answer))
-    made_replies refusal told Met appends = λ refused. subst IsRefusal appends.0 refused
+        rw appends.0 (told.refuses (error_of_answer e.denial e.refusal answer))
+    made_replies refusal told Met appends = λ refused. rw appends.0 at refused
     made_replies refusal told (Failed cause notice_answer) appends = appends.0 ∙ told.fails cause notice_answer
 
     -- the exchange of a creation
@@ -292,11 +279,8 @@ module _ {S X : Type 0} (rules : Rules S) (v : Watch S X) where
         → GrowsByOutcome rules v.meeting (At k) g.request growth.tells watched.others outcome
     grown_sizes Met same = (
       growth.up,
-      ap (λ (ns : List ℕ). slice_get ns k) watched.own ∙ count_at v.count v.slots k x replaced.found
-          ∙ ap Some (sym growth.now),
-      watched.own' ∙ ap (map (slot_count v.count)) replaced.put ∙ map-set (slot_count v.count) v.slots k (Live x')
-          ∙ ap (slice_set (map (slot_count v.count) v.slots) k) (ap v.count same ∙ growth.full)
-          ∙ ap (λ (ns : List ℕ). slice_set ns k g.request.question.desired) (sym watched.own),
+      rw (watched.own, growth.now) (count_at v.count v.slots k x replaced.found),
+      rw (watched.own', replaced.put, watched.own, map-set, same, growth.full),
     )
     grown_sizes outcome same = unchanged same
 
@@ -305,7 +289,7 @@ module _ {S X : Type 0} (rules : Rules S) (v : Watch S X) where
         → Grows rules g (metered_value x (Some v.meeting.meter) v.meeting.first) result
         v.meeting.charge (metered_value x' (Some m') v.meeting.last) → Passed rules v.meeting (At k)
     grows_passes m' result is (inl none) = kept_passes g.request.question.kind watched (At k)
-        (inl (is.asks ∙ ap (λ n. growth_question n g.request) none.none))
+        (inl (rw none.none at is.asks))
         (ap (λ (s : MeteredValue X S). s.limiter) none.same)
         (same_count k x x' replaced (ap (λ (s : MeteredValue X S). v.count s.value) none.same)) none.uncharged
     grows_passes m' result is (inr some) =
@@ -341,21 +325,21 @@ due_again : (m : Meter) (bytes old added : ℕ)
 due_again m bytes old added =
     ap (λ n. due m (λ costs. copy_cost costs n bytes)) (let same : added ≡ old + added - old = omega arith in same)
 
--- the replies to errors of memories
+-- the reply to a failed creation or growth of a memory, by the answer to the notice
 memory_fails : (cause : MemoryError) (notice_answer : NoticeAnswer)
     → replied.Memory (error_of_failure memory_error.ResourceLimiterDeniedAllocation cause notice_answer)
     ≡ failed_reply (MemoryFailure cause) notice_answer
 memory_fails cause (Ok done) = refl
 memory_fails cause (Err error) = refl
 
--- the replies to errors of tables
+-- the reply to a failed creation or growth of a table, by the answer to the notice
 table_fails : (cause : TableError) (notice_answer : NoticeAnswer)
     → replied.Table (error_of_failure table_error.ResourceLimiterDeniedAllocation cause notice_answer)
     ≡ failed_reply (TableFailure cause) notice_answer
 table_fails cause (Ok done) = refl
 table_fails cause (Err error) = refl
 
--- what is made, and what grows
+-- a new memory is what a creation of a memory asks for
 new_memory_is : (room : Room) (ty : MemoryTypeValue)
     → IsCreationOf byte_count (new_memory room ty) (memory.creation_of room ty)
 new_memory_is room ty = record {
@@ -364,7 +348,7 @@ new_memory_is room ty = record {
   full = length-replicate {A = ℕ} (minimum_bytes ty) 0;
 }
 
--- a new table is what is made
+-- a new table is what a creation of a table asks for
 new_table_is : (ty : TableTypeValue) (init : TypedRawRef)
     → IsCreationOf size_of (new_table ty init.raw) (table.creation_of ty init.ty)
 new_table_is ty init = record {
@@ -373,46 +357,40 @@ new_table_is ty init = record {
   full = length-replicate {A = ℕ} ty.minimum init.raw;
 }
 
--- a late cause that a test decides
+-- a cause after the question that a test decides
 pub late_is : {E : Type 0} (fits : Bool) (late cause : E) → (if fits then None else Some late) ≡ Some cause
     → late ≡ cause
 late_is true late cause is = absurd (none-some cause is)
 late_is false late cause is = same_Some late cause is
 
--- the price of a growth of a memory
+-- the price of a growth of a memory is due for what it asks for
 memory_priced : (pages : ℕ) (x : MemoryValue) (m : Meter) → IsPricedAsAsked (memory.growth_of x pages) m
 memory_priced pages x m = record {
   price = due_again m 1 (length x.bytes) (pages * page_bytes x.ty.page);
-  late = λ cause is price. subst (λ c. failed_charge (MemoryFailure c) price ≡ 0)
-      (late_is (fits_room x.room (pages * page_bytes x.ty.page)) memory_error.InvalidStaticBufferSize cause is) refl;
+  late = λ cause is price. rw (← late_is (fits_room x.room (pages * page_bytes x.ty.page)) _ cause is);
   unpaid = λ due price. refl;
-  refuses = λ cause wants price.
-      subst (λ c. failed_charge (MemoryFailure c) price ≡ price) (sym (lacks_owned x.room cause wants)) refl;
+  refuses = λ cause wants price. rw (lacks_owned x.room cause wants);
 }
 
 -- the growth of a memory is one of its bytes
 memory_growth_is : (pages : ℕ) (x : MemoryValue) (m : Meter) → IsGrowthOf byte_count x m (memory_growth pages x)
-memory_growth_is pages x m =
-    let added = pages * page_bytes x.ty.page in
-    record {
-      tells = λ cause. refl;
-      now = refl;
-      full = length-append x.bytes (replicate added 0)
-          ∙ ap (λ n. length x.bytes + n) (length-replicate {A = ℕ} added 0);
-      up = omega arith;
-      priced = memory_priced pages x m;
-      refusal = replied.Memory;
-      told = record { refuses = λ error. tt; fails = memory_fails };
-    }
+memory_growth_is pages x m = record {
+  tells = λ cause. refl;
+  now = refl;
+  full = rw (length-append, length-replicate {A = ℕ});
+  up = omega arith;
+  priced = memory_priced pages x m;
+  refusal = replied.Memory;
+  told = record { refuses = λ error. tt; fails = memory_fails };
+}
 
--- the price of a growth of a table
+-- the price of a growth of a table is due for what it asks for
 table_priced : (n reference : ℕ) (x : TableValue) (m : Meter) → IsPricedAsAsked (table.growth_of x n reference) m
 table_priced n reference x m = record {
   price = due_again m 4 (size_of x) n;
-  late = λ cause is price. subst (λ c. failed_charge (TableFailure c) price ≡ 0)
-      (late_is (is_within_maximum x.ty (size_of x + n)) table_error.GrowOutOfBounds cause is) refl;
+  late = λ cause is price. rw (← late_is (is_within_maximum x.ty (size_of x + n)) _ cause is);
   unpaid = λ due price. refl;
-  refuses = λ cause wants price. subst (λ c. failed_charge (TableFailure c) price ≡ price) (sym wants.0) refl;
+  refuses = λ cause wants price. rw wants.0;
 }
 
 -- the growth of a table is one of its elements
@@ -420,8 +398,7 @@ table_growth_is : (n reference : ℕ) (x : TableValue) (m : Meter) → IsGrowthO
 table_growth_is n reference x m = record {
   tells = λ cause. refl;
   now = refl;
-  full = length-append x.elements (replicate n reference)
-      ∙ ap (λ k. length x.elements + k) (length-replicate {A = ℕ} n reference);
+  full = rw (length-append, length-replicate {A = ℕ});
   up = omega arith;
   priced = table_priced n reference x m;
   refusal = replied.Table;
@@ -545,14 +522,11 @@ module _ {S : Type 0} (rules : Rules S) (w : World S) (turn : Turn) (w' : World 
       let watched = tables_watched (GrowTable k n init) same in
       acts_pass rules watch Elements watched k (table_growth_question n init) refl
       (reply_of replied.Number replied.Table) (GrowsTableCharging rules n init) m'
-      (λ x x' result replaced asks replies grows.
-      let by_type : Bool → Option Question = λ b. if b then growth_question n (table.growth_of x n init.raw) else None
-      in
-      on_tested (same_type x.ty.element init.ty) _ _ grows
+      (λ x x' result replaced asks replies grows. on_tested (same_type x.ty.element init.ty) _ _ grows
       (λ typed h. grows_passes rules watch (table_growth n init.raw x) watched k x x'
       (table_growth_is n init.raw x w.state.meter) replaced m' result
-      (record { asks = asks ∙ ap by_type typed; replies = replies }) h)
-      (λ untyped h. kept_passes rules watch Elements watched (At k) (inl (asks ∙ ap by_type untyped))
+      (record { asks = rw typed at asks; replies = replies }) h)
+      (λ untyped h. kept_passes rules watch Elements watched (At k) (inl (rw untyped at asks))
       (ap (λ (s : MeteredValue TableValue S). s.limiter) h.2) (same_count rules watch k x x' replaced
       (ap (λ (s : MeteredValue TableValue S). size_of s.value) h.2)) h.1)) acts
 
@@ -595,7 +569,7 @@ module _ {S : Type 0} (rules : Rules S) (w : World S) (turn : Turn) (w' : World 
       nothing_passes rules (meeting_of w turn None (range_price write) w') Nowhere (inl refl) holds.unasked holds.still
       holds.charged
   effect_idles (FuelSet fuel) nothing step =
-      idle step.after refl (λ kind. ap (λ t. sizes t kind) step.effect.1) step.free.0
+      idle step.after refl (λ kind. rw step.effect.1) step.free.0
   effect_idles (Changed change) nothing step =
       idle step.after refl ((change_facts w.state change).still turn.reply step.machine step.effect) step.free.0
   effect_idles effect nothing step = idle step.after refl (λ kind. refl) step.free.0
@@ -604,15 +578,15 @@ module _ {S : Type 0} (rules : Rules S) (w : World S) (turn : Turn) (w' : World 
   call_passes : (call : Call) → HasEffect rules (effect_of w.state call) w (outcome_of turn) w'
       → Passed rules (meeting_by rules w turn w' call) (place_of call)
   call_passes (NewMemory ty) step = memory_made rules w turn w' (NewMemory ty)
-      (ap (λ (v : World S). v.state.tables) step.after) step.free.0 Owned ty refl (rw step.after step.effect)
+      (rw step.after) step.free.0 Owned ty refl (rw step.after step.effect)
   call_passes (NewLentMemory ty) step = lent_made rules w turn w'
-      (ap (λ (v : World S). v.state.tables) step.after) step.free.0 ty (rw step.after step.effect)
+      (rw step.after) step.free.0 ty (rw step.after step.effect)
   call_passes (GrowMemory k pages) step = memory_grows rules w turn w'
-      (ap (λ (v : World S). v.state.tables) step.after) k pages step.meter (rw step.after step.effect)
+      (rw step.after) k pages step.meter (rw step.after step.effect)
   call_passes (NewTable ty init) step = table_made rules w turn w'
-      (ap (λ (v : World S). v.state.memories) step.after) step.free.0 ty init (rw step.after step.effect)
+      (rw step.after) step.free.0 ty init (rw step.after step.effect)
   call_passes (GrowTable k n init) step = table_grows rules w turn w'
-      (ap (λ (v : World S). v.state.memories) step.after) k n init step.meter (rw step.after step.effect)
+      (rw step.after) k n init step.meter (rw step.after step.effect)
   call_passes call step = effect_idles (effect_of w.state call) tt step
 
 -- a step asks, grows and is charged as its call says

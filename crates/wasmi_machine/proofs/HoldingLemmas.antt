@@ -1,6 +1,6 @@
--- What a limiter keeps in a run: the totals that it holds, states in which it does what another one may do, and the caps
--- of a quota.
-use Rattle.std.proofs.Common.{◌≡◌, ◌≢◌, ℕ, ◌+◌, ◌-◌, Option, Some, None, Result, Ok, Err, true, List, [], ◌∷◌, sum, refl, sym, ap, ◌∙◌, arith, subst, IfOk, OnErr}
+-- What a limiter keeps in a run: the totals that it holds, the caps of a quota, and the states in which it does what
+-- another limiter may do (`Carries`), also where it may be absent.
+use Rattle.std.proofs.Common.{◌≡◌, ◌≢◌, ℕ, ◌+◌, ◌-◌, Option, Some, None, Result, Ok, Err, true, List, [], ◌∷◌, sum, refl, sym, ap, ◌∙◌, arith, IfOk, OnErr}
 use Rattle.wasmi_machine.proofs.Common.{same_Some, Kind, Bytes, Elements, HoldsTheSame, Reserves, GivesBack, with_more, SameCaps, IsWithinCaps, Capped, capped_rules, capped_quota, quota_rules, Question, Answer, Failure, kind_of, NoticeAnswer, Rules, AskedIf, NoticedIf, optional_rules, Call, Reply, State, World, Turn, world, sizes, HoldsTotals, Run, IsRunOf, Step, Exchange, Nothing, Denial, Permission, Notice, Place, Nowhere, New, At, place_of, Passes, NothingGrows, GrowsAsAsked, GrowsBy, option_and_then}
 use Rattle.wasmi_meter.specs.declared.quota.Holdings.{Holdings}
 use Rattle.wasmi_machine.proofs.TotalLemmas.{sum_set, sum_push}
@@ -21,9 +21,8 @@ module _ (s s' : State) where
   still_held : (h h' : Holdings) → HoldsTotals h s → HoldsTheSame h h' → NothingGrows (sizes s) (sizes s')
       → HoldsTotals h' s'
   still_held h h' held same still = record {
-    bytes = same.bytes ∙ held.bytes ∙ ap sum (sym (still Bytes));
-    elements = same.elements ∙ held.elements
-        ∙ ap sum (sym (still Elements));
+    bytes = rw (still Bytes) (same.bytes ∙ held.bytes);
+    elements = rw (still Elements) (same.elements ∙ held.elements);
   }
 
   -- the totals are held after a growth
@@ -31,12 +30,12 @@ module _ (s s' : State) where
       → sum (sizes s' kind) ≡ sum (sizes s kind) + n
       → ((other : Kind) → other ≢ kind → sizes s' other ≡ sizes s other) → HoldsTotals h' s'
   more_held Bytes n h h' held more grown others = record {
-    bytes = ap (λ (x : Holdings). x.held.bytes) more ∙ ap (λ k. k + n) held.bytes ∙ sym grown;
-    elements = ap (λ (x : Holdings). x.held.elements) more ∙ held.elements ∙ ap sum (sym (others Elements (λ e. cc)));
+    bytes = rw (more, held.bytes) (sym grown);
+    elements = rw (more, others Elements (λ e. cc)) held.elements;
   }
   more_held Elements n h h' held more grown others = record {
-    bytes = ap (λ (x : Holdings). x.held.bytes) more ∙ held.bytes ∙ ap sum (sym (others Bytes (λ e. cc)));
-    elements = ap (λ (x : Holdings). x.held.elements) more ∙ ap (λ k. k + n) held.elements ∙ sym grown;
+    bytes = rw (more, others Bytes (λ e. cc)) held.bytes;
+    elements = rw (more, held.elements) (sym grown);
   }
 
 -- what the questions to a limiter add to what it holds, and what notices take back
@@ -101,7 +100,7 @@ module _ {L : Type 0} (rules : Rules L) (holdings : L → Holdings) (keeps : Kee
       → OnErr result ((w'.state ≡ w.state) × (w'.limiter ≡ w.limiter)) → HoldsTotals (holdings w'.limiter) w'.state
   run_holds items w w' calls held (Ok replies) ran same =
       let after = totals_are_held w.state w.limiter held ran.0 (world w'.state (Some w'.limiter)) ran.3 in
-      subst (λ k. HoldsTotals (holdings k) w'.state) (sym (same_Some w'.limiter after.0 after.1)) after.2
+      rw (same_Some w'.limiter after.0 after.1) after.2
   run_holds items w w' calls held (Err error) ran same = rw (same.0, same.1) held
 
 -- a limiter in these states stays in them, and there does what another one may do in the image of its state
@@ -116,7 +115,7 @@ module _ {S T : Type 0} {within : S → Type 0} {image : S → T} {rules : Rules
     (carries : Carries within image rules rules') where
   -- an exchange leaves the limiter in these states
   exchange_stays : (l l' : S) (exchange : Exchange) → within l → Passes rules l exchange l' → within l'
-  exchange_stays l l' Nothing here passes = subst within (sym passes) here
+  exchange_stays l l' Nothing here passes = rw passes here
   exchange_stays l l' (Denial question answer) here (denial, asks) = (carries.asked l question answer l' here asks).0
   exchange_stays l l' (Permission question) here asks = (carries.asked l question (Ok true) l' here asks).0
   exchange_stays l l' (Notice question failure notice_answer) here (kind, permitted, asks, notices) =
@@ -133,7 +132,7 @@ module _ {S T : Type 0} {within : S → Type 0} {image : S → T} {rules : Rules
   -- a run leaves the limiter in these states
   pub run_stays : (w : World S) (turns : List Turn) (w' : World S) → within w.limiter → Run rules w turns w'
       → within w'.limiter
-  run_stays w [] w' here ran = subst (λ (v : World S). within v.limiter) (sym ran) here
+  run_stays w [] w' here ran = rw ran here
   run_stays w (turn ∷ turns) w' here (v, step, ran) = run_stays v turns w' (step_stays w turn v here step) ran
 
 -- what leads a limiter that may be absent from one state to another does something else too, where it does where there
@@ -152,7 +151,7 @@ abbrev pub IsThere : {L : Type 0} → (L → Type 0) → Option L → Type 0
 IsThere Kept (Some l) = Kept l
 IsThere Kept None = ⊥
 
--- which one is there
+-- the limiter that is there, where one in these states is
 there : {L : Type 0} (Kept : L → Type 0) (limiter : Option L) → IsThere Kept limiter
     → (l : L) × (limiter ≡ Some l) × Kept l
 there Kept (Some l) kept = (l, refl, kept)

@@ -1,6 +1,6 @@
--- What holds of memories in lent regions as of memories of their own.
+-- What holds of memories in lent regions as of memories of their own: creations, growths, writes, effects and runs.
 use Rattle.std.proofs.Common.{Err, List, None, Ok, Option, Result, Some, [], ap, arith, inl, inr, length, map, refl, subst, sym, true, ℕ, ◌*◌, ◌+◌, ◌∙◌, ◌∷◌, ◌≡◌, ◌≤◌, ◌⊎◌}
-use Rattle.wasmi_machine.proofs.Common.{cond-false, cond-true, nat_tests, length-map, map-set, map_push, none-some, same_Some, slice_get-map, option_and_then, option_map, MatchOption, slice_get, slice_set, ByteSource, OfBytes, StoresMemoryAt, WritesMemoryAt, byte_write_of, bytes_appended, bytes_in, load_reply, StoresVectorAt, lane_loaded, vector_at, vector_loaded, ActsAt, AddsEntry, ChangesAt, Creates, DropsAt, IfNoRoom, IsNoSuch, MeteredSlots, OnLive, WritesAt, WritesRangeAt, reply_of, Run, BytesRead, BytesStored, BytesWritten, Change, Changed, Effect, FuelSet, LacksSlot, LentMemoryMade, MemoryDropped, MemoryGrown, MemoryMade, RangeWritten, RegisterSet, Step, TableGrown, MemoryWritten, TableWritten, TableMade, HasChange, HasEffect, Told, effect_of, State, live_at, live_value, byte_count, Turn, World, Call, CopyMemory, Load, LoadLane, NewLentMemory, NewMemory, VectorLoad, Reply, Slot, Gone, Live, AttemptOutcome, Met, MeteredValue, optional_due, answer_of, covers, with_value, Rules, Meter, meter_after, MemoryError, on_test_too, grows_too, memory_growth, IsDenied, metered, metered_value, LacksMemory, Lent, Owned, Room, fits_room, GrowsMemory, GrowsMemoryCharging, MakesMemory, MemoryValue, MemoryWrite, WritesMemory, bytes_write, new_memory, pages_of, MemoryTypeValue, in_bounds, minimum_bytes, page_bytes, outcome_of}
+use Rattle.wasmi_machine.proofs.Common.{nat_tests, length-map, map-set, map_push, none-some, same_Some, slice_get-map, option_and_then, option_map, MatchOption, slice_get, slice_set, ByteSource, OfBytes, StoresMemoryAt, WritesMemoryAt, byte_write_of, bytes_appended, bytes_in, load_reply, StoresVectorAt, lane_loaded, vector_at, vector_loaded, ActsAt, AddsEntry, ChangesAt, Creates, DropsAt, IfNoRoom, IsNoSuch, MeteredSlots, OnLive, WritesAt, WritesRangeAt, reply_of, Run, BytesRead, BytesStored, BytesWritten, Change, Changed, Effect, FuelSet, LacksSlot, LentMemoryMade, MemoryDropped, MemoryGrown, MemoryMade, RangeWritten, RegisterSet, Step, TableGrown, MemoryWritten, TableWritten, TableMade, HasChange, HasEffect, Told, effect_of, State, live_at, live_value, byte_count, Turn, World, Call, CopyMemory, Load, LoadLane, NewLentMemory, NewMemory, VectorLoad, Reply, Slot, Gone, Live, AttemptOutcome, Met, MeteredValue, optional_due, answer_of, covers, with_value, Rules, Meter, MemoryError, on_test_too, grows_too, memory_growth, IsDenied, metered, metered_value, LacksMemory, Lent, Owned, Room, fits_room, GrowsMemory, GrowsMemoryCharging, MakesMemory, MemoryValue, MemoryWrite, WritesMemory, bytes_write, new_memory, pages_of, MemoryTypeValue, in_bounds, minimum_bytes, page_bytes, outcome_of}
 use Rattle.std.specs.Result.{result_map_both}
 use Rattle.wasmi_machine.proofs.EffectLemmas.{both_live, no_room_too, on_live_too}
 use Rattle.wasmi_machine.proofs.MemoryEffectsLemmas.{lacks_owned}
@@ -12,7 +12,7 @@ use Rattle.wasmi_store.specs.Write.{Writes, item_price, write_charge}
 use Rattle.wasmi_store.specs.Memory as memory
 use Rattle.wasmi_machine.specs.declared.calls.Reply.TheVariants as replied
 
--- a memory is made where its room has place for it
+-- a memory that is made where its room has place for it is made as one of its own
 makes_owned : {S : Type 0} (rules : Rules S) (room : Room) (ty : MemoryTypeValue) (l : S)
     (result : Result MemoryValue MemoryError) (l' : S) → fits_room room (minimum_bytes ty) ≡ true
     → MakesMemory rules room ty l result l'
@@ -21,18 +21,16 @@ makes_owned rules room ty l result l' fits (outcome, attempt, answered) =
     let e = memory.creation_of room ty in (
       outcome,
       attempts e None (LacksMemory Owned) (lacks_owned room) (λ none. none) rules _ _ outcome 0
-          (λ early. cond-true (fits_room room (minimum_bytes ty)) None (Some MemoryError.InvalidStaticBufferSize) fits) attempt,
+          (λ early. rw fits) attempt,
       ap (result_map_both owned_memory (λ error. error)) answered
           ∙ answers e None (LacksMemory Owned) (lacks_owned room) (λ none. none) owned_memory (new_memory room ty) outcome,
     )
 
--- a memory grows within its room
+-- a growth that its room has place for has no cause of refusal after the question
 fits_easy : (pages : ℕ) (x : MemoryValue) → FitsRoom pages x → (memory.growth_of x pages).early ≡ None
     → (memory.growth_of x pages).late ≡ None
-fits_easy pages x (inl fits) early =
-    cond-true (fits_room x.room (pages * page_bytes x.ty.page)) None (Some MemoryError.InvalidStaticBufferSize) fits
-fits_easy pages x (inr outside) early = absurd (none-some MemoryError.OutOfBoundsGrowth
-    (sym early ∙ cond-false (in_bounds x.ty (pages_of x + pages)) None (Some MemoryError.OutOfBoundsGrowth) outside))
+fits_easy pages x (inl fits) early = rw fits
+fits_easy pages x (inr outside) early = absurd (none-some MemoryError.OutOfBoundsGrowth (sym (rw outside at early)))
 
 -- a memory that grows within its room grows as one of its own
 grows_owned : {S : Type 0} (rules : Rules S) (pages : ℕ) (s : MeteredValue MemoryValue S)
@@ -54,7 +52,7 @@ grows_owned {S} rules pages s result charge s' fits =
     answered_eased Met = refl
     answered_eased outcome = refl
 
--- the live memory of an index
+-- the live memory in a slot, as one of its own
 owned_value : (slot : Option (Slot MemoryValue))
     → option_and_then live_value (option_map owned_slot slot) ≡ option_map owned_memory
     (option_and_then live_value slot)
@@ -66,7 +64,7 @@ owned_at : (slots : List (Slot MemoryValue)) (k : ℕ)
     → live_at (map owned_slot slots) k ≡ option_map owned_memory (live_at slots k)
 owned_at slots k = ap (option_and_then live_value) (slice_get-map owned_slot slots k) ∙ owned_value (slice_get slots k)
 
--- a fact of a live memory, or of none
+-- a fact of a live memory, or of none, from one of the memory in its room
 owned_fact : (o : Option MemoryValue) (Missing Missing' : Type 0) (Fact Fact' : MemoryValue → Type 0)
     → OnLive o Missing Fact → (Missing → Missing') → ((x : MemoryValue) → Fact x → Fact' (owned_memory x))
     → OnLive (option_map owned_memory o) Missing' Fact'
@@ -75,20 +73,20 @@ owned_fact (Some x) Missing Missing' Fact Fact' h missing live = live x h
 
 -- Effects on memories.
 module _ (slots : List (Slot MemoryValue)) (k : ℕ) where
-  -- a fact of the live memory of an index
+  -- a fact of the live memory of an index, as one of its own
   on_owned : (Missing Missing' : Type 0) (Fact Fact' : MemoryValue → Type 0) → OnLive (live_at slots k) Missing Fact
       → (Missing → Missing') → ((x : MemoryValue) → Fact x → Fact' (owned_memory x))
       → OnLive (live_at (map owned_slot slots) k) Missing' Fact'
-  on_owned Missing Missing' Fact Fact' h missing live = subst (λ o. OnLive o Missing' Fact') (sym (owned_at slots k))
-      (owned_fact (live_at slots k) Missing Missing' Fact Fact' h missing live)
+  on_owned Missing Missing' Fact Fact' h missing live =
+      rw (owned_at slots k) (owned_fact (live_at slots k) Missing Missing' Fact Fact' h missing live)
 
-  -- a slot is written
+  -- a slot is set where the memories are owned
   put_owned : (slots' : List (Slot MemoryValue)) (slot : Slot MemoryValue) → slots' ≡ slice_set slots k slot
       → map owned_slot slots' ≡ slice_set (map owned_slot slots) k (owned_slot slot)
   put_owned slots' slot put = ap (map owned_slot) put ∙ map-set owned_slot slots k slot
 
   module _ (reply : Reply) (slots' : List (Slot MemoryValue)) where
-    -- a change of a memory
+    -- a change of a memory is one of an owned memory
     changes_owned : (Change : MemoryValue → MemoryValue → Type 0)
         → ((x x' : MemoryValue) → Change x x' → Change (owned_memory x) (owned_memory x'))
         → ChangesAt k slots reply slots' Change
@@ -97,13 +95,13 @@ module _ (slots : List (Slot MemoryValue)) (k : ℕ) where
         (λ missing. (missing.0, ap (map owned_slot) missing.1))
         (λ x h. (owned_memory h.0, change x h.0 h.1, put_owned slots' (Live h.0) h.2))
 
-    -- a drop
+    -- a drop of a memory is one of an owned memory
     drops_owned : DropsAt byte_count k slots reply slots'
         → DropsAt byte_count k (map owned_slot slots) reply (map owned_slot slots')
     drops_owned drops = on_owned _ _ _ _ drops (λ missing. (missing.0, ap (map owned_slot) missing.1))
         (λ x h. (h.0, put_owned slots' (Gone (byte_count x)) h.1))
 
-    -- a write
+    -- a write to a memory is one to an owned memory
     writes_owned : (offset : ℕ) (source : List ℕ) → WritesMemoryAt k offset source slots reply slots'
         → WritesMemoryAt k offset source (map owned_slot slots) reply (map owned_slot slots')
     writes_owned offset source writes = changes_owned _ (λ x x' c. (c.0, written x x' c.0 c.1, c.2)) writes
@@ -113,12 +111,12 @@ module _ (slots : List (Slot MemoryValue)) (k : ℕ) where
         written x x' (Ok _) h = (h.0, h.1, refl)
         written x x' (Err error) h = (h.0, h.1, ap owned_memory h.2)
 
-    -- a store
+    -- a store to a memory is one to an owned memory
     stores_owned : (a : ℕ) (stored : List ℕ) → StoresMemoryAt k a stored slots reply slots'
         → StoresMemoryAt k a stored (map owned_slot slots) reply (map owned_slot slots')
     stores_owned a stored stores = changes_owned _ (λ x x' c. (c.0, (c.1.0, c.1.1, refl), c.2)) stores
 
-    -- a store of what may be missing
+    -- a store of bytes that may be missing is one to an owned memory
     vector_stores_owned : (a : ℕ) (stored : Option (List ℕ)) → StoresVectorAt k a stored slots reply slots'
         → StoresVectorAt k a stored (map owned_slot slots) reply (map owned_slot slots')
     vector_stores_owned a None stores = (stores.0, ap (map owned_slot) stores.1)
@@ -134,19 +132,15 @@ module _ (slots : List (Slot MemoryValue)) (k : ℕ) where
       by_value None = refl
       by_value (Some x) = same x
 
--- a growth
+-- a growth of the memory of an index within its room is one of an owned memory
 growth_owned : {S : Type 0} (rules : Rules S) (k pages : ℕ) (s s' : MeteredValue (List (Slot MemoryValue)) S)
     (reply : Reply) (charge : ℕ) → OnLive (live_at s.value k) (Unit {0}) (FitsRoom pages)
     → ActsAt k (reply_of replied.Number replied.Memory) (GrowsMemoryCharging rules pages) s reply charge s'
     → ActsAt k (reply_of replied.Number replied.Memory) (GrowsMemoryCharging rules pages)
     (with_value s (map owned_slot s.value)) reply charge (with_value s' (map owned_slot s'.value))
-growth_owned {S} rules k pages s s' reply charge fits acts =
+growth_owned rules k pages s s' reply charge fits acts =
     on_owned s.value k _ _ _ _ (both_live (live_at s.value k) _ _ _ _ fits acts)
-    (λ missing. (
-      missing.1.0,
-      missing.1.1,
-      ap (λ (t : MeteredValue (List (Slot MemoryValue)) S). with_value t (map owned_slot t.value)) missing.1.2,
-    ))
+    (λ missing. (missing.1.0, missing.1.1, rw missing.1.2))
     (λ x h. (
       h.1.0,
       owned_memory h.1.1,
@@ -155,22 +149,16 @@ growth_owned {S} rules k pages s s' reply charge fits acts =
       put_owned s.value k s'.value (Live h.1.1) h.1.4,
     ))
 
--- a write over bytes
+-- a write over the bytes of a memory is one over those of an owned memory
 bytes_owned : (x : MemoryValue) (m : Option Meter) (result : Result (Unit {0}) MemoryError) (x' : MemoryValue)
     (m' : Option Meter) (paid : ℕ) (early : Option MemoryError) (written : Option (List ℕ))
     → Writes (bytes_write x early written paid) (metered x m) result (metered x' m')
     → Writes (bytes_write (owned_memory x) early written paid) (metered (owned_memory x) m) result
     (metered (owned_memory x') m')
 bytes_owned x m result x' m' paid None (Some bytes) writes =
-    let due = optional_due m (Some (item_price 1 paid)) in
-    let left = option_map (λ m. meter_after m due) m in
     let own = λ (s : MeteredValue MemoryValue (Unit {0})). metered (owned_memory s.value) s.meter in
-    on_test_too (covers m due)
-    ((result ≡ Ok tt) × (metered x' m' ≡ metered (record x { bytes = bytes }) left))
-    ((result ≡ Ok tt) × (metered (owned_memory x') m' ≡ metered (record (owned_memory x) { bytes = bytes }) left))
-    ((result ≡ Err (MemoryError.OutOfFuel due)) × (metered x' m' ≡ metered x m))
-    ((result ≡ Err (MemoryError.OutOfFuel due)) × (metered (owned_memory x') m' ≡ metered (owned_memory x) m))
-    (λ h. (h.0, ap own h.1)) (λ h. (h.0, ap own h.1)) writes
+    on_test_too (covers m (optional_due m (Some (item_price 1 paid)))) _ _ _ _ (λ h. (h.0, ap own h.1))
+    (λ h. (h.0, ap own h.1)) writes
 bytes_owned x m result x' m' paid early written writes = (
   writes.0,
   ap (λ (s : MeteredValue MemoryValue (Unit {0})). metered (owned_memory s.value) s.meter) writes.1,
@@ -181,20 +169,17 @@ module _ (len : ℕ) (write : MemoryValue → MemoryWrite) (w : WritesBytes len 
   -- a write has the same charge over an owned memory
   charge_owned : (result : Result (Unit {0}) MemoryError) → write_charge (write x) (metered x m) result
       ≡ write_charge (write (owned_memory x)) (metered (owned_memory x) m) result
-  charge_owned (Ok done) = ap (λ (v : MemoryWrite). optional_due m v.price) (w.is x)
-      ∙ sym (ap (λ (v : MemoryWrite). optional_due m v.price) (w.is (owned_memory x)))
+  charge_owned (Ok done) = rw (w.is x, w.is (owned_memory x))
   charge_owned (Err error) = refl
 
   -- a write does the same to an owned memory
   writing_owned : (x' : MemoryValue) (m' : Option Meter) → Writes (write x) (metered x m) result (metered x' m')
       → Writes (write (owned_memory x)) (metered (owned_memory x) m) result (metered (owned_memory x') m')
   writing_owned x' m' writes =
-      subst (λ v. Writes v (metered (owned_memory x) m) result (metered (owned_memory x') m'))
-      (sym (w.is (owned_memory x)))
-      (bytes_owned x m result x' m' len (w.early x.ty) (w.written x.bytes)
-      (subst (λ v. Writes v (metered x m) result (metered x' m')) (w.is x) writes))
+      rw (w.is (owned_memory x))
+      (bytes_owned x m result x' m' len (w.early x.ty) (w.written x.bytes) (rw (w.is x) at writes))
 
--- a write over a range of a memory
+-- a write over a range of the memory of an index is one over that of an owned memory
 memory_write_owned : (source : ByteSource) (k dst len : ℕ) (s s' : MeteredSlots MemoryValue) (reply : Reply)
     (charge : ℕ) → WritesRangeAt replied.Memory k (byte_write_of source dst len) s reply charge s'
     → WritesRangeAt replied.Memory k (byte_write_of source dst len)
@@ -206,7 +191,7 @@ memory_write_owned source k dst len s s' reply charge writes =
     -- where the index or the source names nothing
     missing : IsNoSuch s reply charge s'
         → IsNoSuch (with_value s (map owned_slot s.value)) reply charge (with_value s' (map owned_slot s'.value))
-    missing h = (h.0, h.1, ap (λ (t : MeteredSlots MemoryValue). with_value t (map owned_slot t.value)) h.2)
+    missing h = (h.0, h.1, rw h.2)
 
     -- at an index, by what is written to each memory
     at_index : (write : MemoryValue → MemoryWrite) → WritesBytes len write
@@ -224,7 +209,7 @@ memory_write_owned source k dst len s s' reply charge writes =
       put_owned s.value k s'.value (Live h.1) h.4,
     ))
 
--- a memory is made in a slot
+-- a memory that is added in a new slot is added as one of its own
 appends_owned : (result : Result MemoryValue MemoryError) (slots : List (Slot MemoryValue)) (reply : Reply)
     (slots' : List (Slot MemoryValue)) → AddsEntry Live replied.Memory result slots reply slots'
     → AddsEntry Live replied.Memory (result_map_both owned_memory (λ error. error) result) (map owned_slot slots) reply
@@ -331,7 +316,7 @@ module _ {S : Type 0} (rules : Rules S) (w : World S) (turn : Turn) (w' : World 
       (memory_write_owned source k dst len (metered w.state.memories (Some w.state.meter))
       (metered step.part (Some step.meter)) turn.reply turn.charge step.effect) (ap owned_world step.after)
 
--- a run
+-- a run within the regions is a run with memories of their own
 pub run_is_owned : {S : Type 0} (rules : Rules S) (w : World S) (turns : List Turn) (w' : World S)
     → RunInRegions rules w turns w' → Run rules (owned_world w) turns (owned_world w')
 run_is_owned rules w [] w' ran = ap owned_world ran
@@ -339,11 +324,11 @@ run_is_owned rules w (turn ∷ turns) w' (v, (fits, step), ran) =
     let taken = effect_owned rules w turn v (effect_of w.state turn.call) (effect_fits w.state turn.call fits) step in
     (owned_world v, rw (effect_kept w.state turn.call) at taken, run_is_owned rules v turns w' ran)
 
--- a creation in the spare region
+-- a fact of the spare region, where there is one
 on_spare : (Fact : List ℕ → Type 0) (Missing : Type 0) (spare : Option (List ℕ)) (region : List ℕ)
     → spare ≡ Some region → MatchOption spare Missing Fact → Fact region
 on_spare Fact Missing None region is h = absurd (none-some region is)
-on_spare Fact Missing (Some r) region is h = subst Fact (same_Some r region is) h
+on_spare Fact Missing (Some r) region is h = rw (same_Some r region is) at h
 
 -- a creation in the spare region is one of a memory of its own
 pub creation_is_owned : {S : Type 0} (rules : Rules S) (w : World S) (turn : Turn) (w' : World S)
@@ -364,7 +349,7 @@ creation_is_owned rules w turn w' ty region called spare fits step =
       after = ap unlent_world lent.after;
     }
 
--- a growth has succeeded or was denied, by what it needs
+-- a growth of a lent memory with all that it needs has succeeded or was denied
 pub lent_growth_succeeds : {S : Type 0} (rules : Rules S) (pages : ℕ) (s : MeteredValue MemoryValue S) (rest : List ℕ)
     → s.value.room ≡ Lent rest → in_bounds s.value.ty (pages_of s.value + pages) ≡ true
     → fits_room s.value.room (pages * page_bytes s.value.ty.page) ≡ true
@@ -375,9 +360,9 @@ lent_growth_succeeds rules pages s rest lent inside fits payable result s' (char
 lent_growth_succeeds rules pages s rest lent inside fits payable result s' (charge, inr some) =
     met_or_denied rules (memory.growth_of s.value pages) s.meter
     (record {
-      early = cond-true _ _ _ inside;
-      late = cond-true _ _ _ fits;
+      early = rw inside;
+      late = rw fits;
       paid = payable;
-      room = λ cause lacks. subst (λ room. LacksMemory room cause) lent lacks;
+      room = λ cause lacks. rw lent at lacks;
     }) (pages_of s.value) s.limiter s'.limiter some.outcome some.attempt.may_end some.attempt.follows result
     some.answered

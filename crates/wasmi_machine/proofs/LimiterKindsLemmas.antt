@@ -1,6 +1,6 @@
--- A run under a limiter of one of three kinds is one by the rules of its kind.
-use Rattle.std.proofs.Common.{◌≡◌, ◌∙◌, Option, Some, None, List, [], ◌∷◌, refl, sym, ap, subst}
-use Rattle.wasmi_machine.proofs.Common.{Question, Answer, Failure, NoticeAnswer, Rules, optional_rules, quota_rules, RelatesByKind, RepliesKeepKind, RunsKeepKind, RunsOfCallsKeepKind, IsRunOf, Run, RepliesWith, Step, State, World, Turn, world}
+-- A run under a limiter of one of three kinds (`AnyLimiter`) is one by the rules of its kind, and the kind stays.
+use Rattle.std.proofs.Common.{◌≡◌, Option, Some, None, List, [], ◌∷◌, refl}
+use Rattle.wasmi_machine.proofs.Common.{Question, Answer, Failure, NoticeAnswer, Rules, optional_rules, quota_rules, RelatesByKind, RepliesKeepKind, RunsKeepKind, RunsOfCallsKeepKind, IsRunOf, Run, RepliesWith, State, World, Turn, world}
 use Rattle.wasmi_meter.specs.declared.any_limiter.AnyLimiter.{AnyLimiter}
 use Rattle.wasmi_meter.specs.declared.any_limiter.AnyLimiter.TheVariants as limiter
 use Rattle.wasmi_meter.specs.AnswerList.{AnswersAhead, answer_list_rules}
@@ -8,7 +8,8 @@ use Rattle.wasmi_meter.specs.AnyLimiter.{any_limiter_rules, quota_of}
 use Rattle.wasmi_machine.proofs.HoldingLemmas.{Carries, optional_carries}
 use Rattle.wasmi_machine.proofs.RevealingLemmas.{run_carried}
 
--- a run under a limiter in these states leaves it in them, and is one under its image, which may be none
+-- for each kind of limiter: a run under one in these states leaves it in them, and is one under its image, which may be
+-- none
 run_within : {L T : Type 0} {IsIn : L → Type 0} {image : L → Option T} {rules : Rules L} {rules' : Rules T}
     → Carries IsIn image rules (optional_rules rules') → (s : State) (l : L) (turns : List Turn) (s' : State) (l' : L)
     → IsIn l → Run (optional_rules rules) (world s (Some l)) turns (world s' (Some l'))
@@ -16,7 +17,7 @@ run_within : {L T : Type 0} {IsIn : L → Type 0} {image : L → Option T} {rule
 run_within {rules' = rules'} carries s l turns s' l' here ran =
     run_carried (optional_carries {rules' = rules'} carries) (world s (Some l)) turns (world s' (Some l')) here ran
 
--- the limiter permits everything
+-- the limiter is of the kind that permits everything
 abbrev IsUnlimited : AnyLimiter → Type 0
 IsUnlimited l = l ≡ limiter.Unlimited
 
@@ -25,17 +26,15 @@ abbrev list_of : AnyLimiter → Option AnswersAhead
 list_of (limiter.Answers list) = Some list
 list_of l = None
 
--- one that permits everything does so as none does
+-- a limiter of the kind that permits everything does what is done where there is no limiter
 unlimited_carries : {T : Type 0} (rules : Rules T)
     → Carries IsUnlimited (λ l. let none : Option T = None in none) any_limiter_rules (optional_rules rules)
 unlimited_carries {T} rules = record {
-  asked = λ l q answer l' is asked.
-      let done = subst (λ l. any_limiter_rules.asked l q answer l') is asked in (done.1, done.0);
-  noticed = λ l failure answer l' is noticed.
-      let done = subst (λ l. any_limiter_rules.noticed l failure answer l') is noticed in (done.1, done.0);
+  asked = λ l q answer l' is asked. let done = rw is at asked in (done.1, done.0);
+  noticed = λ l failure answer l' is noticed. let done = rw is at noticed in (done.1, done.0);
 }
 
--- a run under one that permits everything is a run without a limiter, of whatever kind that would be
+-- a run under a limiter of the kind that permits everything is a run without a limiter, of whatever kind that would be
 pub unlimited_run : {T : Type 0} (rules : Rules T) (s : State) (turns : List Turn) (s' : State) (l' : AnyLimiter)
     → Run (optional_rules any_limiter_rules) (world s (Some limiter.Unlimited)) turns (world s' (Some l'))
     → (l' ≡ limiter.Unlimited) × Run (optional_rules rules) (world s None) turns (world s' None)
@@ -63,11 +62,10 @@ module _ {T : Type 0} (kind : HeldKind T) where
   kind_carries : Carries IsOfKind kind.held any_limiter_rules (optional_rules kind.rules)
   kind_carries = record {
     asked = λ l q answer l' (own, is) done.
-        let step = kind.asks own q answer l' (subst (λ l. any_limiter_rules.asked l q answer l') is done) in
+        let step = kind.asks own q answer l' (rw is at done) in
         ((step.0, step.1), rw (is, step.1, kind.is_held own, kind.is_held step.0) step.2);
     noticed = λ l failure answer l' (own, is) done.
-        let step = kind.notices own failure answer l'
-        (subst (λ l. any_limiter_rules.noticed l failure answer l') is done) in
+        let step = kind.notices own failure answer l' (rw is at done) in
         ((step.0, step.1), rw (is, step.1, kind.is_held own, kind.is_held step.0) step.2);
   }
 
@@ -78,13 +76,7 @@ module _ {T : Type 0} (kind : HeldKind T) where
       × Run (optional_rules kind.rules) (world s (Some own)) turns (world s' (Some own'))
   kind_run turns s own s' l' ran =
       let within = run_within {rules' = kind.rules} kind_carries s (kind.hold own) turns s' l' (own, refl) ran in
-      let last : kind.held l' ≡ Some within.0.0 = ap kind.held within.0.1 ∙ kind.is_held within.0.0 in (
-        within.0.0,
-        within.0.1,
-        subst (λ l. Run (optional_rules kind.rules) (world s l) turns (world s' (Some within.0.0))) (kind.is_held own)
-            (subst (λ l. Run (optional_rules kind.rules) (world s (kind.held (kind.hold own))) turns (world s' l)) last
-            within.1),
-      )
+      (within.0.0, within.0.1, rw (kind.is_held own, within.0.1, kind.is_held within.0.0) at within.1)
 
 -- a run leaves a limiter of the kind of the one before it
 pub runs_keep_kind : RunsKeepKind
@@ -126,5 +118,5 @@ pub replies_keep_kind : RepliesKeepKind
 replies_keep_kind call reply s l s' l' (charge, written, step) =
     let turn : Turn = record { call = call; reply = reply; charge = charge; written = written } in
     by_kind (λ L rules w w'. Run rules w (turn ∷ []) w') (λ L rules w w'. RepliesWith rules call w reply w')
-    (λ L rules w w' ran. (charge, written, subst (Step rules w turn) (sym ran.2) ran.1)) s l s' l'
+    (λ L rules w w' ran. (charge, written, rw ran.2 ran.1)) s l s' l'
     (runs_keep_kind (turn ∷ []) s l s' l' (world s' (Some l'), step, refl))

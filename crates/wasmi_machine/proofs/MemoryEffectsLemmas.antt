@@ -1,21 +1,21 @@
--- What holds of each effect on memories.
-use Rattle.std.proofs.Common.{Bool, Err, List, None, Ok, Option, Result, Some, ap, arith, drop, false, inl, inr, length, refl, subst, sym, take, true, ℕ, ◌++◌, ◌+◌, ◌∙◌, ◌≡◌, ◌≤◌}
-use Rattle.wasmi_machine.proofs.Common.{leb-true, common_steps, cond_some, none-some, if◌then◌else◌, nat_le, IsNotOutOfMemory, CreatesLent, ReadsBytes, ReadsMemoryAt, StoresMemory, WritesMemoryAt, spare_after, StoresVectorAt, MemoryPart, live_at, byte_count, Reply, Slot, Rules, MemoryError, LacksMemory, Lent, Owned, Room, IsValidMemory, MakesMemory, MemoryValue, WritesMemory, MemoryTypeValue, at, overwrite}
+-- What holds of each effect on memories: creations in the spare region, reads, writes and stores.
+use Rattle.std.proofs.Common.{Err, List, None, Ok, Option, Result, Some, ap, inl, inr, length, refl, sym, ℕ, ◌∙◌, ◌≡◌}
+use Rattle.wasmi_machine.proofs.Common.{IsNotOutOfMemory, CreatesLent, ReadsBytes, ReadsMemoryAt, StoresMemory, WritesMemoryAt, spare_after, StoresVectorAt, MemoryPart, live_at, byte_count, Reply, Slot, Rules, MemoryError, LacksMemory, Lent, Owned, Room, IsValidMemory, MakesMemory, MemoryValue, WritesMemory, MemoryTypeValue, at, overwrite}
 use Rattle.wasmi_machine.proofs.EffectLemmas.{PutsOr, SlotFacts, creates_back, on_both, on_found, on_live, setting_facts, settled_facts}
 use Rattle.wasmi_machine.specs.Laws.{IsRefusal}
 use Rattle.wasmi_meter.specs.declared.error.MemoryError.TheVariants.{OutOfBoundsAccess}
 use Rattle.wasmi_access.specs.LoadStore.{accessed}
 use Rattle.wasmi_types.specs.declared.trap.TrapCode.{TrapCode}
 use Rattle.wasmi_types.specs.declared.trap.TrapCode.TheVariants.{MemoryOutOfBounds}
-use Rattle.wasmi_store.specs.Memory as memory
 use Rattle.wasmi_machine.specs.declared.calls.Reply.TheVariants as replied
+use Rattle.wasmi_machine.proofs.SlotsLemmas.{overwrite_length, accessed_length}
 
 -- a refused creation in the spare region leaves the slots
 pub lent_back : {S : Type 0} (rules : Rules S) (ty : MemoryTypeValue) (part : MemoryPart) (l : S) (reply : Reply)
     (part' : MemoryPart) (l' : S) → IsRefusal reply → CreatesLent rules ty part l reply part' l'
     → part'.slots ≡ part.slots
 lent_back rules ty part l reply part' l' refused creates = on_live part.spare _ _ creates
-    (λ none. ap (λ (p : MemoryPart). p.slots) none.1)
+    (λ none. rw none.1)
     (λ region found h. creates_back replied.Memory (MakesMemory rules (Lent region) ty) part.slots l reply part'.slots
     l' refused h.0)
 
@@ -24,15 +24,14 @@ pub lent_spare : {S : Type 0} (rules : Rules S) (ty : MemoryTypeValue) (part : M
     (part' : MemoryPart) (l' : S) → CreatesLent rules ty part l reply part' l'
     → part'.spare ≡ spare_after reply part.spare
 lent_spare rules ty part l reply part' l' creates = on_found part.spare _ _ creates
-    (λ missing none. ap (λ (p : MemoryPart). p.spare) none.1 ∙ missing
-    ∙ sym (ap (spare_after reply) missing ∙ ap (λ r. spare_after r None) none.0)) (λ region found made. made.1)
+    (λ missing none. rw (none.1, missing, none.0)) (λ region found made. made.1)
 
--- what memory refuses a room is what it refuses one's own
+-- an error of an effect on memories for lack of memory, in any room, is one for a memory of its own
 pub lacks_owned : (room : Room) (cause : MemoryError) → LacksMemory room cause → LacksMemory Owned cause
 lacks_owned Owned cause lacks = lacks
 lacks_owned (Lent rest) cause lacks = absurd lacks
 
--- memories
+-- two reads of bytes have one reply, where there is enough memory
 read_same : (found : Option (List ℕ)) (reply reply' : Reply) → IsNotOutOfMemory reply → IsNotOutOfMemory reply'
     → ReadsBytes found reply → ReadsBytes found reply' → reply ≡ reply'
 read_same None reply reply' room room' a b = a ∙ sym b
@@ -40,40 +39,22 @@ read_same (Some bytes) reply reply' room room' (inl none) b = absurd (rw none.0 
 read_same (Some bytes) reply reply' room room' (inr a) (inl none) = absurd (rw none.0 at room')
 read_same (Some bytes) reply reply' room room' (inr a) (inr b) = a ∙ sym b
 
--- two reads of the memory of an index
+-- two reads of the memory of an index have one reply, where there is enough memory
 pub reads_same : (k offset len : ℕ) (slots : List (Slot MemoryValue)) (reply reply' : Reply) → IsNotOutOfMemory reply
     → IsNotOutOfMemory reply' → ReadsMemoryAt k offset len slots reply → ReadsMemoryAt k offset len slots reply'
     → reply ≡ reply'
 reads_same k offset len slots reply reply' room room' a b = on_both (live_at slots k) _ _ _ _ a b (λ h h'. h ∙ sym h')
     (λ x h h'. read_same (at x.bytes offset len) reply reply' room room' h h')
 
--- a list that is written over keeps its length
-pub overwrite_length : (xs ys zs : List ℕ) (a : ℕ) → overwrite xs a ys ≡ Some zs → length zs ≡ length xs
-overwrite_length xs ys zs a is =
-    let parts = cond_some (nat_le (a + length ys) (length xs)) (take a xs ++ ys ++ drop (a + length ys) xs) zs is in
-    let fits : a + length ys ≤ length xs = leb-true (a + length ys) (length xs) parts.0 in
-    let same : length (take a xs ++ ys ++ drop (a + length ys) xs) ≡ length xs = grind (arith, common_steps) in
-    ap length (sym parts.1) ∙ same
-
--- a list that is written over, if a test holds, keeps its length
-pub accessed_length : (xs ys zs : List ℕ) (a : ℕ) (low : Bool) → (if low then overwrite xs a ys else None) ≡ Some zs
-    → length zs ≡ length xs
-accessed_length xs ys zs a true is = overwrite_length xs ys zs a is
-accessed_length xs ys zs a false is = absurd (none-some zs is)
-
--- a memory with another memory's type and as many bytes, and a table likewise
+-- a memory of another one's type with as many bytes is valid
 pub memory_as_long : (x x' : MemoryValue) → x'.ty ≡ x.ty → byte_count x' ≡ byte_count x → IsValidMemory x → IsValidMemory x'
-memory_as_long x x' same long valid = record {
-  type = subst memory.IsValid (sym same) valid.type;
-  sized = subst (λ n. memory.IsSized x'.ty n) (sym long)
-      (subst (λ ty. memory.IsSized ty (byte_count x)) (sym same) valid.sized);
-}
+memory_as_long x x' same long valid = record { type = rw same valid.type; sized = rw (same, long) valid.sized }
 
 -- a memory with other bytes
 abbrev pub with_bytes : MemoryValue → List ℕ → MemoryValue
 with_bytes x bytes = record x { bytes = bytes }
 
--- what other bytes, as many, keep
+-- a memory with other bytes, as many, has this number and stays valid
 bytes_keep : (x : MemoryValue) (bytes : List ℕ) → length bytes ≡ byte_count x
     → (byte_count (with_bytes x bytes) ≡ byte_count x) × (IsValidMemory x → IsValidMemory (with_bytes x bytes))
 bytes_keep x bytes long = (long, memory_as_long x (with_bytes x bytes) refl long)
@@ -86,7 +67,7 @@ write_puts offset source x (Ok done) x' (bytes, ty, room) =
     rw bytes (refl, λ k. record { ty = ty k; bytes = x'.bytes; room = room k })
 write_puts offset source x (Err error) x' (is, outside, same) = rw outside (ap Err is, same)
 
--- a write to the memory of an index
+-- the facts of a write to the memory of an index
 pub write_facts : (k offset : ℕ) (source : List ℕ)
     → SlotFacts byte_count IsValidMemory (WritesMemoryAt k offset source)
 write_facts k offset source = setting_facts byte_count IsValidMemory replied.Memory
@@ -109,7 +90,7 @@ pub stored_count : (x x' : MemoryValue) (a : ℕ) (stored : List ℕ) (result : 
 stored_count x x' a stored (Ok _) stores = accessed_length x.bytes stored x'.bytes a _ stores.0
 stored_count x x' a stored (Err trap) stores = ap length stores.0.2
 
--- a store of bytes that may be missing to the memory of an index
+-- the facts of a store of bytes that may be missing to the memory of an index
 pub vector_store_facts : (k a : ℕ) (stored : Option (List ℕ))
     → SlotFacts byte_count IsValidMemory (StoresVectorAt k a stored)
 vector_store_facts k a None slots = settled_facts (λ refused. refl) (refl, λ valid. valid)

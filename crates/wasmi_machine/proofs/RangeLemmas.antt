@@ -1,6 +1,6 @@
--- What holds of each write over a range of one part of the state: it is refused, and nothing has changed, or it is paid
--- for.
-use Rattle.std.proofs.Common.{List, None, Option, Result, Some, ap, inl, inr, refl, replicate, subst, sym, true, false, Bool, ℕ, arith, ◌∙◌, ◌≡◌, ◌≤◌, ◌⊎◌, length, ◌≢◌}
+-- What holds of each write over a range of a memory or a table: it is refused, and nothing has changed, or it is paid
+-- for. What each source of one writes and costs; copies from one index to another.
+use Rattle.std.proofs.Common.{List, None, Option, Result, Some, ap, inl, inr, refl, replicate, sym, true, false, Bool, ℕ, arith, ◌∙◌, ◌≡◌, ◌≤◌, ◌⊎◌, length, ◌≢◌}
 use Rattle.wasmi_machine.proofs.Common.{nat_tests, none-some, same_Some, set-set, option_and_then, option_map, nat_eq, nat_le, slice_set, if◌then◌else◌, at, overwrite, MemoryError, TableError, CustomFuelCosts, MeteredValue, optional_due, Meter, amount_left, cut_product, meter_after, metered, IsValidMemory, MemoryTypeValue, MemoryValue, MemoryWrite, bytes_write, IsValidTable, TableValue, element_price, elements_write, size_of, with_elements, Reply, Slot, Live, Gone, IsNotOutOfMemory, ActsMeteredUnasked, IsNoSuch, MeteredSlots, OnLive, WritesAt, WritesFrom, WritesRangeAt, item_bytes, reply_of, NothingGrows, writing_charge, IsValid, State, Turn, World, byte_count, live_at, sizes, with_memories, with_tables, live_value, HasRangeWrite, MemoryWritten, RangeWrite, TableWritten, ByteSource, OfByte, OfBytes, WritesMemoryFrom, byte_write_of, bytes_in, memory_copy_of, OfReference, OfSegment, OfTable, Source, write_of, outcome_of}
 use Rattle.wasmi_meter.specs.declared.error.MemoryError.TheVariants as memory_error
 use Rattle.wasmi_meter.specs.declared.error.TableError.TheVariants.{OutOfFuel}
@@ -8,9 +8,9 @@ use Rattle.wasmi_store.specs.Write.{MeteredWrite, WritesCharging, copied, filled
 use Rattle.wasmi_store.proofs.WriteLemmas.{PaidWrite, write_ends, writes_once}
 use Rattle.wasmi_machine.specs.State.{IsRefusal}
 use Rattle.wasmi_machine.proofs.EffectLemmas.{HasOneEnding, acts_same, on_both, on_live, on_live_too, put_back, slot_kept}
-use Rattle.wasmi_machine.proofs.MemoryEffectsLemmas.{memory_as_long, overwrite_length, with_bytes}
-use Rattle.wasmi_machine.proofs.SlotsLemmas.{set_other}
-use Rattle.wasmi_machine.proofs.StepsLemmas.{KeepsMemories, KeepsTables, PartOf, the_memories, the_tables}
+use Rattle.wasmi_machine.proofs.MemoryEffectsLemmas.{memory_as_long, with_bytes}
+use Rattle.wasmi_machine.proofs.SlotsLemmas.{set_other, overwrite_length}
+use Rattle.wasmi_machine.proofs.StepsLemmas.{KeepsMemories, KeepsTables, PartOf, the_memories, the_tables, valid_by}
 use Rattle.wasmi_machine.proofs.TableEffectsLemmas.{table_as_long}
 use Rattle.wasmi_machine.proofs.TotalLemmas.{each_kind}
 use Rattle.wasmi_machine.specs.declared.calls.Reply.TheVariants as replied
@@ -47,11 +47,11 @@ module _ {X E : Type 0} (refusal : E → Reply) (write : X → X → MeteredWrit
     (is : taken ≡ slice_set slots into (Gone 0)) where
   -- what the other slot has
   beside : live_at slots from ≡ live_at taken from
-  beside = sym (ap (λ l. live_at l from) is ∙ ap (option_and_then live_value) (set_other slots into from (Gone 0) other))
+  beside = rw is (sym (ap (option_and_then live_value) (set_other slots into from (Gone 0) other)))
 
   -- what is put back
   put : (x' : X) → slice_set taken into (Live x') ≡ slice_set slots into (Live x')
-  put x' = ap (λ l. slice_set l into (Live x')) is ∙ set-set slots into (Gone 0) (Live x')
+  put x' = rw is (set-set slots into (Gone 0) (Live x'))
 
   -- what was taken out is put back as it was, where there is no source
   pub put_without : None ≡ live_at taken from → WritesFrom refusal (live_at slots from) into write (metered slots m)
@@ -81,14 +81,13 @@ pub value_kept : {X E : Type 0} (Keeps : X → X → Type 0) (write : X → Mete
     → ((x x' : X) → (write x).written ≡ Some x' → Keeps x x') → ((x : X) → Keeps x x)
     → (s : MeteredValue X (Unit {0})) (result : Result (Unit {0}) E) (charge : ℕ) (s' : MeteredValue X (Unit {0}))
     → WritesCharging write s result charge s' → Keeps s.value s'.value
-value_kept {X = X} Keeps write keeps same s result charge s' writes =
+value_kept Keeps write keeps same s result charge s' writes =
     elim (write_ends write s result charge s' writes) [
-      | inl r ↦ subst (Keeps s.value) (sym (ap (λ (t : MeteredValue X (Unit {0})). t.value) r.same)) (same s.value)
-      | inr p ↦ subst (Keeps s.value) (sym (ap (λ (t : MeteredValue X (Unit {0})). t.value) p.after))
-          (keeps s.value p.value p.written)
+      | inl r ↦ rw r.same (same s.value)
+      | inr p ↦ rw p.after (keeps s.value p.value p.written)
     ]
 
--- a number of bytes is written, each of which is paid for
+-- what a write over a range has written, by its price: nothing, or the bytes of items that are all paid for
 abbrev pub IsPriced : Option (CustomFuelCosts → ℕ) → ℕ → Type 0
 IsPriced price written = (written ≡ 0)
     ⊎ ((n : ℕ) × (size : ℕ) × (price ≡ Some (item_price size n)) × (written ≡ cut_product n size))
@@ -135,11 +134,6 @@ pub record RangeOf (s : State) (X E : Type 0) : Type 1 where
   pub kept : (k : ℕ) (x x' : X) → live_at slots k ≡ Some x → KeepsValue x x'
       → KeepsPart (slice_set slots k (Live x'))
 
--- a state with another meter is valid
-metered_valid : (s : State) (m : Meter) → IsValid s → IsValid (record s { meter = m })
-metered_valid s m v =
-    record { memories = v.memories; tables = v.tables; segments = v.segments; registers = v.registers }
-
 -- what a refused write over a range is charged
 pub refused_writing : (m : Meter) (price : Option (CustomFuelCosts → ℕ)) (reply : Reply) → IsRefusal reply
     → writing_charge m price reply ≡ 0
@@ -148,8 +142,8 @@ refused_writing m price reply refused = refl
 
 -- no item has no byte
 no_item : (size n : ℕ) (reply : Reply) → n ≡ 0 → item_bytes size n reply ≡ 0
-no_item size n replied.Done none = ap (λ k. cut_product k size) none ∙ omega arith
-no_item size n (replied.Number number) none = ap (λ k. cut_product k size) none ∙ omega arith
+no_item size n replied.Done none = rw none (omega arith)
+no_item size n (replied.Number number) none = rw none (omega arith)
 no_item size n reply none = refl
 
 -- a refusal has written no byte
@@ -197,23 +191,22 @@ module _ {S X E : Type 0} (w : World S) (r : RangeOf w.state X E) (price : Optio
           let done = replies ∙ ap (reply_of (λ _. replied.Done) r.refusal) p.is in
           let part : step.part ≡ slice_set r.slots k (Live p.value) = put
           ∙ ap (λ (t : MeteredValue X (Unit {0})). slice_set r.slots k (Live t.value)) p.after in
-          let keeps : r.KeepsPart step.part =
-          subst r.KeepsPart (sym part) (r.kept k x p.value found (is.keeps x p.value p.written)) in
+          let keeps : r.KeepsPart step.part = rw part (r.kept k x p.value found (is.keeps x p.value p.written)) in
           let within : nat_le (optional_due (Some m) (v x).price) (amount_left m) ≡ true = p.enough in
           record {
             done = done;
             charged = p.charged ∙ ap (optional_due (Some m)) (is.priced x);
             enough = grind (arith, nat_tests, within, p.charged);
-            meter = ap (λ (y : World S). y.state.meter) step.after ∙ same_Some step.meter (meter_after m turn.charge)
-                (ap (λ (t : MeteredValue X (Unit {0})). t.meter) p.after);
-            limiter = ap (λ (y : World S). y.limiter) step.after;
+            meter = rw step.after (same_Some step.meter (meter_after m turn.charge)
+                (ap (λ (t : MeteredValue X (Unit {0})). t.meter) p.after));
+            limiter = rw step.after;
             priced = written_by done paid;
             still = λ kind. ap (λ (y : World S). sizes y.state kind) step.after
                 ∙ each_kind (λ kind. sizes (record (r.with_part step.part) { meter = step.meter }) kind
                 ≡ sizes (r.with_part step.part) kind) refl refl kind
                 ∙ r.part.still step.part keeps kind;
-            valid = λ valid. subst (λ (y : World S). IsValid y.state) (sym step.after)
-                (metered_valid (r.with_part step.part) step.meter (r.part.valid step.part keeps valid));
+            valid = λ valid. rw step.after (valid_by (r.with_part step.part) _ (λ v. v) (λ v. v) (λ v. v) (λ v. v)
+                (r.part.valid step.part keeps valid));
           }
         where
           written_by : turn.reply ≡ replied.Done → (price ≡ Some (item_price size n)) ⊎ (n ≡ 0)
@@ -242,11 +235,11 @@ module _ {S X E : Type 0} (w : World S) (r : RangeOf w.state X E) (price : Optio
 
 -- ---- each write over a range
 
--- what a write over a range of a table keeps
+-- what a write over a range of a table keeps: the type and the size
 abbrev pub KeepsTable : TableValue → TableValue → Type 0
 KeepsTable x x' = (x'.ty ≡ x.ty) × (size_of x' ≡ size_of x)
 
--- the tables of a state
+-- the tables of a state, for a write over a range of one
 abbrev table_range : (s : State) → RangeOf s TableValue TableError
 table_range s = record {
   refusal = replied.Table;
@@ -287,7 +280,7 @@ items_kept : {X : Type 0} (many : X → ℕ) (put : X → List ℕ → X) (Keeps
     → ((xs : List ℕ) → written ≡ Some xs → length xs ≡ many x) → option_map (put x) written ≡ Some x' → Keeps x x'
 items_kept many put Keeps kept x None x' long some = absurd (none-some x' some)
 items_kept many put Keeps kept x (Some xs) x' long some =
-    subst (Keeps x) (same_Some (put x xs) x' some) (kept x xs (long xs refl))
+    rw (same_Some (put x xs) x' some) at (kept x xs (long xs refl))
 
 -- items that are written over with a part are as many
 part_long : (dst : ℕ) (part : Option (List ℕ)) (xs ys : List ℕ)
@@ -306,7 +299,7 @@ part_range dst part typed outside paid = record {
   unpaid_is = λ x. refl;
 }
 
--- what each source writes
+-- what a write over a range of a table with what a source has keeps and costs
 pub source_range : (source : Source) (dst len : ℕ) → OnLive (write_of source dst len) (Unit {0})
     (IsRange KeepsTable (option_map element_price (paid_from source len)) OutOfFuel)
 source_range (OfReference value) dst len = part_range dst (Some (replicate len value.raw)) _ _ (Some len)
@@ -316,11 +309,11 @@ source_range (OfSegment None src) dst len = tt
 source_range (OfSegment (Some y) src) dst len =
     part_range dst (at y.items src len) _ _ (paid_from (OfSegment (Some y) src) len)
 
--- what a write over a range of a memory keeps
+-- what a write over a range of a memory keeps: the type and the number of bytes
 abbrev pub KeepsMemory : MemoryValue → MemoryValue → Type 0
 KeepsMemory x x' = (x'.ty ≡ x.ty) × (byte_count x' ≡ byte_count x)
 
--- the memories of a state
+-- the memories of a state, for a write over a range of one
 abbrev memory_range : (s : State) → RangeOf s MemoryValue MemoryError
 memory_range s = record {
   refusal = replied.Memory;
@@ -345,7 +338,7 @@ pub record WritesBytes (len : ℕ) (write : MemoryValue → MemoryWrite) : Type 
       → IsNotOutOfMemory (replied.Memory cause)
   pub long : (bytes bytes' : List ℕ) → written bytes ≡ Some bytes' → length bytes' ≡ length bytes
 
--- what each source of bytes writes
+-- a write over a range of a memory with what a source has is a write over bytes
 pub source_writes : (source : ByteSource) (dst len : ℕ)
     → OnLive (byte_write_of source dst len) (Unit {0}) (WritesBytes len)
 source_writes (OfByte value) dst len = record {
@@ -364,18 +357,18 @@ source_writes (OfBytes (Some source) src) dst len = record {
   long = part_long dst (at source src len);
 }
 
--- what such a write keeps and costs
+-- what a write over bytes of a memory keeps and costs
 range_of_writing : (len : ℕ) (write : MemoryValue → MemoryWrite) → WritesBytes len write
     → IsRange KeepsMemory (Some (item_price 1 len)) memory_error.OutOfFuel write
 range_of_writing len write w = record {
   keeps = λ x x' is. items_kept byte_count with_bytes KeepsMemory
       (λ y bytes long. (refl, long)) x (w.written x.bytes) x' (w.long x.bytes)
-      (ap (λ (v : MemoryWrite). v.written) (sym (w.is x)) ∙ is);
-  priced = λ x. ap (λ (v : MemoryWrite). v.price) (w.is x);
-  unpaid_is = λ x. ap (λ (v : MemoryWrite). v.unpaid) (w.is x);
+      (rw (w.is x) at is);
+  priced = λ x. rw (w.is x);
+  unpaid_is = λ x. rw (w.is x);
 }
 
--- what a write with what a source has keeps and costs
+-- what a write over a range of a memory with what a source has keeps and costs
 pub byte_range : (source : ByteSource) (dst len : ℕ) → OnLive (byte_write_of source dst len) (Unit {0})
     (IsRange KeepsMemory (Some (item_price 1 len)) memory_error.OutOfFuel)
 byte_range source dst len = on_live_too (byte_write_of source dst len) _ _ _ _ (λ missing. missing)
@@ -407,8 +400,8 @@ module _ {S : Type 0} (w : World S) (write : RangeWrite) (turn : Turn) (w' : Wor
     | inl idle ↦ record {
       back = λ refused. idle.same;
       charged = idle.uncharged ∙ sym (refused_writing w.state.meter (range_price write) turn.reply idle.refused);
-      unasked = ap (λ (v : World S). v.limiter) idle.same;
-      still = λ kind. ap (λ (v : World S). sizes v.state kind) idle.same;
+      unasked = rw idle.same;
+      still = λ kind. rw idle.same;
       valid = λ valid. rw idle.same valid;
     }
     | inr paid ↦ record {

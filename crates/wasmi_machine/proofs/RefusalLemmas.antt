@@ -1,6 +1,6 @@
--- What a refused turn leaves.
-use Rattle.std.proofs.Common.{List, None, Option, Some, [], ap, inl, inr, map, refl, subst, sym, ℕ, ◌∙◌, ◌∷◌, ◌≡◌}
-use Rattle.wasmi_machine.proofs.Common.{All-head, All-tail, same_Some, All, if◌then◌else◌, is_some, memory_growth, table_growth, ChangesMeter, AsksFor, At, Exchange, Exchanges, New, Notice, Nowhere, Passes, Permission, Place, RepliesTo, charge_at, writing_price, growth_charge, growth_due, place_of, question_of, writing_charge, Keeps, KeepsMeter, KeepsSpare, RefusalsInRunsKeepContents, SameContents, reply_of, spare_after, Run, Changed, Effect, FuelSet, LentMemoryMade, MemoryGrown, MemoryMade, RangeWritten, Step, TableGrown, TableMade, HasEffect, effect_of, State, memory_part, with_memories, with_tables, Turn, outcome_of, World, Call, NewLentMemory, SetFuel, Reply, MeteredValue, Rules, Meter, meter_after, meter_set, PaysCharge, CustomFuelCosts, on_test, Owned, GrowsMemoryCharging, MakesMemory, GrowsTableCharging, MakesTable, TableValue, same_type, metered_value}
+-- What a refused turn, and a run of refused turns, keeps: the contents, the spare region and the meter.
+use Rattle.std.proofs.Common.{List, None, Option, Some, [], ap, inl, inr, map, refl, sym, ℕ, ◌∙◌, ◌∷◌, ◌≡◌}
+use Rattle.wasmi_machine.proofs.Common.{All-head, All-tail, same_Some, All, if◌then◌else◌, is_some, memory_growth, table_growth, ChangesMeter, AsksFor, At, Exchange, Exchanges, New, Notice, Nowhere, Passes, Permission, Place, RepliesTo, charge_at, writing_price, growth_charge, growth_due, place_of, question_of, writing_charge, Keeps, KeepsMeter, KeepsSpare, RefusalsInRunsKeepContents, SameContents, reply_of, spare_after, Run, Changed, Effect, FuelSet, LentMemoryMade, MemoryGrown, MemoryMade, RangeWritten, Step, TableGrown, TableMade, HasEffect, effect_of, State, memory_part, with_memories, with_tables, Turn, outcome_of, World, Call, NewLentMemory, SetFuel, Reply, Rules, Meter, meter_after, meter_set, PaysCharge, CustomFuelCosts, on_test, Owned, GrowsMemoryCharging, MakesMemory, GrowsTableCharging, MakesTable, same_type, metered_value}
 use Rattle.wasmi_machine.proofs.MemoryEffectsLemmas.{lent_back, lent_spare}
 use Rattle.wasmi_machine.proofs.EffectLemmas.{acts_back, creates_back, grows_back}
 use Rattle.wasmi_machine.proofs.ExchangeLemmas.{growths_are_permitted, out_of_memory_or_free}
@@ -42,8 +42,7 @@ module _ {S : Type 0} (w w' : World S) where
   -- with another meter, the contents and the spare region are the same
   paid : (m : Meter) → {v : World S} → w' ≡ v → v.state ≡ record w.state { meter = m }
       → SameContents w.state w'.state × (w'.state.spare ≡ w.state.spare)
-  paid m is same =
-      (but_spare m w.state.spare is same, ap (λ (x : World S). x.state.spare) is ∙ ap (λ (s : State). s.spare) same)
+  paid m is same = (but_spare m w.state.spare is same, rw (is, same))
 
   -- with the same state, the contents and the spare region are the same
   kept : {v : World S} → w' ≡ v → v.state ≡ w.state → SameContents w.state w'.state × (w'.state.spare ≡ w.state.spare)
@@ -62,14 +61,11 @@ module _ {S : Type 0} (rules : Rules S) (w : World S) (turn : Turn) (w' : World 
       turn.reply step.part step.limiter refused step.effect))
   effect_back (LentMemoryMade ty) step = (
     but_spare w w' w.state.meter step.part.spare step.after
-        (ap (λ slots. let s : State = record w.state { memories = slots; spare = step.part.spare } in s)
-        (lent_back rules ty (memory_part w.state) w.limiter turn.reply step.part step.limiter refused step.effect)),
-    ap (λ (x : World S). x.state.spare) step.after
-        ∙ lent_spare rules ty (memory_part w.state) w.limiter turn.reply step.part step.limiter step.effect,
+        (rw (lent_back rules ty (memory_part w.state) w.limiter turn.reply step.part step.limiter refused step.effect)),
+    rw step.after (lent_spare rules ty (memory_part w.state) w.limiter turn.reply step.part step.limiter step.effect),
   )
   effect_back (MemoryGrown k pages) step = paid w w' step.meter step.after
-      (ap (λ part. let s : State = record (with_memories w.state part) { meter = step.meter } in s)
-      (acts_back k (reply_of replied.Number replied.Memory) (GrowsMemoryCharging rules pages)
+      (rw (acts_back k (reply_of replied.Number replied.Memory) (GrowsMemoryCharging rules pages)
       (λ s s'. grows_back replied.Memory rules (memory_growth pages s.value) s s')
       (metered_value w.state.memories (Some w.state.meter) w.limiter)
       (metered_value step.part (Some step.meter) step.limiter) turn.reply turn.charge refused step.effect))
@@ -77,11 +73,10 @@ module _ {S : Type 0} (rules : Rules S) (w : World S) (turn : Turn) (w' : World 
       (ap (with_tables w.state) (creates_back replied.Table (MakesTable rules ty init) w.state.tables w.limiter
       turn.reply step.part step.limiter refused step.effect))
   effect_back (TableGrown k n init) step = paid w w' step.meter step.after
-      (ap (λ part. let s : State = record (with_tables w.state part) { meter = step.meter } in s)
-      (acts_back k (reply_of replied.Number replied.Table) (GrowsTableCharging rules n init)
+      (rw (acts_back k (reply_of replied.Number replied.Table) (GrowsTableCharging rules n init)
       (λ s s' charge result back grows. on_test (same_type s.value.ty.element init.ty) _ _ grows
       (grows_back replied.Table rules (table_growth n init.raw s.value) s s' charge result back)
-      (λ other. ap (λ (t : MeteredValue TableValue S). t.value) other.2))
+      (λ other. rw other.2))
       (metered_value w.state.tables (Some w.state.meter) w.limiter)
       (metered_value step.part (Some step.meter) step.limiter) turn.reply turn.charge refused step.effect))
   effect_back (RangeWritten write) step = kept w w' ((range_holds w write turn w' step).back refused) refl
@@ -124,8 +119,7 @@ module _ {S : Type 0} (rules : Rules S) (w : World S) (turn : Turn) (w' : World 
           wants = wanting.0;
           tells = passes;
           replies = replies;
-          meter = subst (λ c. PaysCharge w.state.meter c w'.state.meter)
-              (charged ∙ wanting.1 (growth_due w.state.meter question)) takes;
+          meter = rw (charged, wanting.1 (growth_due w.state.meter question)) at takes;
         })
         | inr free ↦ stays takes (charged ∙ free (growth_due w.state.meter question))
       ]
@@ -144,10 +138,9 @@ module _ {S : Type 0} (rules : Rules S) (w : World S) (turn : Turn) (w' : World 
   -- where the fuel was to be set, metering is off
   set_meter : (fuel : ℕ) → turn.call ≡ SetFuel fuel → Step rules w turn w' → w'.state.meter ≡ w.state.meter
   set_meter fuel is step =
-      let sets : HasEffect rules (FuelSet fuel) w (outcome_of turn) w' =
-      subst (λ call. HasEffect rules (effect_of w.state call) w (outcome_of turn) w') is step in
-      ap (λ (v : World S). v.state.meter) sets.after ∙ (ap (λ (s : State). s.meter) sets.effect.1
-      ∙ unset w.state.meter.left w.state.meter.costs fuel turn.reply refused sets.effect.0)
+      let sets : HasEffect rules (FuelSet fuel) w (outcome_of turn) w' = rw is at step in
+      rw (sets.after, sets.effect.1)
+      (unset w.state.meter.left w.state.meter.costs fuel turn.reply refused sets.effect.0)
 
   -- a refused call keeps the meter
   call_meter : Exchanges rules w turn w' → Step rules w turn w' → (call : Call) → turn.call ≡ call
@@ -184,7 +177,7 @@ same_twice s t u first second = record {
   reserved = second.reserved ∙ first.reserved;
 }
 
--- a run in which each turn is refused
+-- a run in which each turn is refused keeps the contents
 pub refused_run_keeps_contents : {S : Type 0} (rules : Rules S) (w : World S) (turns : List Turn) (w' : World S)
     → Run rules w turns w' → All IsRefusal (map Turn.reply turns) → SameContents w.state w'.state
 refused_run_keeps_contents rules w [] w' ran refused = (kept w w' ran refl).0

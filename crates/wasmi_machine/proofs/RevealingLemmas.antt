@@ -1,7 +1,7 @@
 -- What the replies of a run reveal of its limiter: a run is one under another limiter too, where its replies show it and
 -- the limiter is in states of which this holds.
-use Rattle.std.proofs.Common.{Err, List, Result, Some, [], ap, inl, inr, map, refl, subst, sym, true, ℕ, ◌∙◌, ◌∷◌, ◌≡◌, Ok}
-use Rattle.wasmi_machine.proofs.Common.{All-head, All-tail, All, on_test_too, grows_too, ActsAt, AddsEntry, Creates, reply_of, Run, BytesRead, Effect, LentMemoryMade, MemoryGrown, MemoryMade, MemoryWritten, RangeWritten, TableGrown, TableMade, TableWritten, HasEffect, Told, effect_of, Step, live_at, Turn, World, Reply, Slot, Live, Attempt, Denied, Request, Failed, AttemptOutcome, Follows, Met, MeteredValue, Unasked, alone, answer_of, error_of_answer, error_of_failure, with_value, Rules, TableError, Lent, Owned, Room, Grows, Growth, Makes, metered_value, GrowsMemoryCharging, MemoryValue, new_memory, MemoryTypeValue, GrowsTableCharging, TableValue, new_table, TableTypeValue, same_type, TypedRawRef, RefType, permitting, TellsNoDenial, memory_growth, table_growth, outcome_of}
+use Rattle.std.proofs.Common.{Err, List, Result, Some, [], ap, inl, inr, map, refl, sym, true, ℕ, ◌∙◌, ◌∷◌, ◌≡◌, Ok}
+use Rattle.wasmi_machine.proofs.Common.{All-head, All-tail, All, on_test_too, grows_too, ActsAt, Creates, reply_of, Run, BytesRead, Effect, LentMemoryMade, MemoryGrown, MemoryMade, MemoryWritten, RangeWritten, TableGrown, TableMade, TableWritten, HasEffect, Told, effect_of, Step, live_at, Turn, World, Reply, Slot, Attempt, Denied, Request, Failed, AttemptOutcome, Follows, Met, MeteredValue, Unasked, alone, answer_of, error_of_answer, error_of_failure, with_value, Rules, TableError, Lent, Owned, Room, Grows, Growth, Makes, metered_value, GrowsMemoryCharging, MemoryValue, new_memory, MemoryTypeValue, GrowsTableCharging, TableValue, new_table, TableTypeValue, same_type, TypedRawRef, RefType, permitting, TellsNoDenial, memory_growth, table_growth, outcome_of}
 use Rattle.wasmi_machine.proofs.EffectLemmas.{Creation, on_live_too}
 use Rattle.wasmi_machine.proofs.HoldingLemmas.{Carries, step_stays, run_stays}
 use Rattle.wasmi_machine.proofs.StoreLemmas.{acts_too, asks_too, changes_too, unasked_too}
@@ -9,14 +9,14 @@ use Rattle.wasmi_store.specs.Memory as memory
 use Rattle.wasmi_machine.specs.declared.calls.Reply.TheVariants as replied
 use Rattle.wasmi_store.specs.Table as table
 
--- the error that an attempt answers by how it ends
+-- the error that an attempt answers by how it ends, and that the reply reveals
 abbrev pub IsErrorOf : {V E : Type 0} → Request V E → AttemptOutcome E → E → Type 0
 IsErrorOf e (Unasked cause) c = c ≡ cause
 IsErrorOf e (Denied answer) c = c ≡ error_of_answer e.denial e.refusal answer
 IsErrorOf e Met c = ⊥
 IsErrorOf e (Failed cause notice_answer) c = c ≡ error_of_failure e.refusal cause notice_answer
 
--- the error of an attempt is what is answered
+-- the error of an attempt that a reply reveals is what is answered
 answered_error : {V E T : Type 0} (e : Request V E) (value : T) (outcome : AttemptOutcome E) (c : E)
     → IsErrorOf e outcome c → answer_of e value outcome ≡ Err c
 answered_error e value Met c is = absurd is
@@ -79,8 +79,7 @@ module _ {S T : Type 0} (n : Narrowing S T) where
   creates_revealed refusal e reveals made slots l o within shows (inl none) = inl (none.0, none.1, ap n.image none.2)
   creates_revealed refusal e reveals made slots l o within shows (inr (result, (outcome, attempt, answered), appends)) =
       let shown : (c : _) → IsErrorOf e outcome c → n.shown (refusal c) =
-      λ c is. subst n.shown (subst (λ r. AddsEntry Live refusal r slots o.reply o.part)
-      (answered ∙ answered_error e made outcome c is) appends).0 shows in
+      λ c is. rw (rw (answered ∙ answered_error e made outcome c is) at appends).0 at shows in
       inr (
         result,
         (
@@ -100,8 +99,7 @@ module _ {S T : Type 0} (n : Narrowing S T) where
       grows_too g g.request (ap moved) (λ outcome answered a. (
         answered,
         attempt_revealed refusal g.request reveals s s' outcome charge within
-            (λ c error. subst n.shown (ap (reply_of replied.Number refusal)
-            (answered ∙ answered_error g.request g.size outcome c error)) shows) a,
+            (λ c error. rw (answered ∙ answered_error g.request g.size outcome c error) at shows) a,
       ))
 
   -- the replies to the errors of each attempt show it
@@ -147,7 +145,7 @@ module _ {S T : Type 0} (n : Narrowing S T) where
           (memory_growth pages x) replied.Memory
           (each.memory_grown x pages) (metered_value x (Some w.state.meter) w.limiter)
           (metered_value x' (Some step.meter) step.limiter) result turn.charge within
-          (subst n.shown is shows)) step.effect) refl (ap carried step.after)
+          (rw is at shows)) step.effect) refl (ap carried step.after)
       effect_revealed (TableMade ty init) step = asks_too step step.part (n.image step.limiter)
           (creates_revealed replied.Table (table.creation_of ty init.ty) (each.table_made ty init.ty)
           (new_table ty init.raw) w.state.tables w.limiter
@@ -158,7 +156,7 @@ module _ {S T : Type 0} (n : Narrowing S T) where
           (GrowsTableCharging n.narrower delta init) _ _ turn.reply turn.charge
           (λ x x' result is. table_growth_revealed delta init (metered_value x (Some w.state.meter) w.limiter)
           (metered_value x' (Some step.meter) step.limiter) result turn.charge within
-          (subst n.shown is shows)) step.effect) refl (ap carried step.after)
+          (rw is at shows)) step.effect) refl (ap carried step.after)
       effect_revealed (RangeWritten (TableWritten k source dst len)) step =
           unasked_too step step.part step.meter step.effect (ap carried step.after)
       effect_revealed (RangeWritten (MemoryWritten k source dst len)) step =

@@ -1,44 +1,16 @@
--- What holds of each change of one part of the state.
-use Rattle.std.proofs.Common.{List, [], ap, arith, length, map, refl, subst, sym, ℕ, ◌<◌, ◌^◌, ◌∙◌, ◌≡◌}
-use Rattle.std.specs.Global.{Global}
-use Rattle.wasmi_machine.proofs.Common.{All, All-set, Vec, slice_get, slice_set, IsNotOutOfMemory, NothingGrows, AddsItem, ChangesPart, DropsContents, WritesMemoryAt, Rules, State, with_data_segments, with_globals, with_memories, with_registers, with_segments, with_tables, byte_count, sizes, slot_count, IsValid, IsValidSegment, BytesStored, BytesWritten, Change, DataDropped, DataMade, ElementSet, GlobalMade, GlobalSet, ItemsDropped, MemoryDropped, RegisterSet, SegmentMade, TableDropped, HasChange, RepliesWithoutLimiter, SomeCopy, Write, Reply, Slot, IsValidMemory, MemoryValue, SegmentValue, dropped, IsValidTable, TableValue, size_of}
-use denote.RawPtr.{null_ptr}
+-- What holds of each change of one part of the state: a refusal leaves the state, two changes by one call are one, and
+-- the meter, the sizes and validity stay.
+use Rattle.std.proofs.Common.{List, [], ap, arith, length, map, refl, sym, ℕ, ◌∙◌, ◌≡◌, Option, Result, Ok, Err, Some, length-set}
+use Rattle.wasmi_machine.proofs.Common.{All, All-set, slice_get, slice_set, IsNotOutOfMemory, NothingGrows, AddsItem, ChangesPart, DropsContents, State, with_data_segments, with_globals, with_memories, with_registers, with_segments, with_tables, byte_count, sizes, slot_count, IsValid, IsValidSegment, BytesStored, BytesWritten, Change, DataDropped, DataMade, ElementSet, GlobalMade, GlobalSet, ItemsDropped, MemoryDropped, RegisterSet, SegmentMade, TableDropped, HasChange, Reply, Slot, IsValidMemory, MemoryValue, SegmentValue, dropped, IsValidTable, TableValue, size_of, SetsAt}
 use Rattle.wasmi_machine.proofs.MemoryEffectsLemmas.{vector_store_facts, write_facts}
-use Rattle.wasmi_machine.proofs.ValueEffectsLemmas.{global_facts, segment_facts, takes_facts}
+use Rattle.wasmi_machine.proofs.ValueEffectsLemmas.{global_facts, segment_facts}
 use Rattle.wasmi_machine.proofs.EffectLemmas.{AllValid, EffectFacts, KeepsSlots, drop_facts, found_facts, room_facts, settled_facts}
 use Rattle.wasmi_machine.proofs.SlotsLemmas.{set_read}
 use Rattle.wasmi_machine.proofs.TableEffectsLemmas.{set_facts}
 use Rattle.wasmi_machine.proofs.TotalLemmas.{each_kind}
 use Rattle.wasmi_machine.specs.Laws.{IsRefusal}
 use Rattle.wasmi_raw.specs.declared.raw.RawVal.{RawVal}
-
--- a `Vec` with these items
-abbrev pub vec_of : (items : List ℕ) → length items < 2 ^ 63 → Vec ℕ Global
-vec_of items short = record {
-  ptr = null_ptr;
-  len = length items;
-  cap = length items;
-  alloc = record { memory = record { seal = tt } };
-  items = items;
-  ok = (refl, omega arith);
-  small = short;
-}
-
--- a write of bytes is a step by the call `Write` with a copy of them, whatever the limiter is
-pub write_replies : {S : Type 0} (rules : Rules S) (memory offset : ℕ) (bytes : List ℕ) → length bytes < 2 ^ 63
-    → (s : State) (reply : Reply) (s' : State) → WritesMemoryAt memory offset bytes s.memories reply s'.memories
-    → s' ≡ with_memories s s'.memories
-    → SomeCopy bytes (λ copy. RepliesWithoutLimiter rules (Write memory offset copy) s reply s')
-write_replies rules memory offset bytes short s reply s' writes rest = (
-  vec_of bytes short,
-  refl,
-  λ limiter. record {
-    free = (refl, refl);
-    machine = s';
-    effect = record { part = s'.memories; effect = writes; after = rest };
-    after = refl;
-  },
-)
+use Rattle.wasmi_types.specs.declared.trap.TrapCode.{TrapCode}
 
 -- what holds of a change of one part: so for the state, whose meter, sizes and validity stay
 pub record ChangeFacts (s : State) (Becomes : Reply → State → Type 0) : Type 0 where
@@ -65,25 +37,24 @@ module _ {s : State} {A : Type 0} {with_part : A → State} {old : A} {Keeps : A
     same = λ reply reply' s' s'' has has' c c'.
         let both = facts.same reply reply' c.part c'.part has has' c.effect c'.effect in
         (both.0, c.after ∙ ap with_part both.1 ∙ sym c'.after);
-    meter = λ reply s' c. ap (λ (t : State). t.meter) c.after ∙ part.meter c.part;
-    still = λ reply s' c kind. ap (λ t. sizes t kind) c.after
-        ∙ part.still c.part (facts.keeps reply c.part c.effect) kind;
-    valid = λ reply s' v c. subst IsValid (sym c.after) (part.valid c.part (facts.keeps reply c.part c.effect) v);
+    meter = λ reply s' c. rw c.after (part.meter c.part);
+    still = λ reply s' c kind. rw c.after (part.still c.part (facts.keeps reply c.part c.effect) kind);
+    valid = λ reply s' v c. rw c.after (part.valid c.part (facts.keeps reply c.part c.effect) v);
   }
 
--- what a change of memories, tables, element segments or registers has to keep
+-- what a change of memories has to keep
 abbrev pub KeepsMemories : State → List (Slot MemoryValue) → Type 0
 KeepsMemories s slots = KeepsSlots byte_count IsValidMemory s.memories slots
 
--- tables
+-- what a change of tables has to keep
 abbrev pub KeepsTables : State → List (Slot TableValue) → Type 0
 KeepsTables s slots = KeepsSlots size_of IsValidTable s.tables slots
 
--- element segments
+-- what a change of element segments has to keep
 abbrev KeepsSegments : State → List SegmentValue → Type 0
 KeepsSegments s segments = All IsValidSegment s.segments → All IsValidSegment segments
 
--- registers
+-- what a change of registers has to keep
 abbrev KeepsRegisters : State → List RawVal → Type 0
 KeepsRegisters s registers = length registers ≡ length s.registers
 
@@ -153,18 +124,26 @@ module _ (s : State) where
   the_registers = unsized (with_registers s) s.registers (KeepsRegisters s) refl (λ part. (refl, refl, refl))
       (λ part keeps. valid_by s (with_registers s part) (λ v. v) (λ v. v) (λ v. v) (λ v. keeps ∙ v))
 
--- an addition of an item that is valid whatever it is
+-- the facts of an addition of an item that is valid whatever it is
 addition_facts : {X : Type 0} (Lacks : Type 0) (x : X) (items : List X)
     → EffectFacts (AddsItem Lacks x items) items (λ after. Unit {0})
 addition_facts Lacks x items = room_facts tt (settled_facts (λ refused. absurd refused) tt)
 
--- a drop of what an item has
+-- the facts of a drop of what an item has
 contents_facts : {X : Type 0} (without : X → X) (k : ℕ) (items : List X) (Keeps : List X → Type 0) → Keeps items
     → ((x : X) → Keeps (slice_set items k (without x))) → EffectFacts (DropsContents without k items) items Keeps
 contents_facts without k items Keeps keeps kept = found_facts (set_read items k)
     (λ reply refused x x' c. absurd (rw c.0 at refused))
     (λ x reply reply' x' x'' c c'. (c.0 ∙ sym c'.0, c.1 ∙ sym c'.1)) keeps
-    (λ x found reply x' c. subst (λ y. Keeps (slice_set items k y)) (sym c.1) (kept x))
+    (λ x found reply x' c. rw c.1 (kept x))
+
+-- the facts of a register that takes what it is given
+takes_facts : (given : Option (Result RawVal TrapCode)) (old : Option RawVal) (dst : ℕ) (registers : List RawVal)
+    → EffectFacts (SetsAt given old dst registers) registers (λ registers'. length registers' ≡ length registers)
+takes_facts (Some (Ok value)) (Some old) dst registers =
+    settled_facts (λ refused. absurd refused) (length-set registers dst value)
+takes_facts (Some (Err trap)) (Some old) dst registers = settled_facts (λ refused. refl) refl
+takes_facts given old dst registers = settled_facts (λ refused. refl) refl
 
 -- the facts of a change of one part
 pub change_facts : (s : State) (change : Change) → ChangeFacts s (HasChange change s)

@@ -1,8 +1,11 @@
--- A turn by what its call leaves, and turns one after another.
-use Rattle.std.proofs.Common.{Some, refl, ℕ, ◌∙◌, ◌≡◌, ◌+◌, ◌<◌, List, [], ◌∷◌, ◌++◌, length, take, get_or, map, sym, ap, subst}
-use Rattle.wasmi_machine.proofs.Common.{ActsMetered, ActsMeteredUnasked, Asks, Changes, ChangesPart, IfNoRoom, OnlyReplies, State, Turn, TurnOutcome, World, world, metered, metered_value, WithCharge, Call, Reply, MeteredValue, Meter, take_more, map-append, Rules, Step, RepliesWith, Sequence, Run, IsRunOf}
+-- Turns by what a call replies and leaves, as the functions of `src/store.rt` answer it, also from another world; and
+-- turns and runs one after another.
+use Rattle.std.proofs.Common.{Some, refl, ℕ, ◌∙◌, ◌≡◌, ◌+◌, ◌<◌, List, [], ◌∷◌, ◌++◌, length, take, get_or, arith, ◌^◌}
+use Rattle.wasmi_machine.proofs.Common.{ActsMetered, ActsMeteredUnasked, Asks, Changes, ChangesPart, IfNoRoom, OnlyReplies, State, Turn, TurnOutcome, World, world, metered, metered_value, WithCharge, Call, Reply, MeteredValue, Meter, take_more, map-append, Rules, Step, RepliesWith, Sequence, Run, IsRunOf, Vec, WritesMemoryAt, RepliesWithoutLimiter, SomeCopy, Write, with_memories}
+use Rattle.std.specs.Global.{Global}
+use denote.RawPtr.{null_ptr}
 
--- a free turn with this reply
+-- the outcome of a free turn by what a call replies
 abbrev pub free_outcome : Reply → TurnOutcome
 free_outcome reply = record { reply = reply; charge = 0; written = 0 }
 
@@ -118,6 +121,26 @@ module _ {S T : Type 0} {v v' : World S} {w w' : World T} {outcome : TurnOutcome
     unasked_too step part meter effect after =
         record { part = part; meter = meter; effect = effect; wrote = step.wrote; after = after }
 
+-- a `Vec` with these items
+abbrev pub vec_of : (items : List ℕ) → length items < 2 ^ 63 → Vec ℕ Global
+vec_of items short = record {
+  ptr = null_ptr;
+  len = length items;
+  cap = length items;
+  alloc = record { memory = record { seal = tt } };
+  items = items;
+  ok = (refl, omega arith);
+  small = short;
+}
+
+-- a write of bytes is a step by the call `Write` with a copy of them, whatever the limiter is
+pub write_replies : {S : Type 0} (rules : Rules S) (memory offset : ℕ) (bytes : List ℕ) → length bytes < 2 ^ 63
+    → (s : State) (reply : Reply) (s' : State) → WritesMemoryAt memory offset bytes s.memories reply s'.memories
+    → s' ≡ with_memories s s'.memories
+    → SomeCopy bytes (λ copy. RepliesWithoutLimiter rules (Write memory offset copy) s reply s')
+write_replies rules memory offset bytes short s reply s' writes rest =
+    (vec_of bytes short, refl, λ limiter. rw rest (changes_part s'.memories writes))
+
 module _ {S : Type 0} (rules : Rules S) where
   -- an answer to a call is that of a run of it alone
   pub run_of_one : (call : Call) (u : World S) (reply : Reply) (v : World S) → RepliesWith rules call u reply v
@@ -141,8 +164,8 @@ module _ {S : Type 0} (rules : Rules S) where
       → IsRunOf rules (calls ++ calls') u (replies ++ replies') w
   runs_of_calls_joined calls calls' u v w replies replies' (turns, made, told, ran) (turns', made', told', ran') = (
     turns ++ turns',
-    map-append Turn.call turns turns' ∙ ap (λ cs. cs ++ map Turn.call turns') made ∙ ap (λ cs. calls ++ cs) made',
-    map-append Turn.reply turns turns' ∙ ap (λ rs. rs ++ map Turn.reply turns') told ∙ ap (λ rs. replies ++ rs) told',
+    rw (map-append, made, made'),
+    rw (map-append, told, told'),
     runs_joined u turns v turns' w ran ran',
   )
 
@@ -151,8 +174,7 @@ module _ {S : Type 0} (rules : Rules S) where
       → i < length calls → call ≡ get_or calls i call → IsRunOf rules (take i calls) u replies v
       → RepliesWith rules call v reply w → IsRunOf rules (take (i + 1) calls) u (replies ++ reply ∷ []) w
   run_more calls i call u v w replies reply within here ran answers =
-      subst (λ cs. IsRunOf rules cs u (replies ++ reply ∷ []) w)
-      (ap (λ c. take i calls ++ c ∷ []) here ∙ sym (take_more calls i call within))
+      rw (take_more calls i call within, ← here)
       (runs_of_calls_joined (take i calls) (call ∷ []) u v w replies (reply ∷ []) ran (run_of_one call v reply w answers))
 
   -- what holds of each step holds of each turn of a run
@@ -167,6 +189,4 @@ module _ {S : Type 0} (rules : Rules S) where
   -- an answered call, with the limiter before and after it by other names
   pub answers_by : (call : Call) (m m' : State) (reply : Reply) (l k l' k' : S) → l ≡ k → l' ≡ k'
       → RepliesWith rules call (world m l) reply (world m' l') → RepliesWith rules call (world m k) reply (world m' k')
-  answers_by call m m' reply l k l' k' before after answers =
-      subst (λ x. RepliesWith rules call (world m x) reply (world m' k')) before
-      (subst (λ x. RepliesWith rules call (world m l) reply (world m' x)) after answers)
+  answers_by call m m' reply l k l' k' before after answers = rw (before, after) at answers

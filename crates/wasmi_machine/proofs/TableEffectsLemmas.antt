@@ -1,20 +1,15 @@
--- What holds of each effect on tables.
-use Rattle.std.proofs.Common.{Bool, List, None, Option, Result, [], ap, false, refl, subst, sym, true, ℕ, ◌∷◌, ◌≡◌, ⊎_elim}
+-- What holds of each effect on tables, and of memory that is reserved for their elements.
+use Rattle.std.proofs.Common.{Bool, List, None, Option, Result, [], false, refl, true, ℕ, ◌∷◌, ◌≡◌, ⊎_elim}
 use Rattle.wasmi_machine.proofs.EffectLemmas.{AllValid, PutsOr, SlotFacts, changes_valid, setting_facts}
-use Rattle.wasmi_machine.proofs.MemoryEffectsLemmas.{accessed_length}
 use Rattle.wasmi_machine.proofs.Common.{ReservesElementsAt, SetsElementAt, Reply, Slot, MatchBool, if◌then◌else◌, TableError, IsValidTable, SetsTable, SetsTableRaw, TableValue, size_of, same_type, with_elements, TypedRawRef, overwrite}
 use Rattle.std.specs.Prelude.{Err}
 use Rattle.wasmi_meter.specs.declared.error.TableError.TheVariants.{ElementTypeMismatch, SetOutOfBounds}
 use Rattle.wasmi_machine.specs.declared.calls.Reply.TheVariants as replied
-use Rattle.wasmi_store.specs.Table as table
+use Rattle.wasmi_machine.proofs.SlotsLemmas.{accessed_length}
 
 -- a table of another one's type with as many elements is valid
 pub table_as_long : (x x' : TableValue) → x'.ty ≡ x.ty → size_of x' ≡ size_of x → IsValidTable x → IsValidTable x'
-table_as_long x x' same long valid = record {
-  type = subst table.IsValid (sym same) valid.type;
-  sized = subst (λ n. table.IsSized x'.ty n) (sym long)
-      (subst (λ ty. table.IsSized ty (size_of x)) (sym same) valid.sized);
-}
+table_as_long x x' same long valid = record { type = rw same valid.type; sized = rw (same, long) valid.sized }
 
 -- a call that sets an element puts it, or is refused
 module _ (index : ℕ) (value : TypedRawRef) (x : TableValue) where
@@ -33,7 +28,7 @@ module _ (index : ℕ) (value : TypedRawRef) (x : TableValue) where
   set_puts result x' true sets = sets
   set_puts result x' false sets = sets
 
--- a call that sets an element of the table of an index
+-- the facts of a call that sets an element of the table of an index
 pub set_facts : (k index : ℕ) (value : TypedRawRef) → SlotFacts size_of IsValidTable (SetsElementAt k index value)
 set_facts k index value = setting_facts size_of IsValidTable replied.Table
     (λ x result x'. SetsTable index value x result x') (λ x. elements_set index value x (same_type x.ty.element value.ty))
@@ -42,10 +37,9 @@ set_facts k index value = setting_facts size_of IsValidTable replied.Table
     (λ x elements. accessed_length x.elements (value.raw ∷ []) elements index _)
     (λ x elements long. (long, table_as_long x (with_elements x elements) refl long)) k
 
--- memory that is reserved for elements
+-- tables stay valid where memory is reserved for elements of one
 pub reserves_valid : (k n : ℕ) (slots : List (Slot TableValue)) (reply : Reply) (slots' : List (Slot TableValue))
     → ReservesElementsAt k n slots reply slots' → AllValid IsValidTable slots → AllValid IsValidTable slots'
 reserves_valid k n slots reply slots' reserves valid = changes_valid IsValidTable k slots reply slots' _
     (λ x x' h change. ⊎_elim
-    (λ done. table_as_long x x' (ap (λ (t : TableValue). t.ty) done.1) (ap size_of done.1) h)
-    (λ refused. subst IsValidTable (sym refused.2) h) change) reserves valid
+    (λ done. table_as_long x x' (rw done.1) (rw done.1) h) (λ refused. rw refused.2 h) change) reserves valid

@@ -1,6 +1,7 @@
--- Where each notice is accepted, the replies show whether anybody is told of lack of memory.
-use Rattle.std.proofs.Common.{◌≡◌, ◌∙◌, Option, Some, None, Ok, true, List, map, refl, sym, ap, subst}
-use Rattle.wasmi_machine.proofs.Common.{All, MemoryError, TableError, MemoryFailure, TableFailure, Rules, AskedIf, NoticedIf, unlimited_rules, optional_rules, quota_rules, Request, Failed, error_of_failure, Call, Reply, World, Turn, Run, IsRunOf, AcceptsNotices, StaysAccepting, IsIn, IsOtherFailure, IsDeterministic, never_out_of_memory, IsNotOutOfMemory, AreNotOutOfMemory}
+-- Limiters that accept each notice: which ones do, and that the replies of a run under one show whether it is told of
+-- lack of memory, and are the same in each run if it is deterministic.
+use Rattle.std.proofs.Common.{◌≡◌, ◌∙◌, Option, Some, None, Ok, true, List, map, refl, sym, ap}
+use Rattle.wasmi_machine.proofs.Common.{All, MemoryError, TableError, MemoryFailure, TableFailure, Rules, AskedIf, NoticedIf, unlimited_rules, optional_rules, quota_rules, Request, Failed, Call, Reply, World, Turn, Run, IsRunOf, AcceptsNotices, StaysAccepting, IsIn, IsOtherFailure, IsDeterministic, never_out_of_memory, IsNotOutOfMemory, AreNotOutOfMemory}
 use Rattle.wasmi_meter.specs.declared.error.MemoryError.TheVariants as memerr
 use Rattle.wasmi_meter.specs.declared.error.TableError.TheVariants as taberr
 use Rattle.wasmi_store.specs.Memory as memory
@@ -36,14 +37,8 @@ module _ {S : Type 0} (rules : Rules S) (IsAccepting : S → Type 0) (stays : St
       → ((c : E) → IsNotOutOfMemory (refusal c) → IsOtherFailure (e.notice c)) → Reveals telling refusal e
   want_revealed refusal e nowant (Failed c notice_answer) l l' within shown (permitted, asks, notices) =
       let still = stays.asked l e.question (Ok true) permitted within asks in
-      let accepted = stays.noticed permitted (e.notice c) notice_answer l' still notices in (
-        permitted,
-        asks,
-        (
-          notices,
-          nowant c (subst (λ h. IsNotOutOfMemory (refusal (error_of_failure e.refusal c h))) accepted.0 (shown _ refl)),
-        ),
-      )
+      let accepted = stays.noticed permitted (e.notice c) notice_answer l' still notices in
+      (permitted, asks, (notices, nowant c (rw accepted.0 at (shown _ refl))))
   want_revealed refusal e nowant outcome l l' within shown f = f
 
   -- the limiter stays in these states
@@ -67,7 +62,7 @@ module _ {S : Type 0} (rules : Rules S) (IsAccepting : S → Type 0) (stays : St
 -- no reply of turns says out of memory, where the replies are these and none of them does
 pub replies_have : (turns : List Turn) (replies : List Reply) → map Turn.reply turns ≡ replies
     → All IsNotOutOfMemory replies → AreNotOutOfMemory turns
-replies_have turns replies is = subst (All IsNotOutOfMemory) (sym is)
+replies_have turns replies is all = rw is all
 
 -- a limiter that accepts each notice does so in any state
 pub accepts_always : {S : Type 0} (rules : Rules S) → AcceptsNotices rules → StaysAccepting rules (λ l. Unit {0})
@@ -83,11 +78,11 @@ optional_accepts rules accepts (Some l) failure notice_answer (Some l') notices 
 optional_accepts rules accepts None failure notice_answer None notices = notices
 optional_accepts rules accepts l failure notice_answer l' notices = absurd notices
 
--- the limiter that permits everything
+-- the limiter that permits everything accepts each notice
 pub unlimited_accepts : {S : Type 0} → AcceptsNotices (unlimited_rules {S = S})
 unlimited_accepts l failure notice_answer l' noticed = noticed.0
 
--- a quota
+-- a quota accepts each notice
 pub quota_accepts : AcceptsNotices quota_rules
 quota_accepts l failure notice_answer l' noticed = noticed.accepts
 
@@ -112,7 +107,7 @@ module _ {L : Type 0} (rules : Rules L) (IsAccepting : L → Type 0) (stays : St
         (λ accepts within. (accepts, within)) (λ l. (λ h. h, λ h. h)) l l' notices within;
   }
 
-  -- two runs of the same calls, as a host sees them
+  -- two runs of the same calls have the same replies, as a host sees them
   pub accepted_replies_are_one : IsDeterministic rules → (calls : List Call) (w : World (Option L))
       → IsIn IsAccepting w.limiter
       → (a b : SeenRun (optional_rules rules) calls w) → (a.replies ≡ b.replies) × (a.after ≡ b.after)
@@ -140,7 +135,7 @@ module _ {L : Type 0} (rules : Rules L) (accepts : AcceptsNotices rules) where
   told_runs w turns w' = told_run (optional_rules rules) (IsIn (λ l. Unit {0}))
       (optional_stays rules (λ l. Unit {0}) (accepts_always rules accepts)) w turns w' (any_state w.limiter)
 
-  -- two runs of the same calls under such a limiter
+  -- two runs of the same calls under such a limiter have the same replies
   pub replies_are_one : IsDeterministic rules → (calls : List Call) (w : World (Option L))
       (a b : SeenRun (optional_rules rules) calls w) → (a.replies ≡ b.replies) × (a.after ≡ b.after)
   replies_are_one once calls w =

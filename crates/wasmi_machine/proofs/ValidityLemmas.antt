@@ -1,6 +1,6 @@
--- What each turn does to a valid state: it stays valid.
-use Rattle.std.proofs.Common.{List, Option, [], ap, map, subst, sym, ℕ, ◌∙◌, ◌∷◌, ◌≡◌}
-use Rattle.wasmi_machine.proofs.Common.{All-head, All-tail, All, reply_of, Run, RepliesWith, Changed, Effect, FuelSet, LentMemoryMade, MemoryGrown, MemoryMade, RangeWritten, TableGrown, TableMade, HasEffect, effect_of, MemoryPart, State, IsValid, IsValidCall, Turn, outcome_of, World, Call, NewMemory, Reply, Slot, Rules, Meter, Lent, Owned, GrowsMemoryCharging, IsValidMemory, MakesMemory, MemoryValue, GrowsTableCharging, IsValidTable, MakesTable, TableValue}
+-- A valid state stays valid by each effect, turn and run.
+use Rattle.std.proofs.Common.{List, Option, [], ap, map, ℕ, ◌∙◌, ◌∷◌, ◌≡◌}
+use Rattle.wasmi_machine.proofs.Common.{All-head, All-tail, All, reply_of, Run, RepliesWith, Changed, Effect, FuelSet, LentMemoryMade, MemoryGrown, MemoryMade, RangeWritten, TableGrown, TableMade, HasEffect, effect_of, State, IsValid, IsValidCall, Turn, outcome_of, World, Call, NewMemory, Reply, Slot, Rules, Meter, Lent, Owned, GrowsMemoryCharging, IsValidMemory, MakesMemory, MemoryValue, GrowsTableCharging, IsValidTable, MakesTable, TableValue}
 use Rattle.wasmi_machine.proofs.EffectLemmas.{AllValid, acts_valid, creates_valid, on_live}
 use Rattle.wasmi_machine.proofs.RangeLemmas.{range_holds}
 use Rattle.wasmi_machine.proofs.StepsLemmas.{change_facts}
@@ -57,7 +57,7 @@ module _ {S : Type 0} (rules : Rules S) (w : World S) (turn : Turn) (w' : World 
       turn.reply step.part step.limiter step.effect valid.memories) w'.state (ap now step.after)
   effect_valid (LentMemoryMade ty) typed step = memories_valid w.state valid m step.part.slots step.part.spare
       (on_live w.state.spare _ _ step.effect
-      (λ none. subst (AllValid IsValidMemory) (ap (λ (p : MemoryPart). p.slots) (sym none.1)) valid.memories)
+      (λ none. rw none.1 valid.memories)
       (λ region found h. creates_valid IsValidMemory replied.Memory (MakesMemory rules (Lent region) ty)
       (λ l l' x makes. store.made_memory_is_valid rules (Lent region) ty l x l' typed makes) w.state.memories
       w.limiter turn.reply step.part.slots step.limiter h.0 valid.memories)) w'.state (ap now step.after)
@@ -83,7 +83,7 @@ answer_is_valid rules call w reply w' typed valid (charge, written, step) =
     effect_valid rules w (record { call = call; reply = reply; charge = charge; written = written }) w' valid
     (effect_of w.state call) (names_valid w.state call typed) step
 
--- a run of calls whose types are valid
+-- a run of calls whose types are valid leads from a valid state to a valid one
 pub run_keeps_validity : {S : Type 0} (rules : Rules S) (w : World S) (turns : List Turn) (w' : World S)
     → IsValid w.state → All IsValidCall (map Turn.call turns) → Run rules w turns w' → IsValid w'.state
 run_keeps_validity rules w [] w' valid typed ran = rw ran valid

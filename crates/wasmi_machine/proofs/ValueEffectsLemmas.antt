@@ -1,8 +1,7 @@
--- What holds of each effect on element segments, globals and registers; the segment that is read of an iterator over a
--- list.
-use Rattle.std.proofs.Common.{Err, List, Ok, Result, ap, arith, length, refl, subst, sym, ℕ, ◌∙◌, ◌≡◌, ◌≤◌, [], ◌∷◌, ◌++◌, Option, Some, None, Iter, length-set}
-use Rattle.wasmi_machine.proofs.Common.{All, IsNotOutOfMemory, AddsEntry, reply_of, IsValidSegment, Reply, SegmentValue, most_items, IsReading, RefType, unwrap_or, append-nil, length-append, nil_from_length, SetsAt}
-use Rattle.wasmi_machine.proofs.EffectLemmas.{EffectFacts, appended_valid, appends_back, appends_same, found_facts, room_facts, settled_facts}
+-- What holds of each effect on element segments and globals; the segment that is read of an iterator over a list.
+use Rattle.std.proofs.Common.{Err, List, Ok, Result, ap, arith, length, refl, sym, ℕ, ◌∙◌, ◌≡◌, [], ◌∷◌, ◌++◌, Option, Some, None, Iter}
+use Rattle.wasmi_machine.proofs.Common.{All, IsNotOutOfMemory, AddsEntry, reply_of, IsValidSegment, Reply, SegmentValue, IsReading, RefType, unwrap_or, append-nil, length-append, nil_from_length}
+use Rattle.wasmi_machine.proofs.EffectLemmas.{EffectFacts, appended_valid, appends_back, appends_same, found_facts, room_facts}
 use Rattle.wasmi_machine.proofs.SlotsLemmas.{set_read}
 use Rattle.wasmi_machine.specs.Laws.{IsRefusal}
 use Rattle.wasmi_machine.specs.ValueEffects.{CreatesSegment, IsSegmentOf, SetsGlobalAt}
@@ -18,8 +17,6 @@ use Rattle.std.specs.Iterator.{Yields}
 use Rattle.std.specs.Iterator.Adapters.{copied_steps, copied_source}
 use Rattle.std.specs.Slice.Iter.{iter_steps, iter_rest}
 use Rattle.std.specs.declared.iter.Copied.{Copied}
-use Rattle.wasmi_raw.specs.declared.raw.RawVal.{RawVal}
-use Rattle.wasmi_types.specs.declared.trap.TrapCode.{TrapCode}
 use Rattle.wasmi_machine.specs.declared.calls.Reply.TheVariants as replied
 
 -- a global that is refused stays
@@ -29,13 +26,12 @@ global_back x x' value (Ok _) refused sets = absurd refused
 global_back x x' value (Err ImmutableWrite) refused sets = sets.1
 global_back x x' value (Err TypeMismatch) refused sets = sets.2
 
--- element segments, globals and registers
--- memory wasn't refused
+-- memory for an element segment was not refused
 abbrev IsHad : Result SegmentValue SegmentError → Type 0
 IsHad (Err OutOfSystemMemory) = ⊥
 IsHad result = Unit {0}
 
--- as the reply tells
+-- memory for an element segment was not refused, where the reply does not say so
 had : (result : Result SegmentValue SegmentError) (segments : List SegmentValue) (reply : Reply)
     (segments' : List SegmentValue) → IsNotOutOfMemory reply
     → AddsEntry (λ x. x) replied.Segment result segments reply segments' → IsHad result
@@ -43,7 +39,7 @@ had (Ok x) segments reply segments' has appends = tt
 had (Err TooManyItems) segments reply segments' has appends = tt
 had (Err OutOfSystemMemory) segments reply segments' has appends = absurd (rw appends.0 at has)
 
--- then there is one result
+-- two element segments of the same items are one, where memory for them was not refused
 segment_made : (ty : RefType) (items : List ℕ) (result result' : Result SegmentValue SegmentError) → IsHad result
     → IsHad result' → IsSegmentOf ty items result → IsSegmentOf ty items result' → result ≡ result'
 segment_made ty items (Ok x) (Ok y) h h' is is' = ap Ok (is.1 ∙ sym is'.1)
@@ -56,7 +52,7 @@ segment_made ty items (Err OutOfSystemMemory) result' h h' is is' = absurd h
 
 -- no global is variable and constant
 pub var_const : (m : Mutability) → m ≡ Var → m ≡ Const → ⊥
-var_const m var const = let clash : Var ≡ Const = sym var ∙ const in absurd cc
+var_const m var const = cc
 
 -- two calls that set a global
 global_same : (x x' x'' : GlobalInstance) (value : TypedRawVal) (result result' : Result (Unit {0}) GlobalError)
@@ -71,7 +67,7 @@ global_same x x' x'' value (Err ImmutableWrite) (Err TypeMismatch) a b = absurd 
 global_same x x' x'' value (Err TypeMismatch) (Err ImmutableWrite) a b = absurd (var_const x.ty.mutability a.0 b.0)
 global_same x x' x'' value (Err TypeMismatch) (Err TypeMismatch) a b = (refl, a.2 ∙ sym b.2)
 
--- what holds of a call that sets a global
+-- the facts of a call that sets a global
 pub global_facts : (k : ℕ) (value : TypedRawVal) (globals : List GlobalInstance)
     → EffectFacts (SetsGlobalAt k value globals) globals (λ globals'. Unit {0})
 global_facts k value globals = found_facts (set_read globals k)
@@ -79,16 +75,14 @@ global_facts k value globals = found_facts (set_read globals k)
     let both = global_same x x' x'' value c.0 c'.0 c.1 c'.1 in
     (c.2 ∙ ap (reply_of (λ _. replied.Done) replied.Global) both.0 ∙ sym c'.2, both.1)) tt (λ x found reply x' c. tt)
 
--- a segment that is made
+-- an element segment that is made is valid
 segment_valid : (ty : _) (items : List ℕ) (result : Result SegmentValue _) (segment : SegmentValue)
     → result ≡ Ok segment → IsSegmentOf ty items result → IsValidSegment segment
 segment_valid ty items (Ok made) segment is fits =
-    let same : segment ≡ made = cc in
-    let held : segment.items ≡ items = ap (λ (x : SegmentValue). x.items) (same ∙ fits.1) in
-    subst (λ (xs : List ℕ). length xs ≤ most_items) (sym held) fits.0
+    let same : segment ≡ made = cc in rw (same, fits.1) fits.0
 segment_valid ty items (Err error) segment is fits = cc
 
--- what holds of a creation of an element segment
+-- the facts of a creation of an element segment
 pub segment_facts : (Lacks : Type 0) (ty : RefType) (items : List ℕ) (segments : List SegmentValue)
     → EffectFacts (CreatesSegment Lacks ty items segments) segments
     (λ segments'. All IsValidSegment segments → All IsValidSegment segments')
@@ -99,7 +93,7 @@ segment_facts Lacks ty items segments = room_facts (λ valid. valid) (record {
       let made = segment_made ty items result result' (had result segments reply segments' room appends)
       (had result' segments reply' segments'' room' appends') is is' in
       appends_same (λ x. x) replied.Segment result segments reply reply' segments' segments'' appends
-      (subst (λ r. AddsEntry (λ x. x) replied.Segment r segments reply' segments'') (sym made) appends');
+      (rw made appends');
   keeps = λ reply segments' made. appended_valid IsValidSegment replied.Segment made.0 segments reply segments'
       (λ segment is. segment_valid ty items made.0 segment is made.1) made.2;
 })
@@ -112,7 +106,7 @@ module _ {A : Type 0} where
       step ∙ ap (λ y. y ∷ iter_rest (copied_source t)) (sym (ap (λ o. unwrap_or o x) same))
   first_copied s t x (None, step, same) = absurd cc
 
-  -- the last item
+  -- an iterator of copies ends where nothing is left
   pub last_copied : (s t : Copied (Iter A)) → copied_steps iter_steps s None t → iter_rest (copied_source s) ≡ []
   last_copied s t (Some b, step, same) = absurd cc
   last_copied s t (None, step, same) = nil_from_length (iter_rest (copied_source s)) step.0
@@ -120,12 +114,12 @@ module _ {A : Type 0} where
 module _ {I : Type 0} (steps : I → Option ℕ → I → Type 0) (rest : I → List ℕ)
     (first : (s t : I) (x : ℕ) → steps s (Some x) t → rest s ≡ x ∷ rest t)
     (last : (s t : I) → steps s None t → rest s ≡ []) where
-  -- what came, and what is left
+  -- what was left of an iterator is what came and what is left
   rest_so_far : (xs : List ℕ) (s t : I) → Yields steps s xs t → rest s ≡ xs ++ rest t
   rest_so_far [] s t same = ap rest same
   rest_so_far (x ∷ xs) s t (u, step, more) = first s u x step ∙ ap (λ ys. x ∷ ys) (rest_so_far xs u t more)
 
-  -- the items of a segment that is there
+  -- the segment that is read of an iterator has what was left of it
   pub segment_read : (ty : RefType) (s t : I) (answer : Result SegmentValue SegmentError)
       → IsReading steps s ty answer t → IsSegmentOf ty (rest s) answer
   segment_read ty s t (Ok segment) (same_type, read) =
@@ -140,11 +134,3 @@ module _ {I : Type 0} (steps : I → Option ℕ → I → Type 0) (rest : I → 
   segment_read ty s t (Err OutOfSystemMemory) out =
       let counted = ap length (rest_so_far out.items s t out.run) ∙ length-append out.items (rest t) in
       omega (arith, counted, out.some)
-
--- what holds of a register that takes what it is given
-pub takes_facts : (given : Option (Result RawVal TrapCode)) (old : Option RawVal) (dst : ℕ) (registers : List RawVal)
-    → EffectFacts (SetsAt given old dst registers) registers (λ registers'. length registers' ≡ length registers)
-takes_facts (Some (Ok value)) (Some old) dst registers =
-    settled_facts (λ refused. absurd refused) (length-set registers dst value)
-takes_facts (Some (Err trap)) (Some old) dst registers = settled_facts (λ refused. refl) refl
-takes_facts given old dst registers = settled_facts (λ refused. refl) refl

@@ -1,8 +1,8 @@
--- What each turn writes, what it is charged for that, and what calls that don't set the fuel were charged.
+-- The bytes that each turn writes, what it is charged for them, and what calls that don't set the fuel were charged.
 use Rattle.std.proofs.Common.{Bool, Err, List, None, Ok, Option, Result, Some, [], ap, arith, false, inl, inr, map, refl, subst, true, ℕ, ◌*◌, ◌+◌, ◌-◌, ◌/◌, ◌<◌, ◌^◌, ◌∙◌, ◌∷◌, ◌≡◌, ◌≤◌}
 use Rattle.std.proofs.lemmas.List.Sums.{sum_by-le-sum_by}
 use Rattle.std.proofs.Math.Nat.{add-mul, lt-div-mul-add, mul-add, mul-le-mul_left, mul_comm}
-use Rattle.wasmi_machine.proofs.Common.{All, All-head, All-tail, Account, ChangesMeter, IsSpent, SetsNoFuel, account_after, and_parts, charged_by, charges, opened, nat_tests, sum_by-cons, option_map, option_map_or, cond, if◌then◌else◌, is_some, nat_eq, nat_le, nat_lt, ◌&&◌, bytes_appended, IsBounded, amount_set, amounts_set, bytes_written, charges_for_writing, has_written, is_accepted, writing_turns, ActsAt, reply_of, Run, Effect, MemoryGrown, HasRangeWrite, RangeWrite, RangeWritten, TableGrown, HasEffect, effect_of, is_charged, State, live_at, Turn, World, element_bytes, Grows, Growth, Call, SetFuel, Reply, Slot, AttemptOutcome, MayEnd, Met, optional_due, answer_of, outcome_charge, copy_cost, cut_product, Meter, Rules, MemoryError, TableError, CustomFuelCosts, on_test, GrowsMemoryCharging, MemoryValue, pages_of, greatest_pages, in_bounds, page_bytes, GrowsTableCharging, TableValue, same_type, TypedRawRef, memory_growth, table_growth, outcome_of, MeteredValue, with_value}
+use Rattle.wasmi_machine.proofs.Common.{All, All-head, All-tail, Account, ChangesMeter, IsSpent, SetsNoFuel, account_after, and_parts, charged_by, charges, opened, nat_tests, sum_by-cons, option_map_or, cond, if◌then◌else◌, nat_eq, nat_le, nat_lt, ◌&&◌, bytes_appended, IsBounded, amount_set, amounts_set, bytes_written, charges_for_writing, has_written, is_accepted, writing_turns, ActsAt, reply_of, Run, Effect, MemoryGrown, HasRangeWrite, RangeWrite, RangeWritten, TableGrown, HasEffect, effect_of, is_charged, State, live_at, Turn, World, element_bytes, Grows, Growth, Call, SetFuel, Reply, Slot, AttemptOutcome, MayEnd, Met, optional_due, answer_of, outcome_charge, copy_cost, cut_product, Meter, Rules, MemoryError, TableError, CustomFuelCosts, on_test, GrowsMemoryCharging, MemoryValue, pages_of, greatest_pages, in_bounds, page_bytes, GrowsTableCharging, TableValue, same_type, TypedRawRef, memory_growth, table_growth, outcome_of, MeteredValue, with_value}
 use Rattle.wasmi_machine.proofs.AccountLemmas.{fuel_balances, rest_left, costs_kept, step_meter}
 use Rattle.wasmi_machine.proofs.EffectLemmas.{on_live}
 use Rattle.wasmi_machine.proofs.RangeLemmas.{IsPriced, range_facts, range_price}
@@ -26,7 +26,7 @@ PaysFor optional charge written wrote = (m : Meter) → optional ≡ Some m → 
 unwritten : (m : Option Meter) (charge written : ℕ) (wrote : Bool) → written ≡ 0 → PaysFor m charge written wrote
 unwritten optional charge written wrote none m is left on rated = omega (arith, none)
 
--- a part of a number
+-- a number, where something was written, is at most the number
 part_of : (counts : Bool) (n : ℕ) → counted counts n ≤ n
 part_of true n = omega arith
 part_of false n = omega arith
@@ -35,8 +35,7 @@ part_of false n = omega arith
 spends : (call : Call) (reply : Reply) (m : Meter) (charge : ℕ) (m' : Meter) → ChangesMeter call m charge m' → (left : ℕ)
     → m.left ≡ Some left → (rest : ℕ) × (m'.left ≡ Some rest)
     × (rest + counted (has_written call reply) charge ≤ left + amount_set call)
-spends (SetFuel fuel) reply m charge m' changes left on =
-    (fuel, ap (λ (m : Meter). m.left) changes ∙ ap (option_map (λ n. fuel)) on, omega arith)
+spends (SetFuel fuel) reply m charge m' changes left on = (fuel, rw (changes, on), omega arith)
 spends call reply m charge m' changes left on =
     let t = rest_left m m' charge changes left on in
     (t.0, t.1, omega (arith, t.2, part_of (has_written call reply) charge))
@@ -55,9 +54,7 @@ due_pays : (m : Option Meter) (values size charge : ℕ)
     → charge ≡ optional_due m (Some (λ costs. copy_cost costs values size))
     → PaysFor m charge (cut_product values size) true
 due_pays optional values size charge charged m is left on rated =
-    price_pays (rate m) (cut_product values size) charge _ refl rated
-    (charged ∙ ap (λ m. optional_due m (Some (λ costs. copy_cost costs values size))) is
-    ∙ ap (λ (o : Option ℕ). if is_some o then copy_cost m.costs values size else 0) on)
+    price_pays (rate m) (cut_product values size) charge _ refl rated (rw (charged, is, on))
 
 module _ {V E S : Type 0} (rules : Rules S) (g : Growth V E) (s s' : MeteredValue V S) (charge : ℕ) where
   -- a growth with this result
@@ -80,7 +77,7 @@ module _ {V E S : Type 0} (rules : Rules S) (g : Growth V E) (s s' : MeteredValu
         by_outcome Met may charged answered = bound may.0 charged
         by_outcome outcome may charged answered = absurd cc
 
--- a growth of a memory
+-- the bytes that a growth of a memory within its bounds adds are less than 2 to the power 64
 added_fits : (b c : Bool) (x : MemoryValue) (pages : ℕ)
     → (b && c && nat_lt ((pages_of x + pages) * page_bytes x.ty.page) (2 ^ 64)) ≡ true
     → pages * page_bytes x.ty.page < 2 ^ 64
@@ -94,7 +91,7 @@ added_fits b c x pages inside =
     x.ty.page = add-mul (pages_of x) pages (page_bytes x.ty.page) in
     omega (arith, below, split)
 
--- a test that holds where no cause comes early
+-- the test of the bounds of a growth holds where its request has no early cause
 pub early_none : {E : Type 0} (test : Bool) (cause : E) → (if test then None else Some cause) ≡ None → test ≡ true
 early_none true cause is = refl
 early_none false cause is = absurd cc
@@ -122,7 +119,7 @@ module _ {S : Type 0} (rules : Rules S) (pages : ℕ) (s s' : MeteredValue Memor
       (bytes_appended (Some s.value) pages (reply_of replied.Number replied.Memory result))
       (is_accepted (reply_of replied.Number replied.Memory result))
   memory_result (Ok size) grows = met_bound rules growth s s' charge (pages * page_bytes s.value.ty.page)
-      (λ none. ap (λ n. n * page_bytes s.value.ty.page) none ∙ omega arith) memory_bound size grows
+      (λ none. rw none (omega arith)) memory_bound size grows
   memory_result (Err error) grows = unwritten s.meter charge 0 false refl
 
 -- nothing is appended where there is no memory
@@ -130,7 +127,7 @@ nothing_appended : (o : Option MemoryValue) (pages : ℕ) → bytes_appended o p
 nothing_appended None pages = refl
 nothing_appended (Some x) pages = refl
 
--- a growth of the memory of an index
+-- the charge of a growth of the memory of an index pays for what it has written
 memory_growth_writes : {S : Type 0} (rules : Rules S) (k pages : ℕ)
     (s s' : MeteredValue (List (Slot MemoryValue)) S) (reply : Reply) (charge : ℕ)
     → ActsAt k (reply_of replied.Number replied.Memory) (GrowsMemoryCharging rules pages) s reply charge s'
@@ -147,11 +144,10 @@ module _ {S : Type 0} (rules : Rules S) (n reference : ℕ) (s s' : MeteredValue
       → PaysFor s.meter charge (element_bytes n (reply_of replied.Number replied.Table result))
       (is_accepted (reply_of replied.Number replied.Table result))
   table_result (Ok size) grows = met_bound rules (table_growth n reference s.value) s s' charge (cut_product n 4)
-      (λ none. ap (λ k. cut_product k 4) none ∙ omega arith)
-      (λ early charged. due_pays s.meter n 4 charge charged) size grows
+      (λ none. rw none (omega arith)) (λ early charged. due_pays s.meter n 4 charge charged) size grows
   table_result (Err error) grows = unwritten s.meter charge 0 false refl
 
--- a growth of the table of an index
+-- the charge of a growth of the table of an index pays for what it has written
 table_growth_writes : {S : Type 0} (rules : Rules S) (k n : ℕ) (init : TypedRawRef)
     (s s' : MeteredValue (List (Slot TableValue)) S) (reply : Reply) (charge : ℕ)
     → ActsAt k (reply_of replied.Number replied.Table) (GrowsTableCharging rules n init) s reply charge s'
@@ -170,7 +166,7 @@ range_pays m price charge written priced charged = elim priced [
   | inr (n, size, is, wrote) ↦ rw wrote (due_pays (Some m) n size charge (charged ∙ ap (optional_due (Some m)) is))
 ]
 
--- a write over a range
+-- the charge of a write over a range pays for what it has written
 range_writes : {S : Type 0} (w : World S) (write : RangeWrite) (turn : Turn) (w' : World S)
     → HasRangeWrite write w (outcome_of turn) w'
     → PaysFor (Some w.state.meter) turn.charge turn.written (is_accepted turn.reply)
@@ -187,7 +183,7 @@ is_charged_effect (TableGrown k n init) = true
 is_charged_effect (RangeWritten write) = true
 is_charged_effect effect = false
 
--- as its call is
+-- an effect is charged for what it writes where its call is
 same_charges : (s : State) (call : Call) → is_charged_effect (effect_of s call) ≡ is_charged call
 same_charges s (SetFuel fuel) = refl
 same_charges s call = refl
@@ -218,10 +214,7 @@ module _ {S : Type 0} (rules : Rules S) where
   run_writes : (w : World S) (left : ℕ) → w.state.meter.left ≡ Some left → 0 < rate w.state.meter
       → (turns : List Turn) (w' : World S) → Run rules w turns w'
       → Bounds (rate w.state.meter) left turns w'.state.meter
-  run_writes w left on rated [] w' ran = record {
-    paid = omega arith;
-    spent = (left, ap (λ (v : World S). v.state.meter.left) ran ∙ on, omega arith);
-  }
+  run_writes w left on rated [] w' ran = record { paid = omega arith; spent = (left, rw ran on, omega arith) }
   run_writes w left on rated (turn ∷ turns) w' (v, step, ran) =
       let r = rate w.state.meter in
       let wrote = has_written turn.call turn.reply in
@@ -229,8 +222,8 @@ module _ {S : Type 0} (rules : Rules S) where
       let pays : PaysFor (Some w.state.meter) turn.charge turn.written wrote = rw (← same_charges w.state turn.call)
       (effect_writes rules w turn v (effect_of w.state turn.call) step) in
       let after = spends turn.call turn.reply w.state.meter turn.charge v.state.meter changes left on in
-      let same : rate v.state.meter ≡ r = ap (λ (costs : CustomFuelCosts). costs.bytes_copied_per_fuel)
-      (costs_kept turn.call w.state.meter turn.charge v.state.meter changes) in
+      let same : rate v.state.meter ≡ r =
+      rw (costs_kept turn.call w.state.meter turn.charge v.state.meter changes) in
       let still : 0 < rate v.state.meter = omega (arith, same, rated) in
       let rest : Bounds r after.0 turns w'.state.meter = subst (λ k. Bounds k after.0 turns w'.state.meter) same
       (run_writes v after.0 after.1 still turns w' ran) in
@@ -275,11 +268,8 @@ charges_added account (turn ∷ turns) none =
     let more : charges (turn ∷ turns) ≡ turn.charge + charges turns = sum_by-cons (λ (t : Turn). t.charge) turn turns in
     let next = goes_on account turn.call turn.charge (All-head SetsNoFuel turn.call (map Turn.call turns) none) in
     let rest = charges_added (charged_by account turn.call turn.charge) turns
-    (All-tail SetsNoFuel turn.call (map Turn.call turns) none) in (
-      rest.0 ∙ ap (λ (a : Account). a.charged + charges turns) next ∙ omega (arith, more),
-      rest.1
-          ∙ ap (λ (a : Account). a.granted) next,
-    )
+    (All-tail SetsNoFuel turn.call (map Turn.call turns) none) in
+    (rest.0 ∙ rw next (omega (arith, more)), rest.1 ∙ rw next)
 
 -- the charges for writing are charges
 writing_within : (turns : List Turn) → charges_for_writing turns ≤ charges turns

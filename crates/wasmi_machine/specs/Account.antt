@@ -1,4 +1,5 @@
--- What a meter was given, what was taken of it, and what was written for that.
+-- Accounts of fuel: what calls set, what turns were charged, what a meter has left, and how many bytes turns have
+-- written for their charges.
 use Rattle.std.specs.Prelude.{◌≡◌, ◌+◌, ◌≤◌, ℕ, Some, List, fold, sum_by, ◌-◌, ◌*◌, ◌<◌, Bool, true, false, ◌&&◌, if◌then◌else◌, count_by}
 use Rattle.wasmi_meter.specs.Meter.{Meter, meter_set, PaysCharge}
 use Rattle.wasmi_machine.specs.declared.calls.Call.{Call}
@@ -44,13 +45,13 @@ SetsNoFuel call = Unit {0}
 abbrev pub charges : List Turn → ℕ
 charges turns = sum_by (λ turn. turn.charge) turns
 
--- whether a reply accepts a call that is charged for what it writes
+-- whether a reply accepts a call that is charged for what it writes, as what turns have written is counted
 abbrev pub is_accepted : Reply → Bool
 is_accepted Done = true
 is_accepted (Number size) = true
 is_accepted reply = false
 
--- whether a call with this reply is charged for what it writes, and was accepted
+-- whether a turn of this call with this reply counts as one that has written
 abbrev pub has_written : Call → Reply → Bool
 has_written call reply = is_charged call && is_accepted reply
 

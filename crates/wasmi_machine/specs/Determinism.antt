@@ -1,4 +1,5 @@
--- Limiters in runs: deterministic ones, permissions, kinds, and runs in which nothing says out of memory.
+-- Limiters in runs: deterministic ones, ones that accept each notice, permit each question, or are of one kind; and
+-- replies and runs that don't say out of memory, and replies that tell no denial.
 use Rattle.std.specs.Prelude.{◌≡◌, List, Ok, Option, Some, None, true, All, map}
 use Rattle.wasmi_meter.specs.Limiter.{Question, Answer, Failure, MemoryFailure, TableFailure, NoticeAnswer, Rules, optional_rules}
 use Rattle.wasmi_machine.specs.declared.calls.Reply.{Reply}

@@ -1,4 +1,5 @@
--- What calls on slots have in common: what each does to the list of slots and in a turn.
+-- What the effects of calls have in common, whatever they are on: changes, creations, drops and writes of a list or of
+-- slots at an index with their replies, and the turns that they make.
 use Rattle.std.specs.Prelude.{◌≡◌, ◌⊎◌, ◌++◌, ℕ, Option, Some, Result, Ok, Err, List, [], ◌∷◌, length, slice_get, slice_set, unwrap_or, MatchOption}
 use Rattle.wasmi_meter.specs.Attempt.{MeteredValue, with_value}
 use Rattle.wasmi_meter.specs.Meter.{Meter, cut_product}
@@ -108,7 +109,7 @@ item_bytes size n Done = cut_product n size
 item_bytes size n (Number number) = cut_product n size
 item_bytes size n reply = 0
 
--- one part of the state has changed
+-- an effect of a call has changed one part of the state, whatever the part is
 pub record ChangesPart {A : Type 0} (with_part : A → State) (Effect : Reply → A → Type 0) (reply : Reply)
     (s' : State) : Type 0 where
   pub part : A

@@ -1,4 +1,5 @@
--- What passes between a machine and its limiter in one turn, what has grown by it, and what was charged for it.
+-- Exchanges: what passes between a machine and its limiter in one turn, the question of each call, the size that grows
+-- by it, and what growths and writes over a range are charged.
 use Rattle.std.specs.Prelude.{◌≡◌, ◌≢◌, ◌≤◌, ◌-◌, ◌⊎◌, ◌++◌, ℕ, Option, Some, None, Ok, Err, true, nat_eq, is_none, if◌then◌else◌, List, [], ◌∷◌, slice_get, slice_set}
 use Rattle.std.specs.Option.{option_map, option_and_then}
 use Rattle.wasmi_meter.specs.declared.limiter.Kind.{Kind}

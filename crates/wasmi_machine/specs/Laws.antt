@@ -1,4 +1,4 @@
--- What holds of all turns and runs of a machine.
+-- What holds of all turns and runs of a machine: the statements of its laws, and what a refused turn keeps.
 use Rattle.std.specs.Prelude.{◌≡◌, ◌⊎◌, ◌<◌, ◌≤◌, ◌+◌, ◌*◌, ◌++◌, ℕ, true, Option, Some, Result, Ok, List, length, map, All}
 use Rattle.wasmi_meter.specs.declared.quota.Holdings.{Holdings}
 use Rattle.wasmi_meter.specs.Meter.{PaysCharge}

@@ -1,4 +1,5 @@
--- The calls on memories: what each does to the list of slots.
+-- The calls on memories: their replies, what each does to the slots and to the spare region, and what a store or a
+-- write over a range writes.
 use Rattle.std.specs.Prelude.{◌≡◌, ◌⊎◌, ◌*◌, ◌<◌, ℕ, Option, Some, None, Result, List, length, MatchOption}
 use Rattle.std.specs.Option.{option_map, option_map_or}
 use Rattle.wasmi_types.specs.Access.{at}
@@ -16,7 +17,7 @@ use Rattle.wasmi_machine.specs.declared.memories.Stored.{Stored}
 use Rattle.wasmi_machine.specs.declared.slots.Slot.{Slot}
 use Rattle.wasmi_ops.specs.declared.load_store.LoadOp.{LoadOp}
 use Rattle.wasmi_ops.specs.LoadStoreOps.{loaded_raw, stored_bytes}
-use Rattle.wasmi_ops.specs.VectorOps.{stored_lane}
+use Rattle.wasmi_ops.specs.LaneOps.{stored_lane}
 use Rattle.wasmi_machine.specs.State.{MemoryPart, live_at}
 use Rattle.wasmi_machine.specs.Effects.{reply_of, OnLive, Creates, ChangesAt, MeteredSlots, WritesAt, WritesFrom}
 use Rattle.wasmi_machine.specs.declared.memories.Stored.TheVariants as stored

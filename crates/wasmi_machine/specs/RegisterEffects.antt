@@ -1,4 +1,5 @@
--- The calls on registers and on the vectors in them: what each does to the registers.
+-- The calls on registers and on the vectors in them, loads and stores of vectors included: their replies, and what each
+-- does to the registers.
 use Rattle.std.specs.Prelude.{◌≡◌, ℕ, Option, Some, None, Result, Ok, Err, List, slice_get, slice_set}
 use Rattle.std.specs.Option.{option_map, option_map_or, option_and_then}
 use Rattle.wasmi_types.specs.declared.trap.TrapCode.{TrapCode}
@@ -7,7 +8,8 @@ use Rattle.wasmi_raw.specs.RawVal.{vector_in, raw_of_vector}
 use Rattle.wasmi_store.specs.Memory.{MemoryValue}
 use Rattle.wasmi_ops.specs.declared.vector.VectorLoadOp.{VectorLoadOp}
 use Rattle.wasmi_ops.specs.declared.vector.LoadLaneOp.{LoadLaneOp}
-use Rattle.wasmi_ops.specs.VectorOps.{loaded_vector, loaded_lane}
+use Rattle.wasmi_ops.specs.VectorOps.{loaded_vector}
+use Rattle.wasmi_ops.specs.LaneOps.{loaded_lane}
 use Rattle.wasmi_machine.specs.declared.calls.Reply.{Reply}
 use Rattle.wasmi_machine.specs.declared.calls.Reply.TheVariants.{Done, Value, Trap, NoSuch}
 use Rattle.wasmi_machine.specs.declared.slots.Slot.{Slot}

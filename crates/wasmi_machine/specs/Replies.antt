@@ -1,4 +1,4 @@
--- Replies in memory that is kept from run to run.
+-- Replies in memory that is kept from run to run, and the text of the error of a run for which it is too small.
 use Rattle.std.specs.Prelude.{ℕ, List, codes}
 use Rattle.wasmi_machine.specs.declared.calls.Reply.{Reply}
 

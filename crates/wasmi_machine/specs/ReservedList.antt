@@ -7,6 +7,6 @@ pub record ReservedListValue (X : Type 0) : Type 0 where
   pub reserved : ℕ
   pub capacity : ℕ
 
--- the list with another item at an index
+-- the list with another item at an index, and with the same memory for items that are still to be added
 abbrev pub with_item : {X : Type 0} → ReservedListValue X → ℕ → X → ReservedListValue X
 with_item list k x = record list { items = slice_set list.items k x }

@@ -1,5 +1,5 @@
--- What a machine is to its callers: its state, a world of it with a limiter, its totals, when it is valid (core
--- specification, the store), and a turn of it with its outcome.
+-- The state of a machine and its slots (core specification, the store), a world of it with a limiter, a turn with its
+-- outcome, refusals, the sizes and totals of a state, and when states and calls are valid.
 use Rattle.std.specs.Prelude.{ℕ, ◌+◌, List, [], Option, Some, None, slice_get, replicate, ◌≡◌, length, map, max, sum, ◌≤◌, All}
 use Rattle.std.specs.Option.{option_and_then}
 use Rattle.wasmi_raw.specs.declared.raw.RawVal.{RawVal}
@@ -74,7 +74,7 @@ new_state meter = record {
 abbrev pub with_spare : State → List ℕ → State
 with_spare s region = record s { spare = Some region }
 
--- up to how many of a list are reserved, once so many more than it has are
+-- up to how many slots of a kind a state has reserved, once so many more than are in its list are
 abbrev pub reserved_for : {A : Type 0} → ℕ → List A → ℕ → ℕ
 reserved_for reserved list additional = max reserved (length list + additional)
 
@@ -94,7 +94,7 @@ with_reserved s more = record s {
 abbrev pub with_memories : State → List (Slot MemoryValue) → State
 with_memories s memories = record s { memories = memories }
 
--- the part of a state that a creation in the spare region changes
+-- the part of the state of a machine that has its memories and its spare region, as a creation in it changes both
 pub record MemoryPart : Type 0 where
   pub slots : List (Slot MemoryValue)
   pub spare : Option (List ℕ)
@@ -154,7 +154,7 @@ pub record TurnOutcome : Type 0 where
 abbrev pub outcome_of : Turn → TurnOutcome
 outcome_of turn = record { reply = turn.reply; charge = turn.charge; written = turn.written }
 
--- a turn is charged nothing, and has written nothing by a growth or over a range
+-- the outcome of a turn that is charged nothing, and has written nothing by a growth or over a range
 abbrev pub IsFree : TurnOutcome → Type 0
 IsFree outcome = (outcome.charge ≡ 0) × (outcome.written ≡ 0)
 
@@ -186,7 +186,7 @@ sizes s Elements = map (slot_count size_of) s.tables
 abbrev pub total : State → Kind → ℕ
 total s kind = sum (sizes s kind)
 
--- exactly these totals are held
+-- exactly the totals of the state are held
 pub record HoldsTotals (h : Holdings) (s : State) : Type 0 where
   pub bytes : h.held.bytes ≡ total s Bytes
   pub elements : h.held.elements ≡ total s Elements

@@ -1,4 +1,5 @@
--- One step of the machine: what each call does, and what that changes in a world; and whole runs.
+-- Steps and runs of a machine: the subject and the effect of each call, the vector that it makes, whether it is charged
+-- for what it writes, what each effect changes in a world, and turns one after another.
 use Rattle.std.specs.Prelude.{◌≡◌, ◌⊎◌, ◌+◌, ◌<◌, ◌≤◌, ℕ, Bool, true, false, List, Option, Some, None, Result, Ok, Vec, slice_get, [], ◌∷◌, length, map}
 use Rattle.std.specs.Global.{Global}
 use Rattle.std.specs.Option.{option_map, option_and_then}
@@ -10,8 +11,8 @@ use Rattle.wasmi_typed.specs.declared.typed.TypedRawVal.{TypedRawVal}
 use Rattle.wasmi_typed.specs.declared.typed_ref.TypedRawRef.{TypedRawRef}
 use Rattle.wasmi_typed.specs.Global.{GlobalInstance}
 use Rattle.wasmi_lanewise.specs.VectorTable.{shuffle}
-use Rattle.wasmi_ops.specs.VectorOps.{stored_lane, binary_vector, made_vector, shifted_vector, ternary_vector, tested_raw, unary_vector}
-use Rattle.wasmi_ops.specs.LaneOps.{extracted_raw, replaced_vector}
+use Rattle.wasmi_ops.specs.VectorOps.{binary_vector, made_vector, shifted_vector, ternary_vector, tested_raw, unary_vector}
+use Rattle.wasmi_ops.specs.LaneOps.{extracted_raw, replaced_vector, stored_lane}
 use Rattle.wasmi_meter.specs.Limiter.{Rules}
 use Rattle.wasmi_store.specs.Buffer.{Owned}
 use Rattle.wasmi_store.specs.Memory.{MemoryTypeValue, MakesMemory, GrowsMemoryCharging}
@@ -212,7 +213,7 @@ effect_of s (call.StoreLane op a memory ptr offset) = Changed (BytesStored memor
 
 -- What tools/generate writes ends.
 
--- memory for one more slot may be refused, since each one that is reserved is used
+-- memory for one more slot may be refused in a step, since each one that is reserved is used
 abbrev pub LacksSlot : {A : Type 0} → ℕ → List A → Type 0
 LacksSlot reserved list = reserved ≤ length list
 

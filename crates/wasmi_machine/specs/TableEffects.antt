@@ -1,4 +1,4 @@
--- The calls on tables: what each does to the list of slots.
+-- The calls on tables: their replies, what each does to the slots, and what a write over a range writes.
 use Rattle.std.specs.Prelude.{◌≡◌, ◌<◌, ◌⊎◌, ℕ, Option, Some, Result, List}
 use Rattle.std.specs.Option.{option_map, option_map_or}
 use Rattle.wasmi_typed.specs.declared.typed_ref.TypedRawRef.{TypedRawRef}

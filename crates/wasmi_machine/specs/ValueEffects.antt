@@ -1,4 +1,4 @@
--- The calls on element segments, data segments, globals and the meter.
+-- The calls on element segments, data segments, globals and the meter: their replies, and what each does.
 use Rattle.std.specs.Prelude.{◌≡◌, ◌⊎◌, ◌≤◌, ◌<◌, ℕ, Option, Result, Ok, Err, List, [], length, slice_get, if◌then◌else◌, is_some}
 use Rattle.std.specs.Option.{option_map_or}
 use Rattle.wasmi_types.specs.declared.value.RefType.{RefType}

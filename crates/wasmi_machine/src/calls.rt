@@ -1,5 +1,5 @@
-//! What a machine can be asked, and what it replies. Both are our own: upstream leaves running to
-//! the interpreter.
+//! The calls on a machine, the replies to them, and the bytes that a reply has (`ByteList`). They
+//! are our own: upstream leaves running to the interpreter.
 ghost use Rattle.std.specs.Prelude.{◌≡◌, MatchBool, nat_eq};
 ghost use Rattle.std.specs.Cmp.Lexicographic.{pointwise};
 ghost use Rattle.std.specs.Cmp.{partial_equiv_from_equiv};

@@ -1,4 +1,4 @@
-//! Data segments.
+//! Data segments, and the copies of bytes that they and replies are made of.
 ghost use Rattle.std.specs.Prelude.{◌≡◌, ◌<◌, [], IfOk, OnErr, length};
 ghost use Rattle.std.specs.Vec.{vec_capacity};
 

@@ -1,4 +1,5 @@
-//! The machine.
+//! The machine: how one is made, what a host reads of it, and what changes it without a call. Calls
+//! and runs of calls are in `running.rt`.
 ghost use Rattle.std.specs.Prelude.{◌≡◌, ◌+◌, ◌-◌, ◌<◌, ◌↔◌, Option, IsSome, Some, None, Result, Err, length, slice_get, MatchResult, OnOk, OnErr};
 ghost use Rattle.std.specs.Option.{option_copied, option_copied_mut};
 

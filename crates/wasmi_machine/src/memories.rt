@@ -1,4 +1,5 @@
-//! The memories of a machine, by their indices.
+//! What calls do to the memories of a machine, by their indices, and the replies to calls on
+//! memories.
 ghost use Rattle.std.specs.Prelude.{◌≡◌, ◌+◌, ◌≤◌, Some, length};
 ghost use Rattle.wasmi_meter.specs.Limiter.{optional_rules, lent_limiter, KeepsLoan};
 ghost use Rattle.wasmi_store.specs.Buffer.{Owned};

@@ -1,4 +1,4 @@
-//! The registers of a machine.
+//! The registers of a machine, and the vectors that calls make of what is in them.
 ghost use Rattle.std.specs.Prelude.{◌≡◌, Some, Ok, slice_get, length};
 ghost use Rattle.std.specs.Option.{option_map};
 ghost use Rattle.wasmi_raw.specs.RawVal.{raw_of_vector};

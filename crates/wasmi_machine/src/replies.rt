@@ -1,4 +1,5 @@
-//! Memory for replies that is kept from run to run.
+//! Memory for replies that is kept from run to run, and the error of a run for which it is too
+//! small.
 ghost use Rattle.std.specs.Prelude.{◌≡◌, ◌<◌, ◌==◌, ◌++◌, [], ◌∷◌, IfOk, Some, length};
 ghost use Rattle.wasmi_machine.specs.Replies.{too_many_calls_text};
 

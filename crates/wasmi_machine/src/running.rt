@@ -1,4 +1,5 @@
-//! One call, and runs of calls. They are our own: upstream leaves running to the interpreter.
+//! Executing one call or one growth on a machine, and runs of calls. They are our own: upstream
+//! leaves running to the interpreter.
 ghost use Rattle.std.specs.Prelude.{◌≡◌, ◌≤◌, ◌↔◌, Some, IfOk, IsOk, OnErr, OnOk, length};
 ghost use Rattle.wasmi_meter.specs.Limiter.{optional_rules, lent_limiter, KeepsLoan};
 ghost use Rattle.wasmi_machine.specs.State.{IsValid, world, HoldsTotals};

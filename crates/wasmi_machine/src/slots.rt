@@ -1,4 +1,5 @@
-//! Slots: what was made, each at the index of its making; and lists with memory for more items.
+//! Slots: what was made, each at the index of its making, and the totals of its sizes; and lists
+//! with memory for more items.
 ghost use Rattle.std.specs.Prelude.{◌≡◌, ◌+◌, ◌<◌, ◌≤◌, ◌++◌, ℕ, [], ◌∷◌, length, map, max, sum, IsSome, IfSome, IfNone, OnErr, OnOk, Some, slice_get, slice_set};
 ghost use Rattle.std.specs.Borrow.{sem, Lends, LendsIf};
 ghost use Rattle.std.specs.Option.{option_copied, option_copied_mut};

@@ -1,4 +1,4 @@
-//! The tables of a machine, by their indices.
+//! What calls do to the tables of a machine, by their indices, and the replies to calls on tables.
 ghost use Rattle.std.specs.Prelude.{◌≡◌, ◌≤◌, length, Some};
 ghost use Rattle.wasmi_meter.specs.Limiter.{optional_rules, lent_limiter, KeepsLoan};
 ghost use Rattle.wasmi_store.specs.Growth.{metered_value, metered, WithCharge};

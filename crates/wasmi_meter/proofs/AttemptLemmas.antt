@@ -1,24 +1,20 @@
--- Each way in which an attempt ends, by what was tested on the way.
-use Rattle.std.proofs.Common.{◌≡◌, ℕ, true, false, Option, Some, None, Ok, refl, ap, arith}
+-- Each way in which an attempt ends, by what was tested on the way, and what is charged for it.
+use Rattle.std.proofs.Common.{◌≡◌, ℕ, ◌-◌, true, false, Option, Some, None, Ok, refl, ap, arith}
 use Rattle.std.specs.Option.{option_map}
-use Rattle.wasmi_meter.specs.declared.fuel.CustomFuelCosts.{CustomFuelCosts}
 use Rattle.wasmi_meter.specs.Limiter.{Answer, NoticeAnswer, IsDenial, Rules}
 use Rattle.wasmi_meter.specs.Meter.{Meter, meter_after}
 use Rattle.wasmi_meter.specs.Attempt.{MeteredValue, Request, Unasked, Denied, Met, Failed, Attempt, optional_due, covers}
 
--- nothing taken leaves the meter
+-- a charge of nothing leaves the meter
 pub meter_after_nothing : (m : Option Meter) → m ≡ option_map (λ m. meter_after m 0) m
 meter_after_nothing None = refl
-meter_after_nothing (Some m) = ap Some (unchanged m.left m.costs)
+meter_after_nothing (Some m) = ap (λ (left : Option ℕ). Some (record m { left = left })) (unchanged m.left)
   where
-    unchanged : (left : Option ℕ) (costs : CustomFuelCosts)
-        → (let m : Meter = record { left = left; costs = costs } in m)
-        ≡ meter_after (record { left = left; costs = costs }) 0
-    unchanged None costs = refl
-    unchanged (Some n) costs =
-        ap (λ (k : ℕ). let m : Meter = record { left = Some k; costs = costs } in m) (omega arith)
+    unchanged : (left : Option ℕ) → left ≡ option_map (λ n. n - 0) left
+    unchanged None = refl
+    unchanged (Some n) = ap Some (omega arith)
 
--- no early cause stands against it, and the limiter permits it
+-- no early cause stands against a request, and the limiter permits it
 pub record IsPermitted {V E S : Type 0} (rules : Rules S) (e : Request V E) (l permitted : S) : Type 0 where
   pub early : e.early ≡ None
   pub asks : rules.asked l e.question (Ok true) permitted

@@ -1,33 +1,30 @@
--- Limiters with caps leave no choice, and stay within their caps; so do quotas.
-use Rattle.std.proofs.Common.{◌≡◌, ℕ, ◌+◌, ◌-◌, ◌≤◌, Bool, true, Option, Some, None, Ok, inl, inr, sym, ap, ◌∙◌, arith, refl}
+-- Limiters with caps, and quotas: a question or a notice leaves no choice, all but the holdings stays, and what is held
+-- stays within the caps, also after a denial, a notice or a release.
+use Rattle.std.proofs.Common.{◌≡◌, ℕ, ◌+◌, ◌-◌, ◌≤◌, Bool, true, Option, Some, None, Ok, inl, inr, ap, ◌∙◌, arith, refl}
 use Rattle.std.proofs.lemmas.Bool.{cases_lt}
 use Rattle.wasmi_meter.specs.declared.quota.Holdings.{Holdings}
 use Rattle.wasmi_meter.specs.declared.limiter.Kind.{Kind}
 use Rattle.wasmi_meter.specs.declared.limiter.Kind.TheVariants.{Bytes, Elements}
-use Rattle.wasmi_meter.specs.Capped.{Capped, amount_of, held_together, IsWithin, Asked, Noticed, amount_held, with_more, with_less, without_last_of, HoldsTheSame, Reserves, GivesBack, Takes, Releases, capped_quota, holdings, IsWithinCaps}
+use Rattle.wasmi_meter.specs.Capped.{Capped, held_together, IsWithin, Asked, Noticed, amount_held, with_more, with_less, without_last_of, HoldsTheSame, Reserves, GivesBack, Takes, Releases, capped_quota, holdings, IsWithinCaps}
 use Rattle.wasmi_meter.specs.Limiter.{Question, Answer, IsDenial, Failure, NoticeAnswer, kind_of}
 use Rattle.wasmi_meter.specs.declared.quota.Amounts.{Amounts}
 use Rattle.wasmi_meter.specs.declared.quota.Quota.{Quota}
 
 -- what is to be taken leaves no choice of whether it is, nor of what is held after it
-takes_unique : (others cap : ℕ) (h : Holdings) (kind : Kind) (n : ℕ) (taken taken' : Bool) (a b : Holdings)
+takes_unique : {others cap : ℕ} {h : Holdings} {kind : Kind} {n : ℕ} {taken taken' : Bool} {a b : Holdings}
     → Takes others cap h kind n taken a → Takes others cap h kind n taken' b → (taken ≡ taken') × (a ≡ b)
-takes_unique others cap h kind n taken taken' a b first second =
-    elim (cases_lt cap (others + amount_held h kind + n)) [
-      | inl above ↦ let one = first.above above in let other =
-          second.above above in (one.0 ∙ sym other.0, one.1 ∙ sym other.1)
-      | inr within ↦ let one = first.within within in let other =
-          second.within within in (one.0 ∙ sym other.0, one.1 ∙ sym other.1)
-    ]
+takes_unique {others} {cap} {h} {kind} {n} first second = elim (cases_lt cap (others + amount_held h kind + n)) [
+  | inl above ↦ let one = first.above above in let other = second.above above in (cc, cc)
+  | inr within ↦ let one = first.within within in let other = second.within within in (cc, cc)
+]
 
 -- after n more of a kind that fit, what is held of each kind fits
 more_fits : (others cap : Kind → ℕ) (h : Holdings) (q : Kind) (n : ℕ) → others q + amount_held h q + n ≤ cap q
     → ((kind : Kind) → others kind + amount_held h kind ≤ cap kind) → (kind : Kind)
     → others kind + amount_held (with_more h q n) kind ≤ cap kind
 more_fits others cap h Bytes n fits within Bytes = omega (arith, fits)
-more_fits others cap h Bytes n fits within Elements = within Elements
-more_fits others cap h Elements n fits within Bytes = within Bytes
 more_fits others cap h Elements n fits within Elements = omega (arith, fits)
+more_fits others cap h q n fits within kind = within kind
 
 -- no more is held of a kind once a last difference was taken back
 less_held : (back : Kind) (h : Holdings) (last : Option (Kind × ℕ)) (kind : Kind)
@@ -58,17 +55,12 @@ module _ {L : Type 0} (c : Capped L) where
   pub asked_unique : (l : L) (q : Question) (answer answer' : Answer) (a b : L) → Asked c l q answer a
       → Asked c l q answer' b → (answer ≡ answer') × (a ≡ b)
   asked_unique l q answer answer' a b (taken, answered, first) (taken', answered', second) =
-      let one = takes_unique (c.others l q.kind) (c.cap l q.kind) (c.holdings l) q.kind (q.desired - q.current)
-      taken taken' (c.holdings a) (c.holdings b) first.takes second.takes in
-      (answered ∙ ap Ok one.0 ∙ sym answered', first.rest ∙ ap (c.with_holdings l) one.1 ∙ sym second.rest)
+      let one = takes_unique first.takes second.takes in (cc, cc)
 
   -- a notice leaves no choice of the answer, nor of the limiter after it
   pub noticed_unique : (l : L) (failure : Failure) (answer answer' : NoticeAnswer) (a b : L)
       → Noticed c l failure answer a → Noticed c l failure answer' b → (answer ≡ answer') × (a ≡ b)
-  noticed_unique l failure answer answer' a b first second = (
-    first.accepts ∙ sym second.accepts,
-    first.rest ∙ ap (c.with_holdings l) (first.gives_back ∙ sym second.gives_back) ∙ sym second.rest,
-  )
+  noticed_unique l failure answer answer' a b first second = (cc, cc)
 
   module _ (keeps : KeepsCaps c) (l l' : L) where
     -- the caps stay where all but the holdings does
@@ -82,41 +74,29 @@ module _ {L : Type 0} (c : Capped L) where
     -- within the caps by what is held
     holds_within : l' ≡ c.with_holdings l (c.holdings l')
         → ((kind : Kind) → c.others l kind + amount_held (c.holdings l') kind ≤ c.cap l kind) → IsWithin c l'
-    holds_within rest fits kind =
-        let cap = caps_kept rest kind in
-        let others = others_kept rest kind in
-        let bound = fits kind in
-        omega (arith, cap, others, bound)
+    holds_within rest fits kind = omega (arith, caps_kept rest kind, others_kept rest kind, fits kind)
 
     -- a question leads from within the caps to within them
     pub asked_is_within : IsWithin c l → (q : Question) (answer : Answer) → Asked c l q answer l' → IsWithin c l'
     asked_is_within within q answer (taken, answered, more) =
         elim (cases_lt (c.cap l q.kind) (held_together c l q.kind + (q.desired - q.current))) [
-          | inl above ↦ holds_within more.rest (λ kind.
-              let same = ap (λ h. amount_held h kind) (more.takes.above above).1 in
-              let bound = within kind in
-              omega (arith, same, bound))
-          | inr fits ↦ holds_within more.rest (λ kind.
-              let is = ap (λ h. amount_held h kind) (more.takes.within fits).1 in
-              let bound = more_fits (c.others l) (c.cap l) (c.holdings l) q.kind _ fits within kind in
-              omega (arith, is, bound))
+          | inl above ↦ holds_within more.rest (λ kind. rw (more.takes.above above).1 (within kind))
+          | inr fits ↦ holds_within more.rest (λ kind. rw (more.takes.within fits).1
+              (more_fits (c.others l) (c.cap l) (c.holdings l) q.kind _ fits within kind))
         ]
 
     -- a notice leads from within the caps to within them
     pub noticed_is_within : IsWithin c l → (failure : Failure) (notice_answer : NoticeAnswer)
         → Noticed c l failure notice_answer l' → IsWithin c l'
     noticed_is_within within failure notice_answer noticed =
-        holds_within noticed.rest (λ kind.
-        let is = ap (λ h. amount_held h kind) noticed.gives_back in
-        let less = less_held (kind_of failure) (c.holdings l) (c.holdings l).last kind in
-        let bound = within kind in
-        omega (arith, is, less, bound))
+        holds_within noticed.rest (λ kind. rw noticed.gives_back
+        (omega (arith, less_held (kind_of failure) (c.holdings l) (c.holdings l).last kind, within kind)))
 
--- the caps are the same with other holdings
+-- the caps of a quota are the same with other holdings
 pub quota_keeps : KeepsCaps capped_quota
 quota_keeps = record { cap = λ quota h kind. refl; others = λ quota h kind. refl }
 
--- nothing is within any caps
+-- a quota that holds nothing is within any caps
 pub nothing_within : (caps held : Amounts) → (held.bytes ≡ 0) × (held.elements ≡ 0)
     → IsWithinCaps (record { caps = caps; holdings = record { held = held; last = None } })
 nothing_within caps held none Bytes = omega (arith, none.0)
@@ -125,9 +105,8 @@ nothing_within caps held none Elements = omega (arith, none.1)
 -- no more of a kind is held once some of one was given up
 less_left : (back : Kind) (h : Holdings) (n : ℕ) (kind : Kind) → amount_held (with_less h back n) kind ≤ amount_held h kind
 less_left Bytes h n Bytes = omega arith
-less_left Bytes h n Elements = omega arith
-less_left Elements h n Bytes = omega arith
 less_left Elements h n Elements = omega arith
+less_left back h n kind = omega arith
 
 -- no more of a kind is held once it was tried to give some of one up
 released_less : (back : Kind) (h h' : Holdings) (n : ℕ) (released : Bool) → Releases h back n released h'
@@ -143,7 +122,4 @@ pub released_within : (quota quota' : Quota) (kind : Kind) (n : ℕ) (released :
     → Releases (holdings quota) kind n released (holdings quota') → quota'.caps ≡ quota.caps
     → IsWithinCaps quota → IsWithinCaps quota'
 released_within quota quota' kind n released releases caps within k =
-    let less = released_less kind (holdings quota) (holdings quota') n released releases k in
-    let cap = ap (λ amounts. amount_of amounts k) caps in
-    let bound = within k in
-    omega (arith, less, cap, bound)
+    rw caps (omega (arith, released_less kind (holdings quota) (holdings quota') n released releases k, within k))

@@ -1,11 +1,11 @@
--- A limiter that answers from a list.
+-- A limiter that answers from a list: the answers of the list, which of them is next, and the rules of such a limiter.
 use Rattle.std.specs.Prelude.{◌≡◌, List, Ok, Err, true, false, drop, slice_index_or}
 use Rattle.wasmi_meter.specs.Limiter.{Answer, NoticeAnswer, Rules}
 use Rattle.wasmi_meter.specs.declared.answer_list.LimiterAnswer.{LimiterAnswer}
 use Rattle.wasmi_meter.specs.declared.answer_list.LimiterAnswer.TheVariants.{Permit, Deny, Error, Complain}
 use Rattle.wasmi_meter.specs.declared.error.LimiterError.TheVariants.{ResourceLimiterDeniedAllocation}
 
--- what a question is answered
+-- what a question is answered by an answer of a list
 abbrev pub answer_by : LimiterAnswer → Answer
 answer_by Permit = Ok true
 answer_by Deny = Ok false

@@ -1,4 +1,4 @@
--- The rules of a limiter of one of three kinds.
+-- A limiter of one of three kinds: its rules, and the quota and the caps that it has, if it is a quota.
 use Rattle.std.specs.Prelude.{◌≡◌, Option, Some, None, Ok, true}
 use Rattle.std.specs.Option.{option_map}
 use Rattle.wasmi_meter.specs.declared.quota.Amounts.{Amounts}

@@ -1,4 +1,5 @@
--- One creation or growth of what a limiter and a meter watch: how it can end, and what each end means.
+-- An attempt, which is one creation or growth under a limiter and a meter: what is asked and paid, what is due and
+-- whether that is left, how it can end, and which answer, charge and value each end means.
 use Rattle.std.specs.Prelude.{◌≡◌, ℕ, Bool, true, nat_le, is_none, ◌&&◌, if◌then◌else◌, MatchBool, Option, Some, None, Result, Ok, Err}
 use Rattle.std.specs.Option.{option_map}
 use Rattle.wasmi_meter.specs.declared.fuel.CustomFuelCosts.{CustomFuelCosts}
@@ -15,7 +16,7 @@ pub record MeteredValue (V S : Type 0) : Type 0 where
 abbrev pub with_value : {V W S : Type 0} → MeteredValue V S → W → MeteredValue W S
 with_value s value = record { value = value; meter = s.meter; limiter = s.limiter }
 
--- a limiter that is asked for what isn't there yet, and no meter
+-- what an attempt to make something begins with: a limiter, and no meter
 abbrev pub alone : {S : Type 0} → S → MeteredValue (Unit {0}) S
 alone l = record { value = tt; meter = None; limiter = l }
 
@@ -47,27 +48,27 @@ pub data AttemptOutcome (E : Type 0) : Type 0 where
   Met : AttemptOutcome E
   Failed : E → NoticeAnswer → AttemptOutcome E
 
--- what is due for a price: nothing if there is no price or no meter, or if the meter is off
+-- what is due for the price of an attempt: nothing if there is no price or no meter, or if the meter is off
 abbrev pub optional_due : Option Meter → Option (CustomFuelCosts → ℕ) → ℕ
 optional_due (Some m) (Some price) = due m price
 optional_due _ _ = 0
 
--- whether so much is left
+-- whether so much is left for an attempt, as always without a meter
 abbrev pub covers : Option Meter → ℕ → Bool
 covers (Some m) amount = nat_le amount (amount_left m)
 covers None amount = true
 
--- the error of an answer that is no permission
+-- the error of an attempt that ends with an answer that is no permission
 abbrev pub error_of_answer : {E : Type 0} → E → E → Answer → E
 error_of_answer denial refusal (Ok _) = denial
 error_of_answer denial refusal (Err _) = refusal
 
--- the error of a failure, by the answer to its notice
+-- the error of an attempt that failed after the permission, by the answer to the notice
 abbrev pub error_of_failure : {E : Type 0} → E → E → NoticeAnswer → E
 error_of_failure refusal cause (Ok _) = cause
 error_of_failure refusal cause (Err _) = refusal
 
--- the result of a limiter's answer: no error if it permits, else the error
+-- whether an attempt goes on after a limiter's answer: no error if that permits, else the error
 abbrev pub Permits : {E : Type 0} → E → E → Answer → Result (Unit {0}) E → Type 0
 Permits denial refusal answer (Ok _) = answer ≡ Ok true
 Permits denial refusal answer (Err error) = IsDenial answer × (error ≡ error_of_answer denial refusal answer)

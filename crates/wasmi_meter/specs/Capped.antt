@@ -1,4 +1,5 @@
--- What limiters with caps hold and may hold, their rules, and those of a quota.
+-- Limiters that count what they permitted: amounts by kind, what is held, taken, given back and released, limiters with
+-- caps and their rules, and quotas.
 use Rattle.std.specs.Prelude.{ℕ, ◌≡◌, ◌+◌, ◌-◌, ◌≤◌, ◌<◌, Option, Some, None, Ok, Bool, true, false}
 use Rattle.wasmi_meter.specs.declared.quota.Amounts.{Amounts}
 use Rattle.wasmi_meter.specs.declared.limiter.Kind.{Kind}

@@ -1,4 +1,5 @@
--- What a limiter is asked and told, a limiter that may be absent, and a reference to one.
+-- What a limiter is asked and told and what it answers, its rules, a limiter that may be absent, and the loan of a
+-- limiter by a reference to one.
 use Rattle.std.specs.Prelude.{◌≡◌, ℕ, Option, Some, None, Result, Ok, Bool, true}
 use Rattle.wasmi_meter.specs.declared.limiter.Kind.{Kind}
 use Rattle.wasmi_meter.specs.declared.limiter.Kind.TheVariants.{Bytes, Elements}

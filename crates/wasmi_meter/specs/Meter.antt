@@ -1,4 +1,5 @@
--- What work costs in fuel: what is left on a meter, also on one that a call may have, and what is taken of it.
+-- Fuel meters: what is left on one, also on one that a call may have, what is taken of it or refused, with which error;
+-- and what work costs in fuel.
 use Rattle.std.specs.Prelude.{◌≡◌, ◌⊎◌, ℕ, ◌-◌, ◌≤◌, ◌<◌, is_some, if◌then◌else◌, Option, Some, None, Result, Ok, Err, ◌*◌, ◌/◌, ◌^◌, min, nat_eq}
 use Rattle.std.proofs.Common.{inl, inr}
 use Rattle.std.specs.Borrow.{MutBor, Bor}

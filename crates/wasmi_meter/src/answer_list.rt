@@ -1,4 +1,4 @@
-//! A limiter that answers from a list.
+//! A limiter that answers from a list, and the answers in such a list.
 ghost use Rattle.std.specs.Prelude.{◌≡◌};
 ghost use Rattle.wasmi_meter.specs.AnswerList.{new_answers, answer_list_rules};
 

@@ -1,4 +1,4 @@
-//! A limiter of one of three kinds.
+//! A limiter whose kind is chosen at run time: without limits, a quota, or a list of answers.
 ghost use Rattle.wasmi_meter.specs.AnyLimiter.{any_limiter_rules};
 
 use crate::answer_list::AnswerList;

@@ -1,5 +1,6 @@
-//! Fuel that work takes, at costs that a host may choose.
-ghost use Rattle.std.specs.Prelude.{◌≡◌, ℕ, ◌-◌, ◌≤◌, ◌<◌, Option, Some, None, Result, Ok, Err, IsSome, if◌then◌else◌};
+//! Fuel meters, what work costs in fuel, which a host may choose, and why a call on a meter is
+//! refused.
+ghost use Rattle.std.specs.Prelude.{◌≡◌, ℕ, ◌-◌, Option, Some, None, Result, Ok, Err, IsSome, if◌then◌else◌};
 ghost use Rattle.wasmi_meter.specs.declared.fuel.CustomFuelCosts.{CustomFuelCosts};
 ghost use Rattle.wasmi_meter.specs.Meter.{costs_of, cut_product, copy_cost, Meter, amount_left, meter_set, ConsumesFuel, default_costs, Computes};
 ghost use Rattle.wasmi_meter.specs.Texts.{fuel_error_text, numbered};

@@ -1,6 +1,7 @@
-//! Who may grow: a limiter is asked before each growth, and notified if a growth that it permitted
-//! fails; and references to limiters.
-ghost use Rattle.std.specs.Prelude.{◌≡◌, ◌≤◌, ℕ, Option, IsSome, Some, None, Result, Ok, Bool, true};
+//! Resource limiters: each is asked before a growth of a memory or a table, and notified if a
+//! growth that it permitted fails. Limiters by the kind of what grows, without limits, and absent
+//! ones; and references to limiters that are lent.
+ghost use Rattle.std.specs.Prelude.{◌≡◌, ◌≤◌, ℕ, Option, IsSome, Some, None, Result, Ok, true};
 ghost use Rattle.std.specs.Option.{option_copied_mut};
 ghost use Rattle.std.specs.Borrow.{sem, Lends};
 ghost use denote.Ref.{at_last};

@@ -1,4 +1,5 @@
-//! Limiters that count what they permitted: amounts, what is held, limiters with caps, and a quota.
+//! Limiters that count what they permitted: amounts by kind, what is held, taken, given back and
+//! released, limiters with caps, and a quota.
 ghost use Rattle.std.specs.Prelude.{◌≡◌, None};
 ghost use Rattle.wasmi_meter.specs.Capped.{Capped, HoldsMore, IsWithinCaps, Takes, amount_of, cap_of, capped_quota, capped_rules, nothing, without_last, GivesBack, Releases, Reserves};
 ghost use Rattle.wasmi_meter.specs.CappedProofs.{asked_reserves, noticed_gives_back};

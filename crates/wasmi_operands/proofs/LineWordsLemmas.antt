@@ -1,5 +1,6 @@
--- What words write one after the other, the digits of a word, and other forms of what is accepted.
-use Rattle.std.proofs.Common.{ℕ, zero, suc, ◌≡◌, ◌<◌, ◌+◌, ◌∷◌, ◌++◌, Err, List, [], false, get_or, length, map, take, refl, sym, ap, subst, arith, rules, tests, Option, Some, None, true, bytes_eq, codes, cond, Result, Ok, OnErr, IfErr, Bor}
+-- Words that write an item each, the limit that a word writes, the digits of a word, the word at a place, and what
+-- follows where a line or a part of it is accepted or refused.
+use Rattle.std.proofs.Common.{ℕ, zero, suc, ◌≡◌, ◌<◌, ◌∷◌, ◌++◌, Err, List, [], false, get_or, length, map, take, refl, sym, ap, subst, arith, rules, tests, Option, Some, None, true, bytes_eq, codes, cond, Result, Ok, OnErr, IfErr, Bor}
 use Rattle.std.specs.List.{AllZip}
 use Rattle.wasmi_operands.specs.declared.error.LineError.{LineError}
 use Rattle.wasmi_operands.specs.declared.error.LineError.TheVariants.{BadCommand, OutOfMemory}
@@ -76,7 +77,7 @@ digits_to [] i inside digits digit = absurd (omega arith)
 digits_to (c ∷ cs) zero inside digits digit = (digit, tt)
 digits_to (c ∷ cs) (suc i) inside digits digit = (digits.0, digits_to cs i (omega arith) digits.1 digit)
 
--- what two facts mean that hold of the same values
+-- what is accepted as one fact of a value is accepted as another that holds of the same values
 pub accepts_same : {A : Type 0} (r : Result A LineError) (P Q : A → Type 0) → ((a : A) → P a → Q a)
     → ((a : A) → Q a → P a) → Accepts r P → Accepts r Q
 accepts_same (Ok a) P Q there back p = there a p
@@ -92,8 +93,7 @@ refused_with OutOfMemory P Q part refused = refused
 -- what is refused by the error of a part of it
 pub refused_through : {A B : Type 0} {P : A → Type 0} {Q : B → Type 0} (error : LineError) (result : Result B LineError)
     → result ≡ Err error → ((b : B) → Q b → (a : A) × P a) → Accepts {A = A} (Err error) P → Accepts result Q
-refused_through {P = P} {Q = Q} error result is part refused =
-    subst (λ r. Accepts r Q) (sym is) (refused_with error P Q part refused)
+refused_through {P = P} {Q = Q} error result is part refused = rw is (refused_with error P Q part refused)
 
 -- what is accepted is accepted where memory is taken
 pub with_memory : {A : Type 0} (r : Result A LineError) (P : A → Type 0) → Accepts r P → AcceptsWithMemory r P

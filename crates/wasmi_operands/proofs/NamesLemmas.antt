@@ -1,5 +1,5 @@
--- Names of what has one each: a word names one variant of an enum, a list has each under its name, and two words name
--- one reference or one instruction on a lane at most.
+-- Names of any enum or kind: a word names one variant, a list has each under its name and tells what the names mean,
+-- and two words name one reference, or one instruction on a lane or none.
 use Rattle.std.proofs.Common.{ℕ, ◌≡◌, ◌∙◌, List, [], ◌∷◌, inl, inr, Option, None, Some, Result, Err, Bool, true, false, bytes_eq, cond, ok_or, refl, sym, ap, subst, rules, tests, option_and_then, option_map}
 use denote.Struct.Field.{Field}
 use denote.Enum.Bare.{Bare, sameb, same_true}
@@ -51,7 +51,7 @@ one_passes ([] ∷ parts) bare test all (inr c) = one_passes parts bare (λ c. t
     (both (test (inl tt)) (all_pass parts bare (λ c. test (inr c))) all).1 c
 one_passes ((field ∷ fields) ∷ parts) bare test all c = absurd bare
 
--- equal bytes are one text
+-- a word and a name whose bytes are equal are one text
 pub same_text : (a b : List ℕ) → bytes_eq a b ≡ true → a ≡ b
 same_text a b e = search (rules, tests)
 
@@ -103,7 +103,7 @@ module _ (N : Record) (bare : Bare N.parts) (name_of : N.D → List ℕ) where
   unfolding named IsNamed
   named_is whole word op is = ap (entry_of entries) is ∙ entry_found entries whole op
 
-  -- and variants of one name are one
+  -- variants of one name are one, where names differ
   pub one_named : has_each entries ≡ true → (a b : N.D) → name_of a ≡ name_of b → a ≡ b
   one_named whole a b is =
       let left = named_is whole (name_of a) a refl in
@@ -116,7 +116,7 @@ module _ (N : Record) (bare : Bare N.parts) (name_of : N.D → List ℕ) where
   unfolding IsName IsNamed
   tells_names names right whole name result = accepts_same result (IsNamed names name) (λ op. name ≡ name_of op)
       (λ op. found_named name_of names name op right)
-      (λ op is. subst (λ text. IsNamed names text op) (sym is) (entry_found names whole op))
+      (λ op is. rw is (entry_found names whole op))
 
 -- the reference that two words write
 pub reference_named : List ℕ → List ℕ → Option TypedRawRef
@@ -143,7 +143,7 @@ module _ {Kind Op : Type 0} (name_of : Kind → List ℕ) (op_on : Kind → ℕ 
   unfolding NamesLane
   no_index name lane error result is = refused_through error result is (λ op w. (w.1, w.3))
 
--- a name and an index name what is on the lane of the index, if there is such a lane
+-- for any kind of instruction on one lane: a name and an index name what is on the lane of the index, if there is one
 abbrev pub NamesOnLane : {Kind Op : Type 0} → (Kind → List ℕ) → (Kind → ℕ → Option Op) → Type 0
 NamesOnLane {Kind} {Op} name_of op_on = (name lane : List ℕ) (kind : Kind) (index : ℕ) (result : Result Op LineError)
     → IsName name_of name kind → WritesNumber 8 lane index → result ≡ ok_or (op_on kind index) BadCommand
@@ -158,22 +158,18 @@ module _ (N : Record) (bare : Bare N.parts) (name_of : N.D → List ℕ) {Op : T
   pub lane_is : (name lane : List ℕ) → has_each N bare name_of (entries N bare name_of) ≡ true → (op : Op)
       → NamesLane name_of op_on name lane op → lane_named name lane ≡ Some op
   unfolding NamesLane lane_named IsName
-  lane_is name lane whole op w =
-      ap (option_and_then (λ kind. op_on kind (decimal_value lane))) (named_is N bare name_of whole name w.0 w.2)
-      ∙ ap (op_on w.0) (sym w.3.1) ∙ w.4
+  lane_is name lane whole op w = rw (named_is N bare name_of whole name w.0 w.2, ← w.3.1) w.4
 
   -- where each kind has a name of its own, a name and an index name what is on the lane
   pub names_on : has_each N bare name_of (entries N bare name_of) ≡ true → NamesOnLane name_of op_on
   unfolding NamesLane IsName
   names_on whole name lane kind index result is_name is_index given =
-      subst (λ r. Accepts r (NamesLane name_of op_on name lane)) (sym given) (
+      rw given (
       elim (op_on kind index) as (λ found. op_on kind index ≡ found
       → Accepts (ok_or found BadCommand) (NamesLane name_of op_on name lane)) [
         | None ↦ λ none. λ op w.
             let same = one_named N bare name_of whole w.0 kind (sym w.2 ∙ is_name) in
-            let at : w.1 ≡ index = w.3.1 ∙ sym is_index.1 in
-            let absent : None ≡ Some op = sym none ∙ sym (λ i. op_on (same i) (at i)) ∙ w.4 in
-            absurd cc
+            absurd (cc (none, w.3.1, is_index.1, w.4))
         | Some op ↦ λ found. (kind, index, is_name, is_index, found)
       ] refl
       )

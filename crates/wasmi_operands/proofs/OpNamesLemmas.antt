@@ -1,4 +1,5 @@
--- What the lists of instructions' names tell, and the instructions on one lane by name and index.
+-- The lists of instructions' names that stand in memory: each tells what its names mean; and for the four kinds of
+-- instructions on one lane what a name and an index name.
 use Rattle.std.proofs.Common.{◌≡◌, ℕ, List, map, refl, true}
 use denote.Enum.Bare.{Bare}
 use denote.Enum.Declared.{Record}
@@ -26,7 +27,7 @@ use Rattle.wasmi_operands.proofs.NamesLemmas.{TellsNames, entries_named, has_eac
 abbrev pub Tells : {A : Type 0} → List (record { now : List ℕ } × A) → (A → List ℕ) → Type 0
 Tells list name_of = TellsNames (map (λ entry. (entry.0.now, entry.1)) list) name_of
 
--- a list that has each op of an enum under its name tells what the names mean
+-- a list of instructions' names that stands in memory and has each op of an enum under its name tells what they mean
 tells : (N : Record) (bare : Bare N.parts) (name_of : N.D → List ℕ) (list : List (record { now : List ℕ } × N.D))
     → entries_named name_of (map (λ entry. (entry.0.now, entry.1)) list) ≡ true
     → has_each N bare name_of (map (λ entry. (entry.0.now, entry.1)) list) ≡ true → Tells list name_of

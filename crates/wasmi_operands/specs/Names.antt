@@ -1,4 +1,5 @@
--- The words of types, references, answers and instructions.
+-- Lists of names and what a name stands for; the words of types, mutability, references, a limiter's answers, and
+-- instructions, also those on a lane; and the words of the lanes of a shuffle.
 use Rattle.std.specs.Prelude.{◌≡◌, ℕ, List, [], ◌∷◌, Option, None, Some, cond, bytes_eq, codes, length}
 use Rattle.wasmi_types.specs.declared.index_ty.IndexType.{IndexType}
 use Rattle.wasmi_types.specs.declared.value.RefType.{RefType}
@@ -30,7 +31,7 @@ IsNamed names name op = entry_of names name ≡ Some op
 unfoldable pub IsName : {A : Type 0} → (A → List ℕ) → List ℕ → A → Type 0
 IsName name_of word op = word ≡ name_of op
 
--- the bits of an address or of an index
+-- the word of an address type: the bits of an address or of an index
 abbrev pub width_word : IndexType → List ℕ
 width_word index.I32 = codes "32"
 width_word index.I64 = codes "64"
@@ -40,7 +41,7 @@ abbrev pub reference_word : RefType → List ℕ
 reference_word Func = codes "func"
 reference_word Extern = codes "extern"
 
--- whether a global can be written
+-- the word of a mutability: whether a global can be written
 abbrev pub mutability_word : Mutability → List ℕ
 mutability_word Const = codes "const"
 mutability_word Var = codes "var"
@@ -59,14 +60,14 @@ value_word V128 = codes "v128"
 value_word FuncRef = codes "funcref"
 value_word ExternRef = codes "externref"
 
--- the word that stands for an answer
+-- the word that stands for a limiter's answer
 abbrev pub answer_text : LimiterAnswer → List ℕ
 answer_text Permit = codes "permit"
 answer_text Deny = codes "deny"
 answer_text Error = codes "error"
 answer_text Complain = codes "complain"
 
--- the word stands for this answer
+-- the word stands for this answer of a limiter
 abbrev pub WritesAnswer : List ℕ → LimiterAnswer → Type 0
 WritesAnswer word answer = word ≡ answer_text answer
 

@@ -1,4 +1,4 @@
-//! Why a line isn't taken.
+//! Why a line isn't taken: it is a bad command, or memory is refused.
 ghost use Rattle.std.specs.Prelude.{◌≡◌};
 ghost use Rattle.wasmi_operands.specs.declared.error.LineError.TheVariants.{OutOfMemory};
 

@@ -1,4 +1,5 @@
-//! The words of a line, and what they write: numbers, and the operands of a command.
+//! The words of a line, and what they write: numbers, types, references, a limiter's answers and
+//! the names of instructions, by one word, by as many as a command has, or as a list.
 #![tactic(auto, using(crate::proofs::OpNamesLemmas::op_names))]
 
 ghost use Rattle.std.specs.Char.{digit_value};

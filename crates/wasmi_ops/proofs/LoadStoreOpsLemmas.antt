@@ -1,4 +1,4 @@
--- Scalar loads from the front of the bytes at an address, and past the end.
+-- Scalar loads as values, whatever each of them loads: from the front of the bytes at an address, and past the end.
 use Rattle.std.proofs.Common.{◌≡◌, ℕ, ◌≤◌, ◌<◌, ◌^◌, List, length, drop, ap, arith, Err, pos, length-drop}
 use Rattle.std.specs.Int.{w8, w16, w32, w64, cast_signed}
 use Rattle.std.proofs.lemmas.Grind.{common_steps}

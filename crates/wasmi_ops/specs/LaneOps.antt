@@ -1,6 +1,7 @@
--- The vector instructions on one lane, and their kinds without the lane's index.
-use Rattle.std.specs.Prelude.{ℕ, nat_lt, if◌then◌else◌, List, Option, Some, None, codes}
-use Rattle.wasmi_types.specs.Numbers.{w8, w16, w32, w64}
+-- The vector instructions on one lane and what each gives, loads and stores too; a row for each of their kinds, which
+-- are without the lane's index.
+use Rattle.std.specs.Prelude.{ℕ, nat_lt, if◌then◌else◌, List, Option, Some, None, codes, Result}
+use Rattle.wasmi_types.specs.Numbers.{w8, w16, w32, w64, le_bytes}
 use Rattle.std.specs.Int.{cast_unsigned}
 use Rattle.wasmi_raw.specs.declared.raw.RawVal.{RawVal}
 use Rattle.wasmi_raw.specs.RawVal.{raw_of, signed_in}
@@ -21,6 +22,9 @@ use Rattle.wasmi_ops.specs.declared.vector.ExtractKind.TheVariants as extract_ki
 use Rattle.wasmi_ops.specs.declared.vector.ReplaceKind.TheVariants as replace_kind
 use Rattle.wasmi_ops.specs.declared.vector.LoadLaneKind.TheVariants as load_lane_kind
 use Rattle.wasmi_ops.specs.declared.vector.StoreLaneKind.TheVariants as store_lane_kind
+use Rattle.wasmi_types.specs.declared.trap.TrapCode.{TrapCode}
+use Rattle.wasmi_access.specs.LoadStore.{loaded}
+use Rattle.wasmi_lanes.specs.Vector.{lane, with_lane}
 
 -- the lane that an instruction takes from a vector, as a raw value
 abbrev pub extracted_raw : ExtractOp → ℕ → RawVal
@@ -37,6 +41,20 @@ replaced_vector (replace.I8x16ReplaceLane index) a raw = vector.replace_lane w8 
 replaced_vector (replace.I16x8ReplaceLane index) a raw = vector.replace_lane w16 a index (signed_in w16 raw)
 replaced_vector (replace.I32x4ReplaceLane index) a raw = vector.replace_lane w32 a index (signed_in w32 raw)
 replaced_vector (replace.I64x2ReplaceLane index) a raw = vector.replace_lane w64 a index (signed_in w64 raw)
+
+-- the vector with a lane that is loaded from an address, or the trap
+abbrev pub loaded_lane : LoadLaneOp → ℕ → List ℕ → ℕ → Result ℕ TrapCode
+loaded_lane (load_lane.V128Load8Lane index) vector bytes a = loaded 1 (with_lane w8 vector index) bytes a
+loaded_lane (load_lane.V128Load16Lane index) vector bytes a = loaded 2 (with_lane w16 vector index) bytes a
+loaded_lane (load_lane.V128Load32Lane index) vector bytes a = loaded 4 (with_lane w32 vector index) bytes a
+loaded_lane (load_lane.V128Load64Lane index) vector bytes a = loaded 8 (with_lane w64 vector index) bytes a
+
+-- the bytes that a store of a lane writes
+abbrev pub stored_lane : StoreLaneOp → ℕ → List ℕ
+stored_lane (store_lane.V128Store8Lane index) vector = le_bytes 1 (lane w8 vector index)
+stored_lane (store_lane.V128Store16Lane index) vector = le_bytes 2 (lane w16 vector index)
+stored_lane (store_lane.V128Store32Lane index) vector = le_bytes 4 (lane w32 vector index)
+stored_lane (store_lane.V128Store64Lane index) vector = le_bytes 8 (lane w64 vector index)
 
 -- the instruction on the lane of an index, where there are so many lanes
 abbrev pub on_lane : {Op : Type 0} → ℕ → (ℕ → Op) → ℕ → Option Op

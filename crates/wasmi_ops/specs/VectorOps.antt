@@ -1,6 +1,6 @@
--- The vector instructions: a row for each, its name and what it gives.
+-- The vector instructions but for those on one lane: a row for each, its name and what it gives.
 use Rattle.std.specs.Prelude.{ℕ, List, codes, Result}
-use Rattle.wasmi_types.specs.Numbers.{w8, w16, w32, w64, le_bytes}
+use Rattle.wasmi_types.specs.Numbers.{w8, w16, w32, w64}
 use Rattle.wasmi_ops.specs.declared.vector.UnaryOp.{UnaryOp}
 use Rattle.wasmi_ops.specs.declared.vector.BinaryOp.{BinaryOp}
 use Rattle.wasmi_ops.specs.declared.vector.TernaryOp.{TernaryOp}
@@ -12,10 +12,8 @@ use Rattle.wasmi_ops.specs.declared.vector.TestOp.{TestOp}
 use Rattle.wasmi_ops.specs.declared.vector.MakeOp.{MakeOp}
 use Rattle.wasmi_types.specs.declared.trap.TrapCode.{TrapCode}
 use Rattle.wasmi_access.specs.LoadStore.{loaded}
-use Rattle.wasmi_lanes.specs.Vector.{lane, splat_of, with_lane}
+use Rattle.wasmi_lanes.specs.Vector.{splat_of}
 use Rattle.wasmi_ops.specs.declared.vector.VectorLoadOp.{VectorLoadOp}
-use Rattle.wasmi_ops.specs.declared.vector.LoadLaneOp.{LoadLaneOp}
-use Rattle.wasmi_ops.specs.declared.vector.StoreLaneOp.{StoreLaneOp}
 use Rattle.wasmi_lanewise.specs.VectorTable as vector
 use Rattle.wasmi_simd.specs.WideningTable as widening
 use Rattle.wasmi_ops.specs.declared.vector.UnaryOp.TheVariants as unary
@@ -25,8 +23,6 @@ use Rattle.wasmi_ops.specs.declared.vector.ShiftOp.TheVariants as shift
 use Rattle.wasmi_ops.specs.declared.vector.TestOp.TheVariants as test
 use Rattle.wasmi_ops.specs.declared.vector.MakeOp.TheVariants as make
 use Rattle.wasmi_ops.specs.declared.vector.VectorLoadOp.TheVariants as load
-use Rattle.wasmi_ops.specs.declared.vector.LoadLaneOp.TheVariants as load_lane
-use Rattle.wasmi_ops.specs.declared.vector.StoreLaneOp.TheVariants as store_lane
 
 -- the row of an instruction of one vector: its name, and what it gives
 abbrev pub unary_row : UnaryOp → List ℕ × (ℕ → ℕ)
@@ -279,17 +275,3 @@ loaded_vector op = (vector_load_row op).1
 -- the name of a load of a vector
 abbrev pub vector_load_name : VectorLoadOp → List ℕ
 vector_load_name op = (vector_load_row op).0
-
--- the vector with a lane that is loaded from an address, or the trap
-abbrev pub loaded_lane : LoadLaneOp → ℕ → List ℕ → ℕ → Result ℕ TrapCode
-loaded_lane (load_lane.V128Load8Lane index) vector bytes a = loaded 1 (with_lane w8 vector index) bytes a
-loaded_lane (load_lane.V128Load16Lane index) vector bytes a = loaded 2 (with_lane w16 vector index) bytes a
-loaded_lane (load_lane.V128Load32Lane index) vector bytes a = loaded 4 (with_lane w32 vector index) bytes a
-loaded_lane (load_lane.V128Load64Lane index) vector bytes a = loaded 8 (with_lane w64 vector index) bytes a
-
--- the bytes that a store of a lane writes
-abbrev pub stored_lane : StoreLaneOp → ℕ → List ℕ
-stored_lane (store_lane.V128Store8Lane index) vector = le_bytes 1 (lane w8 vector index)
-stored_lane (store_lane.V128Store16Lane index) vector = le_bytes 2 (lane w16 vector index)
-stored_lane (store_lane.V128Store32Lane index) vector = le_bytes 4 (lane w32 vector index)
-stored_lane (store_lane.V128Store64Lane index) vector = le_bytes 8 (lane w64 vector index)

@@ -1,4 +1,4 @@
-//! The scalar loads and stores, at a pointer and an offset.
+//! The scalar loads and stores as values, at a pointer and an offset.
 ghost use Rattle.std.specs.Prelude.{◌≡◌, ◌+◌};
 ghost use Rattle.wasmi_access.specs.LoadStore.{IsStore};
 ghost use Rattle.wasmi_ops.specs.LoadStoreOps.{loaded_raw, stored_bytes};

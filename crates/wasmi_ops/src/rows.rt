@@ -1,4 +1,4 @@
-//! What is made of the rows of instructions.
+//! Macros over the rows of instructions: lists of names, and matches that call the functions.
 //!
 //! A row is a variant and the function of its name. A macro below each type has its rows, once, and
 //! gives them to a macro of this file: `binaries!(names! BinaryOp)` is the list of names. The rows

@@ -1,9 +1,10 @@
-//! The vector instructions, on vectors and raw values. A kind is an instruction on one lane without
-//! the lane's index: what a name or a number alone tells.
+//! The vector instructions as values, on vectors and raw values, with the loads and stores of
+//! vectors and of one lane. A kind is an instruction on one lane without the lane's index: what a
+//! name or a number alone tells.
 ghost use Rattle.std.specs.Prelude.{◌≡◌, ◌+◌};
 ghost use Rattle.wasmi_access.specs.LoadStore.{IsStore};
-ghost use Rattle.wasmi_ops.specs.LaneOps.{extracted_raw, extract_op, replaced_vector, replace_op, load_lane_op, store_lane_op};
-ghost use Rattle.wasmi_ops.specs.VectorOps.{made_vector, unary_vector, binary_vector, ternary_vector, shifted_vector, tested_raw, loaded_vector, loaded_lane, stored_lane};
+ghost use Rattle.wasmi_ops.specs.LaneOps.{extracted_raw, extract_op, replaced_vector, replace_op, loaded_lane, load_lane_op, stored_lane, store_lane_op};
+ghost use Rattle.wasmi_ops.specs.VectorOps.{made_vector, unary_vector, binary_vector, ternary_vector, shifted_vector, tested_raw, loaded_vector};
 
 use crate::rows::{calls, names, on_lane};
 use wasmi_lanes::{ImmLaneIdx2, ImmLaneIdx4, ImmLaneIdx8, ImmLaneIdx16};

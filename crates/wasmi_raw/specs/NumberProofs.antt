@@ -1,4 +1,4 @@
--- The integers of each width are the numbers of their types.
+-- The signed and the unsigned integer type of each width, whose values are those of their numbers.
 use Rattle.std.specs.Prelude.{◌≡◌, ℕ, ℤ, pos, negsuc, true, false, unsigned_abs, refl}
 use Rattle.std.specs.Int.{Width}
 use Rattle.wasmi_raw.specs.Number.{IsInRange, NumberType}

@@ -1,4 +1,4 @@
-//! Conversions into and from raw values.
+//! Conversions (`From`) into and from raw values, of integers, `bool`, floats and vectors.
 
 ghost use Rattle.std.specs.Prelude.{◌≡◌};
 ghost use Rattle.std.specs.Int.{w8, w16, w32, w64};

@@ -1,4 +1,4 @@
-//! Floats, of which only the bits are known.
+//! Floats of 32 and 64 bits, of which only the bits are known.
 
 ghost use Rattle.std.specs.Prelude.{◌≡◌, ℕ};
 

@@ -1,4 +1,4 @@
-//! The integer types, as contracts see them.
+//! The integer types, as contracts see them: the trait that has the numbers of each.
 
 ghost use Rattle.std.specs.Prelude.{ℤ, Bool};
 ghost use Rattle.std.specs.Int.{Width, w8, w16, w32, w64, w128};

@@ -1,4 +1,4 @@
-//! Raw references: what an element of a table holds, whatever its type.
+//! Raw references: what an element of a table holds, whatever its type, and its conversions.
 
 ghost use Rattle.std.specs.Prelude.{◌≡◌, ◌↔◌, ℕ, IsTrue};
 ghost use Rattle.std.specs.Int.{w32};

@@ -1,4 +1,4 @@
-//! The 128-bit value that vector instructions work on.
+//! The 128-bit value that vector instructions work on: its two words, and its number.
 
 ghost use Rattle.std.specs.Prelude.{◌≡◌, ℕ, ◌/◌, ◌%◌, ◌^◌, ◌<◌};
 ghost use Rattle.wasmi_raw.specs.RawVal.{vector_of};

@@ -1,4 +1,5 @@
--- Tables on regions: where they are made and grow, and that they do so as others.
+-- The laws of tables on regions: that they are made and grow where they have place, and that they do so as other
+-- tables.
 use Rattle.std.proofs.Common.{None, inl, inr, refl, arith}
 use Rattle.wasmi_region.proofs.Common.{cond-true, Rules, creation_of, same_as_itself, creation_in, growth_in, region_growth}
 use Rattle.wasmi_store.specs.Table.{growth_of}

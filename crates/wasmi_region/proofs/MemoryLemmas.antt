@@ -1,5 +1,5 @@
--- Memories whose bytes are the first of a region.
-use Rattle.std.proofs.Common.{rules, Option, ◌≡◌, ℕ, ◌+◌, ◌-◌, ◌*◌, ◌/◌, ◌≤◌, List, ◌++◌, Bool, true, false, length, take, drop, replicate, refl, sym, ap, ◌∙◌, arith}
+-- Memories whose bytes are the first of a region: a part of a region that is filled, and the growth of such a memory.
+use Rattle.std.proofs.Common.{rules, Option, ◌≡◌, ℕ, ◌+◌, ◌-◌, ◌*◌, ◌/◌, ◌≤◌, List, ◌++◌, Bool, true, length, take, drop, replicate, refl, sym, ap, ◌∙◌, arith}
 use Rattle.std.specs.Prelude.{nat_le}
 use Rattle.std.proofs.lemmas.Bool.Decides.{nat_tests}
 use Rattle.std.proofs.Math.Nat.{sub_self}
@@ -63,12 +63,7 @@ module _ (ty : MemoryTypeValue) (region : List ℕ) (size : ℕ) (within : size 
     -- the room has place for the new size exactly where the region has
     pub room_is : (has_room : Bool) → has_room ≡ nat_le new_size (length region)
         → fits_room x.room (new_size - size) ≡ has_room
-    room_is true h =
-        let test : nat_le new_size (length region) ≡ true = sym h in
-        let left = length-drop size region in grind (arith, nat_tests)
-    room_is false h =
-        let test : nat_le new_size (length region) ≡ false = sym h in
-        let left = length-drop size region in grind (arith, nat_tests)
+    room_is has_room h = let left = length-drop size region in rw h (grind (arith, nat_tests))
 
     -- with zeros from the old size to the new one, the region has the memory that has grown
     pub grown : (region' : List ℕ) → region' ≡ take size region ++ replicate (new_size - size) 0 ++ drop new_size region

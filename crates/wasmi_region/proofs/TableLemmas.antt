@@ -1,8 +1,8 @@
--- Tables whose elements are the first of a region.
-use Rattle.std.proofs.Common.{Option, ◌≡◌, ℕ, ◌+◌, ◌-◌, ◌≤◌, ◌<◌, List, ◌++◌, true, Ok, length, take, drop, replicate, refl, sym, ap, ◌∙◌, arith}
+-- Tables whose elements are the first of a region: the growth of such a table.
+use Rattle.std.proofs.Common.{Option, ◌≡◌, ℕ, ◌+◌, ◌-◌, ◌≤◌, ◌<◌, List, ◌++◌, true, Ok, length, take, drop, replicate, refl, sym, arith}
 use Rattle.std.proofs.lemmas.List.{length-take-le}
 use Rattle.wasmi_meter.specs.Attempt.{Request}
-use Rattle.wasmi_region.proofs.Common.{Question, Answer, Rules, TableValue, table_of, size_of, element_price, with_added, TableTypeValue, is_indexable, is_within_maximum, table_in, growth_in, region_growth, permitted_by, GrowthAttempt, growing, PermitsGrowth}
+use Rattle.wasmi_region.proofs.Common.{Question, Answer, Rules, TableValue, size_of, element_price, with_added, TableTypeValue, is_indexable, is_within_maximum, table_in, growth_in, region_growth, permitted_by, GrowthAttempt, growing, PermitsGrowth}
 use Rattle.wasmi_meter.specs.Meter.{Meter, due}
 use Rattle.wasmi_meter.specs.declared.error.TableError.{TableError}
 use Rattle.wasmi_meter.specs.declared.error.TableError.TheVariants.{GrowOutOfBounds, OutOfSystemMemory}
@@ -71,5 +71,4 @@ module _ {S : Type 0} (t : RegionGrowth S) where
   grown desired reaches region' filled =
       let part = filled_part t.region region' t.size desired t.reference (omega arith) t.within filled in
       let added : desired - t.size ≡ t.delta = omega arith in
-      ap (λ (l : List ℕ). table_of t.ty l)
-      (part.0 ∙ ap (λ (k : ℕ). take t.size t.region ++ replicate k t.reference) added)
+      rw (part.0, added) refl

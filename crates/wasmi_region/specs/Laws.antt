@@ -1,4 +1,5 @@
--- What holds of all tables on regions.
+-- What holds of all tables on regions: what the limiter alone can refuse, and that they are made and grow as other
+-- tables.
 use Rattle.std.specs.Prelude.{◌≡◌, ◌+◌, ◌≤◌, ◌⊎◌, ℕ, true, Option, Result, Ok}
 use Rattle.wasmi_meter.specs.Attempt.{MeteredValue, optional_due, covers}
 use Rattle.wasmi_meter.specs.Limiter.{Rules}

@@ -12,12 +12,12 @@ memory_in ty region size = record { ty = ty; bytes = take size region; room = Le
 abbrev pub zeroed : List ℕ → ℕ → ℕ → List ℕ
 zeroed region start end = take start region ++ replicate (end - start) 0 ++ drop end region
 
--- what a call makes in a region, by the size that it returns
+-- the memory that a call makes in a region, by the size that it returns
 abbrev pub made_in : MemoryTypeValue → List ℕ → Result ℕ MemoryError → Result MemoryValue MemoryError
 made_in ty region (Ok size) = Ok (memory_in ty region size)
 made_in ty region (Err error) = Err error
 
--- what a call makes in a region whose first bytes are zeros, by the size that it returns
+-- the memory that a call makes in a region whose first bytes are zeros, by the size that it returns
 abbrev pub made_in_zeros : MemoryTypeValue → List ℕ → Result ℕ MemoryError → Result MemoryValue MemoryError
 made_in_zeros ty region (Ok size) = Ok (memory_in ty (zeroed region 0 size) size)
 made_in_zeros ty region (Err error) = Err error

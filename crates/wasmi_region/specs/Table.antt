@@ -1,4 +1,5 @@
--- Tables whose elements are the first of a region that lies with their caller.
+-- Tables whose elements are the first of a region that lies with their caller: what is asked and paid where one is made
+-- or grows, and references and items that get the type of its elements.
 use Rattle.std.specs.Prelude.{◌≡◌, ◌+◌, ◌<◌, ℕ, List, take, Result, Ok, Err}
 use Rattle.wasmi_typed.specs.declared.typed_ref.TypedRawRef.{TypedRawRef}
 use Rattle.wasmi_meter.specs.Attempt.{MeteredValue, Request}
@@ -13,7 +14,7 @@ use Rattle.wasmi_store.specs.Table.{TableValue, table_of, size_of, new_table, cr
 abbrev pub table_in : TableTypeValue → List ℕ → ℕ → TableValue
 table_in ty region size = table_of ty (take size region)
 
--- what a call makes in a region, by the size that it returns
+-- the table that a call makes in a region, by the size that it returns
 abbrev pub made_in : TableTypeValue → List ℕ → Result ℕ TableError → Result TableValue TableError
 made_in ty region (Ok size) = Ok (table_in ty region size)
 made_in ty region (Err error) = Err error

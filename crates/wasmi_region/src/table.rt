@@ -3,7 +3,7 @@
 //! region is room to grow in place. A reference is a number, whose type is the caller's matter.
 //!
 //! Own: upstream's table owns its elements.
-ghost use Rattle.std.specs.Prelude.{◌≡◌, ◌≤◌, ◌<◌, ◌+◌, ◌-◌, length, drop, OnErr, IfOk, Some, MatchOption, true, false};
+ghost use Rattle.std.specs.Prelude.{◌≡◌, ◌≤◌, ◌<◌, ◌+◌, length, drop, OnErr, IfOk, Some, MatchOption, true, false};
 ghost use Rattle.wasmi_meter.specs.Limiter.{optional_rules, lent_limiter, KeepsLoan};
 ghost use Rattle.wasmi_store.specs.Growth.{metered_value, metered};
 ghost use Rattle.wasmi_store.specs.Table.{table_of, IsSized, SetsTableRaw, WritesTable, raw_filling_of, copy_of, initialization_of, is_indexable};

@@ -150,6 +150,8 @@ ige_s x y = ile_s y x
 abbrev pub ige_u : ℕ → ℕ → Bool
 ige_u m n = ile_u n m
 
+-- ---- numbers of 128 bits, in two words (the wide-arithmetic proposal)
+
 -- the number of a low and a high word, read unsigned
 abbrev pub unsigned_of : ℤ → ℤ → ℕ
 unsigned_of lo hi = cast_unsigned w64 hi * 2 ^ 64 + cast_unsigned w64 lo

@@ -1,5 +1,6 @@
-//! The traits of the integer types. Upstream: the module `value`, private there. Core
-//! specification: integer operations, under numerics.
+//! The traits of the integer types, with their implementations: the operations, the unsigned type
+//! of the same width, and the extension by the sign. Upstream: the module `value`, private there.
+//! Core specification: integer operations, under numerics.
 
 ghost use Rattle.std.specs.Prelude.{◌≡◌, false, refl, unsigned_abs};
 ghost use Rattle.std.specs.Int.{int_wrap, w64};

@@ -479,13 +479,14 @@ pub fn i64_extend32_s(value: i64) -> i64
     <i64 as SignExtendFrom<i32>>::sign_extend_from(value)
 }
 
-// The number of 128 bits in two words, and its two words.
+// The number of 128 bits in two words.
 fn combine128(lo: i64, hi: i64) -> u128
     ensures { result ≡ unsigned_of lo hi }
 {
     hi.cast_unsigned() as u128 * 0x1_0000_0000_0000_0000 + lo.cast_unsigned() as u128
 }
 
+// The two words of a number of 128 bits.
 fn split128(value: u128) -> (i64, i64)
     ensures { unsigned_of result.0 result.1 ≡ value }
 {

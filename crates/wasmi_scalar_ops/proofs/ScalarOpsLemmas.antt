@@ -1,4 +1,4 @@
--- Operations on numbers of two words.
+-- Operations of the wide-arithmetic proposal, on numbers of two words.
 use Rattle.std.proofs.Common.{◌≡◌, ℕ, arith}
 use Rattle.wasmi_raw.specs.declared.raw.RawVal.{RawVal}
 use Rattle.wasmi_raw.specs.RawVal.{raw_of_vector}

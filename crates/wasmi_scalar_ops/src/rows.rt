@@ -1,5 +1,6 @@
-//! What is made of the rows of instructions, which stand as in `wasmi_ops`: a variant and the
-//! function of its name, in groups with the module of their functions and what follows a call.
+//! Macros over the rows of instructions, which stand as in `wasmi_ops`: lists of names, and matches
+//! that call the functions. A row is a variant and the function of its name; the rows are in groups
+//! with the module of their functions and what follows a call.
 
 /// The list of names of a type: each row's name with its variant.
 macro_rules! names {

@@ -1,4 +1,4 @@
-//! The scalar instructions, on raw values.
+//! The scalar instructions of one and of two operands as values, on raw values.
 ghost use Rattle.std.specs.Prelude.{◌≡◌};
 ghost use Rattle.wasmi_scalar_ops.specs.ScalarOps.{unary_raw, binary_raw};
 

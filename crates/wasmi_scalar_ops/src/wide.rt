@@ -1,4 +1,4 @@
-//! The instructions of the wide-arithmetic proposal, on raw values.
+//! The instructions of the wide-arithmetic proposal, on raw values of two words.
 ghost use Rattle.std.specs.Prelude.{◌≡◌, ◌*◌, ◌*ℤ◌};
 ghost use Rattle.std.specs.Int.{w64, w128, cast_unsigned};
 ghost use Rattle.wasmi_raw.specs.RawVal.{raw_of_vector, vector_in};

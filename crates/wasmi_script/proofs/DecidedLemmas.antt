@@ -1,18 +1,20 @@
--- Where there is enough memory the bytes decide what is printed.
-use Rattle.std.proofs.Common.{ℕ, ◌≡◌, ◌∙◌, ◌++◌, List, [], ◌∷◌, Vec, All, Option, Some, length, None, Ok, Err, map, codes, slice_set, refl, sym, ap, subst, arith}
-use Rattle.wasmi_script.proofs.Common.{decimal, option_map, option_map_or, drop_at, map-append, take_at, Call, Reply, State, new_state, no_slots, World, world, Turn, BadCommand, OutOfMemory, Parse, TooLong, ReadFault, meter_meaning, meter_off, region_bytes, start_of, tenant_start, line, kind_text, reply_text, error_text, IsNewQuota, IsReplayBy, AnswersParts, new_pool, TenantRun, parts_in, calls_in, replies_text, held_text, answer_list_rules, new_answers}
+-- Where there is enough memory the bytes decide what is printed: calls and scripts that say the same have the same
+-- replies, and a limiter that answers from a list leaves no choice.
+use Rattle.std.proofs.Common.{ℕ, ◌≡◌, ◌∙◌, ◌++◌, List, [], ◌∷◌, Vec, All, Option, Some, length, None, Ok, Err, map, slice_set, slice_index_or, refl, sym, ap, subst, arith}
+use Rattle.wasmi_script.proofs.Common.{option_map, option_map_or, drop_at, map-append, take_at, Call, Reply, State, new_state, no_slots, World, world, Turn, BadCommand, OutOfMemory, Parse, TooLong, ReadFault, meter_meaning, meter_off, region_bytes, start_of, tenant_start, line, kind_text, reply_text, error_text, IsNewQuota, IsReplayBy, AnswersParts, new_pool, TenantRun, parts_in, calls_in, replies_text, held_text, answer_list_rules, new_answers, notice_answer_by}
 use Rattle.std.specs.List.{flat_map}
-use Rattle.std.proofs.lemmas.List.Elements.{All-drop, All-take}
+use Rattle.std.proofs.lemmas.List.Elements.{All-head, All-drop, All-take}
+use Rattle.wasmi_meter.specs.declared.answer_list.LimiterAnswer.{LimiterAnswer}
+use Rattle.wasmi_meter.specs.declared.answer_list.LimiterAnswer.TheVariants.{Permit}
 use Rattle.wasmi_meter.specs.declared.quota.Quota as quotas
 use Rattle.wasmi_meter.specs.Limiter.{Rules, unlimited_rules, optional_rules}
 use Rattle.wasmi_meter.specs.Capped.{holdings, quota_rules}
 use Rattle.wasmi_machine.specs.declared.calls.Call.TheVariants.{Write, NewData, NewSegment}
 use Rattle.wasmi_machine.specs.declared.calls.Reply.TheVariants.{Made}
-use Rattle.wasmi_machine.specs.State.{outcome_of}
-use Rattle.wasmi_machine.specs.Steps.{effect_of, HasEffect, Step, Run, IsRunOf}
+use Rattle.wasmi_machine.specs.Steps.{effect_of, Step, Run, IsRunOf}
 use Rattle.wasmi_machine.specs.Determinism.{IsDeterministic, IsNotOutOfMemory}
 use Rattle.wasmi_machine.proofs.DeterminismLemmas.{unlimited_unique, quota_unique}
-use Rattle.wasmi_machine.proofs.ToldLemmas.{replies_are_one, unlimited_accepts, quota_accepts}
+use Rattle.wasmi_machine.proofs.ToldLemmas.{accepted_replies_are_one, replies_are_one, unlimited_accepts, quota_accepts}
 use Rattle.wasmi_budget.specs.Pool.{PoolValue, RunsTenant, tenant_at, tenant_rules}
 use Rattle.wasmi_script.specs.declared.replaying.Ran.{Ran}
 use Rattle.wasmi_script.specs.declared.replaying.Held.TheVariants as holding
@@ -21,9 +23,45 @@ use Rattle.wasmi_grammar.specs.declared.header.LimiterLine.{LimiterLine}
 use Rattle.wasmi_grammar.specs.declared.header.LimiterLine.TheVariants.{Quota, Answers, Tenants}
 use Rattle.wasmi_grammar.specs.Lines.{calls_of}
 use Rattle.wasmi_grammar.specs.Meanings.{CallMeaning, WriteMeaning, SegmentMeaning, DataMeaning, OtherCall, call_meaning, limiter_meaning, PartMeaning, part_meaning, ScriptMeaning, HaveSameMeaning}
-use Rattle.wasmi_script.specs.Decided.{HasNoComplain, OutcomesAreOne}
-use Rattle.wasmi_script.proofs.ScriptRunsLemmas.{quiet_lists_decide, run_from}
+use Rattle.wasmi_script.specs.Decided.{HasNoComplain, OutcomesAreOne, NeverComplains, QuietListsAcceptNotices, QuietListsDecideReplies}
+use Rattle.wasmi_script.proofs.ScriptRunsLemmas.{run_from}
 use Rattle.wasmi_grammar.proofs.OneScriptLemmas.{texts_unique, bad_lines_once, no_bad_line}
+
+-- a limiter that answers from a list leaves no choice
+pub answers_unique : IsDeterministic answer_list_rules
+answers_unique = record {
+  asked = λ list question answer answer' list' list'' takes takes'.
+      (takes.answered ∙ sym takes'.answered, takes.taken ∙ sym takes'.taken);
+  noticed = λ list failure notice_answer notice_answer' list' list'' accepts accepts'.
+      (accepts.0 ∙ sym accepts'.0, accepts.1 ∙ sym accepts'.1);
+}
+
+-- a quiet answer: one by which a notice is accepted
+abbrev IsQuiet : LimiterAnswer → Type 0
+IsQuiet answer = notice_answer_by answer ≡ Ok tt
+
+-- the next of quiet answers is quiet, and so is `Permit` after them
+quiet_next : (answers : List LimiterAnswer) → All IsQuiet answers → IsQuiet (slice_index_or answers 0 Permit)
+quiet_next [] all = refl
+quiet_next (answer ∷ answers) all = All-head IsQuiet answer answers all
+
+-- a limiter whose answers are quiet accepts each notice, and stays one
+pub quiet_lists : QuietListsAcceptNotices
+quiet_lists = record {
+  asked = λ list question answer list' quiet takes. rw takes.taken (record {
+    ahead = All-drop IsQuiet 1 list.ahead quiet.ahead;
+    last = quiet_next list.ahead quiet.ahead;
+  });
+  noticed = λ list failure notice_answer list' quiet accepts.
+      (accepts.0 ∙ quiet.last, rw accepts.1 quiet);
+}
+
+-- where there is enough memory, a limiter whose answers are quiet leaves the replies no choice
+pub quiet_lists_decide : QuietListsDecideReplies
+quiet_lists_decide calls s list quiet replies replies' v v' has has' ran ran' =
+    accepted_replies_are_one answer_list_rules NeverComplains quiet_lists answers_unique calls (world s (Some list)) quiet
+    (record { replies = replies; after = v; has = has; ran = ran })
+    (record { replies = replies'; after = v'; has = has'; ran = ran' })
 
 -- a call by what it says
 abbrev HasMeaning : CallMeaning → Call → Type 0
@@ -59,8 +97,7 @@ same_kind call call' is = ap kind_text is
 -- what the calls of parts say
 calls_meaning : (parts : List TenantRun) → map call_meaning (calls_in parts) ≡ flat_map PartMeaning.calls (map part_meaning parts)
 calls_meaning [] = refl
-calls_meaning (part ∷ parts) =
-    map-append call_meaning part.calls (calls_in parts) ∙ ap (λ said. map call_meaning part.calls ++ said) (calls_meaning parts)
+calls_meaning (part ∷ parts) = rw (map-append, calls_meaning parts)
 
 -- scripts that say the same have calls that say the same
 calls_same : (script script' : Script) → HaveSameMeaning script script'
@@ -69,10 +106,10 @@ calls_same script script' same =
     calls_meaning (parts_in script.parts) ∙ ap (λ s. flat_map PartMeaning.calls s.parts) same
     ∙ sym (calls_meaning (parts_in script'.parts))
 
--- and the same replies to them the same text
+-- a reply to calls that make the same kind of thing has the same text
 reply_same : (call call' : Call) (reply : Reply) → kind_text call' ≡ kind_text call
     → reply_text call' reply ≡ reply_text call reply
-reply_same call call' (Made index) same = ap (λ kind. (kind ++ (codes " " ++ decimal index)) ++ []) same
+reply_same call call' (Made index) same = rw same
 reply_same call call' reply same = refl
 
 -- the same replies to calls that say the same have the same text
@@ -82,9 +119,8 @@ replies_same [] [] replies same = refl
 replies_same (call ∷ calls) (call' ∷ calls') [] same = refl
 replies_same (call ∷ calls) (call' ∷ calls') (reply ∷ replies) same =
     let here : call_meaning call ≡ call_meaning call' = cc in
-    let later : map call_meaning calls ≡ map call_meaning calls' = cc in
-    let kind = same_kind call call' (subst (λ said. HasMeaning said call') (sym here) (says call')) in
-    λ i. line (sym (reply_same call call' reply kind) i) ++ replies_same calls calls' replies later i
+    let kind = same_kind call call' (rw here (says call')) in
+    rw (reply_same call call' reply kind, replies_same calls calls' replies (cc))
 replies_same calls calls' replies same = absurd cc
 
 module _ {S : Type 0} (rules : Rules S) where
@@ -96,9 +132,7 @@ module _ {S : Type 0} (rules : Rules S) where
   retold_step : (w : World S) (turn : Turn) (w' : World S) (other : Call) → call_meaning other ≡ call_meaning turn.call
       → Step rules w turn w' → Step rules w (by_call turn other) w'
   retold_step w turn w' other same step =
-      let effect = same_effect w.state other turn.call
-      (subst (λ said. HasMeaning said turn.call) (sym same) (says turn.call)) in
-      subst (λ e. HasEffect rules e w (outcome_of turn) w') effect step
+      rw (same_effect w.state other turn.call (rw same (says turn.call))) at step
 
   -- turns that are a run are one by other calls that say the same, with the same replies
   retold_run : (turns : List Turn) (calls : List Call) (w w' : World S)
@@ -125,7 +159,7 @@ module _ {S : Type 0} (rules : Rules S) where
       let again = retold_run turns calls w w' (same ∙ ap (map call_meaning) (sym called)) ran in
       (again.0, again.1, again.2 ∙ replied, again.3)
 
--- the replies of both tell of no lack of memory
+-- the replies of two runs tell of no lack of memory
 abbrev HaveBoth : List Reply → List Reply → Type 0
 HaveBoth replies replies' = All IsNotOutOfMemory replies × All IsNotOutOfMemory replies'
 
@@ -165,8 +199,8 @@ record SameReplies (ran ran' : Ran) : Type 0 where
 -- what holds of all items of two lists, one after the other, holds of those of each
 all_parted : {X : Type 0} (P : X → Type 0) (xs ys : List X) → All P (xs ++ ys) → All P xs × All P ys
 all_parted P xs ys all = (
-  subst (All P) (take_at xs ys _ refl) (All-take P (length xs) (xs ++ ys) all),
-  subst (All P) (drop_at xs ys _ refl) (All-drop P (length xs) (xs ++ ys) all),
+  rw (take_at xs ys _ refl) at (All-take P (length xs) (xs ++ ys) all),
+  rw (drop_at xs ys _ refl) at (All-drop P (length xs) (xs ++ ys) all),
 )
 
 -- a run of a tenant whose replies tell of no lack of memory
@@ -211,18 +245,17 @@ module _ (once : IsDeterministic tenant_rules) where
       (answered, later, middle, split, ran, rest) (answered', later', middle', split', ran', rest') =
       let here : part_meaning part ≡ part_meaning part' = cc in
       let more : map part_meaning parts ≡ map part_meaning parts' = cc in
-      let parted = all_parted IsNotOutOfMemory answered later (subst (All IsNotOutOfMemory) split has.0) in
-      let parted' = all_parted IsNotOutOfMemory answered' later' (subst (All IsNotOutOfMemory) split' has.1) in
+      let parted = all_parted IsNotOutOfMemory answered later (rw split at has.0) in
+      let parted' = all_parted IsNotOutOfMemory answered' later' (rw split' at has.1) in
       let one = tenant_unique pool part.tenant part.calls part'.calls (ap PartMeaning.calls here)
       (record { replies = answered; after = middle; has = parted.0; ran = ran }) (record {
         replies = answered';
         after = middle';
         has = parted'.0;
-        ran = subst (λ k. RunsTenant pool k part'.calls answered' middle') (sym (ap PartMeaning.tenant here)) ran';
+        ran = rw (ap PartMeaning.tenant here) ran';
       }) in
-      let others = parts_unique parts parts' middle more later later' after after' (parted.1, parted'.1) rest
-      (subst (λ (p : PoolValue). AnswersParts p parts' later' after') (sym one.1) rest') in
-      (split ∙ (λ i. one.0 i ++ others.0 i) ∙ sym split', others.1)
+      let others = parts_unique parts parts' middle more later later' after after' (parted.1, parted'.1) rest (rw one.1 rest') in
+      (rw (split, split', one.0, others.0), others.1)
   parts_unique parts parts' pool same replies replies' after after' has ran ran' = absurd cc
 
   -- replays of scripts that say the same, by their limiter lines, where no word is `complain`
@@ -243,7 +276,7 @@ module _ (once : IsDeterministic tenant_rules) where
   by_unique (Some (Quota asked)) (Some (Quota asked')) script script' ran ran' quiet said same
       (quota, new, end, after, run, totals, is) (quota', new', end', after', run', totals', is') has =
       let line : asked ≡ asked' = cc in
-      let begins = new_quotas asked quota quota' new (subst (λ a. IsNewQuota a quota') (sym line) new') in
+      let begins = new_quotas asked quota quota' new (rw line new') in
       let retold_run = again (optional_rules quota_rules) script script' (Some quota) (Some quota') _ _ same
       (ap (λ q. Some q) begins) run' in
       let one = replies_are_one quota_rules quota_accepts quota_unique (calls_of script) _
@@ -280,10 +313,12 @@ module _ (once : IsDeterministic tenant_rules) where
       let ran = by_unique a.script.header.limiter_line b.script.header.limiter_line a.script b.script a.ran b.ran none
       (ap ScriptMeaning.limiter same) same replay replay' (has, has') in
       record {
-        text = ap (λ t. t ++ held_text a.ran.held)
-            (replies_same (calls_of a.script) (calls_of b.script) a.ran.replies.items
-            (calls_same a.script b.script same))
-            ∙ (λ i. replies_text (calls_of b.script) (ran.answers i) ++ ran.text i);
+        text = rw (
+          replies_same (calls_of a.script) (calls_of b.script) a.ran.replies.items
+              (calls_same a.script b.script same),
+          ran.answers,
+          ran.text,
+        );
         status = refl;
       }
   outcomes_unique bytes (Ok a) (Err (Parse (BadCommand number))) is is' decided decided' =

@@ -1,4 +1,4 @@
--- No text that is printed at once is long.
+-- No text that is printed at once is long: the length of numbers, words and lines.
 use Rattle.std.proofs.Common.{ℕ, zero, suc, ◌+◌, ◌<◌, ◌≤◌, ◌/◌, ◌%◌, ◌==◌, ◌++◌, ◌∷◌, List, [], Bool, true, false, length, length-append, codes, Some, if◌then◌else◌, lit≤, lit<, arith}
 use Rattle.wasmi_script.proofs.Common.{decimal, digits, digits_onto, digit_glyph, Call, Reply, Parse, BadCommand, kind_text, head_text, error_text}
 use Rattle.wasmi_types.specs.declared.trap.TrapCode.TheVariants as trap
@@ -31,7 +31,7 @@ decimal_short : (n : ℕ) → length (decimal n) ≤ 64
 unfolding digits
 decimal_short n = digits_short 64 10 false n []
 
--- the word for what a call makes
+-- the word for what a call makes has at most 7 bytes
 kind_short : (call : Call) → length (kind_text call) ≤ 7
 kind_short GetFuel = lit≤ tt
 kind_short call = lit≤ tt
@@ -41,15 +41,15 @@ reference_short : (ty : RefType) → length (reference_word ty) ≤ 6
 reference_short Func = lit≤ tt
 reference_short Extern = lit≤ tt
 
--- a number after a text
+-- a number after a text makes it at most 64 bytes longer
 numbered : (text : List ℕ) (n : ℕ) → length (text ++ decimal n) ≤ length text + 64
 numbered text n = omega (arith, length-append text (decimal n), decimal_short n)
 
--- a number after a text in two parts
+-- a number after a text in two parts makes it at most 64 bytes longer
 one_number : (text text' : List ℕ) (n : ℕ) → length (text ++ (text' ++ decimal n)) ≤ length text + length text' + 64
 one_number text text' n = omega (arith, length-append text (text' ++ decimal n), numbered text' n)
 
--- two numbers after a text
+-- two numbers after a text make it at most 129 bytes longer
 two_numbers : (text : List ℕ) (m n : ℕ) → length (text ++ (decimal m ++ (codes " " ++ decimal n))) ≤ length text + 129
 two_numbers text m n =
     omega (
@@ -59,7 +59,7 @@ two_numbers text m n =
       decimal_short m,
     )
 
--- what a tenant holds
+-- the text of what a tenant holds is short
 pub tenant_short : (tenant bytes elements : ℕ) → length (codes "held "
     ++ (decimal tenant ++ (codes " " ++ (decimal bytes ++ (codes " " ++ decimal elements))))) < 256
 tenant_short tenant bytes elements =
@@ -71,16 +71,16 @@ tenant_short tenant bytes elements =
       decimal_short tenant,
     )
 
--- what is held
+-- the text of what is held is short
 pub held_short : (bytes elements : ℕ)
     → length (codes "held " ++ (decimal bytes ++ (codes " " ++ decimal elements))) < 256
 held_short bytes elements = omega (arith, two_numbers (codes "held ") bytes elements)
 
--- a byte of those that were read
+-- the number of a byte is short
 pub byte_short : (byte : ℕ) → length (codes " " ++ decimal byte) < 256
 byte_short byte = omega (arith, numbered (codes " ") byte)
 
--- a reply without the numbers of its bytes
+-- a reply without the numbers of its bytes is short
 pub head_short : (call : Call) (reply : Reply) → length (head_text call reply) < 256
 head_short call (reply.Made index) = omega (arith, one_number (kind_text call) (codes " ") index, kind_short call)
 head_short call (reply.Value value) = omega (arith, two_numbers (codes "raw ") value.lo value.hi)
@@ -98,7 +98,7 @@ head_short call (reply.Segment segment.TooManyItems) = lit< tt
 head_short call (reply.Trap trap.OutOfFuel) = lit< tt
 head_short call reply = lit< tt
 
--- why a script isn't run
+-- the text of an error is short
 pub error_short : (error : ReplayError) → length (error_text error) < 256
 error_short (Parse (BadCommand number)) =
     omega (

@@ -1,4 +1,5 @@
--- Lines that are printed one after the other, and outcomes of what a reader gave.
+-- The lines of an outcome up to a place: those of tenants, those of calls with their replies, and the numbers in the
+-- line of a reply; and the outcomes of bytes that aren't read.
 use Rattle.std.proofs.Common.{ℕ, zero, suc, ◌+◌, ◌<◌, ◌≡◌, ◌∙◌, ◌++◌, ◌∷◌, List, [], length, take, drop, get_or, ◌≤◌, Bor, refl, sym, ap, arith, append_assoc, codes, Option, None, Some, Err, replicate}
 use Rattle.wasmi_script.proofs.Common.{enumerate_from, decimal, take_all, length-replicate, Call, Reply, State, line, bytes_in, bytes_text, head_text, reply_text, tenant_line, tenants_text, IsReadError, script_limit, IsOutcomeOfReader, BadCommand, OutOfMemory, Parse, TooLong, ReadFault}
 use Rattle.std.specs.List.{flat_map}
@@ -13,40 +14,42 @@ take_numbered n zero xs = refl
 take_numbered n (suc count) [] = refl
 take_numbered n (suc count) (x ∷ xs) = ap (λ items. (n, x) ∷ items) (take_numbered (n + 1) count xs)
 
+-- the line of a numbered tenant
 abbrev one_text : ℕ × Option State → List ℕ
 one_text tenant = tenant_line tenant.0 tenant.1
 
 -- the tenant of an index
 module _ (machines : List (Option State)) (index : ℕ) (within : index < length machines) where
+  -- the tenants with their numbers
   abbrev numbered : List (ℕ × Option State)
   numbered = enumerate_from 0 machines
 
+  -- the index is one of the numbered tenants
   inside : index < length numbered
   inside = omega (arith, within, length-enumerate_from 0 machines)
 
-  -- its line
+  -- the line of the tenant of an index is that of the numbered one
   its_line : one_text (get_or numbered index (0, None)) ≡ tenant_line index (get_or machines index None)
   its_line = ap one_text (get_or-enumerate_from 0 machines index (0, None) within)
       ∙ ap (λ n. tenant_line n (get_or machines index None)) (omega arith)
 
-  -- its line comes after those of the tenants before it
+  -- the line of the tenant of an index comes after those of the tenants before it
   pub one_tenant : tenants_text (take (index + 1) machines)
       ≡ tenants_text (take index machines) ++ tenant_line index (get_or machines index None)
   one_tenant = ap (flat_map one_text) (sym (take_numbered 0 (index + 1) machines))
       ∙ texts_more one_text numbered index (0, None) inside
       ∙ (λ i. flat_map one_text (take_numbered 0 index machines i) ++ its_line i)
 
-  -- the lines of all tenants are those of the tenants before it, its line and the later ones
+  -- the lines of all tenants are those before an index, that of its tenant and the later ones
   pub tenants_whole : tenants_text machines ≡ tenants_text (take index machines)
       ++ (tenant_line index (get_or machines index None) ++ flat_map one_text (drop (index + 1) numbered))
-  tenants_whole = texts_at one_text numbered index (0, None) inside ∙ (λ i.
-      flat_map one_text (take_numbered 0 index machines i)
-      ++ (its_line i ++ flat_map one_text (drop (index + 1) numbered)))
+  tenants_whole = rw (texts_at one_text numbered index (0, None) inside, take_numbered 0 index machines, its_line)
 
--- what is seen of a call and its reply
+-- a call and its reply, as the line of an outcome is made of them
 abbrev pub turn_of : Bor Call × Bor Reply → Call × Reply
 turn_of turn = (turn.0.now, turn.1.now)
 
+-- the line of an outcome for a call with its reply
 abbrev pub turn_text : Call × Reply → List ℕ
 turn_text turn = line (reply_text turn.0 turn.1)
 
@@ -61,30 +64,19 @@ reply_front call reply bytes i = head_text call reply ++ bytes_text (take i byte
 -- the numbers up to the next place are those up to a place and the one there
 pub reply_more : (call : Call) (reply : Reply) (bytes : List ℕ) (i : ℕ) → i < length bytes
     → reply_front call reply bytes (i + 1) ≡ reply_front call reply bytes i ++ byte_text (get_or bytes i 0)
-reply_more call reply bytes i within =
-    ap (λ t. head_text call reply ++ t) (texts_more byte_text bytes i 0 within)
-    ∙ sym (append_assoc (head_text call reply) (bytes_text (take i bytes)) (byte_text (get_or bytes i 0)))
+reply_more call reply bytes i within = rw (texts_more byte_text bytes i 0 within) (simp append_assoc)
 
 -- the line of a reply is its head with the numbers up to a place, the one there, and the later ones with a line feed
 pub reply_at : (call : Call) (reply : Reply) (bytes : List ℕ) (i : ℕ) → bytes ≡ bytes_in reply → i < length bytes
     → line (reply_text call reply) ≡ reply_front call reply bytes i ++
     (byte_text (get_or bytes i 0) ++ (bytes_text (drop (i + 1) bytes) ++ codes "\n"))
 reply_at call reply bytes i same within =
-    let head = head_text call reply in
-    let before = bytes_text (take i bytes) in
-    let here = byte_text (get_or bytes i 0) in
-    let later = bytes_text (drop (i + 1) bytes) in
-    ap (λ bs. line (head ++ bytes_text bs)) (sym same)
-    ∙ ap (λ t. line (head ++ t)) (texts_at byte_text bytes i 0 within)
-    ∙ ap line (sym (append_assoc head before (here ++ later)))
-    ∙ append_assoc (head ++ before) (here ++ later) (codes "\n")
-    ∙ ap (λ t. (head ++ before) ++ t) (append_assoc here later (codes "\n"))
+    rw (← same, texts_at byte_text bytes i 0 within) (simp append_assoc)
 
 -- the line of a reply is its head, the numbers of all its bytes, and a line feed
 pub reply_whole : (call : Call) (reply : Reply) (bytes : List ℕ) (i : ℕ) → bytes ≡ bytes_in reply → length bytes ≤ i
     → line (reply_text call reply) ≡ reply_front call reply bytes i ++ codes "\n"
-reply_whole call reply bytes i same all =
-    ap (λ bs. line (head_text call reply ++ bytes_text bs)) (sym same ∙ sym (take_all i bytes all))
+reply_whole call reply bytes i same all = rw (← same, take_all i bytes all)
 
 -- there are more bytes than any number
 longer : (n : ℕ) → (bytes : List ℕ) × (n < length bytes)

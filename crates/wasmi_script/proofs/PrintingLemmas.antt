@@ -1,6 +1,7 @@
--- Texts that are printed one after the other.
-use Rattle.std.proofs.Common.{◌≡◌, ◌∙◌, ◌+◌, ◌<◌, ℕ, zero, suc, List, [], ◌∷◌, ◌++◌, length, take, drop, get_or, map, add-one, take-append-drop, drop-cons, None, Some, Result, Ok, Err, IfSome, OnOk, OnErr, refl, sym, ap, append_assoc, append-nil, subst, ◌-◌, ◌%◌, ◌^◌, min, arith, length-append, length-take, length-drop}
-use Rattle.wasmi_script.proofs.Common.{WritesText, decimal, on_ok_weaker, on_err_weaker, flat_map_more, take_more, drop-drop, drop_at, drop_min, take_all, take_at, take_min, Appends, Appends-nil, Appends-trans, AppendsFront, AddsText, Flushes, Prints, PrintsFront, PrintsText, PrintsOut, Sends, SendsFront, AddsToFront, FillsFront, HasFront}
+-- Texts that a printer prints one after the other, whole or in part, and texts that are written one after the other to
+-- the front of bytes.
+use Rattle.std.proofs.Common.{◌≡◌, ◌∙◌, ◌+◌, ◌<◌, ℕ, zero, suc, List, [], ◌∷◌, ◌++◌, length, take, drop, get_or, map, add-one, take-append-drop, drop-cons, None, Some, Result, Ok, Err, IfSome, OnOk, OnErr, refl, sym, ap, append_assoc, append-nil, ◌-◌, ◌%◌, ◌^◌, min, arith, length-append, length-take, length-drop}
+use Rattle.wasmi_script.proofs.Common.{WritesText, decimal, on_ok_weaker, on_err_weaker, flat_map_more, take_more, drop-drop, drop_at, drop_min, take_all, take_at, take_min, Appends-nil, Appends-trans, AppendsFront, AddsText, Flushes, Prints, PrintsFront, PrintsText, PrintsOut, Sends, SendsFront, AddsToFront, FillsFront, HasFront}
 use Rattle.std.proofs.lemmas.Fmt.{contents_after_writes, decimal_digit}
 use Rattle.std.specs.List.{flat_map}
 use Rattle.std.proofs.lemmas.List.Concat.{flat_map-append}
@@ -10,20 +11,19 @@ use Rattle.std.specs.declared.option.Option.{Option}
 use Rattle.wasmi_script.specs.declared.printing.Printer.{Printer}
 use borrow.Rule.Slice.PartMut.{put_mid}
 
--- a text in two parts
+-- a text in two parts comes after what waits
 passes_then : (a b c : Option (List ℕ)) (u v w s t text : List ℕ) → text ≡ s ++ t → AddsText a b u v s
     → AddsText b c v w t → AddsText a c u w text
 passes_then a b c u v w s t text is (front, split, sent) (front', split', sent') = (
   front ++ front',
-  ap (λ l. u ++ l) is ∙ sym (append_assoc u s t) ∙ ap (λ l. l ++ t) split ∙ append_assoc front v t
-      ∙ ap (λ l. front ++ l) split' ∙ sym (append_assoc front front' w),
+  rw (is, ← append_assoc u s t, split, append_assoc front v t, split', append_assoc front front' w),
   Appends-trans a b c front front' sent sent',
 )
 
 -- what goes out of a text goes out of a longer one
 front_longer : (a b : Option (List ℕ)) (s t : List ℕ) → AppendsFront a b s → AppendsFront a b (s ++ t)
 front_longer a b s t (front, rest, split, sent) =
-    (front, rest ++ t, ap (λ l. l ++ t) split ∙ append_assoc front rest t, sent)
+    (front, rest ++ t, rw (split, append_assoc front rest t), sent)
 
 -- what goes out after a text
 front_after : (a b c : Option (List ℕ)) (u v s t : List ℕ) → AddsText a b u v s → AppendsFront b c (v ++ t)
@@ -31,8 +31,7 @@ front_after : (a b c : Option (List ℕ)) (u v s t : List ℕ) → AddsText a b 
 front_after a b c u v s t (front, split, sent) (front', rest, split', sent') = (
   front ++ front',
   rest,
-  sym (append_assoc u s t) ∙ ap (λ l. l ++ t) split ∙ append_assoc front v t ∙ ap (λ l. front ++ l) split'
-      ∙ sym (append_assoc front front' rest),
+  rw (← append_assoc u s t, split, append_assoc front v t, split', append_assoc front front' rest),
   Appends-trans a b c front front' sent sent',
 )
 
@@ -44,18 +43,17 @@ Takes s bytes t = t.bytes ≡ s.bytes ++ bytes
 front_first : (a b : Option (List ℕ)) (u s rest text : List ℕ) → text ≡ s ++ rest → AppendsFront a b (u ++ s)
     → AppendsFront a b (u ++ text)
 front_first a b u s rest text is sent =
-    subst (AppendsFront a b) (append_assoc u s rest ∙ ap (λ t. u ++ t) (sym is)) (front_longer a b (u ++ s) rest sent)
+    rw (is, ← append_assoc u s rest) (front_longer a b (u ++ s) rest sent)
 
 -- the front of a text whose first part is printed, and a later one in part
 front_then : (a b c : Option (List ℕ)) (u v s t rest text : List ℕ) → text ≡ s ++ (t ++ rest) → AddsText a b u v s
     → AppendsFront b c (v ++ t) → AppendsFront a c (u ++ text)
 front_then a b c u v s t rest text is first sent =
-    subst (λ x. AppendsFront a c (u ++ x)) (sym is)
-    (front_after a b c u v s (t ++ rest) first (front_first b c v t rest (t ++ rest) refl sent))
+    rw is (front_after a b c u v s (t ++ rest) first (front_first b c v t rest (t ++ rest) refl sent))
 
 -- the same of a printer, by the bytes that its writer is known to have
 module _ {W : Type 0} (contents : W → Option (List ℕ)) where
-  -- a text in two parts
+  -- a text is printed in two parts
   pub prints_then : (p q r : Printer W) (s t text : List ℕ) → text ≡ s ++ t → Prints contents p q s
       → Prints contents q r t → Prints contents p r text
   prints_then p q r s t text is first second = record {
@@ -80,8 +78,7 @@ module _ {W : Type 0} (contents : W → Option (List ℕ)) where
   -- a text is printed in part where the writer has failed
   pub in_part : {E : Type 0} {error : E} (result : Result (Unit {0}) E) (p q : Printer W) (text : List ℕ)
       → result ≡ Err error → PrintsFront contents p q text → PrintsText contents text p result q
-  in_part result p q text is front =
-      subst (λ r. PrintsText contents text p r q) (sym is) (tt, front)
+  in_part result p q text is front = rw is (tt, front)
 
   -- a text is printed where its last part is, and in part where its last part is printed in part
   pub last_part : {E : Type 0} (result : Result (Unit {0}) E) (p q r : Printer W) (s t text : List ℕ) → text ≡ s ++ t
@@ -98,7 +95,7 @@ module _ {W : Type 0} (contents : W → Option (List ℕ)) where
       let (front, split, gone) = printed.passed in
       record {
         writer = sent.writer ∙ printed.writer;
-        sent = subst (Appends _ _) (sym split) (Appends-trans _ _ _ front _ gone sent.sent);
+        sent = rw split (Appends-trans _ _ _ front _ gone sent.sent);
       }
 
   -- a text that is printed, and then a front of what waits
@@ -112,7 +109,7 @@ module _ {W : Type 0} (contents : W → Option (List ℕ)) where
         sent = (
           front ++ front',
           rest,
-          split ∙ ap (λ l. front ++ l) split' ∙ sym (append_assoc front front' rest),
+          rw (split, split', append_assoc front front' rest),
           Appends-trans _ _ _ front front' gone gone',
         );
       }
@@ -124,15 +121,14 @@ module _ {W : Type 0} (contents : W → Option (List ℕ)) where
   flushed (Ok x) (Ok y) p q r text prints sent = (prints_out p q r text prints.0 sent, tt)
   flushed (Ok x) (Err e) p q r text prints sent = (tt, prints_out_front p q r text prints.0 sent)
   flushed (Err e) (Ok y) p q r text prints sent = absurd sent
-  flushed (Err e) (Err e') p q r text prints same = (tt, subst (λ r. PrintsFront contents p r text) (sym same) prints.1)
+  flushed (Err e) (Err e') p q r text prints same = (tt, rw same prints.1)
 
   -- a text waits beside what waited
   waits : (p q : Printer W) (text : List ℕ) → q.writer ≡ p.writer → q.chunk.bytes ≡ p.chunk.bytes ++ text
       → Prints contents p q text
   waits p q text same is = record {
     writer = ap (λ w. w.ghost_name) same;
-    passed = subst (λ w. AddsText (contents p.writer.now) (contents w.now) p.chunk.bytes q.chunk.bytes text)
-        (sym same) ([], sym is, Appends-nil _);
+    passed = rw same ([], sym is, Appends-nil _);
   }
 
   -- a text that there is room for, as it is or as it is written
@@ -142,7 +138,7 @@ module _ {W : Type 0} (contents : W → Option (List ℕ)) where
       → OnOk r (IfSome output (λ bytes. Prints contents p s (text bytes)))
   printed (Ok x) None written p q s text as_written room same writes = tt
   printed (Ok x) (Some bytes) written p q s text as_written room same writes =
-      let known = subst (λ o. WritesText Takes q.chunk o s.chunk) (as_written bytes refl) writes in
+      let known = rw (as_written bytes refl) at writes in
       prints_then p q s [] (text bytes) (text bytes) refl room
       (waits q s (text bytes) same (contents_after_writes Takes (λ x. x.bytes) (λ w bs v h. h) q.chunk (text bytes) s.chunk known))
   printed (Err e) output written p q s text as_written room same writes = tt
@@ -163,44 +159,40 @@ module _ {W : Type 0} (contents : W → Option (List ℕ)) where
   no_text (Ok x) output p q s text room same = tt
   no_text (Err e) None p q s text room same = tt
   no_text (Err e) (Some bytes) p q s text room same =
-      let front : AppendsFront (contents p.writer.now) (contents q.writer.now) (p.chunk.bytes ++ text bytes) =
-      front_after _ _ _ _ _ [] (text bytes) room.passed ([], _, refl, Appends-nil _) in
       record {
         writer = ap (λ w. w.ghost_name) same ∙ room.writer;
-        sent = subst (λ w. AppendsFront (contents p.writer.now) (contents w.now) (p.chunk.bytes ++ text bytes))
-            (sym same) front;
+        sent = rw same (front_after _ _ _ _ _ [] (text bytes) room.passed ([], _, refl, Appends-nil _));
       }
 
 -- texts one after the other: those up to a place, the one there, and the later ones
 module _ {X : Type 0} {A : Type 0} (text : X → List A) where
-  -- those up to the next place are those up to a place and the one there
+  -- texts up to the next place are those up to a place and the one there
   pub texts_more : (xs : List X) (i : ℕ) (d : X) → i < length xs
       → flat_map text (take (i + 1) xs) ≡ flat_map text (take i xs) ++ text (get_or xs i d)
   texts_more xs i d within =
-      ap (flat_map text) (take_more xs i d within) ∙ sym (flat_map_more text [] (take i xs) (get_or xs i d))
+      rw (take_more xs i d within) (sym (flat_map_more text [] (take i xs) (get_or xs i d)))
 
-  -- all of them are those up to a place, the one there and the later ones
+  -- all texts are those up to a place, the one there and the later ones
   pub texts_at : (xs : List X) (i : ℕ) (d : X) → i < length xs
       → flat_map text xs ≡ flat_map text (take i xs) ++ (text (get_or xs i d) ++ flat_map text (drop (i + 1) xs))
   texts_at xs i d within =
-      let later : drop i xs ≡ get_or xs i d ∷ drop (i + 1) xs =
-      drop-cons xs i d within ∙ ap (λ n. get_or xs i d ∷ drop n xs) (sym (add-one i)) in
       ap (flat_map text) (sym (take-append-drop i xs)) ∙ flat_map-append text (take i xs) (drop i xs)
-      ∙ ap (λ ys. flat_map text (take i xs) ++ flat_map text ys) later
+      ∙ rw (add-one, drop-cons xs i d within)
 
 -- texts of what an iterator yields, printed one after the other: v is what is seen of an item, and all are to be seen
 module _ {W A B : Type 0} (contents : W → Option (List ℕ)) (text : B → List ℕ) (v : A → B) (all : List B) where
+  -- the text of the items that were yielded
   abbrev yielded_text : List A → List ℕ
   yielded_text yielded = flat_map (λ x. text (v x)) yielded
 
-  -- one more is printed
+  -- the text of one yielded item more is printed
   pub yields_more : (p q r : Printer W) (yielded : List A) (x : A) → Prints contents p q (yielded_text yielded)
       → Prints contents q r (text (v x)) → Prints contents p r (yielded_text (yielded ++ x ∷ []))
   yields_more p q r yielded x =
       prints_then contents p q r (yielded_text yielded) (text (v x)) (yielded_text (yielded ++ x ∷ []))
       (sym (flat_map_more (λ y. text (v y)) [] yielded x))
 
-  -- one more is printed in part
+  -- the text of one yielded item more is printed in part
   pub yields_front : (p q r : Printer W) (yielded : List A) (x : A)
       → (map v yielded ≡ take (length yielded) all) × (length yielded < length all)
       × (v x ≡ get_or all (length yielded) (v x))
@@ -214,26 +206,22 @@ module _ {W A B : Type 0} (contents : W → Option (List ℕ)) (text : B → Lis
       (ap (flat_map text) (sym before) ∙ flat_map-map text v yielded)
       ∙ ap (λ y. yielded_text yielded ++ (text y ++ later)) (sym here))
 
-  -- all are printed
+  -- the texts of all items are printed once all were yielded
   pub yields_all : (p q : Printer W) (yielded : List A) → map v yielded ≡ all
       → Prints contents p q (yielded_text yielded) → Prints contents p q (flat_map text all)
-  yields_all p q yielded whole =
-      subst (Prints contents p q) (sym (flat_map-map text v yielded) ∙ ap (flat_map text) whole)
+  yields_all p q yielded whole prints = rw (← whole, flat_map-map text v yielded) prints
 
--- one text after the other
+-- one text after the other is written to the front of bytes
 pub adds_then : (s t a b c : List ℕ) (i j k : ℕ) → AddsToFront s a i b j → AddsToFront t b j c k
     → AddsToFront (s ++ t) a i c k
 adds_then s t a b c i j k first second before start had =
-    subst (λ text. HasFront text start c k) (append_assoc before s t)
-    (second (before ++ s) start (first before start had))
+    rw (← append_assoc before s t) (second (before ++ s) start (first before start had))
 
 -- bytes at whose front a text stands have their length still
 front_length : (text start bytes : List ℕ) → FillsFront text start bytes → length bytes ≡ length start
-front_length text start bytes front =
-    ap length front ∙ length-append (take (length start) text) (drop (length text) start)
-    ∙ omega (arith, length-take (length start) text, length-drop (length text) start)
+front_length text start bytes front = rw front (simp (length-append, length-take, length-drop) (omega arith))
 
--- the front of two lists, one after the other
+-- the front of two lists, one after the other, is a front of each
 take_both : {A : Type 0} (n : ℕ) (xs ys : List A) → take n (xs ++ ys) ≡ take n xs ++ take (n - length xs) ys
 take_both zero xs ys = let none : 0 ≡ 0 - length xs = omega arith in ap (λ k. take k ys) none
 take_both (suc n) [] ys = let all : suc n ≡ suc n - 0 = omega arith in ap (λ k. take k ys) all
@@ -277,19 +265,18 @@ added text bytes written from count more small begins counts adds before start h
       count = omega (arith, length-append before text, had.count);
     }
 
--- a number below 10 is its only digit
+-- the text that is written of a number below 10 is its only digit
 pub one_digit : (n : ℕ) → n < 10 → (48 + n % 10) ∷ [] ≡ decimal n
 one_digit n small = ap (λ d. (48 + d) ∷ []) (omega arith) ∙ sym (decimal_digit n small)
 
--- the text of one item more
+-- the text of one item more is written to the front of bytes
 pub adds_more : {X : Type 0} (text : X → List ℕ) (yielded : List X) (x : X) (a b c : List ℕ) (i j k : ℕ)
     → AddsToFront (flat_map text yielded) a i b j → AddsToFront (text x) b j c k
     → AddsToFront (flat_map text (yielded ++ x ∷ [])) a i c k
 adds_more text yielded x a b c i j k first second =
-    subst (λ t. AddsToFront t a i c k) (flat_map_more text [] yielded x)
-    (adds_then (flat_map text yielded) (text x) a b c i j k first second)
+    rw (← flat_map_more text [] yielded x) (adds_then (flat_map text yielded) (text x) a b c i j k first second)
 
--- from nothing on
+-- a text that is written from the start on stands at the front of bytes
 pub fills : (text a b : List ℕ) (j : ℕ) → AddsToFront text a 0 b j → HasFront text a b j
 fills text a b j adds =
     let none : take (length a) [] ≡ [] = take_all (length a) [] (omega arith) in

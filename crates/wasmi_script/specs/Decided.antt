@@ -1,4 +1,5 @@
--- Outcomes that the bytes of a reader decide, and runs under lists in which no answer lets a notice be refused.
+-- Outcomes that the bytes of a reader decide, where memory isn't refused, and runs under lists in which no answer lets
+-- a notice be refused.
 use Rattle.std.specs.Prelude.{◌≡◌, ⊤, ℕ, List, All, Option, Some, Ok, Err}
 use Rattle.wasmi_machine.specs.Determinism.{IsNotOutOfMemory, StaysAccepting}
 use Rattle.wasmi_script.specs.declared.error.ReplayError.TheVariants.{Parse, ReadFault}
@@ -42,12 +43,12 @@ pub record NeverComplains (list : AnswersAhead) : Type 0 where
   pub ahead : All (λ answer. notice_answer_by answer ≡ Ok tt) list.ahead
   pub last : notice_answer_by list.last ≡ Ok tt
 
--- such a limiter accepts each notice, and stays one
+-- a limiter that never complains accepts each notice, and stays one
 abbrev pub QuietListsAcceptNotices : Type 0
 QuietListsAcceptNotices = StaysAccepting answer_list_rules NeverComplains
 
--- two runs of one list of calls from one machine under such a limiter, in which no reply says out of memory, have the
--- same replies and end in one world
+-- two runs of one list of calls from one machine under a limiter that never complains, in which no reply says out of
+-- memory, have the same replies and end in one world
 abbrev pub QuietListsDecideReplies : Type 0
 QuietListsDecideReplies = (calls : List Call) (s : State) (list : AnswersAhead) → NeverComplains list
     → (replies replies' : List Reply) (v v' : World (Option AnswersAhead))

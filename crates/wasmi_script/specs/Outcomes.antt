@@ -1,4 +1,5 @@
--- What a replay prints, why a script isn't run, and how a replay ends.
+-- The outcome of a replay: the whole text that is printed of it, with what is held, the errors of reading, and the
+-- status by which a replay ends.
 use Rattle.std.specs.Prelude.{ℕ, Result, Ok, Err, ◌<◌, ⊤, List, Option, None, Some, IfSome, length, ◌≡◌, ◌≤◌, ◌⊎◌, [], ◌++◌, codes, flat_map}
 use Rattle.wasmi_script.specs.declared.error.ReplayError.{ReplayError}
 use Rattle.wasmi_script.specs.declared.error.ReplayError.TheVariants.{Parse, TooLong, ReadFault}

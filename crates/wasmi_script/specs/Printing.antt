@@ -1,9 +1,8 @@
--- What of a text reaches a writer, or the front of bytes.
-use Rattle.std.specs.Prelude.{◌≡◌, ◌<◌, ℕ, List, ◌++◌, codes, length, IfSome, OnOk, OnErr, Result, Ok, Err, Option, ◌-◌, ◌^◌, [], take, drop, min, None, Some}
+-- A text as a line, and what of a text reaches a writer by a printer, or the front of bytes.
+use Rattle.std.specs.Prelude.{◌≡◌, ◌<◌, ℕ, List, ◌++◌, codes, length, IfSome, OnOk, OnErr, Result, Ok, Err, Option, ◌-◌, ◌^◌, take, drop, min}
 use Rattle.std.specs.Io.KnownBytes.{Appends}
 use Rattle.wasmi_script.specs.declared.printing.Printer.{Printer}
 use Rattle.wasmi_script.specs.declared.printing.TheConstants.{LONGEST}
-use Rattle.std.specs.Fmt.{decimal}
 
 -- a text as a line
 abbrev pub line : List ℕ → List ℕ
@@ -78,8 +77,3 @@ pub record HasFront (text start bytes : List ℕ) (written : ℕ) : Type 0 where
 abbrev pub AddsToFront : List ℕ → List ℕ → ℕ → List ℕ → ℕ → Type 0
 AddsToFront text bytes written bytes' written' = (before start : List ℕ) → HasFront before start bytes written
     → HasFront (before ++ text) start bytes' written'
-
--- a number, if there is one, after what stands before it
-abbrev pub number_text : List ℕ → Option ℕ → List ℕ
-number_text before None = []
-number_text before (Some number) = before ++ decimal number

@@ -1,4 +1,5 @@
--- What the run of a script returns, as its header lines ask for it.
+-- What the run of a script returns, as its header lines ask for it: on a new machine under a new limiter, or by parts
+-- on a new pool.
 use Rattle.std.specs.Prelude.{◌≡◌, List, [], ◌∷◌, ◌++◌, Option, None, Some, replicate}
 use Rattle.wasmi_meter.specs.Limiter.{optional_rules, unlimited_rules}
 use Rattle.wasmi_meter.specs.declared.limiter.NoLimits.{NoLimits}

@@ -1,4 +1,4 @@
--- What the program prints of a reply, as a wording or whole, and why it runs no script.
+-- The text of a reply, of its head and of its bytes, the text of a wording and its numbers, and the text of an error.
 use Rattle.std.specs.Prelude.{ℕ, List, [], ◌++◌, codes, flat_map, Option, None, Some}
 use Rattle.std.specs.Fmt.{decimal}
 use Rattle.wasmi_types.specs.Trap.{code_message}
@@ -13,7 +13,6 @@ use Rattle.wasmi_script.specs.declared.error.ReplayError.{ReplayError}
 use Rattle.wasmi_script.specs.declared.error.ReplayError.TheVariants.{Parse, TooLong, ReadFault}
 use Rattle.wasmi_grammar.specs.declared.error.ParseError.TheVariants.{BadCommand, OutOfMemory}
 use Rattle.wasmi_operands.specs.Names.{reference_word}
-use Rattle.wasmi_script.specs.Printing.{number_text}
 use Rattle.wasmi_script.specs.declared.printing.Wording.{Wording}
 use Rattle.wasmi_machine.specs.declared.calls.Reply.TheVariants as reply
 
@@ -69,6 +68,11 @@ error_text (Parse (BadCommand line)) = codes "line " ++ (decimal line ++ codes "
 error_text (Parse OutOfMemory) = codes "out of memory"
 error_text TooLong = codes "script too long"
 error_text ReadFault = codes "read fault"
+
+-- the text of a number of a wording, if there is one, after what stands before it
+abbrev pub number_text : List ℕ → Option ℕ → List ℕ
+number_text before None = []
+number_text before (Some number) = before ++ decimal number
 
 -- the words of a wording, and then its numbers, the second after a space
 abbrev pub wording_text : Wording → List ℕ

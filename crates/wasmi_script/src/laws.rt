@@ -11,7 +11,7 @@ pub use wasmi_grammar::laws::{
 /// A limiter that answers from a list is deterministic. One whose list has no `Complain` accepts
 /// each notice and stays such a limiter: if no memory is refused, two runs of one list of calls
 /// from one machine under it have the same replies and end alike.
-#[tactic(auto, using(crate::proofs::ScriptRunsLemmas::answers_unique, crate::proofs::ScriptRunsLemmas::quiet_lists))]
+#[tactic(auto, using(crate::proofs::DecidedLemmas::answers_unique, crate::proofs::DecidedLemmas::quiet_lists))]
 pub fn quiet_lists_decide_replies()
     ensures choice { IsDeterministic answer_list_rules }
     ensures notices { QuietListsAcceptNotices }

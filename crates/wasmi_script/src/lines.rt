@@ -1,9 +1,10 @@
-//! The lines for calls and their replies, written to the front of bytes as far as they fit.
+//! The lines for calls and their replies, written to the front of bytes as far as they fit, and the
+//! texts and numbers that are written there one after the other.
 ghost use Rattle.std.specs.Prelude.{◌≡◌, ◌-◌, ◌^◌, length, min};
 ghost use Rattle.std.specs.Fmt.{decimal};
-ghost use Rattle.wasmi_script.specs.Printing.{AddsToFront, FillsFront, number_text, line};
+ghost use Rattle.wasmi_script.specs.Printing.{AddsToFront, FillsFront, line};
 ghost use Rattle.wasmi_script.specs.Outcomes.{replies_text};
-ghost use Rattle.wasmi_script.specs.Texts.{bytes_text, reply_text};
+ghost use Rattle.wasmi_script.specs.Texts.{bytes_text, number_text, reply_text};
 
 use crate::printing::{Wording, bytes_of};
 use wasmi_machine::{Call, Reply};

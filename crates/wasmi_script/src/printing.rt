@@ -1,4 +1,5 @@
-//! The lines that a replay prints, by its outcome, the words of a reply, and the printer.
+//! The lines that a replay prints, by its outcome: the script with what its run has given, the
+//! words of a reply, what is held, and the printer, which sends texts to a writer.
 ghost use Rattle.std.specs.Prelude.{◌≡◌, ◌+◌, ◌≤◌, ◌++◌, [], codes, length, Some, IsOk, OnOk, OnErr, IfSome};
 ghost use Rattle.std.specs.Io.KnownBytes.{Appends};
 ghost use Rattle.wasmi_meter.specs.Texts.{numbered};

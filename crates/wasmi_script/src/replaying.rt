@@ -1,4 +1,5 @@
-//! A script from its reader to the printed lines: streams, the replay, and the run of its calls.
+//! A script from its reader to the printed lines: the streams, the replay with its status, and the
+//! run of the calls on a new machine or a new pool, as the header lines ask for it.
 ghost use Rattle.std.specs.Prelude.{◌≡◌, ◌+◌, ◌≤◌, vec_len, None, Some, IfOk, IfErr, IfSome, OnErr, OnOk};
 ghost use Rattle.std.specs.Io.KnownBytes.{Keeps as KeepsContents, ReadConsumes};
 ghost use Rattle.std.specs.Io.{ReadsAtMost};

@@ -13,7 +13,8 @@ pub use Rattle.wasmi_lanes.proofs.FieldLemmas.{field_and, field_lt, first_lane, 
 pub use Rattle.wasmi_lanes.proofs.SimdLaneLemmas.{digit_at, written_at, signed_read_at, repeated_lane}
 pub use Rattle.wasmi_lanes.proofs.VectorLemmas.{lane_below, lanes_make_vector, lanes_of_width, lane_of_from, items_make_vector, item_fits, lane_of_lanes}
 pub use Rattle.wasmi_lanes.proofs.WordVectorLemmas.{AreWords, low_lane, high_lane, filled, some_bits, lane_of_each, top_in_range, u64x2_of}
-pub use Rattle.wasmi_lanes.specs.Vector.{lane, unsigned, lane_count, signed_fits}
+pub use Rattle.wasmi_lanes.specs.LaneProofs.{signed_fits}
+pub use Rattle.wasmi_lanes.specs.Vector.{lane, unsigned, lane_count}
 unfoldable pub use Rattle.wasmi_lanes.specs.Vector.{unary_of_lanes, with_lane, binary_of_lanes}
 pub use Rattle.wasmi_lanes.specs.Words.{lanes_in_word, in_each_lane}
 unfoldable pub use Rattle.wasmi_lanes.specs.Words.{field}

@@ -1,5 +1,6 @@
--- The even and the odd lanes of a vector, as std::simd takes each out of a lane of twice the width, and their sums.
-use Rattle.std.proofs.Common.{ℕ, ℤ, pos, negsuc, suc, ◌+◌, ◌-◌, ◌*◌, ◌/◌, ◌%◌, ◌^◌, ◌<◌, ◌≤◌, ◌≡◌, List, length, get_or, map, replicate, subst, ◌∙◌, ap, ap₂, arith, suc-mul, add-mul, mul_assoc, le_refl, inl, inr, Bool, true, false, ltb, bit_and, ◌+ℤ◌, ◌*ℤ◌, mod-eq_of_lt}
+-- The even and the odd lanes of a vector, as std::simd takes each out of a lane of twice the width, their sums, and the
+-- sums of their products.
+use Rattle.std.proofs.Common.{ℕ, ℤ, pos, negsuc, suc, ◌+◌, ◌-◌, ◌*◌, ◌/◌, ◌%◌, ◌^◌, ◌<◌, ◌≡◌, List, length, get_or, map, replicate, ◌∙◌, ap, ap₂, arith, suc-mul, add-mul, mul_assoc, le_refl, inl, inr, Bool, true, false, ltb, bit_and, ◌+ℤ◌, ◌*ℤ◌, mod-eq_of_lt}
 use Rattle.wasmi_simd.proofs.Common.{cases_lt, pow_pos, and_mask, mod-pow-add, shr-shr, div-mul-add, mod-mul-add, pow-add, mul-le, shr_below, shl_below, cast_unsigned, cast_signed, digits_l, number_l, zip2, Width, bits, signed, wrap, lane, unsigned, lane_below, lanes_make_vector, IsWidening, hbits, sel, pairwise_unary, pairwise_binary}
 use Rattle.std.specs.Int.Signed.{shr_z}
 use Rattle.wasmi_lanewise.proofs.OrderLemmas.{same_less}
@@ -9,14 +10,13 @@ use Rattle.wasmi_simd.proofs.WideningLemmas.{extended_fits, product_fits, sum_be
 
 -- ---- a width that is twice another
 
--- a signed number, shifted to the right by half of its width, is its upper half, read signed
+-- a signed number of two narrow lanes, shifted to the right by the width of one, is the odd one, read signed
 shifted_is : (narrow wide : Width) (v high : ℕ) → ltb v (2 ^ hbits wide) ≡ ltb high (2 ^ hbits narrow)
     → v / 2 ^ bits narrow ≡ high
     → (2 ^ bits wide - suc v) / 2 ^ bits narrow ≡ 2 ^ bits narrow - suc high
     → shr_z (cast_signed wide v) (2 ^ bits narrow) ≡ cast_signed narrow high
 shifted_is narrow wide v high sign up down =
-    ap (λ t. shr_z (sel t (pos v) (negsuc (2 ^ bits wide - suc v))) (2 ^ bits narrow)) sign
-    ∙ by_sign (ltb high (2 ^ hbits narrow))
+    rw sign (by_sign (ltb high (2 ^ hbits narrow)))
   where
     by_sign : (t : Bool)
         → shr_z (sel t (pos v) (negsuc (2 ^ bits wide - suc v))) (2 ^ bits narrow)
@@ -32,9 +32,8 @@ module _ {narrow wide : Width} {n : ℕ} (widens : IsWidening narrow wide n) (hi
       let p : ℕ = 2 ^ bits narrow in
       let h : ℕ = 2 ^ hbits narrow in
       let v : ℕ = high * p + low in
-      let whole : 2 ^ bits wide ≡ p * p =
-      ap (λ k. 2 ^ k) widens.twice ∙ pow-add 2 (bits narrow) (bits narrow) in
-      let half : 2 ^ hbits wide ≡ h * p = ap (λ k. 2 ^ k) widens.half ∙ pow-add 2 (hbits narrow) (bits narrow) in
+      let whole : 2 ^ bits wide ≡ p * p = rw widens.twice (pow-add 2 (bits narrow) (bits narrow)) in
+      let half : 2 ^ hbits wide ≡ h * p = rw widens.half (pow-add 2 (hbits narrow) (bits narrow)) in
       let quotient : v / p ≡ high = div-mul-add high p low fits_low in
       let next : suc high * p ≡ high * p + p = suc-mul high p in
       let rest : p * p ≡ (p - suc high) * p + suc high * p =
@@ -43,9 +42,8 @@ module _ {narrow wide : Width} {n : ℕ} (widens : IsWidening narrow wide n) (hi
       let left : 2 ^ bits wide - suc v ≡ (p - suc high) * p + (p - suc low) = omega (arith, whole, rest, next) in
       shifted_is narrow wide v high
       (same_less v (2 ^ hbits wide) high h
-      (λ below. subst (λ q. q < h) quotient
-      (shr_below v (hbits narrow) (bits narrow) (subst (λ k. v < 2 ^ k) widens.half below)))
-      (λ above. elim (cases_lt high h) as (λ _. h ≤ high) [
+      (λ below. rw quotient at (shr_below v (hbits narrow) (bits narrow) (rw widens.half at below)))
+      (λ above. elim (cases_lt high h) [
         | inl under ↦ absurd (omega (arith, half, next, mul-le (suc high) p h p (omega arith) (le_refl p)))
         | inr over ↦ over
       ])) quotient
@@ -55,13 +53,9 @@ module _ {narrow wide : Width} {n : ℕ} (widens : IsWidening narrow wide n) (hi
   lower_shifted : (high * 2 ^ bits narrow + low) * 2 ^ bits narrow % 2 ^ bits wide ≡ low * 2 ^ bits narrow + 0
   lower_shifted =
       let p : ℕ = 2 ^ bits narrow in
-      let whole : 2 ^ bits wide ≡ p * p =
-      ap (λ k. 2 ^ k) widens.twice ∙ pow-add 2 (bits narrow) (bits narrow) in
-      let small : low * p < p * p =
-      subst (λ k. low * p < k) (pow-add 2 (bits narrow) (bits narrow))
-      (shl_below low (bits narrow) (bits narrow) fits_low) in
-      ap₂ (λ k m. k % m) (add-mul (high * p) low p ∙ ap (λ k. k + low * p) (mul_assoc high p p)) whole
-      ∙ mod-mul-add high (p * p) (low * p) small ∙ omega arith
+      let whole : 2 ^ bits wide ≡ p * p = rw widens.twice (pow-add 2 (bits narrow) (bits narrow)) in
+      let small = rw (pow-add 2 (bits narrow) (bits narrow)) at (shl_below low (bits narrow) (bits narrow) fits_low) in
+      rw (whole, add-mul (high * p) low p, mul_assoc high p p, mod-mul-add high (p * p) (low * p) small) (omega arith)
 
 -- ---- the even and the odd lanes of a vector
 
@@ -160,7 +154,7 @@ module _ {narrow wide : Width} {n : ℕ} (widens : IsWidening narrow wide n) (v 
         })
         (λ k. extended_fits narrow wide v (2 * k) widens.wider) inside
 
--- the bits of the narrow lanes at these places of v, read signed
+-- the bits of the even or the odd narrow lanes of v, those at these places, read signed
 abbrev pub AreExtended : (narrow wide : Width) (n v : ℕ) → (ℕ → ℕ) → (ℕ → ℕ) → Type 0
 AreExtended narrow wide n v at x = (i : ℕ) → i < n → x i ≡ cast_unsigned wide (signed narrow (lane narrow v (at i)))
 
@@ -185,9 +179,9 @@ module _ {narrow wide : Width} {n r : ℕ} (widens : IsWidening narrow wide n) (
     signed_sums_make_vector is_x is_y =
         lanes_make_vector wide n r _ widens.filled below
         (λ i inside.
-        is i inside ∙ ap₂ (λ p q. (p + q) % 2 ^ bits wide) (is_x i inside) (is_y i inside)
-        ∙ sum_of_bits wide (signed narrow (lane narrow v (2 * i))) (signed narrow (lane narrow v (2 * i + 1)))
-        (extended_fits narrow wide v (2 * i) widens.wider) (extended_fits narrow wide v (2 * i + 1) widens.wider))
+        rw (is i inside, is_x i inside, is_y i inside)
+        (sum_of_bits wide _ _ (extended_fits narrow wide v (2 * i) widens.wider)
+        (extended_fits narrow wide v (2 * i + 1) widens.wider)))
 
   -- the sums of the products of two operands' neighbouring lanes, read signed, make the vector of these sums
   pub dots_make_vector : (a b : ℕ) {x x' y y' p q : ℕ → ℕ}
@@ -201,13 +195,8 @@ module _ {narrow wide : Width} {n r : ℕ} (widens : IsWidening narrow wide n) (
   dots_make_vector a b is is_p is_q is_x is_x' is_y is_y' =
       lanes_make_vector wide n r _ widens.filled below
       (λ i inside.
-      let item = λ (v k : ℕ). signed narrow (lane narrow v k) in
       let fits = λ (v k : ℕ). extended_fits narrow wide v k widens.wider in
-      is i inside
-      ∙ ap₂ (λ x y. (x + y) % 2 ^ bits wide)
-      (is_p i inside ∙ ap₂ (λ x y. x * y % 2 ^ bits wide) (is_x i inside) (is_y i inside))
-      (is_q i inside ∙ ap₂ (λ x y. x * y % 2 ^ bits wide) (is_x' i inside) (is_y' i inside))
-      ∙ dot_of_bits wide (item a (2 * i)) (item a (2 * i + 1)) (item b (2 * i)) (item b (2 * i + 1)) (fits a (2 * i))
-      (fits a (2 * i + 1)) (fits b (2 * i)) (fits b (2 * i + 1))
+      rw (is i inside, is_p i inside, is_q i inside, is_x i inside, is_y i inside, is_x' i inside, is_y' i inside)
+      (dot_of_bits wide _ _ _ _ (fits a (2 * i)) (fits a (2 * i + 1)) (fits b (2 * i)) (fits b (2 * i + 1))
       (product_fits narrow wide a (2 * i) b (2 * i) widens.room)
-      (product_fits narrow wide a (2 * i + 1) b (2 * i + 1) widens.room))
+      (product_fits narrow wide a (2 * i + 1) b (2 * i + 1) widens.room)))

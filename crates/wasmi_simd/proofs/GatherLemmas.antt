@@ -1,5 +1,5 @@
--- The highest bits of the lanes of a word, brought together by a product or a shift.
-use Rattle.std.proofs.Common.{◌≡◌, ℕ, zero, suc, ◌+◌, ◌*◌, ◌/◌, ◌%◌, ◌^◌, ◌<◌, ◌≤◌, refl, sym, ap, ap₂, subst, ◌∙◌, arith, inl, inr, Bool, leb, add-mul, zero-mul, suc-mul, mul_comm, mod-lt, mod-eq_of_lt, bit_and, pow-suc, if◌then◌else◌, replicate}
+-- Bitmasks: the highest bits of the lanes of a word, as digits of a number, brought together by a product or a shift.
+use Rattle.std.proofs.Common.{◌≡◌, ℕ, zero, suc, ◌+◌, ◌*◌, ◌/◌, ◌%◌, ◌^◌, ◌<◌, ◌≤◌, refl, sym, ap, ap₂, ◌∙◌, arith, inl, inr, Bool, leb, add-mul, zero-mul, suc-mul, mul_comm, mod-lt, mod-eq_of_lt, bit_and, pow-suc, if◌then◌else◌, replicate}
 use Rattle.wasmi_simd.proofs.Common.{div-eq_of_lt, pow_pos, and_le_l, and_mask, shr_below, div-add-mod', and_pow, cases_lt, le-leb, lt-leb, number_l, field, field_and, field_lt, first_lane, next_lane, repeated_lane, first_bits}
 use Rattle.wasmi_simd.proofs.ReductionLemmas.{bit_at_most}
 
@@ -12,27 +12,28 @@ spelled p (suc n) g = g 0 + p * spelled p n (λ i. g (suc i))
 spelled_same : (p n : ℕ) (g h : ℕ → ℕ) → ((i : ℕ) → i < n → g i ≡ h i) → spelled p n g ≡ spelled p n h
 spelled_same p zero g h each = refl
 spelled_same p (suc n) g h each =
-    ap₂ (λ x y. x + p * y) (each 0 (omega arith))
-    (spelled_same p n (λ i. g (suc i)) (λ i. h (suc i)) (λ i lt. each (suc i) (omega arith)))
+    ap₂ (λ x y. x + p * y) (each 0 (omega arith)) (spelled_same p n _ _ (λ i lt. each (suc i) (omega arith)))
 
 -- a word is its lanes, as digits
 word_spelled : (w n v : ℕ) → v < 2 ^ (n * w) → v ≡ spelled (2 ^ w) n (λ i. field (w * i) w v)
-word_spelled w zero v fits =
-    omega (arith, subst (λ k. v < 2 ^ k) (zero-mul w) fits)
+word_spelled w zero v fits = let none = rw (zero-mul w) at fits in omega arith
 word_spelled w (suc n) v fits =
-    let less : v < 2 ^ (n * w + w) = subst (λ k. v < 2 ^ k) (suc-mul n w) fits in
+    let less = rw (suc-mul n w) at fits in
     let rest : spelled (2 ^ w) n (λ i. field (w * suc i) w v) ≡ v / 2 ^ w =
-    spelled_same (2 ^ w) n (λ i. field (w * suc i) w v) (λ i. field (w * i) w (v / 2 ^ w)) (λ i _. next_lane w i v)
+    spelled_same (2 ^ w) n _ _ (λ i _. next_lane w i v)
     ∙ sym (word_spelled w n (v / 2 ^ w) (shr_below v (n * w) w less)) in
     sym (ap₂ (λ a b. a + 2 ^ w * b) (first_lane w v) rest
     ∙ omega (arith, div-add-mod' v (2 ^ w), mul_comm (2 ^ w) (v / 2 ^ w)))
 
 -- ---- the highest bits of lanes, as digits
 
+-- a bit of a bitmask, as a digit of a number: 1 where a test of a lane holds, else 0
+-- a test as a digit of the number that is gathered
+-- a test as a digit of the number that is gathered
 abbrev one_if : Bool → ℕ
 one_if t = if t then 1 else 0
 
--- bits that are 1 where a test holds
+-- the bits that are 1 where a test holds, as digits
 pub spelled_bits : (n : ℕ) (test : ℕ → Bool) → spelled 2 n (λ i. one_if (test i)) ≡ first_bits n test
 unfolding first_bits
 spelled_bits zero test = refl
@@ -41,10 +42,11 @@ spelled_bits (suc n) test = ap (λ k. one_if (test 0) + 2 * k) (spelled_bits n (
 -- the highest bit of a number of h + 1 bits
 highest_bit : (h x : ℕ) → x < 2 ^ suc h → x / 2 ^ h ≡ one_if (leb (2 ^ h) x)
 highest_bit h x fits =
-    elim (cases_lt x (2 ^ h)) as (λ _. x / 2 ^ h ≡ one_if (leb (2 ^ h) x)) [
-      | inl below ↦ div-eq_of_lt below ∙ sym (ap one_if (lt-leb (2 ^ h) x below))
-      | inr above ↦ one_time (x / 2 ^ h) (x % 2 ^ h) (2 ^ h) (div-add-mod' x (2 ^ h)) (mod-lt x (pow_pos h)) above
-          (omega (arith, pow-suc 2 h)) ∙ sym (ap one_if (le-leb (2 ^ h) x above))
+    elim (cases_lt x (2 ^ h)) [
+      | inl below ↦ rw (lt-leb (2 ^ h) x below) (div-eq_of_lt below)
+      | inr above ↦ rw (le-leb (2 ^ h) x above)
+          (one_time (x / 2 ^ h) (x % 2 ^ h) (2 ^ h) (div-add-mod' x (2 ^ h)) (mod-lt x (pow_pos h)) above
+          (omega (arith, pow-suc 2 h)))
     ]
   where
     one_time : {x : ℕ} (q r p : ℕ) → q * p + r ≡ x → r < p → p ≤ x → x < p + p → q ≡ 1
@@ -58,20 +60,17 @@ highest_alone h x fits =
     and_pow x h ∙ ap (λ n. n % 2 * 2 ^ h) (highest_bit h x fits)
     ∙ ap (λ n. n * 2 ^ h) (mod-eq_of_lt (omega (arith, bit_at_most (leb (2 ^ h) x))))
 
--- those of the n lanes of h + 1 bits of v
+-- the highest bits of the n lanes of h + 1 bits of v, as digits
 pub tops_spelled : (h n v tops : ℕ) → n * suc h ≡ 64 → v < 2 ^ 64 → tops ≡ number_l (2 ^ suc h) (replicate n (2 ^ h))
     → bit_and v tops ≡ spelled (2 ^ suc h) n (λ i. one_if (leb (2 ^ h) (field (suc h * i) (suc h) v)) * 2 ^ h)
 tops_spelled h n v tops whole fits is =
-    let less : bit_and v tops < 2 ^ 64 = omega (arith, and_le_l v tops) in
+    let below : bit_and v tops < 2 ^ 64 = omega (arith, and_le_l v tops) in
     let top : 2 ^ h < 2 ^ suc h = omega (arith, pow-suc 2 h, pow_pos h) in
-    word_spelled (suc h) n (bit_and v tops) (subst (λ k. bit_and v tops < 2 ^ k) (sym whole) less)
-    ∙ spelled_same (2 ^ suc h) n (λ i. field (suc h * i) (suc h) (bit_and v tops))
-    (λ i. one_if (leb (2 ^ h) (field (suc h * i) (suc h) v)) * 2 ^ h)
+    word_spelled (suc h) n (bit_and v tops) (rw whole below)
+    ∙ spelled_same (2 ^ suc h) n (λ i. field (suc h * i) (suc h) (bit_and v tops)) _
     (λ i inside.
-    field_and (suc h * i) (suc h) v tops
-    ∙ ap (bit_and (field (suc h * i) (suc h) v))
-    (ap (field (suc h * i) (suc h)) is ∙ repeated_lane (suc h) n i (2 ^ h) top inside)
-    ∙ highest_alone h (field (suc h * i) (suc h) v) (field_lt (suc h * i) (suc h) v))
+    rw (field_and (suc h * i) (suc h) v tops, is, repeated_lane (suc h) n i (2 ^ h) top inside)
+    (highest_alone h (field (suc h * i) (suc h) v) (field_lt (suc h * i) (suc h) v)))
 
 -- the highest bit of a word
 pub one_top : (v : ℕ) → v < 2 ^ 64 → v / 2 ^ 63 ≡ first_bits 1 (λ i. leb (2 ^ 63) (field (64 * i) 64 v))

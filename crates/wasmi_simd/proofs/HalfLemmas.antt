@@ -1,5 +1,6 @@
--- The lanes of half a vector, as std::simd takes, extends and multiplies them.
-use Rattle.std.proofs.Common.{ℕ, suc, ℤ, pos, negsuc, ◌*ℤ◌, Bool, true, false, ltb, bit_xor, replicate, ◌+◌, ◌-◌, ◌*◌, ◌%◌, ◌^◌, ◌<◌, ◌≤◌, ◌≡◌, ◌⊎◌, inl, inr, List, ◌++◌, length, get_or, map, refl, sym, subst, ◌∙◌, ap, ap₂, arith, FitsSigned, mod-eq_of_lt, T}
+-- The lanes of half a vector, as std::simd takes, extends and multiplies them, and lanes as the bits of signed numbers,
+-- which it writes to bytes and reads again.
+use Rattle.std.proofs.Common.{ℕ, suc, ℤ, pos, negsuc, ◌*ℤ◌, Bool, true, false, ltb, bit_xor, replicate, ◌+◌, ◌-◌, ◌*◌, ◌%◌, ◌^◌, ◌<◌, ◌≤◌, ◌≡◌, ◌⊎◌, inl, inr, List, ◌++◌, length, get_or, map, refl, sym, ◌∙◌, ap, arith, FitsSigned, mod-eq_of_lt, T}
 use Rattle.wasmi_simd.proofs.Common.{pick_l_left, pick_l-range_with_len, get_or-chunk, cases_lt, ltb-true, ltb-false, get_or_past, length-map, pow_pos, cast_unsigned, cast_signed, digits_l, number_l, zip2, Width, w8, w16, bits, signed, wrap, lane, unsigned, digit_at, written_at, lane_below, lanes_make_vector, IsWidening, half_unary, half_binary, sel}
 use Rattle.std.specs.List.{range_with_len}
 use Rattle.std.proofs.lemmas.Int.{of_z-to_z}
@@ -11,28 +12,28 @@ use Rattle.wasmi_simd.proofs.WideningLemmas.{extended_fits, product_of_bits, pro
 use lib.Lanes.{pick_l, all_below}
 use mir.ValLaws.{of_z_fits}
 
--- neighbouring items, picked from a list and a copy of it
+-- neighbouring items, as those of half a vector, picked from a list and a copy of it
 extracted : {n : ℕ} {f : ℕ → ℕ} {xs : List ℕ} (first count : ℕ) → AreItems n 0 f xs
     → T (all_below n (range_with_len first count)) → first + count ≤ n
     → AreItems count 0 (λ i. f (first + i)) (pick_l 0 (xs ++ xs) (range_with_len first count))
 extracted {n} {xs} first count of_x inside room = record {
   long = length-map (range_with_len first count) (λ k. get_or (xs ++ xs) k 0) ∙ length-range_with_len first count;
   are = λ i below.
-      ap (λ l. get_or l i 0)
-      (pick_l_left 0 xs xs n (range_with_len first count) of_x.long inside
-      ∙ pick_l-range_with_len 0 xs first count (omega (arith, of_x.long)))
-      ∙ get_or-chunk first count xs i 0 below ∙ of_x.are (first + i) (omega arith);
+      rw (
+        pick_l_left 0 xs xs n (range_with_len first count) of_x.long inside,
+        pick_l-range_with_len 0 xs first count (omega (arith, of_x.long)),
+        get_or-chunk first count xs i 0 below,
+      )
+      (of_x.are (first + i) (omega arith));
 }
 
--- neighbouring lanes, picked from the list of all lanes
+-- neighbouring lanes, as those of half a vector, picked from the list of all lanes
 pub extracted_lane : (w : Width) (v : ℕ) (xs : List ℕ) (n first count : ℕ) → length xs ≡ n
     → T (all_below n (range_with_len first count)) → first + count ≤ n
     → ((k : ℕ) → k < n → get_or xs k 0 ≡ lane w v k)
     → (i : ℕ) → i < count → get_or (pick_l 0 (xs ++ xs) (range_with_len first count)) i 0 ≡ lane w v (first + i)
 extracted_lane w v xs n first count long inside room are =
-    let of_v : AreItems n 0 (lane w v) xs = record { long = long; are = are } in
-    let lanes = extracted first count of_v inside room in
-    lanes.are
+    (extracted first count (record { long = long; are = are }) inside room).are
 
 -- the bits of lanes that were read signed
 pub lane_bits_are : (w : Width) (n v : ℕ) (xs : List ℤ) → AreItems n (pos 0) (λ i. cast_signed w (lane w v i)) xs
@@ -55,9 +56,8 @@ reread w n xs f i filled of_f fits below =
     ∙ of_f.are i below
   where
     small : (k : ℕ) → (k < n) ⊎ (n ≤ k) → get_or xs k 0 < 2 ^ bits w
-    small k (inl inside) = subst (λ m. m < 2 ^ bits w) (sym (of_f.are k inside)) (of_z_fits w (f k) (fits k)).fits
-    small k (inr past) =
-        subst (λ m. m < 2 ^ bits w) (sym (get_or_past xs k 0 (omega (arith, of_f.long)))) (pow_pos (bits w))
+    small k (inl inside) = rw (of_f.are k inside) (of_z_fits w (f k) (fits k)).fits
+    small k (inr past) = rw (get_or_past xs k 0 (omega (arith, of_f.long))) (pow_pos (bits w))
 
 -- lane i of the half that begins with lane `first` is lane `at i`
 pub record IsHalf (first : ℕ) (at : ℕ → ℕ) : Type 0 where
@@ -113,9 +113,7 @@ module _ {narrow wide : Width} {n first : ℕ} {at : ℕ → ℕ} (widens : IsWi
     extended_make_vector v is =
         lanes_make_vector wide n r _ widens.filled below
         (λ i inside.
-        is i inside ∙ sym
-        (wrap_signed wide (signed narrow (lane narrow v (at i))) (extended_fits narrow wide v (at i) widens.wider))
-        ∙ ap (λ k. wrap wide (signed narrow (lane narrow v k))) (half.place i))
+        rw (is i inside, ← half.place i) (sym (wrap_signed wide _ (extended_fits narrow wide v (at i) widens.wider))))
 
     module _ (a b : ℕ) {x y : ℕ → ℕ} (is : (i : ℕ) → i < n → lane wide r i ≡ x i * y i % 2 ^ bits wide) where
       -- the products of two operands' narrow lanes make the vector of these products
@@ -126,9 +124,8 @@ module _ {narrow wide : Width} {n first : ℕ} {at : ℕ → ℕ} (widens : IsWi
       products_make_vector is_x is_y =
           lanes_make_vector wide n r _ widens.filled below
           (λ i inside.
-          is i inside ∙ ap₂ (λ p q. p * q % 2 ^ bits wide) (is_x i inside) (is_y i inside)
-          ∙ mod-eq_of_lt (product_below widens (lane_below narrow a (at i)) (lane_below narrow b (at i)))
-          ∙ ap (λ k. lane narrow a k * lane narrow b k) (half.place i))
+          rw (is i inside, is_x i inside, is_y i inside, ← half.place i)
+          (mod-eq_of_lt (product_below widens (lane_below narrow a (at i)) (lane_below narrow b (at i)))))
 
       -- and so where the lanes were read signed
       pub signed_products_make_vector :
@@ -139,12 +136,11 @@ module _ {narrow wide : Width} {n first : ℕ} {at : ℕ → ℕ} (widens : IsWi
       signed_products_make_vector is_x is_y =
           lanes_make_vector wide n r _ widens.filled below
           (λ i inside.
-          is i inside ∙ ap₂ (λ p q. p * q % 2 ^ bits wide) (is_x i inside) (is_y i inside)
-          ∙ product_of_bits wide (signed narrow (lane narrow a (at i))) (signed narrow (lane narrow b (at i)))
-          (extended_fits narrow wide a (at i) widens.wider) (extended_fits narrow wide b (at i) widens.wider)
-          ∙ ap (λ k. wrap wide (signed narrow (lane narrow a k) *ℤ signed narrow (lane narrow b k))) (half.place i))
+          rw (is i inside, is_x i inside, is_y i inside, ← half.place i)
+          (product_of_bits wide _ _ (extended_fits narrow wide a (at i) widens.wider)
+          (extended_fits narrow wide b (at i) widens.wider)))
 
--- a number of 8 bits with its highest bit flipped and taken off again, at 16 bits
+-- a number of 8 bits extended to 16: its highest bit is flipped and taken off again
 flipped_is : (x : ℕ) → x < 256 → (bit_xor x 128 + (65536 - 128)) % 65536 ≡ cast_unsigned w16 (signed w8 x)
 flipped_is x fits = ap (λ k. (k + 65408) % 65536) (xor_top 7 x 1 fits (omega arith)) ∙ read (ltb x 128) refl
   where

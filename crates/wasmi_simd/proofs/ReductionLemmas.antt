@@ -1,6 +1,7 @@
--- Tests of the lanes of a vector and the bits that they give, made of those of its two words.
-use Rattle.std.proofs.Common.{◌≡◌, ℕ, zero, suc, ◌+◌, ◌-◌, ◌*◌, ◌/◌, ◌%◌, ◌^◌, ◌<◌, ◌≤◌, refl, inl, inr, sym, ap, ap₂, subst, ◌∙◌, arith, Bool, true, false, not, eqb, nat_eq, ◌&&◌, if◌then◌else◌, bit_and, bit_or, true≢false, zero-mul, mul-suc, mul-zero, mul_comm, mul-add, mul_assoc, one-mul, add-mul, le_refl, lit<, mod-eq_of_lt, pow-suc, suc-add, zero-add}
-use Rattle.wasmi_simd.proofs.Common.{div-eq_of_lt, mod-one, add-mod_right, div-mul-add, mod-pow-add, pow_pos, pow-add, mul-le, and_le_l, and_le_r, or_shifted, or_comm, and_pow, and_from, and_parts, eqb-true, eq-eqb, cases_eq, cases_lt, pow_mono, Width, bits, lane, unsigned, field, lanes_in_word, in_each_lane, field_lt, field_and, field_not, field_wrapping_sub, field_of_zero, lane_ends, same_words, lanes_of_width, AreWords, low_lane, high_lane, filled, some_bits, lane_of_each, top_in_range, holds_below, first_bits, every_lane, lane_bits}
+-- Tests of all lanes of a vector or of all numbers below n, and the bits that they give, also by the vector's two
+-- words; whether a lane of a word is 0, by a subtraction that borrows.
+use Rattle.std.proofs.Common.{◌≡◌, ℕ, zero, suc, ◌+◌, ◌-◌, ◌*◌, ◌/◌, ◌%◌, ◌^◌, ◌<◌, ◌≤◌, refl, inl, inr, sym, ap, ap₂, ◌∙◌, arith, Bool, true, false, not, eqb, nat_eq, ◌&&◌, if◌then◌else◌, bit_and, bit_or, true≢false, zero-mul, mul-suc, mul-zero, mul_comm, mul-add, mul_assoc, one-mul, add-mul, le_refl, lit<, mod-eq_of_lt, pow-suc, suc-add, zero-add, add-zero, add-suc, ◌↔◌}
+use Rattle.wasmi_simd.proofs.Common.{div-eq_of_lt, mod-one, add-mod_right, div-mul-add, mod-pow-add, pow_pos, pow-add, mul-le, and_le_l, and_le_r, or_shifted, or_comm, and_pow, and_from, and_parts, eqb-true, eq-eqb, cases_eq, pow_mono, Width, bits, lane, unsigned, field, lanes_in_word, in_each_lane, field_lt, field_and, field_not, field_wrapping_sub, field_of_zero, lane_ends, same_words, lanes_of_width, AreWords, low_lane, high_lane, filled, some_bits, lane_of_each, top_in_range, holds_below, first_bits, every_lane, lane_bits, bit_at, lane_count, bit_at_lowest, bit_at-suc}
 use mathlib.Core.Bool.{and-true, and_assoc}
 use Rattle.std.proofs.Math.Dec.{eqb-suc-zero}
 use Rattle.std.specs.Int.Bits.{and_self}
@@ -36,12 +37,9 @@ holds_as (suc n) f g each =
 holds_joined : (n m : ℕ) (test : ℕ → Bool)
     → holds_below (n + m) test ≡ (holds_below n test && holds_below m (λ i. test (n + i)))
 unfolding holds_below
-holds_joined n zero test =
-    ap (λ k. holds_below k test) (let e : n + 0 ≡ n = omega arith in e) ∙ sym (and-true (holds_below n test))
+holds_joined n zero test = rw (add-zero n) (sym (and-true (holds_below n test)))
 holds_joined n (suc m) test =
-    let more : n + suc m ≡ suc (n + m) = omega arith in
-    ap (λ k. holds_below k test) more ∙ ap (λ b. b && test (n + m)) (holds_joined n m test)
-    ∙ and_assoc (holds_below n test) (holds_below m (λ i. test (n + i))) (test (n + m))
+    rw (add-suc n m, holds_joined n m test) (and_assoc (holds_below n test) _ (test (n + m)))
 
 -- two tests that agree on each number below n give the same n bits
 bits_as : (n : ℕ) (f g : ℕ → Bool) → ((i : ℕ) → i < n → f i ≡ g i) → first_bits n f ≡ first_bits n g
@@ -49,7 +47,7 @@ unfolding first_bits
 bits_as zero f g each = refl
 bits_as (suc n) f g each =
     ap₂ (λ b m. (if b then 1 else 0) + 2 * m) (each 0 (omega arith))
-    (bits_as n (λ i. f (suc i)) (λ i. g (suc i)) (λ i inside. each (suc i) (omega arith)))
+    (bits_as n _ _ (λ i inside. each (suc i) (omega arith)))
 
 -- the bit of a test is at most 1
 pub bit_at_most : (t : Bool) → (if t then 1 else 0) ≤ 1
@@ -67,24 +65,18 @@ bits_below (suc n) f =
 bits_joined : (n m : ℕ) (f : ℕ → Bool) → first_bits (n + m) f ≡ first_bits n f + 2 ^ n * first_bits m (λ i. f (n + i))
 unfolding first_bits
 bits_joined zero m f =
-    ap (λ k. first_bits k f) (zero-add m) ∙ bits_as m f (λ i. f (0 + i)) (λ i inside. ap f (sym (zero-add i)))
-    ∙ omega (arith, one-mul (first_bits m (λ i. f (0 + i))))
+    simp (zero-add, one-mul)
 bits_joined (suc n) m f =
-    let rest : ℕ = first_bits m (λ i. f (suc n + i)) in
-    let later : first_bits m (λ i. f (suc (n + i))) ≡ rest =
-    bits_as m (λ i. f (suc (n + i))) (λ i. f (suc n + i)) (λ i inside. ap f (sym (suc-add n i))) in
-    ap (λ k. first_bits k f) (suc-add n m)
-    ∙ ap (λ k. (if f 0 then 1 else 0) + 2 * k)
-    (bits_joined n m (λ i. f (suc i)) ∙ ap (λ k. first_bits n (λ i. f (suc i)) + 2 ^ n * k) later)
-    ∙ omega (
+    let rest : ℕ = first_bits m (λ i. f (suc (n + i))) in
+    simp suc-add (rw (bits_joined n m (λ i. f (suc i))) (omega (
       arith,
       mul-add 2 (first_bits n (λ i. f (suc i))) (2 ^ n * rest),
       mul_assoc 2 (2 ^ n) rest,
       ap (λ k. k * rest) (pow-suc 2 n),
       ap (λ k. k * rest) (mul_comm 2 (2 ^ n)),
-    )
+    )))
 
--- a number below 2 ^ h has no bit h
+-- a number below 2 ^ h has no bit h, which would mark a lane that is 0
 low_top : (h y : ℕ) → y < 2 ^ h → bit_and y (2 ^ h) ≡ 0
 low_top h y less = and_pow y h ∙ ap (λ n. n % 2 * 2 ^ h) (div-eq_of_lt less) ∙ zero-mul (2 ^ h)
 
@@ -97,24 +89,18 @@ top_of_borrow h zero fits =
     let ones : ℕ = m - 1 in
     let some : 0 < 2 ^ h = pow_pos h in
     let twice : m ≡ 2 ^ h * 2 = pow-suc 2 h in
-    let same : (0 + ones) % m ≡ ones = ap (λ n. n % m) (zero-add ones) ∙ mod-eq_of_lt (omega arith) in
+    let same : (0 + ones) % m ≡ ones = rw (zero-add ones) (mod-eq_of_lt (omega arith)) in
     let parts : ones ≡ 1 * 2 ^ h + (2 ^ h - 1) = omega arith in
     let top : ones / 2 ^ h ≡ 1 = ap (λ n. n / 2 ^ h) parts ∙ div-mul-add 1 (2 ^ h) (2 ^ h - 1) (omega arith) in
     let all : ones - 0 ≡ ones = omega arith in
-    ap₂ (λ m n. bit_and (bit_and m n) (2 ^ h)) same all ∙ ap (λ n. bit_and n (2 ^ h)) (and_self ones) ∙ and_pow ones h
-    ∙ ap (λ n. n % 2 * 2 ^ h) top ∙ one-mul (2 ^ h)
+    rw (same, all, and_self ones, and_pow ones h, top) (one-mul (2 ^ h))
 top_of_borrow h (suc x) fits =
     let m : ℕ = 2 ^ suc h in
     let rest : ℕ = m - 1 - suc x in
     let twice : m ≡ 2 ^ h * 2 = pow-suc 2 h in
     let moved : suc x + (m - 1) ≡ x + m = omega arith in
     let less : (suc x + (m - 1)) % m ≡ x = ap (λ n. n % m) moved ∙ add-mod_right x m ∙ mod-eq_of_lt (omega arith) in
-    let clear : bit_and (bit_and x rest) (2 ^ h) ≡ 0 =
-    elim (cases_lt x (2 ^ h)) as (λ _. bit_and (bit_and x rest) (2 ^ h) ≡ 0) [
-      | inl below ↦ low_top h (bit_and x rest) (omega (arith, and_le_l x rest))
-      | inr above ↦ low_top h (bit_and x rest) (omega (arith, and_le_r x rest))
-    ] in
-    ap (λ n. bit_and (bit_and n rest) (2 ^ h)) less ∙ clear ∙ sym (ap (λ t. if t then 2 ^ h else 0) (eqb-suc-zero x))
+    rw (less, eqb-suc-zero x) (low_top h (bit_and x rest) (omega (arith, and_le_l x rest, and_le_r x rest)))
 
 -- v has n lanes of h + 1 bits, in each of which `ones` has a 1, and `tops` the highest bit alone
 record IsZeroTest (h n v ones tops : ℕ) : Type 0 where
@@ -146,7 +132,7 @@ module _ (h n v ones tops : ℕ) (given : IsZeroTest h n v ones tops) where
   enough_below : (i : ℕ) → i < n → ((j : ℕ) → j < i → is_some j ≡ true) → ones % 2 ^ (suc h * i) ≤ v % 2 ^ (suc h * i)
   unfolding field
   enough_below zero inside some =
-      subst (λ k. ones % 2 ^ k ≤ v % 2 ^ k) (sym (mul-zero (suc h))) (omega (arith, mod-one ones))
+      rw (mul-zero (suc h)) (omega (arith, mod-one ones))
   enough_below (suc i) inside some =
       let b : ℕ = suc h * i in
       let p : ℕ = 2 ^ b in
@@ -155,10 +141,7 @@ module _ (h n v ones tops : ℕ) (given : IsZeroTest h n v ones tops) where
       let low : ones % p ≤ v % p = enough_below i (omega arith) (λ j below. some j (omega arith)) in
       let here : 1 ≤ x = some_there x (some i (omega arith)) in
       let rows : 1 * p ≤ x * p = mul-le 1 p x p here (le_refl p) in
-      let one : ones / p % 2 ^ suc h ≡ 1 = given.each_one i (omega arith) in
-      let left : ones % 2 ^ (suc h + b) ≡ 1 * p + ones % p =
-      mod-pow-add ones (suc h) b ∙ ap (λ k. k * p + ones % p) one in
-      subst (λ k. ones % 2 ^ k ≤ v % 2 ^ k) (sym next) (omega (arith, left, mod-pow-add v (suc h) b))
+      rw (next, mod-pow-add ones (suc h) b, given.each_one i (omega arith)) (omega (arith, mod-pow-add v (suc h) b))
 
   -- a lane under which no lane is 0 has a mark where it is 0 itself
   mark_is : (i : ℕ) → i < n → ((j : ℕ) → j < i → is_some j ≡ true)
@@ -171,16 +154,19 @@ module _ (h n v ones tops : ℕ) (given : IsZeroTest h n v ones tops) where
       let borrowed : field k w less ≡ (field k w v + (2 ^ w - 1)) % 2 ^ w =
       field_wrapping_sub k w 64 v ones (lane_inside i inside) given.fits_ones (enough_below i inside some)
       ∙ ap (λ m. (field k w v + (2 ^ w - m)) % 2 ^ w) (given.each_one i inside) in
-      field_and k w (bit_and less rest) tops
-      ∙ ap₂ bit_and
-      (field_and k w less rest ∙ ap₂ bit_and borrowed (field_not k w 64 v (lane_inside i inside) given.fits))
-      (given.each_top i inside)
-      ∙ top_of_borrow h (field k w v) (field_lt k w v)
+      rw (
+        field_and k w (bit_and less rest) tops,
+        field_and k w less rest,
+        borrowed,
+        field_not k w 64 v (lane_inside i inside) given.fits,
+        given.each_top i inside,
+      )
+      (top_of_borrow h (field k w v) (field_lt k w v))
 
   -- a lane without mark isn't 0
   no_mark : (t : ℕ) → (if nat_eq t 0 then 2 ^ h else 0) ≡ 0 → not (nat_eq t 0) ≡ true
   no_mark zero is = absurd (omega (arith, pow_pos h))
-  no_mark (suc t) is = ap not (eqb-suc-zero t)
+  no_mark (suc t) is = rw (eqb-suc-zero t)
 
   -- where there is no mark, no lane is 0
   some_below : marks ≡ 0 → (i : ℕ) → i ≤ n → (j : ℕ) → j < i → is_some j ≡ true
@@ -203,13 +189,12 @@ module _ (h n v ones tops : ℕ) (given : IsZeroTest h n v ones tops) where
   -- there is no mark where no lane is 0, and only there
   no_mark_is : tops < 2 ^ 64 → eqb marks 0 ≡ holds_below n is_some
   no_mark_is fits_tops =
-      let all_bits : 64 ≡ n * suc h = sym given.whole in
       let below : marks < 2 ^ 64 =
       omega (arith, and_le_r (bit_and ((v + (2 ^ 64 - ones)) % 2 ^ 64) (2 ^ 64 - 1 - v)) tops) in
       both_ways (eqb marks 0) (holds_below n is_some)
       (λ e. holds_of_each n is_some (λ i inside. some_below (eqb-true marks 0 e) n (le_refl n) i inside))
       (λ all. eq-eqb marks 0
-      (same_words (suc h) n marks 0 (subst (λ k. marks < 2 ^ k) all_bits below) (pow_pos (n * suc h))
+      (same_words (suc h) n marks 0 (rw given.whole below) (pow_pos (n * suc h))
       (λ i inside.
       mark_is i inside (λ j less. each_holds n is_some all j (omega arith))
       ∙ no_zero_marked (field (suc h * i) (suc h) v) (each_holds n is_some all i inside)
@@ -263,11 +248,8 @@ module _ (w : Width) (whole : lanes_in_word w * bits w ≡ 64) (v low high : ℕ
   unfolding every_lane
   every_lane_of_words test =
       let n : ℕ = lanes_in_word w in
-      ap₂ (λ a b. a && b)
-      (holds_as n (λ i. test (field (bits w * i) (bits w) low)) (λ i. test (lane w v i)) (low_test test))
-      (holds_as n (λ i. test (field (bits w * i) (bits w) high)) (λ i. test (lane w v (n + i))) (high_test test))
-      ∙ sym (holds_joined n n (λ i. test (lane w v i)))
-      ∙ ap (λ k. holds_below k (λ i. test (lane w v i))) (sym (lanes_of_width w (n + n) (filled w whole)))
+      rw (lanes_of_width w (n + n) (filled w whole), holds_joined n n (λ i. test (lane w v i)))
+      (ap₂ (λ a b. a && b) (holds_as n _ _ (low_test test)) (holds_as n _ _ (high_test test)))
 
   -- the bits of all lanes
   pub bits_of_words : (test : ℕ → Bool)
@@ -277,11 +259,8 @@ module _ (w : Width) (whole : lanes_in_word w * bits w ≡ 64) (v low high : ℕ
   unfolding lane_bits
   bits_of_words test =
       let n : ℕ = lanes_in_word w in
-      ap₂ (λ a b. a + 2 ^ n * b)
-      (bits_as n (λ i. test (field (bits w * i) (bits w) low)) (λ i. test (lane w v i)) (low_test test))
-      (bits_as n (λ i. test (field (bits w * i) (bits w) high)) (λ i. test (lane w v (n + i))) (high_test test))
-      ∙ sym (bits_joined n n (λ i. test (lane w v i)))
-      ∙ ap (λ k. first_bits k (λ i. test (lane w v i))) (sym (lanes_of_width w (n + n) (filled w whole)))
+      rw (lanes_of_width w (n + n) (filled w whole), bits_joined n n (λ i. test (lane w v i)))
+      (ap₂ (λ a b. a + 2 ^ n * b) (bits_as n _ _ (low_test test)) (bits_as n _ _ (high_test test)))
 
   -- those of the low word, and above them those of the high word
   pub bitmask_by_words : (test : ℕ → Bool) (a b : ℕ) → lanes_in_word w + lanes_in_word w ≤ 32
@@ -291,14 +270,52 @@ module _ (w : Width) (whole : lanes_in_word w * bits w ≡ 64) (v low high : ℕ
   bitmask_by_words test a b few is_a is_b =
       let n : ℕ = lanes_in_word w in
       let p : ℕ = 2 ^ n in
-      let below_a : a < p =
-      subst (λ k. k < p) (sym is_a) (bits_below n (λ i. test (field (bits w * i) (bits w) low))) in
-      let below_b : b < p =
-      subst (λ k. k < p) (sym is_b) (bits_below n (λ i. test (field (bits w * i) (bits w) high))) in
+      let below_a : a < p = rw is_a (bits_below n (λ i. test (field (bits w * i) (bits w) low))) in
+      let below_b : b < p = rw is_b (bits_below n (λ i. test (field (bits w * i) (bits w) high))) in
       let room : p * p ≤ 2 ^ 32 = omega (arith, pow-add 2 n n, pow_mono {i = n + n} {j = 32} few) in
       let rows : (b + 1) * p ≤ p * p = mul-le (b + 1) p p p (omega arith) (le_refl p) in
       let whole : b * p % 2 ^ 32 ≡ b * p = mod-eq_of_lt (omega (arith, add-mul b 1 p, one-mul p)) in
-      ap (bit_or a) whole ∙ or_comm a (b * p) ∙ or_shifted b n a below_a
-      ∙ ap₂ (λ x y. y * p + x) is_a is_b
-      ∙ omega (arith, mul_comm (first_bits n (λ i. test (field (bits w * i) (bits w) high))) p)
-      ∙ bits_of_words test
+      rw (whole, or_comm a (b * p), or_shifted b n a below_a, is_a, is_b)
+      (omega (arith, mul_comm (first_bits n (λ i. test (field (bits w * i) (bits w) high))) p, bits_of_words test))
+
+-- ---- bits of tests
+
+-- bit i of the bits of a test of the numbers below n is 1 where the test holds of i, else 0
+pub bit_of_first : (n : ℕ) (test : ℕ → Bool) (i : ℕ) → i < n → bit_at (first_bits n test) i ≡ (if test i then 1 else 0)
+unfolding first_bits
+bit_of_first zero test i inside = absurd (omega arith)
+bit_of_first (suc n) test zero inside =
+    let low : ℕ = if test 0 then 1 else 0 in
+    bit_at_lowest (low + 2 * first_bits n (λ i. test (suc i))) ∙ omega (arith, bit_at_most (test 0))
+bit_of_first (suc n) test (suc i) inside =
+    let low : ℕ = if test 0 then 1 else 0 in
+    let rest : ℕ = first_bits n (λ i. test (suc i)) in
+    let half : (low + 2 * rest) / 2 ≡ rest = omega (arith, bit_at_most (test 0)) in
+    bit_at-suc (low + 2 * rest) i ∙ ap (λ k. bit_at k i) half ∙ bit_of_first n (λ i. test (suc i)) i (omega arith)
+
+module _ {A : Type 0} (w : Width) (read : ℕ → A) (test : A → Bool) (v : ℕ) where
+  -- bit i of the bits of a test of all lanes is 1 where the test holds of lane i, else 0
+  pub bit_of_lane : (i : ℕ) → i < lane_count w
+      → bit_at (lane_bits w read test v) i ≡ (if test (read (lane w v i)) then 1 else 0)
+  unfolding lane_bits
+  bit_of_lane i inside = bit_of_first (lane_count w) (λ k. test (read (lane w v k))) i inside
+
+  -- the bits of a test of all lanes are a number of as many bits as there are lanes
+  pub bits_of_lanes_below : lane_bits w read test v < 2 ^ lane_count w
+  unfolding lane_bits
+  bits_of_lanes_below = bits_below (lane_count w) (λ k. test (read (lane w v k)))
+
+  -- a test that holds of each lane holds of every lane at once
+  pub test_of_each : ((i : ℕ) → i < lane_count w → test (read (lane w v i)) ≡ true) → every_lane w read test v ≡ true
+  unfolding every_lane
+  test_of_each each = holds_of_each (lane_count w) (λ k. test (read (lane w v k))) each
+
+  -- a test that holds of every lane at once holds of each lane
+  pub each_of_test : every_lane w read test v ≡ true → (i : ℕ) → i < lane_count w → test (read (lane w v i)) ≡ true
+  unfolding every_lane
+  each_of_test all = each_holds (lane_count w) (λ k. test (read (lane w v k))) all
+
+-- a test of the numbers below n at once holds exactly where it holds of each
+pub test_of_numbers : (n : ℕ) (test : ℕ → Bool)
+    → (holds_below n test ≡ true) ↔ ((i : ℕ) → i < n → test i ≡ true)
+test_of_numbers n test = (each_holds n test, holds_of_each n test)

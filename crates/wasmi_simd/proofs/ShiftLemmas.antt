@@ -1,6 +1,6 @@
--- Words of one lane that are shifted, and lanes of 8 bits that are shifted with the sign.
-use Rattle.std.proofs.Common.{◌≡◌, ℕ, zero, suc, ◌+◌, ◌-◌, ◌*◌, ◌/◌, ◌%◌, ◌^◌, ◌<◌, ◌≤◌, refl, inl, inr, pos, negsuc, sym, ap, subst, ◌∙◌, arith, add-mul, one-mul, mod-lt, mod-eq_of_lt, List, map, replicate, get_or}
-use Rattle.wasmi_simd.proofs.Common.{cases_lt, lt-ltb, le-ltb, int_shr, number_l, sel, pow_pos, pow-add, div-add-mod', div-mul-add, shr_below, shr_le, pow_mono, w8, w64, signed, wrap, lane, unsigned, unary_of_lanes, field, first_lane, repeated_lane}
+-- Shifts of lanes of 64 bits, each a whole word, and shifts of lanes of 8 bits with the sign, by a table.
+use Rattle.std.proofs.Common.{◌≡◌, ℕ, zero, suc, ◌+◌, ◌-◌, ◌*◌, ◌/◌, ◌%◌, ◌^◌, ◌<◌, ◌≤◌, refl, inl, inr, sym, ap, ◌∙◌, arith, add-mul, one-mul, mod-lt, mod-eq_of_lt, List, map, replicate, get_or}
+use Rattle.wasmi_simd.proofs.Common.{cases_lt, lt-ltb, le-ltb, int_shr, number_l, pow_pos, pow-add, div-add-mod', div-mul-add, shr_below, shr_le, pow_mono, w8, w64, signed, wrap, lane, unsigned, unary_of_lanes, field, first_lane, repeated_lane}
 use Rattle.std.specs.List.{range_with_len}
 use Rattle.std.proofs.lemmas.List.FromFn.{get_or-map-range_with_len}
 use Rattle.wasmi_raw.specs.RawVal.{vector_of}
@@ -38,15 +38,12 @@ moved_and_back x s fits less =
       | inl below ↦
           let up : (x + 2 ^ 7) % 2 ^ 8 ≡ (q + x / p) * p + x % p =
           omega (arith, half, add-mul q (x / p) p, div-add-mod' x p) in
-          let quotient : (x + 2 ^ 7) % 2 ^ 8 / p ≡ q + x / p =
-          ap (λ n. n / p) up ∙ div-mul-add (q + x / p) p (x % p) (mod-lt x some) in
           let least : x / p ≤ x = shr_le x s in
-          ap (λ n. (n % 2 ^ 8 + (2 ^ 8 - q)) % 2 ^ 8) quotient ∙ omega arith
-          ∙ sym (ap (λ t. wrap w8 (int_shr (sel t (pos x) (negsuc (2 ^ 8 - suc x))) s)) (lt-ltb x (2 ^ 7) below))
+          rw (up, div-mul-add (q + x / p) p (x % p) (mod-lt x some), lt-ltb x (2 ^ 7) below) (omega arith)
       | inr above ↦
           let y : ℕ = 2 ^ 8 - suc x in
           let least : y / p ≤ y = shr_le y s in
-          let fewer : y / p < q = shr_below y (7 - s) s (subst (λ n. y < 2 ^ n) (sym sum) (omega arith)) in
+          let fewer : y / p < q = shr_below y (7 - s) s (rw sum (omega arith)) in
           let rest : y % p < p = mod-lt y some in
           let rows : (q - 1 - y / p) * p + y / p * p + p ≡ q * p =
           omega (
@@ -58,10 +55,7 @@ moved_and_back x s fits less =
           ) in
           let down : (x + 2 ^ 7) % 2 ^ 8 ≡ (q - 1 - y / p) * p + (p - 1 - y % p) =
           omega (arith, half, div-add-mod' y p) in
-          let quotient : (x + 2 ^ 7) % 2 ^ 8 / p ≡ q - 1 - y / p =
-          ap (λ n. n / p) down ∙ div-mul-add (q - 1 - y / p) p (p - 1 - y % p) (omega arith) in
-          ap (λ n. (n % 2 ^ 8 + (2 ^ 8 - q)) % 2 ^ 8) quotient ∙ omega arith
-          ∙ sym (ap (λ t. wrap w8 (int_shr (sel t (pos x) (negsuc (2 ^ 8 - suc x))) s)) (le-ltb x (2 ^ 7) above))
+          rw (down, div-mul-add (q - 1 - y / p) p (p - 1 - y % p) (omega arith), le-ltb x (2 ^ 7) above) (omega arith)
     ]
 
 -- a table of vectors, entry d with half of the range of 8 bits in each lane, shifted to the right by d

@@ -1,27 +1,28 @@
--- Vectors made of lanes of another width, what the lanes of one vector make together, and the lanes of these.
-use Rattle.std.proofs.Common.{ℕ, zero, suc, ◌+◌, ◌-◌, ◌*◌, ◌/◌, ◌%◌, ◌^◌, ◌<◌, ◌≤◌, ◌≡◌, sym, ◌∙◌, ap, ap₂, arith, inl, inr, ℤ, pos, negsuc, unsigned_abs, leb, nat_lt, if◌then◌else◌, ◌==◌, div-one, mul-zero, mul-suc, refl, subst, le_refl, pow-suc, ◌+ℤ◌, ◌*ℤ◌, FitsSigned, ◌↔◌, Bool, true, mod-eq_of_lt, mod-lt, T}
-use Rattle.wasmi_simd.proofs.Common.{pow_pos, mul-le, shl_below, cast_unsigned, int_wrap, bit_at, div-eq_of_lt, zero-div, pow_mono, cases_lt, lt-ltb, le-ltb, le-leb, Width, w8, w16, w32, w64, bits, wrap, signed, lane, lane_count, signed_fits, unsigned, with_lane, lane_below, lanes_make_vector, lane_of_from, some_bits, IsWidening, hbits, bit_at_lowest, bit_at-suc, half_unary, half_binary, pairwise_unary, pairwise_binary, from_low_high, first_bits, lane_bits, every_lane, holds_below}
+-- Lanes of vectors that are made of narrower lanes, of wider ones or of one number, and signed numbers at twice their
+-- width: their wrapped sums and products, and what fits.
+use Rattle.std.proofs.Common.{ℕ, zero, suc, ◌+◌, ◌-◌, ◌*◌, ◌%◌, ◌^◌, ◌<◌, ◌≤◌, ◌≡◌, sym, ◌∙◌, ap, ap₂, arith, inl, inr, ℤ, pos, negsuc, unsigned_abs, leb, nat_lt, if◌then◌else◌, ◌==◌, div-one, mul-zero, mul-suc, refl, le_refl, pow-suc, ◌+ℤ◌, ◌*ℤ◌, FitsSigned, Bool, mod-eq_of_lt, mod-lt, T}
+use Rattle.wasmi_simd.proofs.Common.{pow_pos, mul-le, shl_below, cast_unsigned, int_wrap, div-eq_of_lt, zero-div, pow_mono, cases_lt, lt-ltb, le-ltb, le-leb, Width, w8, w16, w32, w64, bits, wrap, signed, lane, lane_count, signed_fits, unsigned, with_lane, lane_below, lanes_make_vector, lane_of_from, some_bits, IsWidening, hbits, half_unary, half_binary, pairwise_unary, pairwise_binary, from_low_high}
 use Rattle.std.proofs.lemmas.Int.{of_z-to_z, wrapping_add_is, wrapping_mul_is, fits_signed_mul, to_z-of_z}
 use Rattle.std.proofs.Math.Facts.{sfits_widen}
 use Rattle.std.proofs.Math.Dec.{eqb-suc-zero}
 use Rattle.wasmi_types.proofs.NumbersLemmas.{wrap_below, wrap_signed}
 use Rattle.std.proofs.lemmas.Float.{T_from_true}
 use mir.Syntax.{w128}
-use Rattle.wasmi_simd.proofs.ReductionLemmas.{bit_at_most, bits_below, holds_of_each, each_holds}
+use Rattle.wasmi_simd.proofs.ReductionLemmas.{bits_below, bit_of_first, bit_of_lane, bits_of_lanes_below, test_of_each, each_of_test, test_of_numbers}
 
--- numbers that are `low` below n and `high` from n on
+-- lanes made of the wide lanes of two vectors: numbers that are `low` below n and `high` from n on
 pub by_halves : (n i : ℕ) (f low high : ℕ → ℕ) → ((k : ℕ) → k < n → f k ≡ low k)
     → ((k : ℕ) → k < n → f (n + k) ≡ high k) → i < 2 * n
     → f i ≡ (if nat_lt i n then low i else high (i - n))
 by_halves n i f low high is_low is_high inside =
-    elim (cases_lt i n) as (λ _. f i ≡ (if nat_lt i n then low i else high (i - n))) [
-      | inl below ↦ is_low i below ∙ sym (ap (λ t. if t then low i else high (i - n)) (lt-ltb i n below))
+    elim (cases_lt i n) [
+      | inl below ↦ rw (lt-ltb i n below) (is_low i below)
       | inr above ↦
           let at : i ≡ n + (i - n) = omega arith in
-          ap f at ∙ is_high (i - n) (omega arith) ∙ sym (ap (λ t. if t then low i else high (i - n)) (le-ltb i n above))
+          rw (le-ltb i n above) (ap f at ∙ is_high (i - n) (omega arith))
     ]
 
--- a number wrapped to w bits and read signed has the wrapped number for its bits
+-- for wrapped sums and products: a number wrapped to w bits and read signed has the wrapped number for its bits
 pub bits_of_wrapped : (w : Width) (z : ℤ) → cast_unsigned w (int_wrap w z) ≡ wrap w z
 unfolding int_wrap
 bits_of_wrapped w z = of_z-to_z w (wrap w z) (wrap_below w z)
@@ -55,7 +56,7 @@ pub extended_fits : (narrow wide : Width) (v i : ℕ) → T (leb (hbits narrow) 
     → FitsSigned wide (signed narrow (lane narrow v i))
 extended_fits narrow wide v i wider = sfits_widen wider (signed_fits narrow (lane narrow v i) (lane_below narrow v i))
 
--- and so is a product of two of them
+-- the product of two lanes that are read signed is in the range of a wider signed type
 pub product_fits : (narrow wide : Width) (a i b j : ℕ) → 2 ^ hbits narrow * 2 ^ hbits narrow < 2 ^ hbits wide
     → FitsSigned wide (signed narrow (lane narrow a i) *ℤ signed narrow (lane narrow b j))
 product_fits narrow wide a i b j room =
@@ -74,10 +75,8 @@ module _ {narrow wide : Width} {n : ℕ} (widens : IsWidening narrow wide n) {x 
   pub product_below : x < 2 ^ bits narrow → y < 2 ^ bits narrow → x * y < 2 ^ bits wide
   product_below fits_x fits_y =
       let b = bits narrow in
-      let rows : x * y ≤ x * 2 ^ b = mul-le x y x (2 ^ b) (le_refl x) (omega arith) in
-      let whole : x * 2 ^ b < 2 ^ bits wide =
-      subst (λ k. x * 2 ^ b < 2 ^ k) (sym widens.twice) (shl_below x b b fits_x) in
-      omega arith
+      let whole : x * 2 ^ b < 2 ^ bits wide = rw widens.twice (shl_below x b b fits_x) in
+      omega (arith, mul-le x y x (2 ^ b) (le_refl x) (omega arith))
 
   -- and so is their sum
   pub sum_below : x < 2 ^ bits narrow → y < 2 ^ bits narrow → x + y < 2 ^ bits wide
@@ -94,13 +93,11 @@ low_zero_is w n number filled below small = lanes_make_vector w n number _ fille
   where
     lane_is : (i : ℕ) → lane w number i ≡ (if i == 0 then number else lane w 0 i)
     lane_is zero =
-        ap (λ k. number / 2 ^ k % 2 ^ bits w) (mul-zero (bits w)) ∙ ap (λ m. m % 2 ^ bits w) (div-one number)
-        ∙ mod-eq_of_lt below
+        rw (mul-zero (bits w), div-one number) (mod-eq_of_lt below)
     lane_is (suc i) =
         let wider : bits w ≤ bits w * suc i = omega (arith, mul-suc (bits w) i) in
         let out : number < 2 ^ (bits w * suc i) = omega (arith, pow_mono wider) in
-        ap (λ m. m % 2 ^ bits w) (div-eq_of_lt out ∙ sym (zero-div (2 ^ (bits w * suc i))))
-        ∙ sym (ap (λ t. if t then number else lane w 0 (suc i)) (eqb-suc-zero i))
+        rw (div-eq_of_lt out, eqb-suc-zero i, zero-div (2 ^ (bits w * suc i)))
 
 -- ---- lanes made of narrower ones
 
@@ -144,7 +141,7 @@ module _ {A : Type 0} (narrow wide : Width) (read : ℕ → A) (i : ℕ) (inside
 pub signed_of_wrapped : (w : Width) (z : ℤ) → FitsSigned w z → signed w (wrap w z) ≡ z
 signed_of_wrapped w z fits = ap (signed w) (wrap_signed w z fits) ∙ to_z-of_z w z fits
 
--- a type of at least as many bits has at least as many below its sign
+-- a wider signed type has at least as many bits below its sign
 wider_half : (narrow wide : Width) → bits narrow ≤ bits wide → T (leb (hbits narrow) (hbits wide))
 wider_half narrow wide wider =
     T_from_true (leb (hbits narrow) (hbits wide))
@@ -160,18 +157,19 @@ module _ (narrow wide : Width) (first v i at : ℕ) (wider : bits narrow ≤ bit
       ≡ signed narrow (lane narrow v at)
   signed_of_extended =
       let z : ℤ = signed narrow (lane narrow v (first + i)) in
-      ap (signed wide)
-      (lane_of_half narrow wide (signed narrow) i inside first (wrap wide) v ∙ mod-eq_of_lt (wrap_below wide z))
-      ∙ signed_of_wrapped wide z (extended_fits narrow wide v (first + i) (wider_half narrow wide wider))
-      ∙ ap (λ k. signed narrow (lane narrow v k)) (sym place)
+      rw (
+        place,
+        lane_of_half narrow wide (signed narrow) i inside first (wrap wide) v,
+        mod-eq_of_lt (wrap_below wide z),
+      )
+      (signed_of_wrapped wide z (extended_fits narrow wide v (first + i) (wider_half narrow wide wider)))
 
   -- lane i of a half that is extended without signs is the narrow lane
   pub lane_of_extended : lane wide (half_unary narrow wide first unsigned (λ x. x) v) i ≡ lane narrow v at
   lane_of_extended =
       let more : 2 ^ bits narrow ≤ 2 ^ bits wide = pow_mono wider in
       let below : lane narrow v (first + i) < 2 ^ bits narrow = lane_below narrow v (first + i) in
-      lane_of_half narrow wide unsigned i inside first (λ x. x) v ∙ mod-eq_of_lt (omega arith)
-      ∙ ap (lane narrow v) (sym place)
+      rw place (lane_of_half narrow wide unsigned i inside first (λ x. x) v ∙ mod-eq_of_lt (omega arith))
 
 -- ---- lanes made of wider ones
 
@@ -204,50 +202,7 @@ module _ {A : Type 0} (wide narrow : Width) (read : ℕ → A) (row : A → ℕ)
   lane_of_high inside =
       let n : ℕ = lane_count wide in
       let back : n + i - n ≡ i = omega arith in
-      lane_chosen (n + i) inside ∙ ap (chosen (n + i)) (le-ltb (n + i) n (omega arith))
-      ∙ ap (λ k. row (read (lane wide high k)) % 2 ^ bits narrow) back
-
--- ---- bits of tests
-
--- bit i of the bits of a test of the numbers below n is 1 where the test holds of i, else 0
-pub bit_of_first : (n : ℕ) (test : ℕ → Bool) (i : ℕ) → i < n → bit_at (first_bits n test) i ≡ (if test i then 1 else 0)
-unfolding first_bits
-bit_of_first zero test i inside = absurd (omega arith)
-bit_of_first (suc n) test zero inside =
-    let low : ℕ = if test 0 then 1 else 0 in
-    bit_at_lowest (low + 2 * first_bits n (λ i. test (suc i))) ∙ omega (arith, bit_at_most (test 0))
-bit_of_first (suc n) test (suc i) inside =
-    let low : ℕ = if test 0 then 1 else 0 in
-    let rest : ℕ = first_bits n (λ i. test (suc i)) in
-    let half : (low + 2 * rest) / 2 ≡ rest = omega (arith, bit_at_most (test 0)) in
-    bit_at-suc (low + 2 * rest) i ∙ ap (λ k. bit_at k i) half ∙ bit_of_first n (λ i. test (suc i)) i (omega arith)
-
-module _ {A : Type 0} (w : Width) (read : ℕ → A) (test : A → Bool) (v : ℕ) where
-  -- bit i of the bits of a test of all lanes is 1 where the test holds of lane i, else 0
-  pub bit_of_lane : (i : ℕ) → i < lane_count w
-      → bit_at (lane_bits w read test v) i ≡ (if test (read (lane w v i)) then 1 else 0)
-  unfolding lane_bits
-  bit_of_lane i inside = bit_of_first (lane_count w) (λ k. test (read (lane w v k))) i inside
-
-  -- the bits of a test of all lanes are a number of as many bits as there are lanes
-  pub bits_of_lanes_below : lane_bits w read test v < 2 ^ lane_count w
-  unfolding lane_bits
-  bits_of_lanes_below = bits_below (lane_count w) (λ k. test (read (lane w v k)))
-
-  -- a test that holds of each lane holds of every lane at once
-  pub test_of_each : ((i : ℕ) → i < lane_count w → test (read (lane w v i)) ≡ true) → every_lane w read test v ≡ true
-  unfolding every_lane
-  test_of_each each = holds_of_each (lane_count w) (λ k. test (read (lane w v k))) each
-
-  -- a test that holds of every lane at once holds of each lane
-  pub each_of_test : every_lane w read test v ≡ true → (i : ℕ) → i < lane_count w → test (read (lane w v i)) ≡ true
-  unfolding every_lane
-  each_of_test all = each_holds (lane_count w) (λ k. test (read (lane w v k))) all
-
--- a test of the numbers below n at once holds exactly where it holds of each
-pub test_of_numbers : (n : ℕ) (test : ℕ → Bool)
-    → (holds_below n test ≡ true) ↔ ((i : ℕ) → i < n → test i ≡ true)
-test_of_numbers n test = (each_holds n test, holds_of_each n test)
+      rw (lane_chosen (n + i) inside, le-ltb (n + i) n (omega arith), back)
 
 -- for the laws on lanes
 pub ruleset laws = (

@@ -1,5 +1,5 @@
-//! Laws on lanes that are made of lanes of another width, on tests of lanes and on the bits that
-//! they give.
+//! Laws on lanes that are made of lanes of another width and on wrapped numbers, on tests of lanes
+//! and on the bits that they give.
 #![tactic(auto, using(crate::proofs::WideningLemmas::laws))]
 
 ghost use Rattle.std.specs.Prelude.{◌≡◌, ◌↔◌, ℕ, ℤ, FitsSigned, ◌+◌, ◌*◌, ◌%◌, ◌^◌, ◌<◌, ◌≤◌, Bool, IsTrue, if◌then◌else◌};

@@ -4,7 +4,8 @@
 //! `i16x8.extend_low_i8x16_s`, which makes 8 lanes of 16 bits of 16 lanes of 8 bits; lane 0 is the
 //! lowest. Core specification: vector instructions; what each gives stands in
 //! `specs/WideningTable.antt`, and for the shifts in `VectorTable` of `wasmi_lanewise`. Upstream:
-//! `wasmi_core::simd`.
+//! `wasmi_core::simd`. Private functions here make an instruction for each lane type; how such a
+//! type takes its lanes at twice their width is in `wide`.
 
 ghost use Rattle.std.specs.Prelude.{◌≡◌, ℕ, ◌*◌, ◌^◌, not, nat_eq, nat_le};
 ghost use Rattle.wasmi_types.specs.Numbers.{w8, w16, w32, w64, bits};
@@ -170,6 +171,7 @@ pub fn v128_low64_zero(number: u64) -> V128
     u32::vector_of(items.shuffle(u32x4::splat(0), [0, 1, 4, 5]))
 }
 
+// The instructions `extend_low_*_s`, for each lane type.
 #[inline(always)]
 fn extended_low_s<T: ExtendedLane>(v: V128) -> V128
     ensures { result ≡ vector.extend_low_s T.width T.Wide.width v }
@@ -177,6 +179,7 @@ fn extended_low_s<T: ExtendedLane>(v: V128) -> V128
     T::Wide::vector_of(T::low_signed(v))
 }
 
+// The instructions `extend_low_*_u`, for each lane type.
 #[inline(always)]
 fn extended_low_u<T: ExtendedLane>(v: V128) -> V128
     ensures { result ≡ vector.extend_low_u T.width T.Wide.width v }
@@ -184,6 +187,7 @@ fn extended_low_u<T: ExtendedLane>(v: V128) -> V128
     T::Wide::vector_of(T::low(v))
 }
 
+// The instructions `extend_high_*_s`, for each lane type.
 #[inline(always)]
 fn extended_high_s<T: ExtendedLane>(v: V128) -> V128
     ensures { result ≡ vector.extend_high_s T.width T.Wide.width v }
@@ -191,6 +195,7 @@ fn extended_high_s<T: ExtendedLane>(v: V128) -> V128
     T::Wide::vector_of(T::high_signed(v))
 }
 
+// The instructions `extend_high_*_u`, for each lane type.
 #[inline(always)]
 fn extended_high_u<T: ExtendedLane>(v: V128) -> V128
     ensures { result ≡ vector.extend_high_u T.width T.Wide.width v }
@@ -228,7 +233,7 @@ pub fn i16x8_narrow_i32x4_u(low: V128, high: V128) -> V128
     from_low_high::<I32x4, I16x8, _>(low, high, clamped_u16)
 }
 
-// Applies `f` to the lanes of `low`, then to those of `high`.
+// The instructions `narrow_*`: applies `f` to the lanes of `low`, then to those of `high`.
 #[inline(always)]
 fn from_low_high<W: Lanes, L: FromWide<W>, F: Fn(W::Item) -> L::Item>(
     low: V128,
@@ -372,6 +377,7 @@ pub fn i16x8_relaxed_dot_i8x16_i7x16_s(lhs: V128, rhs: V128) -> V128
     dots::<u8>(lhs, rhs)
 }
 
+// The instructions `extmul_low_*_s`, for each lane type.
 #[inline(always)]
 fn products_low_s<T: ExtendedLane>(lhs: V128, rhs: V128) -> V128
     ensures { result ≡ vector.extmul_low_s T.width T.Wide.width lhs rhs }
@@ -379,6 +385,7 @@ fn products_low_s<T: ExtendedLane>(lhs: V128, rhs: V128) -> V128
     T::Wide::vector_of(T::products(T::low_signed(lhs), T::low_signed(rhs)))
 }
 
+// The instructions `extmul_low_*_u`, for each lane type.
 #[inline(always)]
 fn products_low_u<T: ExtendedLane>(lhs: V128, rhs: V128) -> V128
     ensures { result ≡ vector.extmul_low_u T.width T.Wide.width lhs rhs }
@@ -386,6 +393,7 @@ fn products_low_u<T: ExtendedLane>(lhs: V128, rhs: V128) -> V128
     T::Wide::vector_of(T::products(T::low(lhs), T::low(rhs)))
 }
 
+// The instructions `extmul_high_*_s`, for each lane type.
 #[inline(always)]
 fn products_high_s<T: ExtendedLane>(lhs: V128, rhs: V128) -> V128
     ensures { result ≡ vector.extmul_high_s T.width T.Wide.width lhs rhs }
@@ -393,6 +401,7 @@ fn products_high_s<T: ExtendedLane>(lhs: V128, rhs: V128) -> V128
     T::Wide::vector_of(T::products(T::high_signed(lhs), T::high_signed(rhs)))
 }
 
+// The instructions `extmul_high_*_u`, for each lane type.
 #[inline(always)]
 fn products_high_u<T: ExtendedLane>(lhs: V128, rhs: V128) -> V128
     ensures { result ≡ vector.extmul_high_u T.width T.Wide.width lhs rhs }
@@ -400,6 +409,7 @@ fn products_high_u<T: ExtendedLane>(lhs: V128, rhs: V128) -> V128
     T::Wide::vector_of(T::products(T::high(lhs), T::high(rhs)))
 }
 
+// The instructions `extadd_pairwise_*_s`, for each lane type.
 #[inline(always)]
 fn neighbours_s<T: PairedLane>(v: V128) -> V128
     ensures { result ≡ vector.extadd_pairwise_s T.width T.Wide.width v }
@@ -407,6 +417,7 @@ fn neighbours_s<T: PairedLane>(v: V128) -> V128
     T::Wide::vector_of(T::sums(T::even_signed(v), T::odd_signed(v)))
 }
 
+// The instructions `extadd_pairwise_*_u`, for each lane type.
 #[inline(always)]
 fn neighbours_u<T: PairedLane>(v: V128) -> V128
     ensures { result ≡ vector.extadd_pairwise_u T.width T.Wide.width v }
@@ -414,6 +425,7 @@ fn neighbours_u<T: PairedLane>(v: V128) -> V128
     T::Wide::vector_of(T::sums(T::even(v), T::odd(v)))
 }
 
+// The instructions `dot_*_s`, for each lane type.
 #[inline(always)]
 fn dots<T: PairedLane>(lhs: V128, rhs: V128) -> V128
     ensures { result ≡ vector.dot_s T.width T.Wide.width lhs rhs }
@@ -601,6 +613,7 @@ pub fn i64x2_bitmask(v: V128) -> u32
     (low >> 63) as u32 | (((high >> 63) as u32) << 1)
 }
 
+// The instructions `all_true`, for each lane type.
 #[inline(always)]
 fn no_zero<T: WordLane>(v: V128) -> bool
     ensures { result ≡ vector.all_true T.width v }

@@ -1,8 +1,7 @@
--- A buffer that was grown, by where its bytes lie.
-use Rattle.std.proofs.Common.{◌≡◌, ℕ, ◌+◌, ◌-◌, ◌≤◌, List, [], ◌++◌, length, take, drop, replicate, refl, sym, ap, ◌∙◌, arith, Vec, Global, true}
-use Rattle.wasmi_store.proofs.Common.{nat_tests, take_all, drop_all, append-nil, take_at, drop_at, drop-drop, take-append-le, length-replicate, with_zeros, fits_room, refilled_front, view_of, EndsWithin}
-use Rattle.std.proofs.lemmas.List.{take-append-drop, length-append, length-take-le, length-drop}
-use Rattle.wasmi_store.specs.Buffer as buffer
+-- A buffer that was grown, by where its bytes lie: in memory of its own, or at the front of a lent region.
+use Rattle.std.proofs.Common.{◌≡◌, ℕ, ◌+◌, ◌-◌, ◌≤◌, List, ◌++◌, length, take, drop, replicate, refl, sym, ap, ◌∙◌, arith, Vec, Global, true}
+use Rattle.wasmi_store.proofs.Common.{take-take, nat_tests, take_all, drop_all, append-nil, take_at, drop_at, drop-drop, length-replicate, with_zeros, fits_room, refilled_front, view_of, EndsWithin}
+use Rattle.std.proofs.lemmas.List.{length-append, length-take-le, length-drop}
 use Rattle.wasmi_store.specs.declared.memory.buffer.Storage.TheVariants.{Owned, Lent}
 
 -- a list, and n zeros
@@ -11,12 +10,9 @@ padded xs n = xs ++ replicate n 0
 
 -- n zeros make a list longer by n
 length-padded : (xs : List ℕ) (n : ℕ) → length (padded xs n) ≡ length xs + n
-length-padded xs n =
-    let both : length (padded xs n) ≡ length xs + length (replicate {A = ℕ} n 0) = length-append xs (replicate n 0) in
-    let added : length (replicate {A = ℕ} n 0) ≡ n = length-replicate n 0 in
-    omega arith
+length-padded xs n = simp (length-append, length-replicate)
 
--- the front of a list, written over by as many, and what was left
+-- the front of a buffer's lent region, written over by as many bytes, and what was left
 front_written : (xs ws : List ℕ) (n : ℕ) → n ≤ length xs → length ws ≡ n → refilled_front xs n ws ≡ ws ++ drop n xs
 front_written xs ws n within long =
     let front : length (take n xs) ≡ n = length-take-le n xs within in
@@ -33,9 +29,7 @@ module _ {Region : Type 0} (bytes : Region → List ℕ) (len n : ℕ) where
       let short : length v.items ≤ n = rw (sym whole) le in
       let added : w.items ≡ padded v.items (n - length v.items) = rw (grown, count, take_all n v.items short) refl in
       let full : length w.items ≡ n = rw added (length-padded v.items (n - length v.items) ∙ omega arith) in
-      let same : padded v.items (n - length v.items) ≡ padded (take len v.items) (n - length (take len v.items)) =
-      rw whole refl in
-      ap (λ (l : List ℕ). record { bytes = l; room = buffer.Owned }) (take_all n w.items (omega arith) ∙ added ∙ same)
+      rw (take_all n w.items (omega arith), added, whole) refl
 
   -- a region whose first n bytes were written over, by the buffer's and zeros, holds the buffer with zeros
   pub lent_grows : (region region' : Region) → EndsWithin bytes (Lent region) len → length (take len (bytes region)) ≤ n
@@ -49,13 +43,10 @@ module _ {Region : Type 0} (bytes : Region → List ℕ) (len n : ℕ) where
       let left : length (drop len xs) ≡ length xs - len = length-drop len xs in
       let within : n ≤ length xs = grind (arith, nat_tests) in
       let front : length (take n xs) ≡ n = length-take-le n xs within in
-      let kept : take len (take n xs) ≡ take len xs =
-      sym (take-append-le len (take n xs) (drop n xs) (omega arith)) ∙ ap (take len) (take-append-drop n xs) in
-      let rest_of_front : drop n (take n xs) ≡ [] = drop_all n (take n xs) (omega arith) in
+      let kept : take len (take n xs) ≡ take len xs = take-take len n xs (omega arith) in
       let zeroed : ws ≡ padded (take len xs) (n - length (take len xs)) =
-      rw (zeros, kept, rest_of_front, used) (append-nil (padded (take len xs) (n - len))) in
-      let long : length ws ≡ n =
-      ap length zeroed ∙ length-padded (take len xs) (n - length (take len xs)) ∙ omega arith in
+      rw (zeros, kept, drop_all n (take n xs) (omega arith), used) (append-nil (padded (take len xs) (n - len))) in
+      let long : length ws ≡ n = rw zeroed (length-padded (take len xs) (n - length (take len xs)) ∙ omega arith) in
       let written : bytes region' ≡ ws ++ drop n xs = after ∙ front_written xs ws n within long in
       let rest : drop (n - length (take len xs)) (drop len xs) ≡ drop n xs =
       drop-drop (n - length (take len xs)) len xs ∙ ap (λ (k : ℕ). drop k xs) (omega arith) in

@@ -1,10 +1,10 @@
 -- Names that many proofs of this crate cite, passed on from one place.
 pub use Rattle.std.proofs.lemmas.Bool.{cond-true, cond-false, MatchBool-at_true}
 pub use Rattle.std.proofs.lemmas.Bool.Decides.{nat_tests}
-pub use Rattle.std.proofs.lemmas.List.{take_all, drop_all, append-nil, take_at, drop_at, drop-drop, take-append-le, length-replicate, with_items_is, take-take, drop-take}
+pub use Rattle.std.proofs.lemmas.List.{take_all, drop_all, append-nil, take_at, drop_at, drop-drop, length-replicate, with_items_is, take-take, drop-take}
 pub use Rattle.std.proofs.lemmas.Result.{err_from_is_err_and}
 pub use Rattle.std.specs.List.{refill, length_refill}
-pub use Rattle.std.specs.Prelude.{if◌then◌else◌, MatchBool, nat_lt, OnErr, is_err, ◌&&◌, nat_le}
+pub use Rattle.std.specs.Prelude.{if◌then◌else◌, MatchBool, nat_lt, OnErr, is_err, nat_le}
 pub use Rattle.wasmi_meter.proofs.AttemptLemmas.{IsPermitted, ReachesCharge, attempt_unasked, attempt_denied, attempt_late, attempt_unpaid, attempt_refused, attempt_met, meter_after_nothing}
 pub use Rattle.wasmi_meter.specs.Attempt.{MeteredValue, alone, Request, AttemptOutcome, Unasked, Denied, Met, Failed, Attempt, Permits, answer_of, error_of_failure, optional_due, covers, MayEnd, value_after}
 pub use Rattle.wasmi_meter.specs.Limiter.{Question, Answer, NoticeAnswer, Rules, KeepsLoan, optional_rules}

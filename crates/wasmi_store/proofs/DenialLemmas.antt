@@ -1,6 +1,6 @@
--- Requests that nothing but a limiter refuses, and requests that more causes may refuse than others.
-use Rattle.std.proofs.Common.{◌≡◌, ◌∙◌, ◌⊎◌, ap, true, None, Ok, Option, Result, Some, inl, inr, refl, subst, sym, ℕ}
-use Rattle.std.specs.Prelude.{if◌then◌else◌, is_none, ◌&&◌}
+-- Requests that nothing but a limiter refuses; and a wider request, which more causes may refuse than another: an
+-- attempt of the other, with its end, charge and answer, is one of the wider.
+use Rattle.std.proofs.Common.{◌≡◌, ◌∙◌, ◌⊎◌, ap, true, None, Ok, Option, Result, Some, inl, inr, refl, sym, ℕ}
 use Rattle.std.specs.Result.{result_map_both}
 use Rattle.wasmi_meter.specs.Attempt.{Attempt, AttemptOutcome, Denied, Failed, Follows, IsFirstCause, MayEnd, Met, MeteredValue, Request, Unasked, answer_of, covers, optional_due, outcome_charge, value_after, with_value}
 use Rattle.wasmi_meter.specs.Limiter.{Rules}
@@ -54,14 +54,13 @@ module _ {V E : Type 0} (e : Request V E) (late : Option E) (refuses : E → Typ
     ends : HasLate → (outcome : AttemptOutcome E) → MayEnd e m outcome → MayEnd widened m outcome
     ends has Met (early, none, paid) = (early, sym (has early) ∙ none, paid)
     ends has (Failed cause notice_answer) (early, first) =
-        (early, first_cause cause late (subst (λ l. IsFirstCause e m l cause) (has early) first))
+        (early, first_cause cause late (rw (has early) at first))
     ends has outcome may = may
 
     -- the charge is that of the wider request
     charges : HasLate → (outcome : AttemptOutcome E) → MayEnd e m outcome
         → outcome_charge e m outcome ≡ outcome_charge widened m outcome
-    charges has (Failed cause notice_answer) may =
-        ap (λ last. if is_none last && covers m (optional_due m e.price) then optional_due m e.price else 0) (has may.0)
+    charges has (Failed cause notice_answer) may = rw (has may.0) refl
     charges has outcome may = refl
 
   -- the limiter sees the same

@@ -1,11 +1,12 @@
--- The making and the growth of a memory or a table, by what was tested on the way.
+-- The making and the growth of any value, by what was tested on the way: the limiter's answer or notice, the late
+-- cause, and what the meter can pay; and a growth of another request, of a loan, and without a meter.
 use Rattle.std.proofs.Common.{◌≡◌, ℕ, ◌<◌, ◌≤◌, Bool, true, false, Option, Some, None, Result, Ok, Err, inl, inr, refl, ap, ◌∙◌, arith}
 use Rattle.wasmi_store.proofs.Common.{cond-true, cond-false, if◌then◌else◌, MatchBool, nat_tests, CustomFuelCosts, Question, Answer, NoticeAnswer, Rules, KeepsLoan, Meter, amount_left, Charges, MeteredValue, alone, Request, AttemptOutcome, Unasked, Denied, Met, Failed, Attempt, Permits, answer_of, error_of_failure, optional_due, covers, IsPermitted, ReachesCharge, attempt_unasked, attempt_denied, attempt_late, attempt_unpaid, attempt_refused, attempt_met, IsAsked, Makes, Growth, Grows, metered_value}
 use Rattle.std.specs.Borrow.{MutBor}
 use Rattle.std.proofs.lemmas.Grind.{common_steps}
 use Rattle.wasmi_meter.specs.declared.limiter.LimiterRef.{LimiterRef}
 
--- whether a test holds
+-- what follows whether a test holds or fails
 pub on_test : {C : Type 0} (test : Bool) (Holds Fails : Type 0) → MatchBool test Holds Fails → (Holds → C) → (Fails → C)
     → C
 on_test true Holds Fails h holds fails = holds h

@@ -1,11 +1,10 @@
--- The making and the growth of a memory, by what was tested on the way.
-use Rattle.std.proofs.Common.{◌≡◌, ℕ, ◌+◌, ◌-◌, ◌*◌, ◌/◌, ◌%◌, ◌^◌, Bool, true, false, Option, Some, None, List, ◌++◌, length, drop, replicate, Result, Ok, Err, subst, refl, sym, ap, ◌∙◌, arith}
-use Rattle.wasmi_store.proofs.Common.{cond-true, cond-false, if◌then◌else◌, nat_lt, refill, length_refill, take_at, length-replicate, MemoryError, Question, Answer, Rules, Meter, due, copy_cost, Permits, BufferValue, zeros_in, with_zeros, fits_room, MemoryTypeValue, page_bytes, minimum_bytes, maximum_bytes, in_bounds, MemoryValue, pages_of, new_memory, size_question, MakesMemory, PermitsMinimum, WritesMemory, IsPermitted, ReachesCharge, IsAsked, Growth}
-use Rattle.std.specs.Result.{OnOk, IfErr}
+-- The making and the growth of a memory, by what was tested on the way; and sizes in bytes and in pages after a growth
+-- or a write.
+use Rattle.std.proofs.Common.{◌≡◌, ℕ, ◌+◌, ◌-◌, ◌*◌, ◌/◌, ◌%◌, ◌^◌, Bool, true, false, Option, Some, None, List, ◌++◌, length, replicate, Ok, Err, refl, sym, arith}
+use Rattle.wasmi_store.proofs.Common.{cond-true, cond-false, if◌then◌else◌, nat_lt, refill, length_refill, length-replicate, MemoryError, Question, Answer, Rules, Meter, due, copy_cost, Permits, BufferValue, zeros_in, fits_room, MemoryTypeValue, page_bytes, minimum_bytes, maximum_bytes, in_bounds, MemoryValue, pages_of, new_memory, size_question, MakesMemory, PermitsMinimum, IsPermitted, ReachesCharge, IsAsked, Growth}
 use Rattle.std.proofs.lemmas.List.{length-append}
 use Rattle.std.proofs.lemmas.Option.{cond_some}
-use Rattle.wasmi_types.specs.Access.{overwrite}
-use Rattle.wasmi_meter.specs.declared.error.MemoryError.TheVariants.{OutOfBoundsAccess, ResourceLimiterDeniedAllocation, MinimumSizeOverflow, InvalidStaticBufferSize}
+use Rattle.wasmi_meter.specs.declared.error.MemoryError.TheVariants.{ResourceLimiterDeniedAllocation, MinimumSizeOverflow, InvalidStaticBufferSize}
 use Rattle.wasmi_meter.specs.declared.limiter.Kind.TheVariants.{Bytes}
 use Rattle.wasmi_store.specs.Buffer.{Room}
 use Rattle.wasmi_store.specs.Memory.{IsSized, creation_of, growth_of}
@@ -13,10 +12,6 @@ use Rattle.wasmi_store.specs.declared.memory.ty.PageSize.{PageSize}
 use Rattle.wasmi_store.specs.declared.memory.ty.PageSize.TheVariants.{Byte, Wasm}
 use Rattle.wasmi_store.proofs.GrowthLemmas as any
 use Rattle.wasmi_store.proofs.GrowthLemmas.{permitted_by, TellsOf, growing, PermitsGrowth}
-
--- bytes that were lent and are written over by as many are the written ones
-pub refilled_by : (xs lent ws : List ℕ) → lent ≡ xs → length ws ≡ length lent → refill (length xs) xs ws ≡ ws
-refilled_by xs lent ws is long = take_at ws (drop (length ws) xs) (length xs) (long ∙ ap length is)
 
 -- bytes that are written over stay as many
 pub sized_refilled : (ty : MemoryTypeValue) (xs ws : List ℕ) → IsSized ty (length xs)
@@ -35,11 +30,6 @@ pages_added : (page : PageSize) (size n : ℕ) → size % page_bytes page ≡ 0
 pages_added Byte size n whole = (omega arith, omega arith)
 pages_added Wasm size n whole = (omega arith, omega arith)
 
--- zeros up to a size that is n greater are n zeros
-pub zeros_added : (b b' : BufferValue) (n : ℕ) {size : ℕ} → size ≡ length b.bytes + n
-    → b' ≡ with_zeros b (size - length b.bytes) → b' ≡ with_zeros b n
-zeros_added b b' n sized grown = grown ∙ ap (with_zeros b) (omega arith)
-
 -- bytes that grow by pages within the bounds of their type stay sized
 pub sized_grown : (ty : MemoryTypeValue) (xs : List ℕ) (pages : ℕ) → IsSized ty (length xs)
     → in_bounds ty (length xs / page_bytes ty.page + pages) ≡ true
@@ -50,18 +40,10 @@ sized_grown ty xs pages sized bounds =
     rw (length-append xs (replicate n 0), length-replicate {A = ℕ} n 0) (record {
       whole = added.0;
       minimum = omega (arith, added.1, sized.minimum);
-      within = subst (λ k. in_bounds ty k ≡ true) (sym added.1) bounds;
+      within = rw added.1 bounds;
     })
 
--- what is written over a memory's bytes is written over the memory
-pub writes_memory : (x : MemoryValue) (offset : ℕ) (source : List ℕ) (result : Result (Unit {0}) MemoryError)
-    (ws : List ℕ) → OnOk result (overwrite x.bytes offset source ≡ Some ws)
-    → IfErr result (λ e. (e ≡ OutOfBoundsAccess) × (overwrite x.bytes offset source ≡ None) × (ws ≡ x.bytes))
-    → WritesMemory x offset source result (record x { bytes = ws })
-writes_memory x offset source (Ok _) ws ok err = (ok, refl, refl)
-writes_memory x offset source (Err e) ws ok err = (err.0, err.1, ap (λ l. record x { bytes = l }) err.2)
-
--- a number that is absent so is one whose test fails
+-- a memory's minimum in bytes that is absent is one whose test fails
 untested : (b : Bool) (n : ℕ) → (let none : Option ℕ = None in none) ≡ (if b then Some n else None) → b ≡ false
 untested true n h = absurd cc
 untested false n h = refl
@@ -119,7 +101,7 @@ module _ {S : Type 0} (rules : Rules S) (room : Room) (ty : MemoryTypeValue) (l 
 abbrev pub memory_growth : ℕ → MemoryValue → Growth MemoryValue MemoryError
 memory_growth pages x = record { amount = pages; size = pages_of x; request = growth_of x pages }
 
--- a growth within the bounds asks for its sizes
+-- a memory's growth within the bounds asks for its sizes
 pub growth_asked : (x : MemoryValue) (pages : ℕ) {size desired : ℕ} {maximum : Option ℕ}
     → (in_bounds x.ty (pages_of x + pages) ≡ true) × (desired ≡ length x.bytes + pages * page_bytes x.ty.page)
     → size ≡ length x.bytes → maximum ≡ maximum_bytes x.ty
@@ -127,7 +109,7 @@ pub growth_asked : (x : MemoryValue) (pages : ℕ) {size desired : ℕ} {maximum
 growth_asked x pages found sized cut =
     record { early = cond-true _ _ _ found.0; question_is = rw (sized, found.1, cut) refl }
 
--- a growth is permitted where its sizes are asked for and the limiter says yes
+-- a memory's growth is permitted where its sizes are asked for and the limiter says yes
 pub growth_permitted : {S : Type 0} (rules : Rules S) (x : MemoryValue) (m : Meter) (pages : ℕ) {question : Question}
     {l p : S} {answer : Answer} (some : pages ≡ 0 → ⊥) → IsAsked (growth_of x pages) question → answer ≡ Ok true
     → rules.asked l question answer p → PermitsGrowth (growing rules (memory_growth pages) x m l some) p

@@ -1,26 +1,18 @@
--- The making and the growth of a table, by what was tested on the way; an element segment in the midst of being read.
-use Rattle.std.proofs.Common.{◌≡◌, ℕ, ◌+◌, ◌-◌, true, false, Option, Some, None, Result, Ok, Err, List, ◌++◌, length, take, replicate, refl, ap, ◌∙◌, arith, ◌<◌, [], ◌∷◌, sym, subst, length-append}
-use Rattle.wasmi_store.proofs.Common.{cond-true, cond-false, take_all, length-replicate, OnErr, is_err, CustomFuelCosts, TableError, GrowOutOfBounds, ElementTypeMismatch, Question, Answer, Rules, Meter, due, TableTypeValue, is_indexable, is_within_maximum, same_type, TableValue, size_of, new_table, element_price, MakesTable, GrowsTableCharging, IsAsked, Growth, metered_value}
+-- The making and the growth of a table, by what was tested on the way, and the sizes and types of tables.
+use Rattle.std.proofs.Common.{◌≡◌, ℕ, ◌+◌, true, false, Option, Some, None, Result, Ok, Err, List, ◌++◌, length, replicate, refl, ap, arith, length-append}
+use Rattle.wasmi_store.proofs.Common.{cond-true, cond-false, length-replicate, CustomFuelCosts, TableError, GrowOutOfBounds, ElementTypeMismatch, Question, Answer, Rules, Meter, due, TableTypeValue, is_indexable, is_within_maximum, same_type, TableValue, size_of, new_table, element_price, MakesTable, GrowsTableCharging, IsAsked, Growth, metered_value}
 use Rattle.wasmi_types.specs.declared.value.RefType.{RefType}
+use Rattle.wasmi_types.specs.declared.value.RefType.TheVariants.{Func, Extern}
 use Rattle.wasmi_typed.specs.declared.typed_ref.TypedRawRef.{TypedRawRef}
 use Rattle.wasmi_meter.specs.declared.limiter.Kind.TheVariants.{Elements}
 use Rattle.wasmi_store.specs.Table.{IsSized, creation_of, growth_of}
 use Rattle.wasmi_store.proofs.GrowthLemmas.{permitted_by, growing, PermitsGrowth, on_test_too}
-use Rattle.wasmi_types.proofs.ReadingLemmas.{SoFar, SoFar-next, Yields-snoc}
-use Rattle.wasmi_store.specs.Segment.{most_items, IsOutOfMemory}
 use Rattle.wasmi_store.proofs.GrowthLemmas as any
 
--- where a call failed, what holds of its failures holds
-pub of_failure : {T E P : Type 0} (result : Result T E) → is_err result ≡ true → OnErr result P → P
-of_failure (Ok value) failed fact = cc
-of_failure (Err error) failed fact = fact
-
--- a list that is resized upwards
-pub resized : (xs : List ℕ) (size n desired reference : ℕ) → size ≡ length xs → desired ≡ length xs + n
-    → take desired xs ++ replicate (desired - size) reference ≡ xs ++ replicate n reference
-resized xs size n desired reference e reaches =
-    ap (λ (l : List ℕ). l ++ replicate (desired - size) reference) (take_all desired xs (omega arith))
-    ∙ ap (λ k. xs ++ replicate k reference) (omega arith)
+-- a reference type, as that of a table's elements, is the same as itself
+pub same_as_itself : (ty : RefType) → same_type ty ty ≡ true
+same_as_itself Func = refl
+same_as_itself Extern = refl
 
 -- a table that has grown has as many elements as its type allows
 pub sized_grown : (ty : TableTypeValue) (xs ys : List ℕ) (n desired reference : ℕ) → IsSized ty (length xs)
@@ -66,7 +58,7 @@ module _ (x : TableValue) (n reference : ℕ) {size desired : ℕ} {maximum : Op
   growth_asked =
       record { early = cond-true _ _ _ (rw sized at found.0); question_is = rw (rw sized at found.1, sized, most) refl }
 
--- a growth is permitted where its sizes are asked for and the limiter says yes
+-- a table's growth is permitted where its sizes are asked for and the limiter says yes
 pub growth_permitted : {S : Type 0} (rules : Rules S) (x : TableValue) (m : Meter) (n reference : ℕ)
     {question : Question} {l p : S} {answer : Answer} (some : n ≡ 0 → ⊥) → IsAsked (growth_of x n reference) question
     → answer ≡ Ok true → rules.asked l question answer p → PermitsGrowth
@@ -78,7 +70,7 @@ growth_permitted rules x m n reference {question} some asked says asks = record 
   due = refl;
 }
 
--- a growth by a typed reference with a meter that is off is one without a meter
+-- a table's growth by a typed reference with a meter that is off is one without a meter
 pub grows_unmetered : {S : Type 0} (rules : Rules S) (n : ℕ) (init : TypedRawRef) (x x' : TableValue) (l l' : S)
     (costs : CustomFuelCosts) (m' : Option Meter) (result : Result ℕ TableError) (charge : ℕ)
     → GrowsTableCharging rules n init
@@ -91,20 +83,3 @@ grows_unmetered rules n init x x' l l' costs m' result charge =
     on_test_too (same_type x.ty.element init.ty) _ _ _ _
     (any.grows_unmetered rules n (size_of x) (growth_of x n init.raw) (element_price n) x l costs s')
     (λ refused. (refused.0, refused.1, ap (λ s. metered_value s.value None s.limiter) refused.2))
-
-module _ {I : Type 0} {steps : I → Option ℕ → I → Type 0} {can : I → Type 0} {s t u : I} (xs : List ℕ)
-    (e : SoFar steps can s [] (length xs) t xs) (x : ℕ) (next : steps t (Some x) u) where
-  -- one more item was appended
-  pub read_next : (ys : List ℕ) → ys ≡ xs ++ x ∷ [] → can u → SoFar steps can s [] (length ys) u ys
-  read_next ys appended callable =
-      subst (λ n. SoFar steps can s [] n u ys) (sym (ap length appended ∙ length-append xs (x ∷ [])))
-      (SoFar-next e x next appended callable)
-
-  -- memory was refused for one more item
-  pub read_refused : length xs < most_items → IsOutOfMemory steps s u
-  read_refused few = record {
-    items = e.items ++ x ∷ [];
-    run = Yields-snoc steps s t u e.items x e.run next;
-    some = omega (arith, length-append e.items (x ∷ []));
-    short = omega (arith, few, e.counted, length-append e.items (x ∷ []));
-  }

@@ -1,6 +1,6 @@
 -- What is made of a valid type is valid, and what is valid grows to what is valid.
-use Rattle.std.proofs.Common.{◌≡◌, ◌∙◌, ℕ, ◌+◌, ◌*◌, ◌/◌, ◌%◌, ◌≤◌, ◌^◌, Bool, true, false, Option, Some, None, Result, Ok, length, replicate, refl, sym, ap, subst, arith, inl, inr, length-append}
-use Rattle.wasmi_store.proofs.Common.{nat_tests, length-replicate, ◌&&◌, nat_le, nat_lt, if◌then◌else◌, Rules, MemoryError, TableError, MeteredValue, Request, AttemptOutcome, Unasked, Denied, Met, Failed, MayEnd, value_after, Growth, Makes, Grows, MemoryTypeValue, page_bytes, minimum_bytes, in_bounds, MemoryValue, new_memory, IsValidMemory, MakesMemory, GrowsMemoryCharging, TableTypeValue, same_type, TableValue, size_of, new_table, with_added, IsValidTable, MakesTable, GrowsTableCharging}
+use Rattle.std.proofs.Common.{◌≡◌, ℕ, ◌+◌, ◌*◌, ◌/◌, ◌%◌, ◌≤◌, ◌^◌, Bool, true, false, Option, Some, None, Result, Ok, length, refl, sym, arith, inl, inr, length-append}
+use Rattle.wasmi_store.proofs.Common.{nat_tests, length-replicate, nat_le, nat_lt, if◌then◌else◌, Rules, MemoryError, TableError, MeteredValue, Request, AttemptOutcome, Met, MayEnd, value_after, Growth, Makes, Grows, MemoryTypeValue, page_bytes, minimum_bytes, in_bounds, MemoryValue, new_memory, IsValidMemory, MakesMemory, GrowsMemoryCharging, TableTypeValue, same_type, TableValue, size_of, new_table, with_added, IsValidTable, MakesTable, GrowsTableCharging}
 use Rattle.std.proofs.lemmas.Option.{none-some}
 use Rattle.std.specs.Option.{option_map_or, ForSome}
 use Rattle.wasmi_typed.specs.declared.typed_ref.TypedRawRef.{TypedRawRef}
@@ -16,29 +16,24 @@ use Rattle.wasmi_store.proofs.TableLemmas.{table_growth}
 -- what is made is made by an attempt that was met
 made_met : {T E S : Type 0} (rules : Rules S) (e : Request (Unit {0}) E) (made x : T) (l l' : S)
     → Makes rules e made l (Ok x) l' → (x ≡ made) × (e.early ≡ None) × (e.late ≡ None)
-made_met rules e made x l l' (Unasked cause, attempt, answered) = cc
-made_met rules e made x l l' (Denied answer, attempt, answered) = cc
-made_met rules e made x l l' (Met, attempt, answered) = let is : x ≡ made =
-    cc in (is, attempt.may_end.0, attempt.may_end.1)
-made_met rules e made x l l' (Failed cause notice_answer, attempt, answered) = cc
+made_met rules e made x l l' (Met, attempt, answered) = (cc, attempt.may_end.0, attempt.may_end.1)
+made_met rules e made x l l' (outcome, attempt, answered) = cc
 
 module _ {V E S : Type 0} (rules : Rules S) (g : Growth V E) (Valid : V → Type 0) (s s' : MeteredValue V S)
     (valid : Valid s.value) (grown : g.request.early ≡ None → g.request.late ≡ None → Valid g.request.grown) where
   -- the value after an attempt
   after_valid : (m : _) (outcome : AttemptOutcome E) → MayEnd g.request m outcome
       → Valid (value_after g.request s.value outcome)
-  after_valid m (Unasked cause) may = valid
-  after_valid m (Denied answer) may = valid
   after_valid m Met may = grown may.0 may.1
-  after_valid m (Failed cause notice_answer) may = valid
+  after_valid m outcome may = valid
 
   -- the value after a growth
   grown_valid : (result : Result ℕ E) (charge : ℕ) → Grows rules g s result charge s' → Valid s'.value
-  grown_valid result charge (inl none) = subst (λ (t : MeteredValue V S). Valid t.value) (sym none.same) valid
+  grown_valid result charge (inl none) = rw none.same valid
   grown_valid result charge (inr some) =
-      subst Valid (sym some.attempt.value) (after_valid s.meter some.outcome some.attempt.may_end)
+      rw some.attempt.value (after_valid s.meter some.outcome some.attempt.may_end)
 
--- a cause that is absent, where it is there only if a test fails
+-- a test by which a value is valid holds where the cause is absent that stands if the test fails
 passed : {E : Type 0} (test : Bool) (cause : E)
     → (let none : Option E = None in if test then none else Some cause) ≡ None → test ≡ true
 passed true cause absent = refl
@@ -56,17 +51,13 @@ maximum_holds : (n : ℕ) (maximum : Option ℕ) → ForSome maximum (λ m. n �
 maximum_holds n None within = refl
 maximum_holds n (Some m) within = let h = within m refl in grind (arith, nat_tests)
 
--- three tests that hold, together
-all_three : (a b c : Bool) → a ≡ true → b ≡ true → c ≡ true → a && b && c ≡ true
-all_three a b c p q r = rw (p, q, r) refl
-
 -- the minimum of a valid memory type is in its bounds
 minimum_in_bounds : (ty : MemoryTypeValue) → memory.IsValid ty → nat_lt (minimum_bytes ty) (2 ^ 64) ≡ true
     → in_bounds ty ty.minimum ≡ true
 minimum_in_bounds ty valid below =
     let h = valid.minimum in
-    all_three _ _ _ (grind (arith, nat_tests))
-    (maximum_holds ty.minimum ty.maximum (λ m is. (valid.maximum m is).0)) below
+    let least : nat_le ty.minimum (memory.greatest_pages ty) ≡ true = grind (arith, nat_tests) in
+    rw (least, maximum_holds ty.minimum ty.maximum (λ m is. (valid.maximum m is).0), below) refl
 
 -- a memory that is made of a valid type
 pub made_memory_is_valid : {S : Type 0} (rules : Rules S) (room : Room) (ty : MemoryTypeValue) (l : S) (x : MemoryValue)
@@ -80,7 +71,7 @@ made_memory_is_valid rules room ty l x l' valid makes =
       sized = rw (length-replicate {A = ℕ} (minimum_bytes ty) 0) (record {
         whole = pages.0;
         minimum = omega (arith, pages.1);
-        within = subst (λ n. in_bounds ty n ≡ true) (sym pages.1) bounds;
+        within = rw pages.1 bounds;
       });
     })
 
@@ -117,8 +108,7 @@ pub grown_table_is_valid : {S : Type 0} (rules : Rules S) (n : ℕ) (init : Type
     → GrowsTableCharging rules n init s result charge s' → IsValidTable s'.value
 grown_table_is_valid rules n init s result charge s' valid grows =
     let x = s.value in
-    let size : length (with_added x n init.raw).elements ≡ size_of x + n =
-    length-append x.elements (replicate n init.raw) ∙ ap (λ k. size_of x + k) (length-replicate n init.raw) in
+    let size : length (with_added x n init.raw).elements ≡ size_of x + n = simp (length-append, length-replicate) in
     on_test (same_type x.ty.element init.ty) _ _ grows (λ raw. grown_valid rules (table_growth n init.raw x)
     IsValidTable s s' valid
     (λ early late. record {
@@ -129,4 +119,4 @@ grown_table_is_valid rules n init s result charge s' valid grows =
         within = passed _ _ late;
       });
     }) result charge raw)
-    (λ refused. subst (λ (t : MeteredValue TableValue _). IsValidTable t.value) (sym refused.2) valid)
+    (λ refused. rw refused.2 valid)

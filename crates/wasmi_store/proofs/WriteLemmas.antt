@@ -1,17 +1,12 @@
--- Writes over a range: one of a list of items as one of the value that has them, what a write ends in, and a copy a part
--- at a time.
-use Rattle.std.proofs.Common.{◌≡◌, ℕ, ◌+◌, ◌⊎◌, inl, inr, Bool, true, false, Option, Some, None, Ok, Err, List, ◌++◌, length, take, drop, refl, sym, ap, subst, ◌∙◌, arith, append_assoc, ◌-◌, ◌≤◌, length-drop, Vec, Global}
-use lib.Seq.{paste, take-add, take-paste, drop-paste}
-use Rattle.wasmi_store.proofs.Common.{MatchBool, refill, MemoryError, TableError, CustomFuelCosts, OutOfFuel, MeteredValue, covers, optional_due, Meter, meter_after, meter_after_nothing, metered, WithCharge, MeteredWrite, EndsBy, IsRefusedFor, Writes, WritesCharging, write_charge, write_due, items_write, WritesItems, BulkWrites, item_price, MemoryValue, bytes_write, elements_write, element_price, with_elements, TableValue, TableTypeValue, TableWrite, same_type, with_items_is, take-take, take_at, drop_at, drop-drop, drop-take}
+-- Writes over a range: one of a list of items as one of the memory or table that has them, one without a meter, and how
+-- a write ends: refused or paid for, in one way.
+use Rattle.std.proofs.Common.{subst, ◌≡◌, ℕ, ◌⊎◌, inl, inr, Bool, true, false, Option, Some, None, Ok, Err, List, length, drop, refl, sym, ap, ◌∙◌, Vec, Global}
+use Rattle.wasmi_store.proofs.Common.{MatchBool, refill, take_at, MemoryError, TableError, CustomFuelCosts, OutOfFuel, MeteredValue, covers, optional_due, Meter, meter_after, meter_after_nothing, metered, WithCharge, MeteredWrite, EndsBy, IsRefusedFor, Writes, WritesCharging, write_charge, write_due, items_write, WritesItems, BulkWrites, item_price, MemoryValue, bytes_write, elements_write, element_price, with_elements, TableValue, TableTypeValue, TableWrite, with_items_is}
 use Rattle.std.specs.Prelude.{Result}
 use Rattle.std.specs.Option.{option_map}
-use Rattle.wasmi_types.specs.declared.value.RefType.{RefType}
-use Rattle.wasmi_types.specs.declared.value.RefType.TheVariants.{Func, Extern}
 use Rattle.wasmi_store.proofs.GrowthLemmas.{on_test_too}
-use Rattle.wasmi_store.proofs.MemoryLemmas.{refilled_by}
 use Rattle.wasmi_meter.specs.declared.error.MemoryError.TheVariants as memory
 use Rattle.std.specs.Vec.{with_items}
-use Rattle.std.proofs.lemmas.List.{length-take-le}
 
 module _ {A V E : Type 0} (put : List A → V) (outside : E) (price : Option (CustomFuelCosts → ℕ)) (unpaid : ℕ → E)
     (xs : List A) (m : Option Meter) (result : Result (Unit {0}) E) (xs' : List A) (m' : Option Meter) where
@@ -52,7 +47,7 @@ writes_elements x typed written outside paid m result xs' m' same writes = rw sa
     writes)
 
 module _ (ty : TableTypeValue) (reserved : ℕ) where
-  -- the table with these elements
+  -- the table with these elements, which are written over
   abbrev pub table_with : List ℕ → TableValue
   table_with elements = record { ty = ty; elements = elements; reserved = reserved }
 
@@ -65,6 +60,10 @@ module _ (ty : TableTypeValue) (reserved : ℕ) where
   table_writes v {write} ws same long writes =
       rw (with_items_is v ws (long ∙ ap length same ∙ sym v.ok.0), ← same) (charging write writes)
 
+-- a write over bytes that a memory lends, of as many bytes, leaves the written ones
+pub refilled_by : (xs lent ws : List ℕ) → lent ≡ xs → length ws ≡ length lent → refill (length xs) xs ws ≡ ws
+refilled_by xs lent ws is long = take_at ws (drop (length ws) xs) (length xs) (long ∙ ap length is)
+
 -- a write over the bytes that a memory lends is one over the memory
 pub memory_writes : (x : MemoryValue) (written : List ℕ → Option (List ℕ)) (paid : ℕ) {lent : List ℕ} (ws : List ℕ)
     {m m' : Option Meter} {result : Result (Unit {0}) MemoryError} → lent ≡ x.bytes → length ws ≡ length lent
@@ -76,7 +75,7 @@ memory_writes x written paid ws {m} {m'} {result} same long writes = rw (refille
     memory.OutOfBoundsAccess (Some (item_price 1 paid)) memory.OutOfFuel x.bytes m result ws m' (written x.bytes)
     (subst (λ l. BulkWrites (written l) paid (metered l m) result (metered ws m')) same writes)))
 
--- a meter that is off
+-- a meter that is off, with which a write is one without a meter
 abbrev off : CustomFuelCosts → Meter
 off costs = record { left = None; costs = costs }
 
@@ -144,7 +143,7 @@ module _ {V E : Type 0} (w : MeteredWrite V E) (s : MeteredValue V (Unit {0})) (
         is = is;
         enough = enough;
         charged = due;
-        after = after ∙ ap (λ n. metered value (option_map (λ m. meter_after m n) s.meter)) (sym due);
+        after = rw due after;
       })
   ends_paid value written false enough refused = inl (ends_refused (w.unpaid (write_due w s)) refused)
 
@@ -214,69 +213,3 @@ writes_once write s result result' charge charge' s' s'' a b =
     let w = write s.value in
     let ends = ends_once w s result result' s' s'' w.early w.written a.writes b.writes in
     (ends.0, a.charged ∙ ap (write_charge w s) ends.0 ∙ sym b.charged, ends.1)
-
--- a reference type is the same as itself
-pub same_as_itself : (ty : RefType) → same_type ty ty ≡ true
-same_as_itself Func = refl
-same_as_itself Extern = refl
-
--- a part copied behind what was copied downwards
-pub copied_down : {A : Type 0} (xs ys : List A) (dst src done n : ℕ) → dst ≤ src → src + done + n ≤ length xs
-    → ys ≡ paste xs dst (drop src xs) done
-    → paste ys (dst + done) (drop (src + done) ys) n ≡ paste xs dst (drop src xs) (done + n)
-copied_down {A = A} xs ys dst src done n down fits is =
-    let long = length-drop src xs in
-    let s : List A = drop src xs in
-    let head : take (dst + done) ys ≡ take dst xs ++ take done s =
-    ap (take (dst + done)) is ∙ take-paste xs dst s done (omega arith) (omega arith) in
-    let rest : drop (dst + done) ys ≡ drop (dst + done) xs =
-    ap (drop (dst + done)) is ∙ drop-paste xs dst s done (omega arith) (omega arith) in
-    let gap : dst + done + (src - dst) ≡ src + done = omega arith in
-    let ahead : drop (src + done) ys ≡ drop done s =
-    ap (λ k. drop k ys) (sym gap) ∙ sym (drop-drop (src - dst) (dst + done) ys) ∙ ap (drop (src - dst)) rest
-    ∙ drop-drop (src - dst) (dst + done) xs ∙ ap (λ k. drop k xs) gap ∙ sym (drop-drop done src xs) in
-    let sum : dst + done + n ≡ dst + (done + n) = omega arith in
-    let tail : drop (dst + done + n) ys ≡ drop (dst + (done + n)) xs =
-    sym (drop-drop n (dst + done) ys) ∙ ap (drop n) rest ∙ drop-drop n (dst + done) xs ∙ ap (λ k. drop k xs) sum in
-    ap (λ l. l ++ take n (drop (src + done) ys) ++ drop (dst + done + n) ys) head
-    ∙ ap (λ l. take dst xs ++ take done s ++ take n l ++ drop (dst + done + n) ys) ahead
-    ∙ ap (λ l. take dst xs ++ take done s ++ take n (drop done s) ++ l) tail
-    ∙ ap (λ l. l ++ drop (dst + (done + n)) xs) (append_assoc (take dst xs) (take done s) (take n (drop done s))
-    ∙ ap (λ l. take dst xs ++ l) (sym (take-add done n s)))
-
--- a part copied before what was copied upwards
-pub copied_up : {A : Type 0} (xs ys : List A) (dst src len left n : ℕ) → src ≤ dst → n ≤ left → left ≤ len
-    → dst + len ≤ length xs → ys ≡ paste xs (dst + left) (drop (src + left) xs) (len - left)
-    → paste ys (dst + (left - n)) (drop (src + (left - n)) ys) n
-    ≡ paste xs (dst + (left - n)) (drop (src + (left - n)) xs) (len - (left - n))
-copied_up {A = A} xs ys dst src len left n up some within fits is =
-    let less : ℕ = left - n in
-    let rest : ℕ = len - left in
-    let a : ℕ = dst + left in
-    let s : List A = drop (src + left) xs in
-    let t : List A = drop (src + less) xs in
-    let b : List A = take (dst + less) xs in
-    let z : List A = drop (a + rest) xs in
-    let fitting = length-take-le a xs (omega arith) in
-    let parts : ys ≡ take a xs ++ (take rest s ++ z) = is ∙ append_assoc (take a xs) (take rest s) z in
-    let same : take a ys ≡ take a xs = ap (take a) parts ∙ take_at (take a xs) (take rest s ++ z) a fitting in
-    let front : (k : ℕ) → k ≤ a → take k ys ≡ take k xs =
-    λ k within. sym (take-take k a ys within) ∙ ap (take k) same ∙ take-take k a xs within in
-    let after : dst + less + n ≡ a = omega arith in
-    let tail : drop (dst + less + n) ys ≡ take rest s ++ z =
-    ap (λ k. drop k ys) after ∙ ap (drop a) parts ∙ drop_at (take a xs) (take rest s ++ z) a fitting in
-    let middle : take n (drop (src + less) ys) ≡ take n t =
-    sym (drop-take (src + less) n ys) ∙ ap (drop (src + less)) (front (src + less + n) (omega arith))
-    ∙ drop-take (src + less) n xs in
-    let more : src + less + n ≡ src + left = omega arith in
-    let split : s ≡ drop n t = ap (λ k. drop k xs) (sym more) ∙ sym (drop-drop n (src + less) xs) in
-    let end : a + rest ≡ dst + less + (len - less) = omega arith in
-    let sum : n + rest ≡ len - less = omega arith in
-    ap (λ l. l ++ take n (drop (src + less) ys) ++ drop (dst + less + n) ys) (front (dst + less) (omega arith))
-    ∙ ap (λ l. b ++ l ++ drop (dst + less + n) ys) middle
-    ∙ ap (λ l. b ++ take n t ++ l) tail
-    ∙ sym (append_assoc (b ++ take n t) (take rest s) z)
-    ∙ ap (λ l. b ++ take n t ++ take rest l ++ z) split
-    ∙ ap (λ l. l ++ z) (append_assoc b (take n t) (take rest (drop n t))
-    ∙ ap (λ l. b ++ l) (sym (take-add n rest t) ∙ ap (λ k. take k t) sum))
-    ∙ ap (λ k. b ++ take (len - less) t ++ drop k xs) end

@@ -1,4 +1,5 @@
--- The bytes of a linear memory: the room that they may grow into, and the block of which they are the front.
+-- The bytes of a linear memory: the room that they may grow into, the block of which they are the front, and how they
+-- are written over.
 use Rattle.std.specs.Prelude.{◌≡◌, ℕ, Bool, true, nat_le, MatchBool, List, ◌++◌, length, drop, replicate, take, ◌≤◌}
 use Rattle.std.specs.List.{refill}
 use Rattle.wasmi_meter.specs.declared.error.MemoryError.{MemoryError}

@@ -1,5 +1,6 @@
--- Linear memories: their types, making one, growing it, reading and writing (core specification, memory types and memory
--- instances; the memory64 and custom-page-sizes proposals).
+-- Linear memories: their types and what builds one, subtypes, validity, making one, growing it, reading and writing it,
+-- and what a bulk instruction writes over a range of one (core specification, memory types and memory instances; the
+-- memory64 and custom-page-sizes proposals).
 use Rattle.std.specs.Prelude.{◌≤◌, ℕ, Option, Some, None, ◌≡◌, ◌*◌, ◌/◌, ◌-◌, ◌^◌, Bool, true, ◌&&◌, nat_le, nat_lt, nat_eq, min, if◌then◌else◌, ◌+◌, ◌%◌, List, length, Result, Ok, Err}
 use Rattle.std.specs.Option.{option_map, option_map_or, ForSome}
 use Rattle.wasmi_types.specs.declared.index_ty.IndexType.{IndexType}
@@ -104,7 +105,7 @@ pages_of x = length x.bytes / page_bytes x.ty.page
 abbrev pub memory_of : MemoryTypeValue → BufferValue → MemoryValue
 memory_of ty b = record { ty = ty; bytes = b.bytes; room = b.room }
 
--- the buffer of its bytes
+-- the buffer of a memory's bytes
 abbrev pub buffer_of : MemoryValue → BufferValue
 buffer_of x = record { bytes = x.bytes; room = x.room }
 
@@ -207,7 +208,7 @@ bytes_write x early written paid = record {
   unpaid = OutOfFuel;
 }
 
--- len bytes from dst on are filled with a value
+-- len bytes of a memory from dst on are filled with a value
 abbrev pub byte_filling_of : ℕ → ℕ → ℕ → MemoryValue → MemoryWrite
 byte_filling_of dst value len x = bytes_write x None (filled x.bytes dst value len) len
 

@@ -1,4 +1,5 @@
--- Element segments (core specification, element instances), and how one is read of an iterator.
+-- Element segments (core specification, element instances), how one is read of an iterator, and what their errors
+-- print.
 use Rattle.std.specs.Prelude.{◌≡◌, ◌^◌, ◌-◌, ◌<◌, ◌≤◌, ℕ, List, [], length, Option, Result, Ok, Err, codes}
 use Rattle.std.specs.Iterator.{Yields}
 use Rattle.wasmi_types.specs.declared.value.RefType.{RefType}

@@ -1,5 +1,5 @@
--- Tables: their types, making one, growing it, reading and writing its elements (core specification, table types and
--- table instances).
+-- Tables: their types, subtypes, validity, making one, growing it, reading and writing its elements, and what a bulk
+-- instruction writes over a range of them (core specification, table types and table instances).
 use Rattle.std.specs.Prelude.{◌≡◌, ◌^◌, ◌≤◌, ◌<◌, ℕ, Bool, true, false, nat_le, nat_lt, Option, ◌+◌, List, [], ◌∷◌, ◌++◌, length, replicate, max, nat_eq, if◌then◌else◌, MatchBool, MatchOption, Some, None, Result, Ok, Err, slice_get}
 use Rattle.std.specs.Option.{option_map_or, ForSome, option_map}
 use Rattle.wasmi_types.specs.declared.value.RefType.{RefType}
@@ -40,7 +40,7 @@ pub record IsValid (ty : TableTypeValue) : Type 0 where
   pub minimum : ty.minimum < 2 ^ address_bits ty.index
   pub maximum : ForSome ty.maximum (λ maximum. (ty.minimum ≤ maximum) × (maximum < 2 ^ address_bits ty.index))
 
--- whether two reference types are the same
+-- whether two reference types are the same, that of a table's elements and another
 abbrev pub same_type : RefType → RefType → Bool
 same_type Func Func = true
 same_type Extern Extern = true
@@ -99,7 +99,7 @@ new_table ty reference = table_of ty (replicate ty.minimum reference)
 abbrev pub with_added : TableValue → ℕ → ℕ → TableValue
 with_added x n reference = with_elements x (x.elements ++ replicate n reference)
 
--- the fuel for so many elements, of 4 bytes each
+-- the fuel for so many elements of a table, of 4 bytes each
 abbrev pub element_price : ℕ → CustomFuelCosts → ℕ
 element_price n costs = copy_cost costs n 4
 
@@ -195,12 +195,12 @@ elements_write x typed written outside paid = record {
   unpaid = OutOfFuel;
 }
 
--- len elements from dst on are filled with a reference, whose type isn't tested
+-- len elements of a table from dst on are filled with a reference, whose type isn't tested
 abbrev pub raw_filling_of : ℕ → ℕ → ℕ → TableValue → TableWrite
 raw_filling_of dst reference len x =
     elements_write x true (filled x.elements dst reference len) FillOutOfBounds (Some len)
 
--- len elements from dst on are filled with a reference, whose type is tested
+-- len elements of a table from dst on are filled with a reference, whose type is tested
 abbrev pub filling_of : ℕ → TypedRawRef → ℕ → TableValue → TableWrite
 filling_of dst value len x = elements_write x (same_type x.ty.element value.ty)
     (filled x.elements dst value.raw len) FillOutOfBounds (Some len)
@@ -210,7 +210,8 @@ abbrev pub copy_of : ℕ → ℕ → ℕ → TableValue → TableValue → Table
 copy_of dst src len source x = elements_write x (same_type x.ty.element source.ty.element)
     (copied x.elements dst source.elements src len) CopyOutOfBounds (Some len)
 
--- len items from src on of an element segment are copied over the elements from dst on; where len is 0, that is free
+-- len items from src on of an element segment are copied over a table's elements from dst on; where len is 0, that is
+-- free
 abbrev pub initialization_of : ℕ → ℕ → ℕ → SegmentValue → TableValue → TableWrite
 initialization_of dst src len segment x = elements_write x (same_type x.ty.element segment.ty)
     (copied x.elements dst segment.items src len) InitOutOfBounds (if nat_eq len 0 then None else Some len)

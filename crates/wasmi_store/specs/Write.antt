@@ -1,5 +1,5 @@
--- A write over a range of a memory's bytes or of a table's elements, as a bulk instruction makes it: what stands before
--- it, what it writes, and what it costs.
+-- A write over a range of items, whatever memory, table or list has them, as a bulk instruction makes it: what stands
+-- before it, what the items become, what it costs, and how it ends.
 use Rattle.std.specs.Prelude.{◌≡◌, ℕ, Option, Some, None, Result, Ok, Err, List, replicate, MatchBool}
 use Rattle.std.specs.Option.{option_map, option_and_then}
 use Rattle.wasmi_types.specs.Access.{at, overwrite}

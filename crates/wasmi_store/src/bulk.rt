@@ -1,5 +1,5 @@
-//! What is written over a range of a memory's bytes or of a table's elements, wherever these lie.
-//! The bounds are tested first, then the fuel, also for no item. A write that is refused writes and
+//! Fills, copies and initializations over a range of a memory's bytes or of a table's elements, for
+//! fuel. The bounds are tested first, then the fuel, also for no item. A write that is refused writes and
 //! takes nothing. A bound is cast after the test alone, when it is no greater than a length.
 //!
 //! Own: upstream's crate has no bulk instructions for memories. They are tested and charged as its

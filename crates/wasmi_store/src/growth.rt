@@ -2,7 +2,7 @@
 //! that grows; and what making and growing a memory decides, wherever its bytes lie.
 //!
 //! Own: upstream writes these steps in each function that grows something.
-ghost use Rattle.std.specs.Prelude.{◌≡◌, ◌-◌, ◌<◌, ◌≤◌, ℕ, Ok, Err, OnOk, IfOk, IfErr, true};
+ghost use Rattle.std.specs.Prelude.{◌≡◌, ◌-◌, ◌<◌, ℕ, Ok, Err, OnOk, IfOk, IfErr, true};
 ghost use Rattle.wasmi_meter.specs.declared.error.MemoryError.{MemoryError};
 ghost use Rattle.wasmi_meter.specs.declared.error.TableError.{TableError};
 ghost use Rattle.wasmi_meter.specs.Attempt.{Permits, error_of_failure};

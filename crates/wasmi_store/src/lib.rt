@@ -1,4 +1,5 @@
-//! Linear memories and tables: their types, what they contain, and how they are made and grow.
+//! Linear memories and tables: their types, what they contain, and how they are made and grow, with
+//! a meter or without one.
 #![tactic(auto)]
 
 pub mod bulk;

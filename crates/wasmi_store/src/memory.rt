@@ -1,12 +1,13 @@
-//! Linear memories.
-ghost use Rattle.std.specs.Prelude.{◌≡◌, ◌+◌, ◌-◌, ◌*◌, ◌/◌, ◌%◌, ◌<◌, ◌≤◌, ◌^◌, ◌++◌, ◌↔◌, replicate, length, ℕ, Option, Some, None, Result, Ok, Err, OnOk, OnErr, IfOk, IfErr, true, nat_lt, if◌then◌else◌};
+//! Linear memories: how one is made and grows, its type and size, and how its bytes are read,
+//! written, filled, copied and initialized.
+ghost use Rattle.std.specs.Prelude.{◌≡◌, ◌/◌, length, Option, Some, None, Result, Ok, Err, OnOk, IfErr, true};
 ghost use Rattle.std.specs.Borrow.{sem, Lends, Array, u8};
 ghost use Rattle.wasmi_types.specs.Access.{at};
 ghost use Rattle.wasmi_meter.specs.Limiter.{optional_rules, lent_limiter, KeepsLoan};
-ghost use Rattle.wasmi_meter.specs.Meter.{copy_cost, Charges, due, meter_at_entry, meter_at_exit};
-ghost use Rattle.wasmi_store.specs.Buffer.{fits_room, Owned, Lent, with_bytes};
-ghost use Rattle.wasmi_store.specs.Growth.{metered_value, metered, IsAsked};
-ghost use Rattle.wasmi_store.specs.Memory.{MemoryValue, PermitsMinimum, GrowsMemory, IsSized, size_question, growth_of, in_bounds, MakesMemory, memory_of, buffer_of, pages_of, dynamic_type, WritesMemory, WritesMemoryRange, byte_filling_of, byte_copy_of, IsSubtype};
+ghost use Rattle.wasmi_meter.specs.Meter.{meter_at_entry, meter_at_exit};
+ghost use Rattle.wasmi_store.specs.Buffer.{Owned, Lent, with_bytes};
+ghost use Rattle.wasmi_store.specs.Growth.{metered_value, metered};
+ghost use Rattle.wasmi_store.specs.Memory.{MemoryValue, GrowsMemory, IsSized, in_bounds, MakesMemory, memory_of, buffer_of, pages_of, dynamic_type, WritesMemory, WritesMemoryRange, byte_filling_of, byte_copy_of, IsSubtype};
 ghost use Rattle.wasmi_store.specs.contracts.memory.LinearMemory.{the_row};
 
 mod buffer;

@@ -1,5 +1,5 @@
-//! Ranges of lists: whether one lies within its list, and how one is read, written over, and copied
-//! over another.
+//! Ranges of a memory's bytes or of other lists, without a charge: whether one lies within its list,
+//! and how one is read, written over, filled, and copied over another, a part at a time.
 ghost use Rattle.std.specs.Prelude.{◌≡◌, ◌+◌, ◌-◌, ◌≤◌, ◌++◌, length, take, drop, replicate, Some, None, OnOk, IfErr, nat_le};
 ghost use Rattle.wasmi_types.specs.Access.{at, overwrite};
 

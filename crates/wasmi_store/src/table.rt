@@ -1,11 +1,11 @@
-//! Tables.
-ghost use Rattle.std.specs.Prelude.{◌≡◌, ◌+◌, ◌<◌, ◌∷◌, [], OnErr, OnOk, length, take, drop, ℕ, Some, None};
-ghost use Rattle.wasmi_types.specs.Access.{overwrite};
+//! Tables: how one is made, grows and is reserved for, its type and size, and how its elements are
+//! read, set, filled, copied and initialized.
+ghost use Rattle.std.specs.Prelude.{◌≡◌, ◌<◌, OnErr, OnOk, length, Some};
 ghost use Rattle.wasmi_meter.specs.Limiter.{optional_rules, lent_limiter, KeepsLoan};
 ghost use Rattle.wasmi_meter.specs.Meter.{meter_at_entry, meter_at_exit};
 ghost use Rattle.wasmi_store.specs.Growth.{metered_value, metered};
 ghost use Rattle.wasmi_store.specs.Segment.{segment_of};
-ghost use Rattle.wasmi_store.specs.Table.{IsSubtype, TableValue, with_elements_reserved, IsSized, size_of, dynamic_type, element_at, element_price, MakesTable, GrowsTableRaw, GrowsTable, SetsTable, SetsTableRaw, WritesTable, filling_of, raw_filling_of, copy_of, initialization_of};
+ghost use Rattle.wasmi_store.specs.Table.{IsSubtype, TableValue, with_elements_reserved, IsSized, size_of, dynamic_type, element_at, MakesTable, GrowsTableRaw, GrowsTable, SetsTable, SetsTableRaw, WritesTable, filling_of, raw_filling_of, copy_of, initialization_of};
 
 mod element;
 mod ty;

@@ -1,4 +1,4 @@
--- Global variables.
+-- Global variables: how one is set, what lends its value, and the texts of their errors.
 use Rattle.std.specs.Prelude.{◌≡◌, ◌≢◌, Result, Ok, Err, ℕ, List, codes}
 use Rattle.std.specs.Borrow.{Lends, MutBor, Fml}
 use Rattle.wasmi_raw.specs.declared.raw.RawVal.{RawVal}

@@ -1,4 +1,4 @@
--- References with their types, and the amounts of shifts.
+-- Which typed raw values are references, and the text of the error where one is none; the amounts of shifts.
 use Rattle.std.specs.Prelude.{◌≡◌, Some, None, Result, Ok, Err, ℕ, List, codes, ℤ, pos, ◌==◌, Option, unsigned_abs, if◌then◌else◌}
 use Rattle.std.specs.Int.{w32, int_rem_euclid}
 use Rattle.wasmi_types.specs.Value.{reference_of}

@@ -1,4 +1,4 @@
-//! Global variables.
+//! Global variables, their types, and the errors of writing one.
 
 ghost use Rattle.std.specs.Prelude.{◌≡◌, ◌↔◌, IsTrue, Some};
 ghost use Rattle.std.specs.Borrow.{sem};

@@ -66,6 +66,7 @@ pub trait IntoShiftAmount: sealed::Sealed<<Self as IntoShiftAmount>::Lane> {
         ensures { result ≡ shift_amount (bits Self.Lane.width) (Self.ShiftSource.number source) };
 }
 
+// The amount of a shift, or `None` where it is 0.
 fn unless_zero(bits: u8) -> Option<ShiftAmount>
     ensures { result ≡ (if bits == 0 then None else Some bits) }
 {

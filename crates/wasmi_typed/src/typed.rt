@@ -1,4 +1,4 @@
-//! Raw values with their types.
+//! Raw values with their types, and of which value type the values of a Rust type are.
 
 ghost use Rattle.std.specs.Prelude.{◌≡◌};
 ghost use Rattle.std.specs.Int.{w8, w16, w32, w64};

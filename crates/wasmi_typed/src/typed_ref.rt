@@ -1,4 +1,4 @@
-//! Raw references with their types.
+//! Raw references with their types, and the error where a typed raw value is none.
 
 ghost use Rattle.std.specs.Prelude.{◌≡◌, Some, None, MatchResult};
 ghost use Rattle.std.specs.Int.{w32};

@@ -1,5 +1,5 @@
--- The order of function types, place by place, and the parts of their entries.
-use Rattle.std.proofs.Common.{◌≡◌, ℕ, Bool, true, false, not, List, [], ◌∷◌, length, map, refl, ap, subst, ◌∙◌, nat_le, if◌then◌else◌}
+-- The order of function types, place by place, and of value types, on which it rests; the parts of their entries.
+use Rattle.std.proofs.Common.{◌≡◌, ℕ, Bool, true, false, not, List, [], ◌∷◌, length, map, refl, ap, ◌∙◌, nat_le, if◌then◌else◌}
 use Rattle.std.proofs.Math.Seq.{take-append_seam, drop-append_seam}
 use Rattle.std.specs.declared.cmp.Ordering.{Ordering}
 use Rattle.std.specs.declared.cmp.Ordering.TheVariants.{Less, Equal, Greater}
@@ -52,6 +52,7 @@ places_cmp v w m n m' n' xs ys =
     ordering_then (ordering_then (ordering_then (bool_cmp v w) (nat_cmp m m')) (nat_cmp n n'))
     (slice_cmp ghosts.cmp xs ys)
 
+-- whether a function type has at most 21 entries, which the order puts first
 abbrev pub is_small : FunctionType → Bool
 is_small ty = nat_le (entry_count ty) 21
 
@@ -61,9 +62,7 @@ pub function_type_cmp-places : (a b : FunctionType)
     (length b.params) (if is_small b then length b.results else 0) (entries a) (entries b)
     ≡ function_type_cmp a b
 function_type_cmp-places a b =
-    ap (ordering_then _) (cmp-entries (entries a) (entries b))
-    ∙ by_places (is_small a) (is_small b) (length a.params) (length a.results) (length b.params) (length b.results)
-    (map type_number (entries a)) (map type_number (entries b))
+    ap (ordering_then _) (cmp-entries (entries a) (entries b)) ∙ by_places (is_small a) (is_small b) _ _ _ _ _ _
 
 -- the order answers equal for a function type and itself alone
 pub function_type_cmp-equal : (a b : FunctionType)
@@ -71,7 +70,7 @@ pub function_type_cmp-equal : (a b : FunctionType)
 function_type_cmp-equal a b = (
   λ e. order_key-one a b
       ((bytes_decides (order_key a) (order_key b)).0 (texts_ties (order_key a) (order_key b) ∙ ap is_eq e)),
-  λ e. subst (λ ty. function_type_cmp a ty ≡ Equal) e (tied_itself (on_texts order_key) a),
+  λ e. rw (← e) (tied_itself (on_texts order_key) a),
 )
 
 -- for `params_results`: the first part of the entries, and the rest

@@ -1,4 +1,4 @@
--- Numbers cut to a width: those in its range, and those with the bits of one in its range.
+-- Numbers cut to a width (`wrap`): unsigned and signed ones in its range, and those with the bits of one in its range.
 use Rattle.std.proofs.Common.{◌≡◌, ℕ, ◌-◌, ◌^◌, ◌<◌, ◌≤◌, ◌∙◌, ap, arith, lit≤, mod-eq_of_lt}
 use Rattle.std.specs.Prelude.{ℤ, pos, negsuc}
 use Rattle.std.specs.Int.{Width, w8, w16, w32, w64, w128, cast_signed, cast_unsigned}
@@ -6,7 +6,7 @@ use Rattle.wasmi_types.specs.Numbers.{wrap}
 use Rattle.std.proofs.lemmas.Int.{of_z-to_z}
 use Rattle.std.proofs.lemmas.Nat.{mod_below, pow_pos}
 use Rattle.std.proofs.Math.Facts.{sfits_to_z}
-use mir.Val.{SFits, bits, hbits, Fits}
+use mir.Val.{SFits, bits, hbits}
 
 -- a width has at most as many signed numbers from 0 on as unsigned ones
 pub half_below : (w : Width) → 2 ^ hbits w ≤ 2 ^ bits w
@@ -32,5 +32,8 @@ wrap_signed w (negsuc n) f =
 -- the number below 2 to the power of a width is cut to it from the signed number with its bits
 pub wrap_of_bits : (w : Width) (n : ℕ) → n < 2 ^ bits w → wrap w (cast_signed w n) ≡ n
 wrap_of_bits w n below =
-    let fits_number : Fits w n = record { fits = below } in
-    wrap_signed w (cast_signed w n) (sfits_to_z fits_number) ∙ of_z-to_z w n below
+    wrap_signed w (cast_signed w n) (sfits_to_z (record { fits = below })) ∙ of_z-to_z w n below
+
+-- the unsigned number with the bits of a signed one is cut to the same number
+pub wrap_of_image : (w : Width) (z : ℤ) → SFits w z → wrap w (pos (cast_unsigned w z)) ≡ wrap w z
+wrap_of_image w z f = rw (← wrap_signed w z f) (wrap_unsigned w (wrap w z) (wrap_below w z))

@@ -1,5 +1,6 @@
--- What is known of an iterator in the midst of reading it; the readings of parameters and results, put together.
-use Rattle.std.proofs.Common.{◌≡◌, ℕ, ◌+◌, ◌<◌, List, [], ◌++◌, length, inl, inr, subst, sym, ap, ap₂, ◌∙◌, arith, length-append, take, drop, Ok, ◌≤◌, ◌∷◌, refl, append_assoc}
+-- What is known of an iterator in the midst of reading it; the readings of parameters and results, put together to that
+-- of a function type or to its refusal.
+use Rattle.std.proofs.Common.{◌≡◌, ℕ, ◌+◌, ◌<◌, List, [], ◌++◌, length, inl, inr, ap, arith, length-append, take, drop, Ok, ◌≤◌, ◌∷◌, refl, append_assoc}
 use Rattle.std.specs.Prelude.{Option, Some}
 use lib.Seq.{take-append_seam, drop-append_seam}
 use Rattle.wasmi_types.specs.declared.value.ValType.{ValType}
@@ -9,7 +10,7 @@ use Rattle.wasmi_types.specs.FunctionType.{FunctionType}
 use Rattle.wasmi_types.specs.Reading.{ReadsAll, IsReading, ReadsSome, IsOutOfMemory, IsRefusal, ReadsTypes, IsReadingRefusal, IsReadingOutOfMemory}
 use Rattle.std.specs.Iterator.{Yields}
 
--- what was read to its end was read
+-- types that were read to the end were read
 some_from_all : {I : Type 0} {steps : I → Option ValType → I → Type 0} {s t : I} {xs : List ValType}
     → ReadsAll 1000 steps s xs t → ReadsSome steps s xs t
 some_from_all e = record { run = inr e.run; short = omega (arith, e.short) }
@@ -26,18 +27,15 @@ module _ {P R : Type 0} {of_params : P → Option ValType → P → Type 0} {of_
     params_read = some_from_all first.read;
     results_read = second;
     in_order = inl first.read;
-    many = subst (λ es. 21 < length es + length types) (first.kept ∙ ap (λ xs. xs ++ first.types) none) many;
+    many = rw (first.kept, none) at many;
   }
 
-  -- the results were refused
+  -- where the parameters were read and the results refused, the function type is refused
   pub refused_results : {error : FuncTypeError} → before ≡ [] → ReadsTypes of_params p before n p' entries
       → IsReadingRefusal of_results TooManyFunctionResults r entries error r'
       → IsRefusal of_params of_results p r error p' r'
-  refused_results none first (inl e) =
-      subst (λ error. IsRefusal of_params of_results p r error p' r') (sym e.0) ((first.types, first.read), e.1)
-  refused_results none first (inr e) =
-      subst (λ error. IsRefusal of_params of_results p r error p' r') (sym e.0)
-      (refused_memory none first e.1.types e.1.read e.1.many)
+  refused_results none first (inl e) = rw e.0 ((first.types, first.read), e.1)
+  refused_results none first (inr e) = rw e.0 (refused_memory none first e.1.types e.1.read e.1.many)
 
   -- memory was refused after all of both
   pub refused_end : {m : ℕ} {all : List ValType} → before ≡ [] → ReadsTypes of_params p before n p' entries
@@ -50,19 +48,14 @@ module _ {P R : Type 0} {of_params : P → Option ValType → P → Type 0} {of_
   pub read_end : {m : ℕ} {all : List ValType} {ty : FunctionType} → before ≡ []
       → ReadsTypes of_params p before n p' entries → ReadsTypes of_results r entries m r' all
       → ty.params ≡ take n all → ty.results ≡ drop n all → IsReading of_params of_results p r (Ok ty) p' r'
-  read_end {all = all} none first second params results =
-      let front : entries ≡ first.types = first.kept ∙ ap (λ xs. xs ++ first.types) none in
-      let whole : all ≡ first.types ++ second.types = second.kept ∙ ap (λ xs. xs ++ second.types) front in (
-        subst (λ xs. ReadsAll 1000 of_params p xs p')
-            (sym (params ∙ ap₂ take first.counted whole ∙ take-append_seam first.types second.types)) first.read,
-        subst (λ xs. ReadsAll 1000 of_results r xs r')
-            (sym (results ∙ ap₂ drop first.counted whole ∙ drop-append_seam first.types second.types)) second.read,
-      )
+  read_end none first second params results =
+      rw (params, results, second.kept, first.kept, none, first.counted, take-append_seam, drop-append_seam)
+      (first.read, second.read)
 
--- one more call gave x
+-- after the items that calls of an iterator gave, one more call gave x
 pub Yields-snoc : {I A : Type 0} (steps : I → Option A → I → Type 0) (s t u : I) (xs : List A) (x : A)
     → Yields steps s xs t → steps t (Some x) u → Yields steps s (xs ++ x ∷ []) u
-Yields-snoc steps s t u [] x run next = (u, subst (λ v. steps v (Some x) u) (sym run) next, refl)
+Yields-snoc steps s t u [] x run next = (u, rw run next, refl)
 Yields-snoc steps s t u (y ∷ ys) x run next = (run.0, run.1, Yields-snoc steps run.0 t u ys x run.2 next)
 
 -- calls from s to t gave n items, which follow those before in `after`, and t may be called
@@ -74,7 +67,7 @@ pub record SoFar {I A : Type 0} (steps : I → Option A → I → Type 0) (can :
   pub counted : n ≡ length items
   pub callable : can t
 
--- one more item was appended
+-- in the midst of reading, one more item was appended
 pub SoFar-next : {I A : Type 0} {steps : I → Option A → I → Type 0} {can : I → Type 0} {s t u : I}
     {before after more : List A} {n : ℕ}
     → SoFar steps can s before n t after → (x : A) → steps t (Some x) u → more ≡ after ++ x ∷ [] → can u
@@ -82,12 +75,12 @@ pub SoFar-next : {I A : Type 0} {steps : I → Option A → I → Type 0} {can :
 SoFar-next {steps = steps} {s = s} {t = t} {u = u} {before = before} e x next appended callable = record {
   items = e.items ++ x ∷ [];
   run = Yields-snoc steps s t u e.items x e.run next;
-  kept = appended ∙ ap (λ xs. xs ++ x ∷ []) e.kept ∙ append_assoc before e.items (x ∷ []);
+  kept = rw (appended, e.kept, append_assoc);
   counted = omega (arith, e.counted, length-append e.items (x ∷ []));
   callable = callable;
 }
 
--- memory was refused for one more type
+-- in the midst of reading, memory was refused for one more type
 pub SoFar-refused : {I : Type 0} {steps : I → Option ValType → I → Type 0} {can : I → Type 0} {s t u : I}
     {before after : List ValType} {n : ℕ}
     → SoFar steps can s before n t after → n < 1000 → (x : ValType) → steps t (Some x) u → 21 ≤ length after

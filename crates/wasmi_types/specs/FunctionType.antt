@@ -1,4 +1,5 @@
--- A function type is its lists of parameters and results (core specification 2.3); how it is kept, and its errors.
+-- A function type is its lists of parameters and results (core specification 2.3): when two are the same, their order,
+-- what a hasher is given, how the entries are kept, and the texts of the errors.
 use Rattle.std.specs.Prelude.{ℕ, ◌+◌, Bool, ◌&&◌, List, ◌∷◌, ◌++◌, length, map, nat_le, if◌then◌else◌, ◌≡◌, ◌<◌, ◌≤◌, take, drop, codes}
 use Rattle.std.specs.Cmp.Lexicographic.{pointwise, slice_cmp}
 use Rattle.std.specs.Hash.{slice}
@@ -29,7 +30,7 @@ entry_count ty = length ty.params + length ty.results
 abbrev pub same_lists : (ValType → ValType → Bool) → FunctionType → FunctionType → Bool
 same_lists same a b = pointwise same a.params b.params && pointwise same a.results b.results
 
--- the place of a value type in their order
+-- the place of a value type in their order, by which entries of function types are ordered
 abbrev pub type_number : ValType → ℕ
 type_number = elim [ I32 ↦ 0 | I64 ↦ 1 | F32 ↦ 2 | F64 ↦ 3 | V128 ↦ 4 | FuncRef ↦ 5 | ExternRef ↦ 6 ]
 

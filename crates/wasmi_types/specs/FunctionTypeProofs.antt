@@ -1,6 +1,7 @@
--- Two function types have one order key exactly if both of their lists are the same; equal value types are one.
-use Rattle.std.specs.Prelude.{◌≡◌, ℕ, zero, suc, Bool, true, false, ◌&&◌, List, [], ◌∷◌, length, map, take, drop, slice_index, nat_le, if◌then◌else◌, refl}
-use Rattle.std.proofs.Common.{ap, sym, ◌∙◌, arith}
+-- What the implementations of `Eq`, `Ord` and `Hash` for function types name: the test of both lists is an equivalence,
+-- answers as the order does and holds of the same alone. One order key is that of one function type.
+use Rattle.std.specs.Prelude.{◌≡◌, ℕ, zero, suc, Bool, true, false, ◌&&◌, List, [], ◌∷◌, length, map, drop, slice_index, nat_le, if◌then◌else◌, refl}
+use Rattle.std.proofs.Common.{ap, sym, ◌∙◌}
 use Rattle.std.proofs.Math.Seq.{take-append_seam, drop-append_seam}
 use Rattle.std.specs.Bool.{Decides, one_answer}
 use Rattle.std.specs.Ordering.{nat_cmp, eq_by_cmp}
@@ -28,15 +29,17 @@ unfolding type_at
 type_at-type_number I32 = refl
 type_at-type_number x = refl
 
+-- the places of value types lead back to them
 types_from_numbers : (xs : List ValType) → map type_at (map type_number xs) ≡ xs
 types_from_numbers [] = refl
 types_from_numbers (x ∷ xs) = λ i. type_at-type_number x i ∷ types_from_numbers xs i
 
+-- two order keys that are the same have the same number of parameters and the same entries
 same_key : (v w : Bool) (m n m' n' : ℕ) (xs ys : List ℕ)
     → (if v then 0 ∷ m ∷ n ∷ xs else 1 ∷ m ∷ xs) ≡ (if w then 0 ∷ m' ∷ n' ∷ ys else 1 ∷ m' ∷ ys) → (m ≡ m') × (xs ≡ ys)
 same_key true true m n m' n' xs ys e = (ap (λ l. slice_index l 1) e, ap (drop 3) e)
-same_key true false m n m' n' xs ys e = let no : 0 ≡ 1 = ap (λ l. slice_index l 0) e in absurd (omega (arith, no))
-same_key false true m n m' n' xs ys e = let no : 1 ≡ 0 = ap (λ l. slice_index l 0) e in absurd (omega (arith, no))
+same_key true false m n m' n' xs ys e = absurd (cc e)
+same_key false true m n m' n' xs ys e = absurd (cc e)
 same_key false false m n m' n' xs ys e = (ap (λ l. slice_index l 1) e, ap (drop 2) e)
 
 -- one order key, one function type
@@ -47,11 +50,9 @@ order_key-one a b e =
     let joined : entries a ≡ entries b =
     sym (types_from_numbers (entries a)) ∙ ap (map type_at) parts.1 ∙ types_from_numbers (entries b) in
     let params : a.params ≡ b.params =
-    sym (take-append_seam a.params a.results) ∙ (λ i. take (parts.0 i) (joined i))
-    ∙ take-append_seam b.params b.results in
+    rw (← take-append_seam a.params a.results, parts.0, joined) (take-append_seam b.params b.results) in
     let results : a.results ≡ b.results =
-    sym (drop-append_seam a.params a.results) ∙ (λ i. drop (parts.0 i) (joined i))
-    ∙ drop-append_seam b.params b.results in
+    rw (← drop-append_seam a.params a.results, parts.0, joined) (drop-append_seam b.params b.results) in
     λ i. record { params = params i; results = results i }
 
 -- a test that decides whether two values are the same is an equivalence
@@ -81,6 +82,7 @@ module _ {E : ValType → ValType → Bool} (decides : (x y : ValType) → Decid
       one_answer _ _ (same_lists_decides a b) (λ e. order_key-one a b (keys.0 e), λ e. keys.1 (ap order_key e))
       ∙ lists_ties nat_cmp unsigned_ties (order_key a) (order_key b)
 
+  -- the test of both lists is an equivalence
   pub same_lists_equiv : IsEquivalence (same_lists E)
   same_lists_equiv =
       let types : IsEquivalence E = equivalence_from_decides decides in
@@ -91,5 +93,6 @@ module _ {E : ValType → ValType → Bool} (decides : (x y : ValType) → Decid
   pub same_lists_alike : {B : Type 0} (f : FunctionType → B) (a b : FunctionType) → same_lists E a b ≡ true → f a ≡ f b
   same_lists_alike f a b e = ap f ((same_lists_decides a b).0 e)
 
+-- the derived `==` decides whether two value types, the entries of function types, are the same
 pub same_type_decides : (x y : ValType) → Decides (sameb the_type x y) (x ≡ y)
 same_type_decides x y = (same_true the_type tt x y, true_same the_type x y)

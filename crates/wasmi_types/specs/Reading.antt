@@ -1,4 +1,5 @@
--- How a function type is read of two iterators, each to its end or past the greatest number of items that are taken.
+-- How a function type is read of two iterators, each to its end or past the greatest number of items that are taken;
+-- why none is read: there are too many, or memory is refused.
 use Rattle.std.specs.Prelude.{◌≡◌, ℕ, ◌≤◌, List, length, Option, Some, None, ◌⊎◌, ◌+◌, ◌<◌, Bool, true, false, [], ◌∷◌, ◌++◌, Result, Ok, Err}
 use Rattle.std.specs.Iterator.{YieldsThen, Yields}
 use Rattle.std.specs.declared.alloc.AllocError.{AllocError}
@@ -7,7 +8,7 @@ use Rattle.wasmi_types.specs.declared.func_type.FuncTypeError.{FuncTypeError}
 use Rattle.wasmi_types.specs.declared.func_type.FuncTypeError.TheVariants.{TooManyFunctionParams, TooManyFunctionResults, OutOfMemory}
 use Rattle.wasmi_types.specs.FunctionType.{FunctionType}
 
--- every iterator that a value becomes has a fact
+-- a fact holds of every iterator that a value becomes
 abbrev pub EachBecomes : {X I : Type 0} → (X → I → Type 0) → X → (I → Type 0) → Type 0
 EachBecomes {X} {I} becomes x Fact = (it : I) → becomes x it → Fact it
 
@@ -90,7 +91,7 @@ module _ {I : Type 0} (steps : I → Option ValType → I → Type 0) where
     pub read : ReadsSome steps s types t
     pub many : 21 < length before + length types
 
-  -- why a part was not read
+  -- why the parameters or the results were not read
   abbrev pub IsReadingRefusal : FuncTypeError → I → List ValType → FuncTypeError → I → Type 0
   IsReadingRefusal too_many s before error t =
       ((error ≡ too_many) × ReadsTooMany 1000 steps s t) ⊎ ((error ≡ OutOfMemory) × IsReadingOutOfMemory s before t)

@@ -1,4 +1,4 @@
--- Which value types are number types and reference types, and what the type of an address means.
+-- Value types: which are number types and which are reference types. Address types: their value types and their widths.
 use Rattle.std.specs.Prelude.{Bool, true, false, Option, Some, None, ℕ}
 use Rattle.wasmi_types.specs.declared.value.ValType.{ValType}
 use Rattle.wasmi_types.specs.declared.value.ValType.TheVariants.{I32, I64, F32, F64, FuncRef, ExternRef}
@@ -33,7 +33,7 @@ abbrev pub address_bits : IndexType → ℕ
 address_bits index.I32 = 32
 address_bits index.I64 = 64
 
--- the narrower of two address types
+-- of two address types the one with the narrower addresses
 abbrev pub narrower : IndexType → IndexType → IndexType
 narrower index.I64 index.I64 = index.I64
 narrower index.I64 index.I32 = index.I32

@@ -1,4 +1,5 @@
-//! Function types, and the errors of making one.
+//! Function types: how one is read of two iterators, kept, compared and hashed; the errors of
+//! making one.
 
 ghost use Rattle.std.specs.Prelude.{◌≡◌, not, nat_le, if◌then◌else◌, ◌↔◌, IsTrue, ◌+◌, ◌<◌, ◌≤◌, ◌++◌, ◌∷◌, [], length, take, drop, IfOk, IfErr, IsErr, OnOk, OnErr, Some};
 ghost use Rattle.std.specs.Cmp.{partial_equiv_from_equiv, partial_order_from_agreeing_total};

@@ -1,4 +1,4 @@
-//! The types of addresses and of table indices.
+//! Address types: the types of the addresses of a linear memory and of the indices of a table.
 
 ghost use Rattle.std.specs.Prelude.{◌≡◌, ◌↔◌, ◌^◌, IsTrue};
 ghost use Rattle.wasmi_types.specs.Value.{address_type, address_bits, narrower};

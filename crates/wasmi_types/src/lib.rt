@@ -1,4 +1,4 @@
-//! The value types, traps and function types of WebAssembly.
+//! The value types, traps, function types and address types of WebAssembly.
 #![tactic(auto)]
 
 mod func_type;

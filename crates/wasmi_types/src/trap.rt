@@ -1,4 +1,4 @@
-//! Traps: why a call ended early.
+//! Traps: why a call ended early. Trap codes with their numbers and texts, and errors of the host.
 
 ghost use Rattle.std.specs.Prelude.{◌≡◌, Some};
 ghost use Rattle.std.specs.Option.{option_copied, option_copied_mut};

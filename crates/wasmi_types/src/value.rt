@@ -1,4 +1,4 @@
-//! Value types and reference types.
+//! Value types and reference types, and the conversion between them.
 
 ghost use Rattle.std.specs.Prelude.{◌≡◌, is_some};
 ghost use Rattle.wasmi_types.specs.Value.{is_number_type, reference_of, value_of};

@@ -1,6 +1,7 @@
 //! Loads and stores of little-endian numbers in a linear memory.
 pub mod access {
-    //! Loads and stores of any type that has little-endian bytes.
+    //! Loads and stores of any type that has little-endian bytes, and the traits of these bytes, of
+    //! wrapping and of extending.
     //!
     //! A memory is a slice of bytes, and an address counts bytes from its start. An access to `ptr +
     //! offset` has the unbounded sum for its address. The only error is `MemoryOutOfBounds`, where the
@@ -440,7 +441,7 @@ pub mod access {
     }
 }
 mod convert {
-    //! Widening and wrapping between the integers.
+    //! Extending and wrapping between the integers: the implementations of `ExtendInto` and `WrapInto`.
 
     use crate::proved::accesses::access::{ExtendInto, WrapInto};
 
@@ -578,7 +579,8 @@ mod convert {
     }
 }
 mod integer {
-    //! The integers of 8 to 128 bits in little-endian bytes.
+    //! The integers of 8 to 128 bits in little-endian bytes: the implementations of
+    //! `LittleEndianConvert`.
 
     use crate::proved::accesses::access::LittleEndianConvert;
 

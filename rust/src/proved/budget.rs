@@ -1,7 +1,7 @@
 //! Pools of machines whose memories and tables stay, all together, within one cap of each kind.
 //! Own: upstream has no pool.
 mod error {
-    //! Why a pool refuses.
+    //! Why a pool adds no machine, runs no tenant, or reserves no slots.
 
     use crate::proved::machine::TooManyCalls;
     use crate::rattle::alloc::AllocError;
@@ -252,7 +252,8 @@ pub mod laws {
     pub fn removed_stay_removed() {}
 }
 mod pool {
-    //! The pool.
+    //! The pool: how machines are added, removed, run and reserved for within its caps, and what they
+    //! hold.
 
     use crate::proved::budget::error::{AddError, PoolError, ReserveError, RunIntoError};
     use crate::proved::budget::tenant::CountedMachine;
@@ -702,7 +703,8 @@ mod pool {
     }
 }
 mod tenant {
-    //! One machine of a pool, with what it has, and its limiter.
+    //! One machine of a pool with the amounts that it has, the calls on it, and its limiter, the
+    //! tenant.
 
     use crate::proved::machine::{
         Call, Machine, Replies, Reply, SlotCounts, TooManyCalls, run_into_lending, run_lending,
@@ -1032,7 +1034,7 @@ mod tenant {
     }
 }
 mod tenants {
-    //! The machines of a pool at their indices.
+    //! The machines of a pool at their indices: where an index lies, and what is done with its machine.
 
     use crate::proved::budget::error::{PoolError, ReserveError, RunIntoError};
     use crate::proved::budget::tenant::CountedMachine;

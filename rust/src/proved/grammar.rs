@@ -1,6 +1,7 @@
 //! The text of a script: what its lines say, and the script that they write.
 mod command {
-    //! The commands of a script, each of which is one call: what the words after its first say.
+    //! The commands of a script, each of which is one call: what the words after its first say, and the
+    //! memory type, the table type or the lanes that some of them name.
 
     use crate::proved::lanes::ImmLaneIdx32;
     use crate::proved::machine::Call;
@@ -511,7 +512,7 @@ mod error {
     }
 }
 mod header {
-    //! The header lines of a script.
+    //! The header lines of a script: what the words after their first say.
 
     use crate::proved::machine::SlotCounts;
     use crate::proved::meter::{Amounts, LimiterAnswer};
@@ -755,7 +756,8 @@ pub mod laws {
     pub fn written_texts_have_no_bad_line() {}
 }
 mod script {
-    //! The script's lines: header lines, and then commands.
+    //! The script that a text writes: how each line adds to its header or to its calls by parts, and
+    //! the parser.
 
     use crate::proved::grammar::command::command;
     use crate::proved::grammar::error::ParseError;

@@ -1,6 +1,6 @@
 //! Lanes of 128-bit vectors: lane indices, lane types, and what works on a vector lane by lane.
 mod index {
-    //! Immediate lane indices.
+    //! Immediate lane indices: how one is made of a number, and of which numbers of lanes there are.
 
     use crate::proved::lanes::item::LaneInteger;
 
@@ -151,7 +151,7 @@ mod index {
     }
 }
 mod item {
-    //! The integers that are lanes.
+    //! The integers that are lanes: how a lane is read as one, and a vector as an array of them.
 
     use crate::proved::lanes::simd_lane::{bytes_to_take_out, from_bytes};
     use crate::proved::raw::V128;
@@ -479,7 +479,8 @@ mod item {
     }
 }
 mod lanes {
-    //! Vectors as lanes of one item, and the lane types; lanes made of narrower lanes, and of wider ones.
+    //! Vectors as lanes of one item, and the lane types; lanes made of narrower lanes, and of wider
+    //! ones, and numbers clamped to the range of a narrower lane.
 
     use crate::proved::lanes::index::{
         CountsLanes, ImmLaneIdx, ImmLaneIdx2, ImmLaneIdx4, ImmLaneIdx8, ImmLaneIdx16, IntoLaneIdx,
@@ -1111,7 +1112,7 @@ mod lanes {
 }
 #[cfg(any(doc, test))]
 pub mod laws {
-    //! Laws on lanes.
+    //! Laws on the lanes of vectors and of words.
 
     use crate::proved::lanes::lanes::Lanes;
     use crate::proved::lanes::words::{word_add, word_differ, word_sub};
@@ -1316,8 +1317,8 @@ pub mod on_vectors {
     }
 }
 mod simd_lane {
-    //! The lanes of a vector as a vector of `core::simd`, and one of them at an index that is known only
-    //! when the program runs.
+    //! The lanes of a vector as a vector of `core::simd`, its bytes and its words too, and one of the
+    //! lanes at an index that is known only when the program runs.
 
     use crate::proved::lanes::index::{
         ImmLaneIdx2, ImmLaneIdx4, ImmLaneIdx8, ImmLaneIdx16, IntoLaneIdx,
@@ -1744,7 +1745,8 @@ mod simd_lane {
     ];
 }
 pub mod words {
-    //! Sums, differences and inequality of the lanes of a word, without taking the lanes out.
+    //! Sums, differences and inequality of the lanes of a word, without taking the lanes out, and the
+    //! integers as which lanes of a word are read.
     //!
     //! `tops` has the highest bit of each lane, and no other; the widths may be unequal. No carry or
     //! borrow leaves a lane: at each lane's highest bit the operands are made to leave room. A sum or a

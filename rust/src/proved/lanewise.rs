@@ -32,7 +32,7 @@ pub mod shift {
     //! Shifts of lanes of 8, 16 and 32 bits without sign, by an amount modulo their width.
     //!
     //! The two words of the vector are shifted together, and the bits are masked that would leave their
-    //! lane.
+    //! lane. The masks, the low bits of each lane, come from a table for each width.
 
     use crate::proved::lanes::{WordLane, from_u64x2, u64x2_of};
     use crate::proved::raw::V128;
@@ -142,9 +142,12 @@ pub mod simd {
     //! Each function is the instruction of its name: `i8x16_add` is `i8x16.add`, of 16 lanes of 8 bits;
     //! lane 0 is the lowest. `i8x16_mul` is no instruction of WebAssembly. Core specification: vector
     //! instructions; what each gives stands in `specs/VectorTable.antt`. Upstream: `wasmi_core::simd`.
+    //! Private functions here are steps of the instructions of one width; what is generic in the lane
+    //! type is in `order` and `words`.
 
     mod order {
-        //! Order of lanes, and what is chosen by it, on vectors of `core::simd`.
+        //! Comparisons of lanes by their order, and the smaller or larger ones of lanes, on vectors of
+        //! `core::simd`.
         //!
         //! Lanes that are read signed are moved by half of their range, and then compared as unsigned ones.
 
@@ -306,6 +309,7 @@ pub mod simd {
             (less << 1).wrapping_sub(less >> (width - 1))
         }
 
+        // All ones where the lane of `a` is less than that of `b`, else all zeros.
         /// # Contract
         ///
         /// ```text
@@ -331,10 +335,11 @@ pub mod simd {
         }
     }
     mod words {
-        //! Sums, differences, equality and averages on the two words of a vector, whose lanes stay where they
-        //! are.
+        //! Sums, differences, negatives, equality and averages of lanes on the two words of a vector, whose
+        //! lanes stay where they are.
         //!
-        //! What is generic in a lane type takes the highest bits of a word's lanes from it.
+        //! What is generic in a lane type takes the highest bits of a word's lanes, the tops, from it.
+        //! Lanes whose highest bit marks them as equal or as different are filled with ones.
 
         use crate::proved::lanes::words::{word_add, word_differ, word_sub};
         use crate::proved::lanes::{WordLane, from_u64x2};
@@ -512,7 +517,8 @@ pub mod simd {
             )
         }
 
-        // Common bits and half of the others, which never borrow from the lane below.
+        // The averages on one word: common bits and half of the others, which never borrow from the lane
+        // below.
         /// # Contract
         ///
         /// ```text
@@ -1107,7 +1113,7 @@ pub mod simd {
         u16::vector_of(twice(upper_halves(x, y)) + rounded)
     }
 
-    // The lanes, read signed, at twice their width.
+    // For `i16x8_q15mulr_sat_s`: the lanes, read signed, at twice their width.
     /// # Contract
     ///
     /// ```text
@@ -1120,7 +1126,7 @@ pub mod simd {
         (items.cast::<u32>() ^ tops) - tops
     }
 
-    // The upper halves of the products of lanes that are read signed.
+    // For `i16x8_q15mulr_sat_s`: the upper halves of the products of lanes that are read signed.
     /// # Contract
     ///
     /// ```text
@@ -1134,8 +1140,8 @@ pub mod simd {
         (products >> u32x8::splat(16)).cast::<u16>()
     }
 
-    /// Twice the lanes, read signed, and the largest number in the place of the one double that doesn't
-    /// fit, that of 2 to the power 14.
+    /// For `i16x8_q15mulr_sat_s`: twice the lanes, read signed, and the largest number in the place of
+    /// the one double that doesn't fit, that of 2 to the power 14.
     ///
     /// # Contract
     ///
@@ -1487,8 +1493,8 @@ pub mod simd {
         V128::from_word_pair(!ones_if_equal(a_low, b_low), !ones_if_equal(a_high, b_high))
     }
 
-    // All ones if two words are equal, else 0. They are compared as lanes of one bit, of which
-    // `word_differ` masks nothing.
+    // For `i64x2_eq` and `i64x2_ne`: all ones if two words are equal, else 0. They are compared as
+    // lanes of one bit, of which `word_differ` masks nothing.
     /// # Contract
     ///
     /// ```text
@@ -2180,7 +2186,7 @@ pub mod simd {
         from_bytes(bytes_of(a).swizzle_dyn_within::<16>(biased & u8x16::splat(0x8f)))
     }
 
-    // The lanes of `table` at the low four bits of the indices.
+    // For `i8x16_shuffle`: the lanes of `table` at the low four bits of the indices.
     /// # Contract
     ///
     /// ```text
@@ -2192,6 +2198,7 @@ pub mod simd {
         table.swizzle_dyn_within::<16>(indices & u8x16::splat(15))
     }
 
+    // For `i8x16_shuffle`: the indices, a byte each.
     /// # Contract
     ///
     /// ```text

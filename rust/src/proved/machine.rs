@@ -1,8 +1,8 @@
 //! A machine that runs lists of calls on metered WebAssembly memories and tables under a resource
 //! limiter.
 mod calls {
-    //! What a machine can be asked, and what it replies. Both are our own: upstream leaves running to
-    //! the interpreter.
+    //! The calls on a machine, the replies to them, and the bytes that a reply has (`ByteList`). They
+    //! are our own: upstream leaves running to the interpreter.
 
     use crate::proved::lanes::ImmLaneIdx32;
     use crate::proved::meter::{FuelError, MemoryError, TableError};
@@ -411,7 +411,7 @@ mod calls {
     impl Eq for ByteList {}
 }
 mod data {
-    //! Data segments.
+    //! Data segments, and the copies of bytes that they and replies are made of.
 
     use crate::rattle::alloc::AllocError;
     use crate::rattle::{SliceExt, Vec};
@@ -828,7 +828,8 @@ pub mod laws {
     pub fn limiters_leave_no_choice() {}
 }
 mod machine {
-    //! The machine.
+    //! The machine: how one is made, what a host reads of it, and what changes it without a call. Calls
+    //! and runs of calls are in `running.rt`.
 
     use crate::proved::machine::calls::Reply;
     use crate::proved::machine::data::DataSegment;
@@ -1198,7 +1199,8 @@ mod machine {
     }
 }
 mod memories {
-    //! The memories of a machine, by their indices.
+    //! What calls do to the memories of a machine, by their indices, and the replies to calls on
+    //! memories.
 
     use crate::proved::machine::calls::{ByteList, Reply};
     use crate::proved::machine::data::copy_of_bytes;
@@ -1508,7 +1510,7 @@ mod memories {
     }
 }
 mod registers {
-    //! The registers of a machine.
+    //! The registers of a machine, and the vectors that calls make of what is in them.
 
     use crate::proved::lanewise::simd::i8x16_shuffle;
     use crate::proved::machine::calls::{Call, Reply};
@@ -1640,7 +1642,8 @@ mod registers {
     }
 }
 mod replies {
-    //! Memory for replies that is kept from run to run.
+    //! Memory for replies that is kept from run to run, and the error of a run for which it is too
+    //! small.
 
     use crate::proved::machine::calls::Reply;
     use crate::rattle::Vec;
@@ -1783,7 +1786,8 @@ mod replies {
     impl core::error::Error for TooManyCalls {}
 }
 mod running {
-    //! One call, and runs of calls. They are our own: upstream leaves running to the interpreter.
+    //! Executing one call or one growth on a machine, and runs of calls. They are our own: upstream
+    //! leaves running to the interpreter.
 
     use crate::proved::machine::calls::{Call, Reply};
     use crate::proved::machine::machine::Machine;
@@ -2102,7 +2106,8 @@ mod running {
     }
 }
 mod slots {
-    //! Slots: what was made, each at the index of its making; and lists with memory for more items.
+    //! Slots: what was made, each at the index of its making, and the totals of its sizes; and lists
+    //! with memory for more items.
 
     use crate::proved::machine::calls::Reply;
     use crate::proved::store::{Memory, Table};
@@ -2958,7 +2963,7 @@ mod store {
     }
 }
 mod tables {
-    //! The tables of a machine, by their indices.
+    //! What calls do to the tables of a machine, by their indices, and the replies to calls on tables.
 
     use crate::proved::machine::calls::Reply;
     use crate::proved::machine::slots::{Slot, Slots};

@@ -1,6 +1,6 @@
 //! Fuel metering, resource limits of growth, and the errors of memories and tables.
 mod answer_list {
-    //! A limiter that answers from a list.
+    //! A limiter that answers from a list, and the answers in such a list.
 
     use crate::proved::meter::error::LimiterError;
     use crate::proved::meter::limiter::{Kind, LimiterByKind};
@@ -97,7 +97,7 @@ mod answer_list {
     }
 }
 mod any_limiter {
-    //! A limiter of one of three kinds.
+    //! A limiter whose kind is chosen at run time: without limits, a quota, or a list of answers.
 
     use crate::proved::meter::answer_list::AnswerList;
     use crate::proved::meter::error::LimiterError;
@@ -398,7 +398,8 @@ mod error {
     }
 }
 mod fuel {
-    //! Fuel that work takes, at costs that a host may choose.
+    //! Fuel meters, what work costs in fuel, which a host may choose, and why a call on a meter is
+    //! refused.
 
     use crate::proved::raw::RawRef;
     use core::fmt;
@@ -883,8 +884,9 @@ mod fuel {
     }
 }
 mod limiter {
-    //! Who may grow: a limiter is asked before each growth, and notified if a growth that it permitted
-    //! fails; and references to limiters.
+    //! Resource limiters: each is asked before a growth of a memory or a table, and notified if a
+    //! growth that it permitted fails. Limiters by the kind of what grows, without limits, and absent
+    //! ones; and references to limiters that are lent.
 
     use crate::proved::meter::error::{LimiterError, MemoryError, TableError};
     use core::fmt;
@@ -1551,7 +1553,8 @@ mod limiter {
     }
 }
 mod quota {
-    //! Limiters that count what they permitted: amounts, what is held, limiters with caps, and a quota.
+    //! Limiters that count what they permitted: amounts by kind, what is held, taken, given back and
+    //! released, limiters with caps, and a quota.
 
     use crate::proved::meter::error::LimiterError;
     use crate::proved::meter::limiter::{Kind, LimiterByKind, ResourceLimiter};

@@ -1,6 +1,6 @@
 //! The words of a script's line, and what they write: numbers, types, instructions and operands.
 mod error {
-    //! Why a line isn't taken.
+    //! Why a line isn't taken: it is a bad command, or memory is refused.
 
     use crate::rattle::alloc::AllocError;
 
@@ -26,7 +26,7 @@ mod error {
     }
 }
 pub mod lane {
-    //! The instructions on one lane, by their names and the word of the lane's index.
+    //! The instructions on one lane, by two words: their names, and the lane's index.
 
     use crate::proved::operands::error::LineError;
     use crate::proved::operands::operand::Operand;
@@ -100,7 +100,8 @@ pub mod lane {
     }
 }
 pub mod operand {
-    //! The words of a line, and what they write: numbers, and the operands of a command.
+    //! The words of a line, and what they write: numbers, types, references, a limiter's answers and
+    //! the names of instructions, by one word, by as many as a command has, or as a list.
 
     use crate::proved::lanes::ImmLaneIdx32;
     use crate::proved::meter::LimiterAnswer;

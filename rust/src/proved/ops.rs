@@ -4,7 +4,7 @@
 //! The variants of a type stand in the order of its list, which has their names. Own: upstream has
 //! no instructions as values.
 mod load_store {
-    //! The scalar loads and stores, at a pointer and an offset.
+    //! The scalar loads and stores as values, at a pointer and an offset.
 
     use crate::proved::accesses::access::effective_address;
     use crate::proved::accesses::wasm as accesses;
@@ -158,7 +158,7 @@ mod load_store {
     }
 }
 mod rows {
-    //! What is made of the rows of instructions.
+    //! Macros over the rows of instructions: lists of names, and matches that call the functions.
     //!
     //! A row is a variant and the function of its name. A macro below each type has its rows, once, and
     //! gives them to a macro of this file: `binaries!(names! BinaryOp)` is the list of names. The rows
@@ -217,8 +217,9 @@ mod rows {
     pub(crate) use on_lane;
 }
 mod vector {
-    //! The vector instructions, on vectors and raw values. A kind is an instruction on one lane without
-    //! the lane's index: what a name or a number alone tells.
+    //! The vector instructions as values, on vectors and raw values, with the loads and stores of
+    //! vectors and of one lane. A kind is an instruction on one lane without the lane's index: what a
+    //! name or a number alone tells.
 
     use crate::proved::lanes::{ImmLaneIdx2, ImmLaneIdx4, ImmLaneIdx8, ImmLaneIdx16};
     use crate::proved::lanewise::simd as lanewise;
@@ -1086,7 +1087,7 @@ mod vector {
         /// ensures: result ≡ loaded_lane self vector memory.now (ptr + offset)
         /// ```
         ///
-        /// Definitions: [`loaded_lane`](crate::specs::ops::VectorOpsSpecs#loaded_lane).
+        /// Definitions: [`loaded_lane`](crate::specs::ops::LaneOpsSpecs#loaded_lane).
         #[inline]
         pub fn load(
             self,
@@ -1170,7 +1171,7 @@ mod vector {
         /// ensures: IsStore memory.old (ptr + offset) (stored_lane self vector) memory.new result
         /// ```
         ///
-        /// Definitions: [`IsStore`](crate::specs::accesses::LoadStoreSpecs#IsStore), [`stored_lane`](crate::specs::ops::VectorOpsSpecs#stored_lane).
+        /// Definitions: [`IsStore`](crate::specs::accesses::LoadStoreSpecs#IsStore), [`stored_lane`](crate::specs::ops::LaneOpsSpecs#stored_lane).
         #[inline]
         pub fn store(
             self,

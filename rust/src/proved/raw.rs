@@ -1,7 +1,7 @@
 //! Raw values: what a register, a local or a global variable of WebAssembly holds, whatever its
 //! type.
 mod convert {
-    //! Conversions into and from raw values.
+    //! Conversions (`From`) into and from raw values, of integers, `bool`, floats and vectors.
 
     use crate::proved::raw::float::{F32, F64};
     use crate::proved::raw::raw::{OneWord, RawVal, ReadAs, WriteAs};
@@ -244,7 +244,7 @@ mod convert {
     }
 }
 mod float {
-    //! Floats, of which only the bits are known.
+    //! Floats of 32 and 64 bits, of which only the bits are known.
 
     /// The 32 bits of a float, which contracts see as a number.
     ///
@@ -356,7 +356,7 @@ pub mod laws {
     }
 }
 mod number {
-    //! The integer types, as contracts see them.
+    //! The integer types, as contracts see them: the trait that has the numbers of each.
 
     mod sealed {
         /// # Contract
@@ -430,7 +430,7 @@ mod number {
     impl<T: sealed::Sealed> Number for T {}
 }
 mod raw {
-    //! Raw values, and what it means to read and write one.
+    //! Raw values, and the traits that say what it means to read and write one.
 
     /// A raw value: two words of 64 bits, without a type.
     ///
@@ -556,7 +556,7 @@ mod raw {
     pub trait OneWord: ReadBack {}
 }
 mod raw_ref {
-    //! Raw references: what an element of a table holds, whatever its type.
+    //! Raw references: what an element of a table holds, whatever its type, and its conversions.
 
     use crate::proved::raw::raw::{OneWord, RawVal, ReadAs, ReadBack, WriteAs};
 
@@ -684,7 +684,8 @@ mod raw_ref {
     }
 }
 mod read_write {
-    //! Reading and writing a raw value, by type, and what is read after a write.
+    //! Reading and writing a raw value, and what is read after a write: the implementations of the
+    //! traits, type by type.
 
     use crate::proved::raw::number::Number;
     use crate::proved::raw::raw::{OneWord, RawVal, ReadAs, ReadBack, WriteAs};
@@ -1241,7 +1242,7 @@ mod read_write {
     }
 }
 mod vector {
-    //! The 128-bit value that vector instructions work on.
+    //! The 128-bit value that vector instructions work on: its two words, and its number.
 
     /// A vector of 128 bits, which contracts see as a number below 2^128.
     ///

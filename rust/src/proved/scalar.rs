@@ -1,7 +1,8 @@
 //! The scalar integer instructions of WebAssembly.
 pub mod value {
-    //! The traits of the integer types. Upstream: the module `value`, private there. Core
-    //! specification: integer operations, under numerics.
+    //! The traits of the integer types, with their implementations: the operations, the unsigned type
+    //! of the same width, and the extension by the sign. Upstream: the module `value`, private there.
+    //! Core specification: integer operations, under numerics.
 
     use crate::proved::accesses::access::WrapInto;
     use crate::proved::raw::Number;
@@ -1408,7 +1409,7 @@ pub mod wasm {
         <i64 as SignExtendFrom<i32>>::sign_extend_from(value)
     }
 
-    // The number of 128 bits in two words, and its two words.
+    // The number of 128 bits in two words.
     /// # Contract
     ///
     /// ```text
@@ -1421,6 +1422,7 @@ pub mod wasm {
         hi.cast_unsigned() as u128 * 0x1_0000_0000_0000_0000 + lo.cast_unsigned() as u128
     }
 
+    // The two words of a number of 128 bits.
     /// # Contract
     ///
     /// ```text

@@ -4,8 +4,9 @@
 //! The variants of a type stand in the order of its list, which has their names. Own: upstream has
 //! no instructions as values.
 mod rows {
-    //! What is made of the rows of instructions, which stand as in `wasmi_ops`: a variant and the
-    //! function of its name, in groups with the module of their functions and what follows a call.
+    //! Macros over the rows of instructions, which stand as in `wasmi_ops`: lists of names, and matches
+    //! that call the functions. A row is a variant and the function of its name; the rows are in groups
+    //! with the module of their functions and what follows a call.
 
     /// The list of names of a type: each row's name with its variant.
     macro_rules! names {
@@ -38,7 +39,7 @@ mod rows {
     pub(crate) use names;
 }
 mod scalar {
-    //! The scalar instructions, on raw values.
+    //! The scalar instructions of one and of two operands as values, on raw values.
 
     use crate::proved::raw::{RawVal, ReadAs};
     use crate::proved::scalar::wasm;
@@ -288,7 +289,7 @@ mod scalar {
     }
 }
 mod wide {
-    //! The instructions of the wide-arithmetic proposal, on raw values.
+    //! The instructions of the wide-arithmetic proposal, on raw values of two words.
 
     use crate::proved::raw::{RawVal, V128};
     use crate::proved::scalar::wasm;

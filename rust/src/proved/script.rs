@@ -107,7 +107,8 @@ pub mod laws {
     }
 }
 mod lines {
-    //! The lines for calls and their replies, written to the front of bytes as far as they fit.
+    //! The lines for calls and their replies, written to the front of bytes as far as they fit, and the
+    //! texts and numbers that are written there one after the other.
 
     use crate::proved::machine::{Call, Reply};
     use crate::proved::script::printing::{Wording, bytes_of};
@@ -213,7 +214,7 @@ mod lines {
     /// ensures: AddsToFront (number_text before.now number) bytes.old written bytes.new result
     /// ```
     ///
-    /// Definitions: [`AddsToFront`](crate::specs::script::PrintingSpecs#AddsToFront), [`number_text`](crate::specs::script::PrintingSpecs#number_text).
+    /// Definitions: [`AddsToFront`](crate::specs::script::PrintingSpecs#AddsToFront), [`number_text`](crate::specs::script::TextsSpecs#number_text).
     #[inline]
     pub fn put_optional(
         bytes: &mut [u8],
@@ -231,7 +232,8 @@ mod lines {
     }
 }
 mod printing {
-    //! The lines that a replay prints, by its outcome, the words of a reply, and the printer.
+    //! The lines that a replay prints, by its outcome: the script with what its run has given, the
+    //! words of a reply, what is held, and the printer, which sends texts to a writer.
 
     use crate::proved::budget::Pool;
     use crate::proved::grammar::Script;
@@ -789,7 +791,8 @@ mod printing {
     }
 }
 mod replaying {
-    //! A script from its reader to the printed lines: streams, the replay, and the run of its calls.
+    //! A script from its reader to the printed lines: the streams, the replay with its status, and the
+    //! run of the calls on a new machine or a new pool, as the header lines ask for it.
 
     use crate::proved::budget::Pool;
     use crate::proved::grammar::{

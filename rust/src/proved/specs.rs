@@ -17,7 +17,7 @@ abbrev pub <b id="overwrite">overwrite</b> : {A : Type 0} → List A → ℕ →
 </code></pre>
 "####]
     pub mod AccessSpecs {}
-    #[doc = r####"A function type is its lists of parameters and results (core specification 2.3); how it is kept, and its errors.
+    #[doc = r####"A function type is its lists of parameters and results (core specification 2.3): when two are the same, their order, what a hasher is given, how the entries are kept, and the texts of the errors.
 
 <pre><code>use Rattle.std.specs.Prelude.{ℕ, ◌+◌, Bool, ◌&amp;&amp;◌, List, ◌∷◌, ◌++◌, length, map, nat_le, if◌then◌else◌, ◌≡◌, ◌&lt;◌, ◌≤◌, take, drop, codes}
 use Rattle.std.specs.Cmp.Lexicographic.{pointwise, slice_cmp}
@@ -49,7 +49,7 @@ abbrev pub <b id="entry_count">entry_count</b> : <a href="../../types/FunctionTy
 abbrev pub <b id="same_lists">same_lists</b> : (ValType → ValType → Bool) → <a href="../../types/FunctionTypeSpecs/index.html#FunctionType">FunctionType</a> → <a href="../../types/FunctionTypeSpecs/index.html#FunctionType">FunctionType</a> → Bool
 <a href="../../types/FunctionTypeSpecs/index.html#same_lists">same_lists</a> same a b = pointwise same a.params b.params &amp;&amp; pointwise same a.results b.results
 
--- the place of a value type in their order
+-- the place of a value type in their order, by which entries of function types are ordered
 abbrev pub <b id="type_number">type_number</b> : ValType → ℕ
 <a href="../../types/FunctionTypeSpecs/index.html#type_number">type_number</a> = elim [ I32 ↦ 0 | I64 ↦ 1 | F32 ↦ 2 | F64 ↦ 3 | V128 ↦ 4 | FuncRef ↦ 5 | ExternRef ↦ 6 ]
 
@@ -105,10 +105,10 @@ abbrev pub <b id="func_type_error_text">func_type_error_text</b> : FuncTypeError
 </code></pre>
 "####]
     pub mod FunctionTypeSpecs {}
-    #[doc = r####"Two function types have one order key exactly if both of their lists are the same; equal value types are one.
+    #[doc = r####"What the implementations of \`Eq\`, \`Ord\` and \`Hash\` for function types name: the test of both lists is an equivalence, answers as the order does and holds of the same alone. One order key is that of one function type.
 
-<pre><code>use Rattle.std.specs.Prelude.{◌≡◌, ℕ, zero, suc, Bool, true, false, ◌&amp;&amp;◌, List, [], ◌∷◌, length, map, take, drop, slice_index, nat_le, if◌then◌else◌, refl}
-use Rattle.std.proofs.Common.{ap, sym, ◌∙◌, arith}
+<pre><code>use Rattle.std.specs.Prelude.{◌≡◌, ℕ, zero, suc, Bool, true, false, ◌&amp;&amp;◌, List, [], ◌∷◌, length, map, drop, slice_index, nat_le, if◌then◌else◌, refl}
+use Rattle.std.proofs.Common.{ap, sym, ◌∙◌}
 use Rattle.std.proofs.Math.Seq.{take-append_seam, drop-append_seam}
 use Rattle.std.specs.Bool.{Decides, one_answer}
 use Rattle.std.specs.Ordering.{nat_cmp, eq_by_cmp}
@@ -136,15 +136,17 @@ unfolding type_at
 type_at-type_number I32 = refl
 type_at-type_number x = refl
 
+-- the places of value types lead back to them
 types_from_numbers : (xs : List ValType) → map type_at (map <a href="../../types/FunctionTypeSpecs/index.html#type_number">type_number</a> xs) ≡ xs
 types_from_numbers [] = refl
 types_from_numbers (x ∷ xs) = λ i. type_at-type_number x i ∷ types_from_numbers xs i
 
+-- two order keys that are the same have the same number of parameters and the same entries
 same_key : (v w : Bool) (m n m&#x27; n&#x27; : ℕ) (xs ys : List ℕ)
     → (if v then 0 ∷ m ∷ n ∷ xs else 1 ∷ m ∷ xs) ≡ (if w then 0 ∷ m&#x27; ∷ n&#x27; ∷ ys else 1 ∷ m&#x27; ∷ ys) → (m ≡ m&#x27;) × (xs ≡ ys)
 same_key true true m n m&#x27; n&#x27; xs ys e = (ap (λ l. slice_index l 1) e, ap (drop 3) e)
-same_key true false m n m&#x27; n&#x27; xs ys e = let no : 0 ≡ 1 = ap (λ l. slice_index l 0) e in absurd (omega (arith, no))
-same_key false true m n m&#x27; n&#x27; xs ys e = let no : 1 ≡ 0 = ap (λ l. slice_index l 0) e in absurd (omega (arith, no))
+same_key true false m n m&#x27; n&#x27; xs ys e = absurd (cc e)
+same_key false true m n m&#x27; n&#x27; xs ys e = absurd (cc e)
 same_key false false m n m&#x27; n&#x27; xs ys e = (ap (λ l. slice_index l 1) e, ap (drop 2) e)
 
 -- one order key, one function type
@@ -155,11 +157,9 @@ pub <b id="order_key-one">order_key-one</b> : (a b : <a href="../../types/Functi
     let joined : <a href="../../types/FunctionTypeSpecs/index.html#entries">entries</a> a ≡ <a href="../../types/FunctionTypeSpecs/index.html#entries">entries</a> b =
     sym (types_from_numbers (<a href="../../types/FunctionTypeSpecs/index.html#entries">entries</a> a)) ∙ ap (map type_at) parts.1 ∙ types_from_numbers (<a href="../../types/FunctionTypeSpecs/index.html#entries">entries</a> b) in
     let params : a.params ≡ b.params =
-    sym (take-append_seam a.params a.results) ∙ (λ i. take (parts.0 i) (joined i))
-    ∙ take-append_seam b.params b.results in
+    rw (← take-append_seam a.params a.results, parts.0, joined) (take-append_seam b.params b.results) in
     let results : a.results ≡ b.results =
-    sym (drop-append_seam a.params a.results) ∙ (λ i. drop (parts.0 i) (joined i))
-    ∙ drop-append_seam b.params b.results in
+    rw (← drop-append_seam a.params a.results, parts.0, joined) (drop-append_seam b.params b.results) in
     λ i. record { params = params i; results = results i }
 
 -- a test that decides whether two values are the same is an equivalence
@@ -189,6 +189,7 @@ module _ {E : ValType → ValType → Bool} (decides : (x y : ValType) → Decid
       one_answer _ _ (<a href="../../types/FunctionTypeProofsSpecs/index.html#same_lists_decides">same_lists_decides</a> a b) (λ e. <a href="../../types/FunctionTypeProofsSpecs/index.html#order_key-one">order_key-one</a> a b (keys.0 e), λ e. keys.1 (ap <a href="../../types/FunctionTypeSpecs/index.html#order_key">order_key</a> e))
       ∙ lists_ties nat_cmp unsigned_ties (<a href="../../types/FunctionTypeSpecs/index.html#order_key">order_key</a> a) (<a href="../../types/FunctionTypeSpecs/index.html#order_key">order_key</a> b)
 
+  -- the test of both lists is an equivalence
   pub <b id="same_lists_equiv">same_lists_equiv</b> : IsEquivalence (<a href="../../types/FunctionTypeSpecs/index.html#same_lists">same_lists</a> E)
   <a href="../../types/FunctionTypeProofsSpecs/index.html#same_lists_equiv">same_lists_equiv</a> =
       let types : IsEquivalence E = equivalence_from_decides decides in
@@ -199,6 +200,7 @@ module _ {E : ValType → ValType → Bool} (decides : (x y : ValType) → Decid
   pub <b id="same_lists_alike">same_lists_alike</b> : {B : Type 0} (f : <a href="../../types/FunctionTypeSpecs/index.html#FunctionType">FunctionType</a> → B) (a b : <a href="../../types/FunctionTypeSpecs/index.html#FunctionType">FunctionType</a>) → <a href="../../types/FunctionTypeSpecs/index.html#same_lists">same_lists</a> E a b ≡ true → f a ≡ f b
   <a href="../../types/FunctionTypeProofsSpecs/index.html#same_lists_alike">same_lists_alike</a> f a b e = ap f ((<a href="../../types/FunctionTypeProofsSpecs/index.html#same_lists_decides">same_lists_decides</a> a b).0 e)
 
+-- the derived `==` decides whether two value types, the entries of function types, are the same
 pub <b id="same_type_decides">same_type_decides</b> : (x y : ValType) → Decides (sameb the_type x y) (x ≡ y)
 <a href="../../types/FunctionTypeProofsSpecs/index.html#same_type_decides">same_type_decides</a> x y = (same_true the_type tt x y, true_same the_type x y)
 </code></pre>
@@ -228,7 +230,7 @@ abbrev pub <b id="le_bytes">le_bytes</b> : ℕ → ℕ → List ℕ
 </code></pre>
 "####]
     pub mod NumbersSpecs {}
-    #[doc = r####"How a function type is read of two iterators, each to its end or past the greatest number of items that are taken.
+    #[doc = r####"How a function type is read of two iterators, each to its end or past the greatest number of items that are taken; why none is read: there are too many, or memory is refused.
 
 <pre><code>use Rattle.std.specs.Prelude.{◌≡◌, ℕ, ◌≤◌, List, length, Option, Some, None, ◌⊎◌, ◌+◌, ◌&lt;◌, Bool, true, false, [], ◌∷◌, ◌++◌, Result, Ok, Err}
 use Rattle.std.specs.Iterator.{YieldsThen, Yields}
@@ -238,7 +240,7 @@ use Rattle.wasmi_types.specs.declared.func_type.FuncTypeError.{FuncTypeError}
 use Rattle.wasmi_types.specs.declared.func_type.FuncTypeError.TheVariants.{TooManyFunctionParams, TooManyFunctionResults, OutOfMemory}
 use Rattle.wasmi_types.specs.FunctionType.{<a href="../../types/FunctionTypeSpecs/index.html#FunctionType">FunctionType</a>}
 
--- every iterator that a value becomes has a fact
+-- a fact holds of every iterator that a value becomes
 abbrev pub <b id="EachBecomes">EachBecomes</b> : {X I : Type 0} → (X → I → Type 0) → X → (I → Type 0) → Type 0
 <a href="../../types/ReadingSpecs/index.html#EachBecomes">EachBecomes</a> {X} {I} becomes x Fact = (it : I) → becomes x it → Fact it
 
@@ -321,7 +323,7 @@ module _ {I : Type 0} (steps : I → Option ValType → I → Type 0) where
     pub <b id="read">read</b> : <a href="../../types/ReadingSpecs/index.html#ReadsSome">ReadsSome</a> steps s <a href="../../types/ReadingSpecs/index.html#types">types</a> t
     pub <b id="many">many</b> : 21 &lt; length before + length <a href="../../types/ReadingSpecs/index.html#types">types</a>
 
-  -- why a part was not read
+  -- why the parameters or the results were not read
   abbrev pub <b id="IsReadingRefusal">IsReadingRefusal</b> : FuncTypeError → I → List ValType → FuncTypeError → I → Type 0
   <a href="../../types/ReadingSpecs/index.html#IsReadingRefusal">IsReadingRefusal</a> too_many s before error t =
       ((error ≡ too_many) × <a href="../../types/ReadingSpecs/index.html#ReadsTooMany">ReadsTooMany</a> 1000 steps s t) ⊎ ((error ≡ OutOfMemory) × <a href="../../types/ReadingSpecs/index.html#IsReadingOutOfMemory">IsReadingOutOfMemory</a> s before t)
@@ -402,7 +404,7 @@ abbrev pub <b id="text_of">text_of</b> : {H : Type 0} → (H → Option (List �
 </code></pre>
 "####]
     pub mod TrapSpecs {}
-    #[doc = r####"Which value types are number types and reference types, and what the type of an address means.
+    #[doc = r####"Value types: which are number types and which are reference types. Address types: their value types and their widths.
 
 <pre><code>use Rattle.std.specs.Prelude.{Bool, true, false, Option, Some, None, ℕ}
 use Rattle.wasmi_types.specs.declared.value.ValType.{ValType}
@@ -438,7 +440,7 @@ abbrev pub <b id="address_bits">address_bits</b> : IndexType → ℕ
 <a href="../../types/ValueSpecs/index.html#address_bits">address_bits</a> index.I32 = 32
 <a href="../../types/ValueSpecs/index.html#address_bits">address_bits</a> index.I64 = 64
 
--- the narrower of two address types
+-- of two address types the one with the narrower addresses
 abbrev pub <b id="narrower">narrower</b> : IndexType → IndexType → IndexType
 <a href="../../types/ValueSpecs/index.html#narrower">narrower</a> index.I64 index.I64 = index.I64
 <a href="../../types/ValueSpecs/index.html#narrower">narrower</a> index.I64 index.I32 = index.I32
@@ -482,7 +484,7 @@ pub record <b id="NumberType">NumberType</b> (Value : Type 0) : Type 0 where
 </code></pre>
 "####]
     pub mod NumberSpecs {}
-    #[doc = r####"The integers of each width are the numbers of their types.
+    #[doc = r####"The signed and the unsigned integer type of each width, whose values are those of their numbers.
 
 <pre><code>use Rattle.std.specs.Prelude.{◌≡◌, ℕ, ℤ, pos, negsuc, true, false, unsigned_abs, refl}
 use Rattle.std.specs.Int.{Width}
@@ -559,7 +561,7 @@ abbrev pub <b id="raw_of_vector">raw_of_vector</b> : ℕ → RawVal
 }
 /// Definitions of `wasmi_typed`.
 pub mod typed {
-    #[doc = r####"Global variables.
+    #[doc = r####"Global variables: how one is set, what lends its value, and the texts of their errors.
 
 <pre><code>use Rattle.std.specs.Prelude.{◌≡◌, ◌≢◌, Result, Ok, Err, ℕ, List, codes}
 use Rattle.std.specs.Borrow.{Lends, MutBor, Fml}
@@ -599,7 +601,7 @@ abbrev pub <b id="global_error_text">global_error_text</b> : GlobalError → Lis
 </code></pre>
 "####]
     pub mod GlobalSpecs {}
-    #[doc = r####"References with their types, and the amounts of shifts.
+    #[doc = r####"Which typed raw values are references, and the text of the error where one is none; the amounts of shifts.
 
 <pre><code>use Rattle.std.specs.Prelude.{◌≡◌, Some, None, Result, Ok, Err, ℕ, List, codes, ℤ, pos, ◌==◌, Option, unsigned_abs, if◌then◌else◌}
 use Rattle.std.specs.Int.{w32, int_rem_euclid}
@@ -651,7 +653,7 @@ abbrev pub <b id="value_of_bytes">value_of_bytes</b> : {V : Type 0} → (ℕ →
 abbrev pub <b id="loaded">loaded</b> : {V : Type 0} → ℕ → (ℕ → V) → List ℕ → ℕ → Result V TrapCode
 <a href="../../accesses/LoadStoreSpecs/index.html#loaded">loaded</a> n value memory a = <a href="../../accesses/LoadStoreSpecs/index.html#value_of_bytes">value_of_bytes</a> value (<a href="../../accesses/LoadStoreSpecs/index.html#accessed">accessed</a> a (<a href="../../types/AccessSpecs/index.html#at">at</a> memory a n))
 
--- an instruction gives this, where `number` reads its value
+-- a load, or another instruction that may trap, gives this, where `number` reads its value
 abbrev pub <b id="GivesNumber">GivesNumber</b> : {V N : Type 0} → (V → N) → Result V TrapCode → Result N TrapCode → Type 0
 <a href="../../accesses/LoadStoreSpecs/index.html#GivesNumber">GivesNumber</a> number result expected =
     MatchResult result (λ value. expected ≡ Ok (number value)) (λ trap. expected ≡ Err trap)
@@ -668,7 +670,7 @@ abbrev pub <b id="IsCopy">IsCopy</b> : List ℕ → ℕ → ℕ → List ℕ →
     (λ _. <a href="../../accesses/LoadStoreSpecs/index.html#accessed">accessed</a> a (<a href="../../types/AccessSpecs/index.html#at">at</a> memory a n) ≡ Some new)
     (λ trap. (trap ≡ MemoryOutOfBounds) × (<a href="../../accesses/LoadStoreSpecs/index.html#accessed">accessed</a> a (<a href="../../types/AccessSpecs/index.html#at">at</a> memory a n) ≡ None) × (new ≡ old))
 
--- the bytes before a and those from a + n on are the same
+-- after a store, the bytes before a and those from a + n on are the same
 abbrev pub <b id="IsSameOutside">IsSameOutside</b> : List ℕ → List ℕ → ℕ → ℕ → Type 0
 <a href="../../accesses/LoadStoreSpecs/index.html#IsSameOutside">IsSameOutside</a> old new a n = (take a new ≡ take a old) × (drop (a + n) new ≡ drop (a + n) old)
 </code></pre>
@@ -826,6 +828,8 @@ abbrev pub <b id="ige_s">ige_s</b> : ℤ → ℤ → Bool
 abbrev pub <b id="ige_u">ige_u</b> : ℕ → ℕ → Bool
 <a href="../../scalar/NumericsSpecs/index.html#ige_u">ige_u</a> m n = <a href="../../scalar/NumericsSpecs/index.html#ile_u">ile_u</a> n m
 
+-- ---- numbers of 128 bits, in two words (the wide-arithmetic proposal)
+
 -- the number of a low and a high word, read unsigned
 abbrev pub <b id="unsigned_of">unsigned_of</b> : ℤ → ℤ → ℕ
 <a href="../../scalar/NumericsSpecs/index.html#unsigned_of">unsigned_of</a> lo hi = cast_unsigned w64 hi * 2 ^ 64 + cast_unsigned w64 lo
@@ -847,14 +851,16 @@ abbrev pub <b id="sub128">sub128</b> : ℕ → ℕ → ℕ
 }
 /// Definitions of `wasmi_lanes`.
 pub mod lanes {
-    #[doc = r####"The integers of a width are the items of lanes of the width, and lanes of the words of 64 bits.
+    #[doc = r####"The signed and unsigned integers of a width are the items of lanes of the width; the numbers of the lanes of a word.
 
 <pre><code>use Rattle.std.specs.Prelude.{ℕ, pos, negsuc, ◌-◌, ◌*◌, ◌^◌, ◌&lt;◌, ◌≡◌, refl, FitsSigned}
 use Rattle.std.specs.Int.{cast_unsigned}
 use Rattle.std.proofs.lemmas.Int.{of_z-to_z}
+use Rattle.std.proofs.Math.Facts.{sfits_to_z}
 use mir.Syntax.{w128}
+use mir.Val.{Fits}
 use Rattle.wasmi_types.specs.Numbers.{Width, w8, w16, w32, w64, bits, signed}
-use Rattle.wasmi_lanes.specs.Vector.{<a href="../../lanes/VectorSpecs/index.html#ReadsLanes">ReadsLanes</a>, <a href="../../lanes/VectorSpecs/index.html#unsigned">unsigned</a>, <a href="../../lanes/VectorSpecs/index.html#signed_fits">signed_fits</a>}
+use Rattle.wasmi_lanes.specs.Vector.{<a href="../../lanes/VectorSpecs/index.html#ReadsLanes">ReadsLanes</a>, <a href="../../lanes/VectorSpecs/index.html#unsigned">unsigned</a>}
 use Rattle.wasmi_lanes.specs.Words.{<a href="../../lanes/WordsSpecs/index.html#IsWordLane">IsWordLane</a>, <a href="../../lanes/WordsSpecs/index.html#lanes_in_word">lanes_in_word</a>, <a href="../../lanes/WordsSpecs/index.html#in_each_lane">in_each_lane</a>}
 
 -- the unsigned integers of a width
@@ -875,16 +881,20 @@ ones_of_minus_one = elim [ w8 ↦ refl | w16 ↦ refl | w32 ↦ refl | w64 ↦ r
 zeros_of_zero : (w : Width) → cast_unsigned w (pos 0) ≡ 0
 zeros_of_zero = elim [ w8 ↦ refl | w16 ↦ refl | w32 ↦ refl | w64 ↦ refl | w128 ↦ refl ]
 
+-- a number of w bits, read signed, is in the range of the signed type
+pub <b id="signed_fits">signed_fits</b> : (w : Width) (n : ℕ) → n &lt; 2 ^ bits w → FitsSigned w (signed w n)
+<a href="../../lanes/LaneProofsSpecs/index.html#signed_fits">signed_fits</a> w n below = let fits : Fits w n = record { fits = below } in sfits_to_z fits
+
 -- the signed integers of a width
 pub <b id="signed_lanes">signed_lanes</b> : (w : Width) → <a href="../../lanes/VectorSpecs/index.html#ReadsLanes">ReadsLanes</a> w (signed w) (cast_unsigned w) (FitsSigned w) (negsuc 0) (pos 0)
 <a href="../../lanes/LaneProofsSpecs/index.html#signed_lanes">signed_lanes</a> w = record {
   image_of_ones = ones_of_minus_one w;
   image_of_zeros = zeros_of_zero w;
   image_of_read = of_z-to_z w;
-  read_fits = <a href="../../lanes/VectorSpecs/index.html#signed_fits">signed_fits</a> w;
+  read_fits = <a href="../../lanes/LaneProofsSpecs/index.html#signed_fits">signed_fits</a> w;
 }
 
--- numbers that are each what a width asks for
+-- the numbers of the lanes of a word are each what the width asks for
 pub <b id="word_lane">word_lane</b> : {w : Width} {lane_bits tops ones : ℕ}
     → lane_bits ≡ bits w
     → <a href="../../lanes/WordsSpecs/index.html#lanes_in_word">lanes_in_word</a> w * bits w ≡ 64
@@ -895,12 +905,10 @@ pub <b id="word_lane">word_lane</b> : {w : Width} {lane_bits tops ones : ℕ}
 </code></pre>
 "####]
     pub mod LaneProofsSpecs {}
-    #[doc = r####"A vector is a number below 2 ^ 128; its lanes of one width are its digits to the base 2 ^ width, lane 0 the lowest.
+    #[doc = r####"A vector is a number below 2 ^ 128; its lanes of one width are its digits to the base 2 ^ width, lane 0 the lowest. How lanes are read as items, and the vectors that are made of lanes, as of rows over the lanes of operands.
 
-<pre><code>use Rattle.std.specs.Prelude.{ℕ, zero, suc, ◌-◌, ◌*◌, ◌/◌, ◌%◌, ◌^◌, ◌&lt;◌, ◌≡◌, ◌⊎◌, FitsSigned, ◌+◌, Bool, if◌then◌else◌, ◌==◌}
-use Rattle.std.proofs.Math.Facts.{sfits_to_z}
-use mir.Val.{Fits}
-use Rattle.wasmi_types.specs.Numbers.{Width, bits, signed}
+<pre><code>use Rattle.std.specs.Prelude.{ℕ, zero, suc, ◌-◌, ◌*◌, ◌/◌, ◌%◌, ◌^◌, ◌&lt;◌, ◌≡◌, ◌⊎◌, ◌+◌, Bool, if◌then◌else◌, ◌==◌}
+use Rattle.wasmi_types.specs.Numbers.{Width, bits}
 
 -- lane i of the vector v
 abbrev pub <b id="lane">lane</b> : Width → ℕ → ℕ → ℕ
@@ -913,10 +921,6 @@ abbrev pub <b id="lane_count">lane_count</b> : Width → ℕ
 -- a lane&#x27;s number as it is; `signed` reads it as a signed number
 abbrev pub <b id="unsigned">unsigned</b> : ℕ → ℕ
 <a href="../../lanes/VectorSpecs/index.html#unsigned">unsigned</a> n = n
-
--- a number of w bits, read signed, is in the range of the signed type
-pub <b id="signed_fits">signed_fits</b> : (w : Width) (n : ℕ) → n &lt; 2 ^ bits w → FitsSigned w (signed w n)
-<a href="../../lanes/VectorSpecs/index.html#signed_fits">signed_fits</a> w n below = let fits : Fits w n = record { fits = below } in sfits_to_z fits
 
 -- the items of a type are those of lanes of a width: `read` gives the item of a lane&#x27;s number, `image` the number of an
 -- item, and `Fits` says which items are in the type&#x27;s range; `ones` is the item whose bits are all ones, `zeros` that
@@ -940,7 +944,7 @@ pub record <b id="AreWholeLanes">AreWholeLanes</b> {Item : Type 0} (width : Widt
 abbrev pub <b id="IsLaneCount">IsLaneCount</b> : ℕ → Type 0
 <a href="../../lanes/VectorSpecs/index.html#IsLaneCount">IsLaneCount</a> n = (n ≡ 2) ⊎ (n ≡ 4) ⊎ (n ≡ 8) ⊎ (n ≡ 16) ⊎ (n ≡ 32)
 
--- the steps at 0, 1 and so on, n of them, lead from `first` to `last`
+-- the steps at lanes 0, 1 and so on, n of them, lead from `first` to `last`
 abbrev pub <b id="ReducesTo">ReducesTo</b> : {A : Type 0} → (ℕ → A → A → Type 0) → ℕ → A → A → Type 0
 <a href="../../lanes/VectorSpecs/index.html#ReducesTo">ReducesTo</a> Step zero first last = last ≡ first
 <a href="../../lanes/VectorSpecs/index.html#ReducesTo">ReducesTo</a> {A} Step (suc n) first last = (middle : A) × <a href="../../lanes/VectorSpecs/index.html#ReducesTo">ReducesTo</a> Step n first middle × Step n middle last
@@ -1442,10 +1446,10 @@ abbrev pub <b id="relaxed_dot_add_s">relaxed_dot_add_s</b> : ℕ → ℕ → ℕ
 }
 /// Definitions of `wasmi_ops`.
 pub mod ops {
-    #[doc = r####"The vector instructions on one lane, and their kinds without the lane's index.
+    #[doc = r####"The vector instructions on one lane and what each gives, loads and stores too; a row for each of their kinds, which are without the lane's index.
 
-<pre><code>use Rattle.std.specs.Prelude.{ℕ, nat_lt, if◌then◌else◌, List, Option, Some, None, codes}
-use Rattle.wasmi_types.specs.Numbers.{w8, w16, w32, w64}
+<pre><code>use Rattle.std.specs.Prelude.{ℕ, nat_lt, if◌then◌else◌, List, Option, Some, None, codes, Result}
+use Rattle.wasmi_types.specs.Numbers.{w8, w16, w32, w64, <a href="../../types/NumbersSpecs/index.html#le_bytes">le_bytes</a>}
 use Rattle.std.specs.Int.{cast_unsigned}
 use Rattle.wasmi_raw.specs.declared.raw.RawVal.{RawVal}
 use Rattle.wasmi_raw.specs.RawVal.{<a href="../../raw/RawValSpecs/index.html#raw_of">raw_of</a>, <a href="../../raw/RawValSpecs/index.html#signed_in">signed_in</a>}
@@ -1466,6 +1470,9 @@ use Rattle.wasmi_ops.specs.declared.vector.ExtractKind.TheVariants as extract_ki
 use Rattle.wasmi_ops.specs.declared.vector.ReplaceKind.TheVariants as replace_kind
 use Rattle.wasmi_ops.specs.declared.vector.LoadLaneKind.TheVariants as load_lane_kind
 use Rattle.wasmi_ops.specs.declared.vector.StoreLaneKind.TheVariants as store_lane_kind
+use Rattle.wasmi_types.specs.declared.trap.TrapCode.{TrapCode}
+use Rattle.wasmi_access.specs.LoadStore.{<a href="../../accesses/LoadStoreSpecs/index.html#loaded">loaded</a>}
+use Rattle.wasmi_lanes.specs.Vector.{<a href="../../lanes/VectorSpecs/index.html#lane">lane</a>, <a href="../../lanes/VectorSpecs/index.html#with_lane">with_lane</a>}
 
 -- the lane that an instruction takes from a vector, as a raw value
 abbrev pub <b id="extracted_raw">extracted_raw</b> : ExtractOp → ℕ → RawVal
@@ -1483,9 +1490,23 @@ abbrev pub <b id="replaced_vector">replaced_vector</b> : ReplaceOp → ℕ → R
 <a href="../../ops/LaneOpsSpecs/index.html#replaced_vector">replaced_vector</a> (replace.I32x4ReplaceLane index) a raw = <a href="../../lanewise/VectorTableSpecs/index.html#replace_lane">vector.replace_lane</a> w32 a index (<a href="../../raw/RawValSpecs/index.html#signed_in">signed_in</a> w32 raw)
 <a href="../../ops/LaneOpsSpecs/index.html#replaced_vector">replaced_vector</a> (replace.I64x2ReplaceLane index) a raw = <a href="../../lanewise/VectorTableSpecs/index.html#replace_lane">vector.replace_lane</a> w64 a index (<a href="../../raw/RawValSpecs/index.html#signed_in">signed_in</a> w64 raw)
 
+-- the vector with a lane that is loaded from an address, or the trap
+abbrev pub <b id="loaded_lane">loaded_lane</b> : LoadLaneOp → ℕ → List ℕ → ℕ → Result ℕ TrapCode
+<a href="../../ops/LaneOpsSpecs/index.html#loaded_lane">loaded_lane</a> (load_lane.V128Load8Lane index) vector bytes a = <a href="../../accesses/LoadStoreSpecs/index.html#loaded">loaded</a> 1 (<a href="../../lanes/VectorSpecs/index.html#with_lane">with_lane</a> w8 vector index) bytes a
+<a href="../../ops/LaneOpsSpecs/index.html#loaded_lane">loaded_lane</a> (load_lane.V128Load16Lane index) vector bytes a = <a href="../../accesses/LoadStoreSpecs/index.html#loaded">loaded</a> 2 (<a href="../../lanes/VectorSpecs/index.html#with_lane">with_lane</a> w16 vector index) bytes a
+<a href="../../ops/LaneOpsSpecs/index.html#loaded_lane">loaded_lane</a> (load_lane.V128Load32Lane index) vector bytes a = <a href="../../accesses/LoadStoreSpecs/index.html#loaded">loaded</a> 4 (<a href="../../lanes/VectorSpecs/index.html#with_lane">with_lane</a> w32 vector index) bytes a
+<a href="../../ops/LaneOpsSpecs/index.html#loaded_lane">loaded_lane</a> (load_lane.V128Load64Lane index) vector bytes a = <a href="../../accesses/LoadStoreSpecs/index.html#loaded">loaded</a> 8 (<a href="../../lanes/VectorSpecs/index.html#with_lane">with_lane</a> w64 vector index) bytes a
+
+-- the bytes that a store of a lane writes
+abbrev pub <b id="stored_lane">stored_lane</b> : StoreLaneOp → ℕ → List ℕ
+<a href="../../ops/LaneOpsSpecs/index.html#stored_lane">stored_lane</a> (store_lane.V128Store8Lane index) vector = <a href="../../types/NumbersSpecs/index.html#le_bytes">le_bytes</a> 1 (<a href="../../lanes/VectorSpecs/index.html#lane">lane</a> w8 vector index)
+<a href="../../ops/LaneOpsSpecs/index.html#stored_lane">stored_lane</a> (store_lane.V128Store16Lane index) vector = <a href="../../types/NumbersSpecs/index.html#le_bytes">le_bytes</a> 2 (<a href="../../lanes/VectorSpecs/index.html#lane">lane</a> w16 vector index)
+<a href="../../ops/LaneOpsSpecs/index.html#stored_lane">stored_lane</a> (store_lane.V128Store32Lane index) vector = <a href="../../types/NumbersSpecs/index.html#le_bytes">le_bytes</a> 4 (<a href="../../lanes/VectorSpecs/index.html#lane">lane</a> w32 vector index)
+<a href="../../ops/LaneOpsSpecs/index.html#stored_lane">stored_lane</a> (store_lane.V128Store64Lane index) vector = <a href="../../types/NumbersSpecs/index.html#le_bytes">le_bytes</a> 8 (<a href="../../lanes/VectorSpecs/index.html#lane">lane</a> w64 vector index)
+
 -- the instruction on the lane of an index, where there are so many lanes
 abbrev pub <b id="on_lane">on_lane</b> : {Op : Type 0} → ℕ → (ℕ → Op) → ℕ → Option Op
-<a href="../../ops/LaneOpsSpecs/index.html#on_lane">on_lane</a> count op lane = if nat_lt lane count then Some (op lane) else None
+<a href="../../ops/LaneOpsSpecs/index.html#on_lane">on_lane</a> count op <a href="../../lanes/VectorSpecs/index.html#lane">lane</a> = if nat_lt <a href="../../lanes/VectorSpecs/index.html#lane">lane</a> count then Some (op <a href="../../lanes/VectorSpecs/index.html#lane">lane</a>) else None
 
 -- the row of an extraction of a lane: its name, and the instruction on the lane of an index
 abbrev pub <b id="extract_row">extract_row</b> : ExtractKind → List ℕ × (ℕ → Option ExtractOp)
@@ -1634,10 +1655,10 @@ abbrev pub <b id="store_name">store_name</b> : StoreOp → List ℕ
 </code></pre>
 "####]
     pub mod LoadStoreOpsSpecs {}
-    #[doc = r####"The vector instructions: a row for each, its name and what it gives.
+    #[doc = r####"The vector instructions but for those on one lane: a row for each, its name and what it gives.
 
 <pre><code>use Rattle.std.specs.Prelude.{ℕ, List, codes, Result}
-use Rattle.wasmi_types.specs.Numbers.{w8, w16, w32, w64, <a href="../../types/NumbersSpecs/index.html#le_bytes">le_bytes</a>}
+use Rattle.wasmi_types.specs.Numbers.{w8, w16, w32, w64}
 use Rattle.wasmi_ops.specs.declared.vector.UnaryOp.{UnaryOp}
 use Rattle.wasmi_ops.specs.declared.vector.BinaryOp.{BinaryOp}
 use Rattle.wasmi_ops.specs.declared.vector.TernaryOp.{TernaryOp}
@@ -1649,10 +1670,8 @@ use Rattle.wasmi_ops.specs.declared.vector.TestOp.{TestOp}
 use Rattle.wasmi_ops.specs.declared.vector.MakeOp.{MakeOp}
 use Rattle.wasmi_types.specs.declared.trap.TrapCode.{TrapCode}
 use Rattle.wasmi_access.specs.LoadStore.{<a href="../../accesses/LoadStoreSpecs/index.html#loaded">loaded</a>}
-use Rattle.wasmi_lanes.specs.Vector.{<a href="../../lanes/VectorSpecs/index.html#lane">lane</a>, <a href="../../lanes/VectorSpecs/index.html#splat_of">splat_of</a>, <a href="../../lanes/VectorSpecs/index.html#with_lane">with_lane</a>}
+use Rattle.wasmi_lanes.specs.Vector.{<a href="../../lanes/VectorSpecs/index.html#splat_of">splat_of</a>}
 use Rattle.wasmi_ops.specs.declared.vector.VectorLoadOp.{VectorLoadOp}
-use Rattle.wasmi_ops.specs.declared.vector.LoadLaneOp.{LoadLaneOp}
-use Rattle.wasmi_ops.specs.declared.vector.StoreLaneOp.{StoreLaneOp}
 use Rattle.wasmi_lanewise.specs.VectorTable as vector
 use Rattle.wasmi_simd.specs.WideningTable as widening
 use Rattle.wasmi_ops.specs.declared.vector.UnaryOp.TheVariants as unary
@@ -1662,8 +1681,6 @@ use Rattle.wasmi_ops.specs.declared.vector.ShiftOp.TheVariants as shift
 use Rattle.wasmi_ops.specs.declared.vector.TestOp.TheVariants as test
 use Rattle.wasmi_ops.specs.declared.vector.MakeOp.TheVariants as make
 use Rattle.wasmi_ops.specs.declared.vector.VectorLoadOp.TheVariants as load
-use Rattle.wasmi_ops.specs.declared.vector.LoadLaneOp.TheVariants as load_lane
-use Rattle.wasmi_ops.specs.declared.vector.StoreLaneOp.TheVariants as store_lane
 
 -- the row of an instruction of one vector: its name, and what it gives
 abbrev pub <b id="unary_row">unary_row</b> : UnaryOp → List ℕ × (ℕ → ℕ)
@@ -1916,20 +1933,6 @@ abbrev pub <b id="loaded_vector">loaded_vector</b> : VectorLoadOp → List ℕ �
 -- the name of a load of a vector
 abbrev pub <b id="vector_load_name">vector_load_name</b> : VectorLoadOp → List ℕ
 <a href="../../ops/VectorOpsSpecs/index.html#vector_load_name">vector_load_name</a> op = (<a href="../../ops/VectorOpsSpecs/index.html#vector_load_row">vector_load_row</a> op).0
-
--- the vector with a lane that is loaded from an address, or the trap
-abbrev pub <b id="loaded_lane">loaded_lane</b> : LoadLaneOp → ℕ → List ℕ → ℕ → Result ℕ TrapCode
-<a href="../../ops/VectorOpsSpecs/index.html#loaded_lane">loaded_lane</a> (load_lane.V128Load8Lane index) vector bytes a = <a href="../../accesses/LoadStoreSpecs/index.html#loaded">loaded</a> 1 (<a href="../../lanes/VectorSpecs/index.html#with_lane">with_lane</a> w8 vector index) bytes a
-<a href="../../ops/VectorOpsSpecs/index.html#loaded_lane">loaded_lane</a> (load_lane.V128Load16Lane index) vector bytes a = <a href="../../accesses/LoadStoreSpecs/index.html#loaded">loaded</a> 2 (<a href="../../lanes/VectorSpecs/index.html#with_lane">with_lane</a> w16 vector index) bytes a
-<a href="../../ops/VectorOpsSpecs/index.html#loaded_lane">loaded_lane</a> (load_lane.V128Load32Lane index) vector bytes a = <a href="../../accesses/LoadStoreSpecs/index.html#loaded">loaded</a> 4 (<a href="../../lanes/VectorSpecs/index.html#with_lane">with_lane</a> w32 vector index) bytes a
-<a href="../../ops/VectorOpsSpecs/index.html#loaded_lane">loaded_lane</a> (load_lane.V128Load64Lane index) vector bytes a = <a href="../../accesses/LoadStoreSpecs/index.html#loaded">loaded</a> 8 (<a href="../../lanes/VectorSpecs/index.html#with_lane">with_lane</a> w64 vector index) bytes a
-
--- the bytes that a store of a lane writes
-abbrev pub <b id="stored_lane">stored_lane</b> : StoreLaneOp → ℕ → List ℕ
-<a href="../../ops/VectorOpsSpecs/index.html#stored_lane">stored_lane</a> (store_lane.V128Store8Lane index) vector = <a href="../../types/NumbersSpecs/index.html#le_bytes">le_bytes</a> 1 (<a href="../../lanes/VectorSpecs/index.html#lane">lane</a> w8 vector index)
-<a href="../../ops/VectorOpsSpecs/index.html#stored_lane">stored_lane</a> (store_lane.V128Store16Lane index) vector = <a href="../../types/NumbersSpecs/index.html#le_bytes">le_bytes</a> 2 (<a href="../../lanes/VectorSpecs/index.html#lane">lane</a> w16 vector index)
-<a href="../../ops/VectorOpsSpecs/index.html#stored_lane">stored_lane</a> (store_lane.V128Store32Lane index) vector = <a href="../../types/NumbersSpecs/index.html#le_bytes">le_bytes</a> 4 (<a href="../../lanes/VectorSpecs/index.html#lane">lane</a> w32 vector index)
-<a href="../../ops/VectorOpsSpecs/index.html#stored_lane">stored_lane</a> (store_lane.V128Store64Lane index) vector = <a href="../../types/NumbersSpecs/index.html#le_bytes">le_bytes</a> 8 (<a href="../../lanes/VectorSpecs/index.html#lane">lane</a> w64 vector index)
 </code></pre>
 "####]
     pub mod VectorOpsSpecs {}
@@ -2085,7 +2088,7 @@ abbrev pub <b id="scalar_binary_name">scalar_binary_name</b> : ScalarBinaryOp �
 }
 /// Definitions of `wasmi_meter`.
 pub mod meter {
-    #[doc = r####"A limiter that answers from a list.
+    #[doc = r####"A limiter that answers from a list: the answers of the list, which of them is next, and the rules of such a limiter.
 
 <pre><code>use Rattle.std.specs.Prelude.{◌≡◌, List, Ok, Err, true, false, drop, slice_index_or}
 use Rattle.wasmi_meter.specs.Limiter.{<a href="../../meter/LimiterSpecs/index.html#Answer">Answer</a>, <a href="../../meter/LimiterSpecs/index.html#NoticeAnswer">NoticeAnswer</a>, <a href="../../meter/LimiterSpecs/index.html#Rules">Rules</a>}
@@ -2093,7 +2096,7 @@ use Rattle.wasmi_meter.specs.declared.answer_list.LimiterAnswer.{LimiterAnswer}
 use Rattle.wasmi_meter.specs.declared.answer_list.LimiterAnswer.TheVariants.{Permit, Deny, Error, Complain}
 use Rattle.wasmi_meter.specs.declared.error.LimiterError.TheVariants.{ResourceLimiterDeniedAllocation}
 
--- what a question is answered
+-- what a question is answered by an answer of a list
 abbrev pub <b id="answer_by">answer_by</b> : LimiterAnswer → <a href="../../meter/LimiterSpecs/index.html#Answer">Answer</a>
 <a href="../../meter/AnswerListSpecs/index.html#answer_by">answer_by</a> Permit = Ok true
 <a href="../../meter/AnswerListSpecs/index.html#answer_by">answer_by</a> Deny = Ok false
@@ -2133,7 +2136,7 @@ abbrev pub <b id="answer_list_rules">answer_list_rules</b> : <a href="../../mete
 </code></pre>
 "####]
     pub mod AnswerListSpecs {}
-    #[doc = r####"The rules of a limiter of one of three kinds.
+    #[doc = r####"A limiter of one of three kinds: its rules, and the quota and the caps that it has, if it is a quota.
 
 <pre><code>use Rattle.std.specs.Prelude.{◌≡◌, Option, Some, None, Ok, true}
 use Rattle.std.specs.Option.{option_map}
@@ -2174,7 +2177,7 @@ abbrev pub <b id="caps_of">caps_of</b> : AnyLimiter → Option Amounts
 </code></pre>
 "####]
     pub mod AnyLimiterSpecs {}
-    #[doc = r####"One creation or growth of what a limiter and a meter watch: how it can end, and what each end means.
+    #[doc = r####"An attempt, which is one creation or growth under a limiter and a meter: what is asked and paid, what is due and whether that is left, how it can end, and which answer, charge and value each end means.
 
 <pre><code>use Rattle.std.specs.Prelude.{◌≡◌, ℕ, Bool, true, nat_le, is_none, ◌&amp;&amp;◌, if◌then◌else◌, MatchBool, Option, Some, None, Result, Ok, Err}
 use Rattle.std.specs.Option.{option_map}
@@ -2192,7 +2195,7 @@ pub record <b id="MeteredValue">MeteredValue</b> (V S : Type 0) : Type 0 where
 abbrev pub <b id="with_value">with_value</b> : {V W S : Type 0} → <a href="../../meter/AttemptSpecs/index.html#MeteredValue">MeteredValue</a> V S → W → <a href="../../meter/AttemptSpecs/index.html#MeteredValue">MeteredValue</a> W S
 <a href="../../meter/AttemptSpecs/index.html#with_value">with_value</a> s <a href="../../meter/AttemptSpecs/index.html#value">value</a> = record { <a href="../../meter/AttemptSpecs/index.html#value">value</a> = <a href="../../meter/AttemptSpecs/index.html#value">value</a>; <a href="../../meter/AttemptSpecs/index.html#meter">meter</a> = s.meter; <a href="../../meter/AttemptSpecs/index.html#limiter">limiter</a> = s.limiter }
 
--- a limiter that is asked for what isn&#x27;t there yet, and no meter
+-- what an attempt to make something begins with: a limiter, and no meter
 abbrev pub <b id="alone">alone</b> : {S : Type 0} → S → <a href="../../meter/AttemptSpecs/index.html#MeteredValue">MeteredValue</a> (Unit {0}) S
 <a href="../../meter/AttemptSpecs/index.html#alone">alone</a> l = record { <a href="../../meter/AttemptSpecs/index.html#value">value</a> = tt; <a href="../../meter/AttemptSpecs/index.html#meter">meter</a> = None; <a href="../../meter/AttemptSpecs/index.html#limiter">limiter</a> = l }
 
@@ -2224,27 +2227,27 @@ pub data <b id="AttemptOutcome">AttemptOutcome</b> (E : Type 0) : Type 0 where
   <b id="Met">Met</b> : <a href="../../meter/AttemptSpecs/index.html#AttemptOutcome">AttemptOutcome</a> E
   <b id="Failed">Failed</b> : E → <a href="../../meter/LimiterSpecs/index.html#NoticeAnswer">NoticeAnswer</a> → <a href="../../meter/AttemptSpecs/index.html#AttemptOutcome">AttemptOutcome</a> E
 
--- what is due for a price: nothing if there is no price or no meter, or if the meter is off
+-- what is due for the price of an attempt: nothing if there is no price or no meter, or if the meter is off
 abbrev pub <b id="optional_due">optional_due</b> : Option <a href="../../meter/MeterSpecs/index.html#Meter">Meter</a> → Option (CustomFuelCosts → ℕ) → ℕ
 <a href="../../meter/AttemptSpecs/index.html#optional_due">optional_due</a> (Some m) (Some <a href="../../meter/AttemptSpecs/index.html#price">price</a>) = <a href="../../meter/MeterSpecs/index.html#due">due</a> m <a href="../../meter/AttemptSpecs/index.html#price">price</a>
 <a href="../../meter/AttemptSpecs/index.html#optional_due">optional_due</a> _ _ = 0
 
--- whether so much is left
+-- whether so much is left for an attempt, as always without a meter
 abbrev pub <b id="covers">covers</b> : Option <a href="../../meter/MeterSpecs/index.html#Meter">Meter</a> → ℕ → Bool
 <a href="../../meter/AttemptSpecs/index.html#covers">covers</a> (Some m) amount = nat_le amount (<a href="../../meter/MeterSpecs/index.html#amount_left">amount_left</a> m)
 <a href="../../meter/AttemptSpecs/index.html#covers">covers</a> None amount = true
 
--- the error of an answer that is no permission
+-- the error of an attempt that ends with an answer that is no permission
 abbrev pub <b id="error_of_answer">error_of_answer</b> : {E : Type 0} → E → E → <a href="../../meter/LimiterSpecs/index.html#Answer">Answer</a> → E
 <a href="../../meter/AttemptSpecs/index.html#error_of_answer">error_of_answer</a> <a href="../../meter/AttemptSpecs/index.html#denial">denial</a> <a href="../../meter/AttemptSpecs/index.html#refusal">refusal</a> (Ok _) = <a href="../../meter/AttemptSpecs/index.html#denial">denial</a>
 <a href="../../meter/AttemptSpecs/index.html#error_of_answer">error_of_answer</a> <a href="../../meter/AttemptSpecs/index.html#denial">denial</a> <a href="../../meter/AttemptSpecs/index.html#refusal">refusal</a> (Err _) = <a href="../../meter/AttemptSpecs/index.html#refusal">refusal</a>
 
--- the error of a failure, by the answer to its notice
+-- the error of an attempt that failed after the permission, by the answer to the notice
 abbrev pub <b id="error_of_failure">error_of_failure</b> : {E : Type 0} → E → E → <a href="../../meter/LimiterSpecs/index.html#NoticeAnswer">NoticeAnswer</a> → E
 <a href="../../meter/AttemptSpecs/index.html#error_of_failure">error_of_failure</a> <a href="../../meter/AttemptSpecs/index.html#refusal">refusal</a> cause (Ok _) = cause
 <a href="../../meter/AttemptSpecs/index.html#error_of_failure">error_of_failure</a> <a href="../../meter/AttemptSpecs/index.html#refusal">refusal</a> cause (Err _) = <a href="../../meter/AttemptSpecs/index.html#refusal">refusal</a>
 
--- the result of a limiter&#x27;s answer: no error if it permits, else the error
+-- whether an attempt goes on after a limiter&#x27;s answer: no error if that permits, else the error
 abbrev pub <b id="Permits">Permits</b> : {E : Type 0} → E → E → <a href="../../meter/LimiterSpecs/index.html#Answer">Answer</a> → Result (Unit {0}) E → Type 0
 <a href="../../meter/AttemptSpecs/index.html#Permits">Permits</a> <a href="../../meter/AttemptSpecs/index.html#denial">denial</a> <a href="../../meter/AttemptSpecs/index.html#refusal">refusal</a> answer (Ok _) = answer ≡ Ok true
 <a href="../../meter/AttemptSpecs/index.html#Permits">Permits</a> <a href="../../meter/AttemptSpecs/index.html#denial">denial</a> <a href="../../meter/AttemptSpecs/index.html#refusal">refusal</a> answer (Err error) = <a href="../../meter/LimiterSpecs/index.html#IsDenial">IsDenial</a> answer × (error ≡ <a href="../../meter/AttemptSpecs/index.html#error_of_answer">error_of_answer</a> <a href="../../meter/AttemptSpecs/index.html#denial">denial</a> <a href="../../meter/AttemptSpecs/index.html#refusal">refusal</a> answer)
@@ -2303,7 +2306,7 @@ pub record <b id="Attempt">Attempt</b> {V E S : Type 0} (rules : <a href="../../
 </code></pre>
 "####]
     pub mod AttemptSpecs {}
-    #[doc = r####"What limiters with caps hold and may hold, their rules, and those of a quota.
+    #[doc = r####"Limiters that count what they permitted: amounts by kind, what is held, taken, given back and released, limiters with caps and their rules, and quotas.
 
 <pre><code>use Rattle.std.specs.Prelude.{ℕ, ◌≡◌, ◌+◌, ◌-◌, ◌≤◌, ◌&lt;◌, Option, Some, None, Ok, Bool, true, false}
 use Rattle.wasmi_meter.specs.declared.quota.Amounts.{Amounts}
@@ -2447,42 +2450,33 @@ abbrev pub <b id="quota_rules">quota_rules</b> : <a href="../../meter/LimiterSpe
 </code></pre>
 "####]
     pub mod CappedSpecs {}
-    #[doc = r####"A limiter with caps holds what it permitted.
+    #[doc = r####"A limiter with caps reserves what it permits and gives back at a notice: the proofs of these laws of a reserving limiter.
 
-<pre><code>use Rattle.std.specs.Prelude.{◌≡◌, ◌+◌, ◌-◌, Ok, true, false}
-use Rattle.std.proofs.Common.{◌∙◌, inl, inr, ap}
+<pre><code>use Rattle.std.specs.Prelude.{◌+◌, ◌-◌}
+use Rattle.std.proofs.Common.{inl, inr, refl}
 use Rattle.std.proofs.lemmas.Bool.{cases_lt}
-use Rattle.wasmi_meter.specs.declared.quota.Holdings.{Holdings}
-use Rattle.wasmi_meter.specs.Capped.{<a href="../../meter/CappedSpecs/index.html#Capped">Capped</a>, <a href="../../meter/CappedSpecs/index.html#held_together">held_together</a>, <a href="../../meter/CappedSpecs/index.html#Asked">Asked</a>, <a href="../../meter/CappedSpecs/index.html#Noticed">Noticed</a>, <a href="../../meter/CappedSpecs/index.html#with_more">with_more</a>, <a href="../../meter/CappedSpecs/index.html#Reserves">Reserves</a>, <a href="../../meter/CappedSpecs/index.html#GivesBack">GivesBack</a>}
+use Rattle.wasmi_meter.specs.Capped.{<a href="../../meter/CappedSpecs/index.html#Capped">Capped</a>, <a href="../../meter/CappedSpecs/index.html#held_together">held_together</a>, <a href="../../meter/CappedSpecs/index.html#Asked">Asked</a>, <a href="../../meter/CappedSpecs/index.html#Noticed">Noticed</a>, <a href="../../meter/CappedSpecs/index.html#Reserves">Reserves</a>, <a href="../../meter/CappedSpecs/index.html#GivesBack">GivesBack</a>}
 use Rattle.wasmi_meter.specs.Limiter.{<a href="../../meter/LimiterSpecs/index.html#Question">Question</a>, <a href="../../meter/LimiterSpecs/index.html#Answer">Answer</a>, <a href="../../meter/LimiterSpecs/index.html#Failure">Failure</a>, <a href="../../meter/LimiterSpecs/index.html#NoticeAnswer">NoticeAnswer</a>, <a href="../../meter/LimiterSpecs/index.html#kind_of">kind_of</a>}
 
-reserves_taken : (q : <a href="../../meter/LimiterSpecs/index.html#Question">Question</a>) (answer : <a href="../../meter/LimiterSpecs/index.html#Answer">Answer</a>) (h h&#x27; : Holdings) → answer ≡ Ok true
-    → h&#x27; ≡ <a href="../../meter/CappedSpecs/index.html#with_more">with_more</a> h q.kind (q.desired - q.current) → <a href="../../meter/CappedSpecs/index.html#Reserves">Reserves</a> q answer h h&#x27;
-reserves_taken q answer h h&#x27; permitted more = rw permitted more
-
-reserves_kept : (q : <a href="../../meter/LimiterSpecs/index.html#Question">Question</a>) (answer : <a href="../../meter/LimiterSpecs/index.html#Answer">Answer</a>) (h h&#x27; : Holdings) → answer ≡ Ok false → h&#x27; ≡ h → <a href="../../meter/CappedSpecs/index.html#Reserves">Reserves</a> q answer h h&#x27;
-reserves_kept q answer h h&#x27; denied same =
-    rw denied (record
-    { bytes = ap (λ (x : Holdings). x.held.bytes) same; elements = ap (λ (x : Holdings). x.held.elements) same })
-
 module _ {L : Type 0} (c : <a href="../../meter/CappedSpecs/index.html#Capped">Capped</a> L) where
+  -- a question to a limiter with caps adds the difference if it is permitted, and else keeps what is held
   pub <b id="asked_reserves">asked_reserves</b> : (l l&#x27; : L) (q : <a href="../../meter/LimiterSpecs/index.html#Question">Question</a>) (answer : <a href="../../meter/LimiterSpecs/index.html#Answer">Answer</a>) → <a href="../../meter/CappedSpecs/index.html#Asked">Asked</a> c l q answer l&#x27;
       → <a href="../../meter/CappedSpecs/index.html#Reserves">Reserves</a> q answer (c.holdings l) (c.holdings l&#x27;)
   <a href="../../meter/CappedProofsSpecs/index.html#asked_reserves">asked_reserves</a> l l&#x27; q answer (taken, answered, more) =
       elim (cases_lt (c.cap l q.kind) (<a href="../../meter/CappedSpecs/index.html#held_together">held_together</a> c l q.kind + (q.desired - q.current))) [
         | inl above ↦ let none = more.takes.above above in
-            reserves_kept q answer (c.holdings l) (c.holdings l&#x27;) (answered ∙ ap Ok none.0) none.1
-        | inr within ↦ let some = more.takes.within within in
-            reserves_taken q answer (c.holdings l) (c.holdings l&#x27;) (answered ∙ ap Ok some.0) some.1
+            rw (answered, none.0, none.1) (record { bytes = refl; elements = refl })
+        | inr within ↦ let some = more.takes.within within in rw (answered, some.0) some.1
       ]
 
+  -- a notice to a limiter with caps takes back the last difference if it is of its kind
   pub <b id="noticed_gives_back">noticed_gives_back</b> : (l l&#x27; : L) (failure : <a href="../../meter/LimiterSpecs/index.html#Failure">Failure</a>) (notice_answer : <a href="../../meter/LimiterSpecs/index.html#NoticeAnswer">NoticeAnswer</a>)
       → <a href="../../meter/CappedSpecs/index.html#Noticed">Noticed</a> c l failure notice_answer l&#x27; → <a href="../../meter/CappedSpecs/index.html#GivesBack">GivesBack</a> (<a href="../../meter/LimiterSpecs/index.html#kind_of">kind_of</a> failure) (c.holdings l) (c.holdings l&#x27;)
   <a href="../../meter/CappedProofsSpecs/index.html#noticed_gives_back">noticed_gives_back</a> l l&#x27; failure notice_answer noticed = noticed.gives_back
 </code></pre>
 "####]
     pub mod CappedProofsSpecs {}
-    #[doc = r####"What a limiter is asked and told, a limiter that may be absent, and a reference to one.
+    #[doc = r####"What a limiter is asked and told and what it answers, its rules, a limiter that may be absent, and the loan of a limiter by a reference to one.
 
 <pre><code>use Rattle.std.specs.Prelude.{◌≡◌, ℕ, Option, Some, None, Result, Ok, Bool, true}
 use Rattle.wasmi_meter.specs.declared.limiter.Kind.{Kind}
@@ -2589,7 +2583,7 @@ abbrev pub <b id="LendsLimiter">LendsLimiter</b> : (R L : RattleType) → (R.Den
 </code></pre>
 "####]
     pub mod LimiterSpecs {}
-    #[doc = r####"What work costs in fuel: what is left on a meter, also on one that a call may have, and what is taken of it.
+    #[doc = r####"Fuel meters: what is left on one, also on one that a call may have, what is taken of it or refused, with which error; and what work costs in fuel.
 
 <pre><code>use Rattle.std.specs.Prelude.{◌≡◌, ◌⊎◌, ℕ, ◌-◌, ◌≤◌, ◌&lt;◌, is_some, if◌then◌else◌, Option, Some, None, Result, Ok, Err, ◌*◌, ◌/◌, ◌^◌, min, nat_eq}
 use Rattle.std.proofs.Common.{inl, inr}
@@ -2742,7 +2736,7 @@ abbrev pub <b id="table_error_text">table_error_text</b> : TableError → List �
 }
 /// Definitions of `wasmi_store`.
 pub mod store {
-    #[doc = r####"The bytes of a linear memory: the room that they may grow into, and the block of which they are the front.
+    #[doc = r####"The bytes of a linear memory: the room that they may grow into, the block of which they are the front, and how they are written over.
 
 <pre><code>use Rattle.std.specs.Prelude.{◌≡◌, ℕ, Bool, true, nat_le, MatchBool, List, ◌++◌, length, drop, replicate, take, ◌≤◌}
 use Rattle.std.specs.List.{refill}
@@ -2827,7 +2821,7 @@ module _ {Region : Type 0} where
 </code></pre>
 "####]
     pub mod BufferSpecs {}
-    #[doc = r####"Making and growing a memory or a table, as an attempt with its answer.
+    #[doc = r####"Making and growing a memory or a table, as an attempt with its answer; a value with its meter and its limiter, what a limiter is asked and denies, and a call with some charge.
 
 <pre><code>use Rattle.std.specs.Prelude.{◌≡◌, ◌&lt;◌, ◌⊎◌, ℕ, Option, None, Result, Ok}
 use Rattle.wasmi_meter.specs.Limiter.{<a href="../../meter/LimiterSpecs/index.html#Question">Question</a>, <a href="../../meter/LimiterSpecs/index.html#Answer">Answer</a>, <a href="../../meter/LimiterSpecs/index.html#IsDenial">IsDenial</a>, <a href="../../meter/LimiterSpecs/index.html#Rules">Rules</a>}
@@ -2889,7 +2883,7 @@ abbrev pub <b id="Grows">Grows</b> : {V E S : Type 0} → <a href="../../meter/L
 </code></pre>
 "####]
     pub mod GrowthSpecs {}
-    #[doc = r####"Linear memories: their types, making one, growing it, reading and writing (core specification, memory types and memory instances; the memory64 and custom-page-sizes proposals).
+    #[doc = r####"Linear memories: their types and what builds one, subtypes, validity, making one, growing it, reading and writing it, and what a bulk instruction writes over a range of one (core specification, memory types and memory instances; the memory64 and custom-page-sizes proposals).
 
 <pre><code>use Rattle.std.specs.Prelude.{◌≤◌, ℕ, Option, Some, None, ◌≡◌, ◌*◌, ◌/◌, ◌-◌, ◌^◌, Bool, true, ◌&amp;&amp;◌, nat_le, nat_lt, nat_eq, min, if◌then◌else◌, ◌+◌, ◌%◌, List, length, Result, Ok, Err}
 use Rattle.std.specs.Option.{option_map, option_map_or, ForSome}
@@ -2995,7 +2989,7 @@ abbrev pub <b id="pages_of">pages_of</b> : <a href="../../store/MemorySpecs/inde
 abbrev pub <b id="memory_of">memory_of</b> : <a href="../../store/MemorySpecs/index.html#MemoryTypeValue">MemoryTypeValue</a> → <a href="../../store/BufferSpecs/index.html#BufferValue">BufferValue</a> → <a href="../../store/MemorySpecs/index.html#MemoryValue">MemoryValue</a>
 <a href="../../store/MemorySpecs/index.html#memory_of">memory_of</a> <a href="../../store/MemorySpecs/index.html#ty">ty</a> b = record { <a href="../../store/MemorySpecs/index.html#ty">ty</a> = <a href="../../store/MemorySpecs/index.html#ty">ty</a>; <a href="../../store/MemorySpecs/index.html#bytes">bytes</a> = b.bytes; <a href="../../store/MemorySpecs/index.html#room">room</a> = b.room }
 
--- the buffer of its bytes
+-- the buffer of a memory&#x27;s bytes
 abbrev pub <b id="buffer_of">buffer_of</b> : <a href="../../store/MemorySpecs/index.html#MemoryValue">MemoryValue</a> → <a href="../../store/BufferSpecs/index.html#BufferValue">BufferValue</a>
 <a href="../../store/MemorySpecs/index.html#buffer_of">buffer_of</a> x = record { <a href="../../store/MemorySpecs/index.html#bytes">bytes</a> = x.bytes; <a href="../../store/MemorySpecs/index.html#room">room</a> = x.room }
 
@@ -3098,7 +3092,7 @@ abbrev pub <b id="bytes_write">bytes_write</b> : <a href="../../store/MemorySpec
   unpaid = OutOfFuel;
 }
 
--- len bytes from dst on are filled with a value
+-- len bytes of a memory from dst on are filled with a value
 abbrev pub <b id="byte_filling_of">byte_filling_of</b> : ℕ → ℕ → ℕ → <a href="../../store/MemorySpecs/index.html#MemoryValue">MemoryValue</a> → <a href="../../store/MemorySpecs/index.html#MemoryWrite">MemoryWrite</a>
 <a href="../../store/MemorySpecs/index.html#byte_filling_of">byte_filling_of</a> dst value len x = <a href="../../store/MemorySpecs/index.html#bytes_write">bytes_write</a> x None (<a href="../../store/WriteSpecs/index.html#filled">filled</a> x.bytes dst value len) len
 
@@ -3113,7 +3107,7 @@ abbrev pub <b id="WritesMemoryRange">WritesMemoryRange</b> : (<a href="../../sto
 </code></pre>
 "####]
     pub mod MemorySpecs {}
-    #[doc = r####"Element segments (core specification, element instances), and how one is read of an iterator.
+    #[doc = r####"Element segments (core specification, element instances), how one is read of an iterator, and what their errors print.
 
 <pre><code>use Rattle.std.specs.Prelude.{◌≡◌, ◌^◌, ◌-◌, ◌&lt;◌, ◌≤◌, ℕ, List, [], length, Option, Result, Ok, Err, codes}
 use Rattle.std.specs.Iterator.{Yields}
@@ -3178,7 +3172,7 @@ abbrev pub <b id="segment_error_text">segment_error_text</b> : SegmentError → 
 </code></pre>
 "####]
     pub mod SegmentSpecs {}
-    #[doc = r####"Tables: their types, making one, growing it, reading and writing its elements (core specification, table types and table instances).
+    #[doc = r####"Tables: their types, subtypes, validity, making one, growing it, reading and writing its elements, and what a bulk instruction writes over a range of them (core specification, table types and table instances).
 
 <pre><code>use Rattle.std.specs.Prelude.{◌≡◌, ◌^◌, ◌≤◌, ◌&lt;◌, ℕ, Bool, true, false, nat_le, nat_lt, Option, ◌+◌, List, [], ◌∷◌, ◌++◌, length, replicate, max, nat_eq, if◌then◌else◌, MatchBool, MatchOption, Some, None, Result, Ok, Err, slice_get}
 use Rattle.std.specs.Option.{option_map_or, ForSome, option_map}
@@ -3220,7 +3214,7 @@ pub record <b id="IsValid">IsValid</b> (<a href="../../store/TableSpecs/index.ht
   pub <b id="minimum">minimum</b> : ty.minimum &lt; 2 ^ <a href="../../types/ValueSpecs/index.html#address_bits">address_bits</a> ty.index
   pub <b id="maximum">maximum</b> : ForSome ty.maximum (λ <a href="../../store/TableSpecs/index.html#maximum">maximum</a>. (ty.minimum ≤ <a href="../../store/TableSpecs/index.html#maximum">maximum</a>) × (<a href="../../store/TableSpecs/index.html#maximum">maximum</a> &lt; 2 ^ <a href="../../types/ValueSpecs/index.html#address_bits">address_bits</a> ty.index))
 
--- whether two reference types are the same
+-- whether two reference types are the same, that of a table&#x27;s elements and another
 abbrev pub <b id="same_type">same_type</b> : RefType → RefType → Bool
 <a href="../../store/TableSpecs/index.html#same_type">same_type</a> Func Func = true
 <a href="../../store/TableSpecs/index.html#same_type">same_type</a> Extern Extern = true
@@ -3279,7 +3273,7 @@ abbrev pub <b id="new_table">new_table</b> : <a href="../../store/TableSpecs/ind
 abbrev pub <b id="with_added">with_added</b> : <a href="../../store/TableSpecs/index.html#TableValue">TableValue</a> → ℕ → ℕ → <a href="../../store/TableSpecs/index.html#TableValue">TableValue</a>
 <a href="../../store/TableSpecs/index.html#with_added">with_added</a> x n reference = <a href="../../store/TableSpecs/index.html#with_elements">with_elements</a> x (x.elements ++ replicate n reference)
 
--- the fuel for so many elements, of 4 bytes each
+-- the fuel for so many elements of a table, of 4 bytes each
 abbrev pub <b id="element_price">element_price</b> : ℕ → CustomFuelCosts → ℕ
 <a href="../../store/TableSpecs/index.html#element_price">element_price</a> n costs = <a href="../../meter/MeterSpecs/index.html#copy_cost">copy_cost</a> costs n 4
 
@@ -3375,12 +3369,12 @@ abbrev pub <b id="elements_write">elements_write</b> : <a href="../../store/Tabl
   unpaid = OutOfFuel;
 }
 
--- len elements from dst on are filled with a reference, whose type isn&#x27;t tested
+-- len elements of a table from dst on are filled with a reference, whose type isn&#x27;t tested
 abbrev pub <b id="raw_filling_of">raw_filling_of</b> : ℕ → ℕ → ℕ → <a href="../../store/TableSpecs/index.html#TableValue">TableValue</a> → <a href="../../store/TableSpecs/index.html#TableWrite">TableWrite</a>
 <a href="../../store/TableSpecs/index.html#raw_filling_of">raw_filling_of</a> dst reference len x =
     <a href="../../store/TableSpecs/index.html#elements_write">elements_write</a> x true (<a href="../../store/WriteSpecs/index.html#filled">filled</a> x.elements dst reference len) FillOutOfBounds (Some len)
 
--- len elements from dst on are filled with a reference, whose type is tested
+-- len elements of a table from dst on are filled with a reference, whose type is tested
 abbrev pub <b id="filling_of">filling_of</b> : ℕ → TypedRawRef → ℕ → <a href="../../store/TableSpecs/index.html#TableValue">TableValue</a> → <a href="../../store/TableSpecs/index.html#TableWrite">TableWrite</a>
 <a href="../../store/TableSpecs/index.html#filling_of">filling_of</a> dst value len x = <a href="../../store/TableSpecs/index.html#elements_write">elements_write</a> x (<a href="../../store/TableSpecs/index.html#same_type">same_type</a> x.ty.<a href="../../store/TableSpecs/index.html#element">element</a> value.ty)
     (<a href="../../store/WriteSpecs/index.html#filled">filled</a> x.elements dst value.raw len) FillOutOfBounds (Some len)
@@ -3390,7 +3384,8 @@ abbrev pub <b id="copy_of">copy_of</b> : ℕ → ℕ → ℕ → <a href="../../
 <a href="../../store/TableSpecs/index.html#copy_of">copy_of</a> dst src len source x = <a href="../../store/TableSpecs/index.html#elements_write">elements_write</a> x (<a href="../../store/TableSpecs/index.html#same_type">same_type</a> x.ty.<a href="../../store/TableSpecs/index.html#element">element</a> source.ty.<a href="../../store/TableSpecs/index.html#element">element</a>)
     (<a href="../../store/WriteSpecs/index.html#copied">copied</a> x.elements dst source.elements src len) CopyOutOfBounds (Some len)
 
--- len items from src on of an element segment are copied over the elements from dst on; where len is 0, that is free
+-- len items from src on of an element segment are copied over a table&#x27;s elements from dst on; where len is 0, that is
+-- free
 abbrev pub <b id="initialization_of">initialization_of</b> : ℕ → ℕ → ℕ → <a href="../../store/SegmentSpecs/index.html#SegmentValue">SegmentValue</a> → <a href="../../store/TableSpecs/index.html#TableValue">TableValue</a> → <a href="../../store/TableSpecs/index.html#TableWrite">TableWrite</a>
 <a href="../../store/TableSpecs/index.html#initialization_of">initialization_of</a> dst src len segment x = <a href="../../store/TableSpecs/index.html#elements_write">elements_write</a> x (<a href="../../store/TableSpecs/index.html#same_type">same_type</a> x.ty.<a href="../../store/TableSpecs/index.html#element">element</a> segment.ty)
     (<a href="../../store/WriteSpecs/index.html#copied">copied</a> x.elements dst segment.items src len) InitOutOfBounds (if nat_eq len 0 then None else Some len)
@@ -3402,7 +3397,7 @@ abbrev pub <b id="WritesTable">WritesTable</b> : (<a href="../../store/TableSpec
 </code></pre>
 "####]
     pub mod TableSpecs {}
-    #[doc = r####"A write over a range of a memory's bytes or of a table's elements, as a bulk instruction makes it: what stands before it, what it writes, and what it costs.
+    #[doc = r####"A write over a range of items, whatever memory, table or list has them, as a bulk instruction makes it: what stands before it, what the items become, what it costs, and how it ends.
 
 <pre><code>use Rattle.std.specs.Prelude.{◌≡◌, ℕ, Option, Some, None, Result, Ok, Err, List, replicate, MatchBool}
 use Rattle.std.specs.Option.{option_map, option_and_then}
@@ -3496,7 +3491,7 @@ abbrev pub <b id="BulkWrites">BulkWrites</b> : Option (List ℕ) → ℕ → <a 
 }
 /// Definitions of `wasmi_machine`.
 pub mod machine {
-    #[doc = r####"What a meter was given, what was taken of it, and what was written for that.
+    #[doc = r####"Accounts of fuel: what calls set, what turns were charged, what a meter has left, and how many bytes turns have written for their charges.
 
 <pre><code>use Rattle.std.specs.Prelude.{◌≡◌, ◌+◌, ◌≤◌, ℕ, Some, List, fold, sum_by, ◌-◌, ◌*◌, ◌&lt;◌, Bool, true, false, ◌&amp;&amp;◌, if◌then◌else◌, count_by}
 use Rattle.wasmi_meter.specs.Meter.{<a href="../../meter/MeterSpecs/index.html#Meter">Meter</a>, <a href="../../meter/MeterSpecs/index.html#meter_set">meter_set</a>, <a href="../../meter/MeterSpecs/index.html#PaysCharge">PaysCharge</a>}
@@ -3543,13 +3538,13 @@ abbrev pub <b id="SetsNoFuel">SetsNoFuel</b> : Call → Type 0
 abbrev pub <b id="charges">charges</b> : List <a href="../../machine/StateSpecs/index.html#Turn">Turn</a> → ℕ
 <a href="../../machine/AccountSpecs/index.html#charges">charges</a> turns = sum_by (λ turn. turn.charge) turns
 
--- whether a reply accepts a call that is charged for what it writes
+-- whether a reply accepts a call that is charged for what it writes, as what turns have written is counted
 abbrev pub <b id="is_accepted">is_accepted</b> : Reply → Bool
 <a href="../../machine/AccountSpecs/index.html#is_accepted">is_accepted</a> Done = true
 <a href="../../machine/AccountSpecs/index.html#is_accepted">is_accepted</a> (Number size) = true
 <a href="../../machine/AccountSpecs/index.html#is_accepted">is_accepted</a> reply = false
 
--- whether a call with this reply is charged for what it writes, and was accepted
+-- whether a turn of this call with this reply counts as one that has written
 abbrev pub <b id="has_written">has_written</b> : Call → Reply → Bool
 <a href="../../machine/AccountSpecs/index.html#has_written">has_written</a> call reply = <a href="../../machine/StepsSpecs/index.html#is_charged">is_charged</a> call &amp;&amp; <a href="../../machine/AccountSpecs/index.html#is_accepted">is_accepted</a> reply
 
@@ -3588,7 +3583,7 @@ pub record <b id="IsSpent">IsSpent</b> (rate before after : ℕ) (turns : List <
 </code></pre>
 "####]
     pub mod AccountSpecs {}
-    #[doc = r####"Limiters in runs: deterministic ones, permissions, kinds, and runs in which nothing says out of memory.
+    #[doc = r####"Limiters in runs: deterministic ones, ones that accept each notice, permit each question, or are of one kind; and replies and runs that don't say out of memory, and replies that tell no denial.
 
 <pre><code>use Rattle.std.specs.Prelude.{◌≡◌, List, Ok, Option, Some, None, true, All, map}
 use Rattle.wasmi_meter.specs.Limiter.{<a href="../../meter/LimiterSpecs/index.html#Question">Question</a>, <a href="../../meter/LimiterSpecs/index.html#Answer">Answer</a>, <a href="../../meter/LimiterSpecs/index.html#Failure">Failure</a>, <a href="../../meter/LimiterSpecs/index.html#MemoryFailure">MemoryFailure</a>, <a href="../../meter/LimiterSpecs/index.html#TableFailure">TableFailure</a>, <a href="../../meter/LimiterSpecs/index.html#NoticeAnswer">NoticeAnswer</a>, <a href="../../meter/LimiterSpecs/index.html#Rules">Rules</a>, <a href="../../meter/LimiterSpecs/index.html#optional_rules">optional_rules</a>}
@@ -3705,7 +3700,7 @@ abbrev pub <b id="RepliesKeepKind">RepliesKeepKind</b> : Type 0
 </code></pre>
 "####]
     pub mod DeterminismSpecs {}
-    #[doc = r####"What calls on slots have in common: what each does to the list of slots and in a turn.
+    #[doc = r####"What the effects of calls have in common, whatever they are on: changes, creations, drops and writes of a list or of slots at an index with their replies, and the turns that they make.
 
 <pre><code>use Rattle.std.specs.Prelude.{◌≡◌, ◌⊎◌, ◌++◌, ℕ, Option, Some, Result, Ok, Err, List, [], ◌∷◌, length, slice_get, slice_set, unwrap_or, MatchOption}
 use Rattle.wasmi_meter.specs.Attempt.{<a href="../../meter/AttemptSpecs/index.html#MeteredValue">MeteredValue</a>, <a href="../../meter/AttemptSpecs/index.html#with_value">with_value</a>}
@@ -3816,7 +3811,7 @@ abbrev pub <b id="item_bytes">item_bytes</b> : ℕ → ℕ → Reply → ℕ
 <a href="../../machine/EffectsSpecs/index.html#item_bytes">item_bytes</a> size n (Number number) = <a href="../../meter/MeterSpecs/index.html#cut_product">cut_product</a> n size
 <a href="../../machine/EffectsSpecs/index.html#item_bytes">item_bytes</a> size n reply = 0
 
--- one part of the state has changed
+-- an effect of a call has changed one part of the state, whatever the part is
 pub record <b id="ChangesPart">ChangesPart</b> {A : Type 0} (with_part : A → <a href="../../machine/StateSpecs/index.html#State">State</a>) (Effect : Reply → A → Type 0) (reply : Reply)
     (s&#x27; : <a href="../../machine/StateSpecs/index.html#State">State</a>) : Type 0 where
   pub <b id="part">part</b> : A
@@ -3871,7 +3866,7 @@ module _ {S : Type 0} (w : <a href="../../machine/StateSpecs/index.html#World">W
 </code></pre>
 "####]
     pub mod EffectsSpecs {}
-    #[doc = r####"What passes between a machine and its limiter in one turn, what has grown by it, and what was charged for it.
+    #[doc = r####"Exchanges: what passes between a machine and its limiter in one turn, the question of each call, the size that grows by it, and what growths and writes over a range are charged.
 
 <pre><code>use Rattle.std.specs.Prelude.{◌≡◌, ◌≢◌, ◌≤◌, ◌-◌, ◌⊎◌, ◌++◌, ℕ, Option, Some, None, Ok, Err, true, nat_eq, is_none, if◌then◌else◌, List, [], ◌∷◌, slice_get, slice_set}
 use Rattle.std.specs.Option.{option_map, option_and_then}
@@ -4063,7 +4058,7 @@ pub record <b id="Exchanges">Exchanges</b> {S : Type 0} (rules : <a href="../../
 </code></pre>
 "####]
     pub mod ExchangeSpecs {}
-    #[doc = r####"What holds of all turns and runs of a machine.
+    #[doc = r####"What holds of all turns and runs of a machine: the statements of its laws, and what a refused turn keeps.
 
 <pre><code><a href="../../machine/LawsSpecs/index.html#use">use</a> Rattle.std.specs.Prelude.{◌≡◌, ◌⊎◌, ◌&lt;◌, ◌≤◌, ◌+◌, ◌*◌, ◌++◌, ℕ, true, Option, Some, Result, Ok, List, length, map, All}
 <a href="../../machine/LawsSpecs/index.html#use">use</a> Rattle.wasmi_meter.specs.declared.quota.Holdings.{Holdings}
@@ -4315,7 +4310,7 @@ abbrev pub <b id="RunInRegions">RunInRegions</b> : {S : Type 0} → <a href="../
 </code></pre>
 "####]
     pub mod LentMemorySpecs {}
-    #[doc = r####"The calls on memories: what each does to the list of slots.
+    #[doc = r####"The calls on memories: their replies, what each does to the slots and to the spare region, and what a store or a write over a range writes.
 
 <pre><code>use Rattle.std.specs.Prelude.{◌≡◌, ◌⊎◌, ◌*◌, ◌&lt;◌, ℕ, Option, Some, None, Result, List, length, MatchOption}
 use Rattle.std.specs.Option.{option_map, option_map_or}
@@ -4334,7 +4329,7 @@ use Rattle.wasmi_machine.specs.declared.memories.Stored.{Stored}
 use Rattle.wasmi_machine.specs.declared.slots.Slot.{Slot}
 use Rattle.wasmi_ops.specs.declared.load_store.LoadOp.{LoadOp}
 use Rattle.wasmi_ops.specs.LoadStoreOps.{<a href="../../ops/LoadStoreOpsSpecs/index.html#loaded_raw">loaded_raw</a>, <a href="../../ops/LoadStoreOpsSpecs/index.html#stored_bytes">stored_bytes</a>}
-use Rattle.wasmi_ops.specs.VectorOps.{<a href="../../ops/VectorOpsSpecs/index.html#stored_lane">stored_lane</a>}
+use Rattle.wasmi_ops.specs.LaneOps.{<a href="../../ops/LaneOpsSpecs/index.html#stored_lane">stored_lane</a>}
 use Rattle.wasmi_machine.specs.State.{<a href="../../machine/StateSpecs/index.html#MemoryPart">MemoryPart</a>, <a href="../../machine/StateSpecs/index.html#live_at">live_at</a>}
 use Rattle.wasmi_machine.specs.Effects.{<a href="../../machine/EffectsSpecs/index.html#reply_of">reply_of</a>, <a href="../../machine/EffectsSpecs/index.html#OnLive">OnLive</a>, <a href="../../machine/EffectsSpecs/index.html#Creates">Creates</a>, <a href="../../machine/EffectsSpecs/index.html#ChangesAt">ChangesAt</a>, <a href="../../machine/EffectsSpecs/index.html#MeteredSlots">MeteredSlots</a>, <a href="../../machine/EffectsSpecs/index.html#WritesAt">WritesAt</a>, <a href="../../machine/EffectsSpecs/index.html#WritesFrom">WritesFrom</a>}
 use Rattle.wasmi_machine.specs.declared.memories.Stored.TheVariants as stored
@@ -4380,7 +4375,7 @@ abbrev pub <b id="load_reply">load_reply</b> : LoadOp → ℕ → Option <a href
 abbrev pub <b id="bytes_of_stored">bytes_of_stored</b> : Stored → List ℕ
 <a href="../../machine/MemoryEffectsSpecs/index.html#bytes_of_stored">bytes_of_stored</a> (stored.Number op value) = <a href="../../ops/LoadStoreOpsSpecs/index.html#stored_bytes">stored_bytes</a> op value
 <a href="../../machine/MemoryEffectsSpecs/index.html#bytes_of_stored">bytes_of_stored</a> (stored.Vector vector) = <a href="../../types/NumbersSpecs/index.html#le_bytes">le_bytes</a> 16 vector
-<a href="../../machine/MemoryEffectsSpecs/index.html#bytes_of_stored">bytes_of_stored</a> (stored.Lane op vector) = <a href="../../ops/VectorOpsSpecs/index.html#stored_lane">stored_lane</a> op vector
+<a href="../../machine/MemoryEffectsSpecs/index.html#bytes_of_stored">bytes_of_stored</a> (stored.Lane op vector) = <a href="../../ops/LaneOpsSpecs/index.html#stored_lane">stored_lane</a> op vector
 
 -- what a range of a memory is written over with: a byte, or bytes from a place on, if there are some
 pub data <b id="ByteSource">ByteSource</b> : Type 0 where
@@ -4423,7 +4418,7 @@ abbrev pub <b id="StoresMemoryAt">StoresMemoryAt</b> : ℕ → ℕ → List ℕ 
 </code></pre>
 "####]
     pub mod MemoryEffectsSpecs {}
-    #[doc = r####"The calls on registers and on the vectors in them: what each does to the registers.
+    #[doc = r####"The calls on registers and on the vectors in them, loads and stores of vectors included: their replies, and what each does to the registers.
 
 <pre><code>use Rattle.std.specs.Prelude.{◌≡◌, ℕ, Option, Some, None, Result, Ok, Err, List, slice_get, slice_set}
 use Rattle.std.specs.Option.{option_map, option_map_or, option_and_then}
@@ -4433,7 +4428,8 @@ use Rattle.wasmi_raw.specs.RawVal.{<a href="../../raw/RawValSpecs/index.html#vec
 use Rattle.wasmi_store.specs.Memory.{<a href="../../store/MemorySpecs/index.html#MemoryValue">MemoryValue</a>}
 use Rattle.wasmi_ops.specs.declared.vector.VectorLoadOp.{VectorLoadOp}
 use Rattle.wasmi_ops.specs.declared.vector.LoadLaneOp.{LoadLaneOp}
-use Rattle.wasmi_ops.specs.VectorOps.{<a href="../../ops/VectorOpsSpecs/index.html#loaded_vector">loaded_vector</a>, <a href="../../ops/VectorOpsSpecs/index.html#loaded_lane">loaded_lane</a>}
+use Rattle.wasmi_ops.specs.VectorOps.{<a href="../../ops/VectorOpsSpecs/index.html#loaded_vector">loaded_vector</a>}
+use Rattle.wasmi_ops.specs.LaneOps.{<a href="../../ops/LaneOpsSpecs/index.html#loaded_lane">loaded_lane</a>}
 use Rattle.wasmi_machine.specs.declared.calls.Reply.{Reply}
 use Rattle.wasmi_machine.specs.declared.calls.Reply.TheVariants.{Done, Value, Trap, NoSuch}
 use Rattle.wasmi_machine.specs.declared.slots.Slot.{Slot}
@@ -4481,7 +4477,7 @@ abbrev pub <b id="vector_loaded">vector_loaded</b> : VectorLoadOp → ℕ → Op
 -- what a load of one lane of a vector from a memory gives a register, if the vector and the memory are there
 abbrev pub <b id="lane_loaded">lane_loaded</b> : LoadLaneOp → ℕ → Option ℕ → Option <a href="../../store/MemorySpecs/index.html#MemoryValue">MemoryValue</a> → Option (Result RawVal TrapCode)
 <a href="../../machine/RegisterEffectsSpecs/index.html#lane_loaded">lane_loaded</a> op a vector memory =
-    option_and_then (λ v. option_map (λ x. <a href="../../ops/LoadStoreOpsSpecs/index.html#as_raw">as_raw</a> <a href="../../raw/RawValSpecs/index.html#raw_of_vector">raw_of_vector</a> (<a href="../../ops/VectorOpsSpecs/index.html#loaded_lane">loaded_lane</a> op v x.bytes a)) memory) vector
+    option_and_then (λ v. option_map (λ x. <a href="../../ops/LoadStoreOpsSpecs/index.html#as_raw">as_raw</a> <a href="../../raw/RawValSpecs/index.html#raw_of_vector">raw_of_vector</a> (<a href="../../ops/LaneOpsSpecs/index.html#loaded_lane">loaded_lane</a> op v x.bytes a)) memory) vector
 
 -- the raw value that is asked of a register, if it is there
 abbrev pub <b id="raw_reply">raw_reply</b> : Option RawVal → Reply
@@ -4494,7 +4490,7 @@ abbrev pub <b id="StoresVectorAt">StoresVectorAt</b> : ℕ → ℕ → Option (L
 </code></pre>
 "####]
     pub mod RegisterEffectsSpecs {}
-    #[doc = r####"Replies in memory that is kept from run to run.
+    #[doc = r####"Replies in memory that is kept from run to run, and the text of the error of a run for which it is too small.
 
 <pre><code>use Rattle.std.specs.Prelude.{ℕ, List, codes}
 use Rattle.wasmi_machine.specs.declared.calls.Reply.{Reply}
@@ -4520,13 +4516,13 @@ pub record <b id="ReservedListValue">ReservedListValue</b> (X : Type 0) : Type 0
   pub <b id="reserved">reserved</b> : ℕ
   pub <b id="capacity">capacity</b> : ℕ
 
--- the list with another item at an index
+-- the list with another item at an index, and with the same memory for items that are still to be added
 abbrev pub <b id="with_item">with_item</b> : {X : Type 0} → <a href="../../machine/ReservedListSpecs/index.html#ReservedListValue">ReservedListValue</a> X → ℕ → X → <a href="../../machine/ReservedListSpecs/index.html#ReservedListValue">ReservedListValue</a> X
 <a href="../../machine/ReservedListSpecs/index.html#with_item">with_item</a> list k x = record list { <a href="../../machine/ReservedListSpecs/index.html#items">items</a> = slice_set list.items k x }
 </code></pre>
 "####]
     pub mod ReservedListSpecs {}
-    #[doc = r####"What a machine is to its callers: its state, a world of it with a limiter, its totals, when it is valid (core specification, the store), and a turn of it with its outcome.
+    #[doc = r####"The state of a machine and its slots (core specification, the store), a world of it with a limiter, a turn with its outcome, refusals, the sizes and totals of a state, and when states and calls are valid.
 
 <pre><code>use Rattle.std.specs.Prelude.{ℕ, ◌+◌, List, [], Option, Some, None, slice_get, replicate, ◌≡◌, length, map, max, sum, ◌≤◌, All}
 use Rattle.std.specs.Option.{option_and_then}
@@ -4602,7 +4598,7 @@ abbrev pub <b id="new_state">new_state</b> : <a href="../../meter/MeterSpecs/ind
 abbrev pub <b id="with_spare">with_spare</b> : <a href="../../machine/StateSpecs/index.html#State">State</a> → List ℕ → <a href="../../machine/StateSpecs/index.html#State">State</a>
 <a href="../../machine/StateSpecs/index.html#with_spare">with_spare</a> s region = record s { <a href="../../machine/StateSpecs/index.html#spare">spare</a> = Some region }
 
--- up to how many of a list are reserved, once so many more than it has are
+-- up to how many slots of a kind a state has reserved, once so many more than are in its list are
 abbrev pub <b id="reserved_for">reserved_for</b> : {A : Type 0} → ℕ → List A → ℕ → ℕ
 <a href="../../machine/StateSpecs/index.html#reserved_for">reserved_for</a> <a href="../../machine/StateSpecs/index.html#reserved">reserved</a> list additional = max <a href="../../machine/StateSpecs/index.html#reserved">reserved</a> (length list + additional)
 
@@ -4622,7 +4618,7 @@ abbrev pub <b id="with_reserved">with_reserved</b> : <a href="../../machine/Stat
 abbrev pub <b id="with_memories">with_memories</b> : <a href="../../machine/StateSpecs/index.html#State">State</a> → List (Slot <a href="../../store/MemorySpecs/index.html#MemoryValue">MemoryValue</a>) → <a href="../../machine/StateSpecs/index.html#State">State</a>
 <a href="../../machine/StateSpecs/index.html#with_memories">with_memories</a> s <a href="../../machine/StateSpecs/index.html#memories">memories</a> = record s { <a href="../../machine/StateSpecs/index.html#memories">memories</a> = <a href="../../machine/StateSpecs/index.html#memories">memories</a> }
 
--- the part of a state that a creation in the spare region changes
+-- the part of the state of a machine that has its memories and its spare region, as a creation in it changes both
 pub record <b id="MemoryPart">MemoryPart</b> : Type 0 where
   pub <b id="slots">slots</b> : List (Slot <a href="../../store/MemorySpecs/index.html#MemoryValue">MemoryValue</a>)
   pub <b id="spare">spare</b> : Option (List ℕ)
@@ -4682,7 +4678,7 @@ pub record <b id="TurnOutcome">TurnOutcome</b> : Type 0 where
 abbrev pub <b id="outcome_of">outcome_of</b> : <a href="../../machine/StateSpecs/index.html#Turn">Turn</a> → <a href="../../machine/StateSpecs/index.html#TurnOutcome">TurnOutcome</a>
 <a href="../../machine/StateSpecs/index.html#outcome_of">outcome_of</a> turn = record { <a href="../../machine/StateSpecs/index.html#reply">reply</a> = turn.reply; <a href="../../machine/StateSpecs/index.html#charge">charge</a> = turn.charge; <a href="../../machine/StateSpecs/index.html#written">written</a> = turn.written }
 
--- a turn is charged nothing, and has written nothing by a growth or over a range
+-- the outcome of a turn that is charged nothing, and has written nothing by a growth or over a range
 abbrev pub <b id="IsFree">IsFree</b> : <a href="../../machine/StateSpecs/index.html#TurnOutcome">TurnOutcome</a> → Type 0
 <a href="../../machine/StateSpecs/index.html#IsFree">IsFree</a> outcome = (outcome.charge ≡ 0) × (outcome.written ≡ 0)
 
@@ -4714,7 +4710,7 @@ abbrev pub <b id="sizes">sizes</b> : <a href="../../machine/StateSpecs/index.htm
 abbrev pub <b id="total">total</b> : <a href="../../machine/StateSpecs/index.html#State">State</a> → Kind → ℕ
 <a href="../../machine/StateSpecs/index.html#total">total</a> s kind = sum (<a href="../../machine/StateSpecs/index.html#sizes">sizes</a> s kind)
 
--- exactly these totals are held
+-- exactly the totals of the state are held
 pub record <b id="HoldsTotals">HoldsTotals</b> (h : Holdings) (s : <a href="../../machine/StateSpecs/index.html#State">State</a>) : Type 0 where
   pub <b id="bytes">bytes</b> : h.held.<a href="../../machine/StateSpecs/index.html#bytes">bytes</a> ≡ <a href="../../machine/StateSpecs/index.html#total">total</a> s Bytes
   pub <b id="elements">elements</b> : h.held.<a href="../../machine/StateSpecs/index.html#elements">elements</a> ≡ <a href="../../machine/StateSpecs/index.html#total">total</a> s Elements
@@ -4745,7 +4741,7 @@ abbrev pub <b id="IsValidCall">IsValidCall</b> : Call → Type 0
 </code></pre>
 "####]
     pub mod StateSpecs {}
-    #[doc = r####"One step of the machine: what each call does, and what that changes in a world; and whole runs.
+    #[doc = r####"Steps and runs of a machine: the subject and the effect of each call, the vector that it makes, whether it is charged for what it writes, what each effect changes in a world, and turns one after another.
 
 <pre><code>use Rattle.std.specs.Prelude.{◌≡◌, ◌⊎◌, ◌+◌, ◌&lt;◌, ◌≤◌, ℕ, Bool, true, false, List, Option, Some, None, Result, Ok, Vec, slice_get, [], ◌∷◌, length, map}
 use Rattle.std.specs.Global.{Global}
@@ -4758,8 +4754,8 @@ use Rattle.wasmi_typed.specs.declared.typed.TypedRawVal.{TypedRawVal}
 use Rattle.wasmi_typed.specs.declared.typed_ref.TypedRawRef.{TypedRawRef}
 use Rattle.wasmi_typed.specs.Global.{<a href="../../typed/GlobalSpecs/index.html#GlobalInstance">GlobalInstance</a>}
 use Rattle.wasmi_lanewise.specs.VectorTable.{<a href="../../lanewise/VectorTableSpecs/index.html#shuffle">shuffle</a>}
-use Rattle.wasmi_ops.specs.VectorOps.{<a href="../../ops/VectorOpsSpecs/index.html#stored_lane">stored_lane</a>, <a href="../../ops/VectorOpsSpecs/index.html#binary_vector">binary_vector</a>, <a href="../../ops/VectorOpsSpecs/index.html#made_vector">made_vector</a>, <a href="../../ops/VectorOpsSpecs/index.html#shifted_vector">shifted_vector</a>, <a href="../../ops/VectorOpsSpecs/index.html#ternary_vector">ternary_vector</a>, <a href="../../ops/VectorOpsSpecs/index.html#tested_raw">tested_raw</a>, <a href="../../ops/VectorOpsSpecs/index.html#unary_vector">unary_vector</a>}
-use Rattle.wasmi_ops.specs.LaneOps.{<a href="../../ops/LaneOpsSpecs/index.html#extracted_raw">extracted_raw</a>, <a href="../../ops/LaneOpsSpecs/index.html#replaced_vector">replaced_vector</a>}
+use Rattle.wasmi_ops.specs.VectorOps.{<a href="../../ops/VectorOpsSpecs/index.html#binary_vector">binary_vector</a>, <a href="../../ops/VectorOpsSpecs/index.html#made_vector">made_vector</a>, <a href="../../ops/VectorOpsSpecs/index.html#shifted_vector">shifted_vector</a>, <a href="../../ops/VectorOpsSpecs/index.html#ternary_vector">ternary_vector</a>, <a href="../../ops/VectorOpsSpecs/index.html#tested_raw">tested_raw</a>, <a href="../../ops/VectorOpsSpecs/index.html#unary_vector">unary_vector</a>}
+use Rattle.wasmi_ops.specs.LaneOps.{<a href="../../ops/LaneOpsSpecs/index.html#extracted_raw">extracted_raw</a>, <a href="../../ops/LaneOpsSpecs/index.html#replaced_vector">replaced_vector</a>, <a href="../../ops/LaneOpsSpecs/index.html#stored_lane">stored_lane</a>}
 use Rattle.wasmi_meter.specs.Limiter.{<a href="../../meter/LimiterSpecs/index.html#Rules">Rules</a>}
 use Rattle.wasmi_store.specs.Buffer.{<a href="../../store/BufferSpecs/index.html#Owned">Owned</a>}
 use Rattle.wasmi_store.specs.Memory.{<a href="../../store/MemorySpecs/index.html#MemoryTypeValue">MemoryTypeValue</a>, <a href="../../store/MemorySpecs/index.html#MakesMemory">MakesMemory</a>, <a href="../../store/MemorySpecs/index.html#GrowsMemoryCharging">GrowsMemoryCharging</a>}
@@ -4956,11 +4952,11 @@ abbrev pub <b id="effect_of">effect_of</b> : <a href="../../machine/StateSpecs/i
 <a href="../../machine/StepsSpecs/index.html#effect_of">effect_of</a> s (call.VectorStore a memory ptr offset) = <a href="../../machine/StepsSpecs/index.html#Changed">Changed</a> (<a href="../../machine/StepsSpecs/index.html#BytesStored">BytesStored</a> memory (ptr + offset)
     (option_map (<a href="../../types/NumbersSpecs/index.html#le_bytes">le_bytes</a> 16) (<a href="../../machine/RegisterEffectsSpecs/index.html#vector_at">vector_at</a> s.registers a)))
 <a href="../../machine/StepsSpecs/index.html#effect_of">effect_of</a> s (call.StoreLane op a memory ptr offset) = <a href="../../machine/StepsSpecs/index.html#Changed">Changed</a> (<a href="../../machine/StepsSpecs/index.html#BytesStored">BytesStored</a> memory (ptr + offset)
-    (option_map (<a href="../../ops/VectorOpsSpecs/index.html#stored_lane">stored_lane</a> op) (<a href="../../machine/RegisterEffectsSpecs/index.html#vector_at">vector_at</a> s.registers a)))
+    (option_map (<a href="../../ops/LaneOpsSpecs/index.html#stored_lane">stored_lane</a> op) (<a href="../../machine/RegisterEffectsSpecs/index.html#vector_at">vector_at</a> s.registers a)))
 
 -- What tools/generate writes ends.
 
--- memory for one more slot may be refused, since each one that is reserved is used
+-- memory for one more slot may be refused in a step, since each one that is reserved is used
 abbrev pub <b id="LacksSlot">LacksSlot</b> : {A : Type 0} → ℕ → List A → Type 0
 <a href="../../machine/StepsSpecs/index.html#LacksSlot">LacksSlot</a> reserved list = reserved ≤ length list
 
@@ -5053,7 +5049,7 @@ abbrev pub <b id="IsRunOf">IsRunOf</b> : {S : Type 0} → <a href="../../meter/L
 </code></pre>
 "####]
     pub mod StepsSpecs {}
-    #[doc = r####"The calls on tables: what each does to the list of slots.
+    #[doc = r####"The calls on tables: their replies, what each does to the slots, and what a write over a range writes.
 
 <pre><code>use Rattle.std.specs.Prelude.{◌≡◌, ◌&lt;◌, ◌⊎◌, ℕ, Option, Some, Result, List}
 use Rattle.std.specs.Option.{option_map, option_map_or}
@@ -5113,7 +5109,7 @@ abbrev pub <b id="element_bytes">element_bytes</b> : ℕ → Reply → ℕ
 </code></pre>
 "####]
     pub mod TableEffectsSpecs {}
-    #[doc = r####"The calls on element segments, data segments, globals and the meter.
+    #[doc = r####"The calls on element segments, data segments, globals and the meter: their replies, and what each does.
 
 <pre><code>use Rattle.std.specs.Prelude.{◌≡◌, ◌⊎◌, ◌≤◌, ◌&lt;◌, ℕ, Option, Result, Ok, Err, List, [], length, slice_get, if◌then◌else◌, is_some}
 use Rattle.std.specs.Option.{option_map_or}
@@ -5179,7 +5175,7 @@ abbrev pub <b id="get_fuel_reply">get_fuel_reply</b> : <a href="../../meter/Mete
 }
 /// Definitions of `wasmi_laws`.
 pub mod laws {
-    #[doc = r####"What is at an index of a machine, what a call may change there, what holds of that in every turn and run, and what memories of the same bytes have alike.
+    #[doc = r####"What is at an index of a machine: which calls may change, drop or read it, and what it may become in turns and runs. The laws over it: independent calls may be exchanged, a stored number is loaded again, and a memory or a table that a host keeps by itself does as the one at an index.
 
 <pre><code>use Rattle.std.specs.Prelude.{◌≡◌, ◌⊎◌, ◌*◌, ◌+◌, ◌%◌, ◌^◌, ℕ, List, [], ◌∷◌, Option, Some, None, length, map, All, slice_get, MatchOption, Result, Vec, slice_set}
 use Rattle.wasmi_raw.specs.declared.raw.RawVal.{RawVal}
@@ -5415,11 +5411,11 @@ pub record <b id="NumberStore">NumberStore</b> : Type 0 where
   pub <b id="offset">offset</b> : ℕ
   pub <b id="value">value</b> : RawVal
 
--- the call that makes it
+-- the call that makes a store of a number
 abbrev pub <b id="store_call">store_call</b> : <a href="../../laws/PlacesSpecs/index.html#NumberStore">NumberStore</a> → Call
 <a href="../../laws/PlacesSpecs/index.html#store_call">store_call</a> it = call.Store it.op it.memory it.ptr it.offset it.value
 
--- the call that loads as many bytes from the same address, without a sign
+-- the call that loads as many bytes from the address of a store, without a sign
 abbrev pub <b id="load_call">load_call</b> : <a href="../../laws/PlacesSpecs/index.html#NumberStore">NumberStore</a> → Call
 <a href="../../laws/PlacesSpecs/index.html#load_call">load_call</a> it = call.Load (<a href="../../laws/PlacesSpecs/index.html#load_of">load_of</a> it.op) it.memory it.ptr it.offset
 
@@ -5478,7 +5474,7 @@ abbrev pub <b id="with_memory_at">with_memory_at</b> : <a href="../../machine/St
 abbrev pub <b id="with_table_at">with_table_at</b> : <a href="../../machine/StateSpecs/index.html#State">State</a> → ℕ → <a href="../../store/TableSpecs/index.html#TableValue">TableValue</a> → <a href="../../machine/StateSpecs/index.html#State">State</a>
 <a href="../../laws/PlacesSpecs/index.html#with_table_at">with_table_at</a> s k x = <a href="../../machine/StateSpecs/index.html#with_tables">with_tables</a> s (slice_set s.tables k (Live x))
 
--- the state with another meter
+-- the state with another meter, as a growth of what is at an index leaves it
 abbrev pub <b id="with_meter">with_meter</b> : <a href="../../machine/StateSpecs/index.html#State">State</a> → <a href="../../meter/MeterSpecs/index.html#Meter">Meter</a> → <a href="../../machine/StateSpecs/index.html#State">State</a>
 <a href="../../laws/PlacesSpecs/index.html#with_meter">with_meter</a> s m = record s { meter = m }
 
@@ -5518,7 +5514,7 @@ module _ {S : Type 0} (rules : <a href="../../meter/LimiterSpecs/index.html#Rule
 </code></pre>
 "####]
     pub mod PlacesSpecs {}
-    #[doc = r####"Calls and runs that need no memory but what was reserved: none of their replies says out of memory.
+    #[doc = r####"What is reserved on a machine: lent regions of memories, elements of tables, and free slots of each kind. Calls and runs that need no other memory: none of their replies says out of memory.
 
 <pre><code>use Rattle.std.specs.Prelude.{◌≡◌, ◌&lt;◌, ◌≤◌, ◌+◌, ◌⊎◌, ℕ, Bool, true, false, List, [], length, All, MatchOption, count_by}
 use Rattle.wasmi_store.specs.Buffer.{<a href="../../store/BufferSpecs/index.html#Room">Room</a>, <a href="../../store/BufferSpecs/index.html#Owned">Owned</a>, <a href="../../store/BufferSpecs/index.html#Lent">Lent</a>}
@@ -5571,14 +5567,14 @@ pub data <b id="SlotKind">SlotKind</b> : Type 0 where
   <b id="DataSegments">DataSegments</b> : <a href="../../laws/ReservedSpecs/index.html#SlotKind">SlotKind</a>
   <b id="Globals">Globals</b> : <a href="../../laws/ReservedSpecs/index.html#SlotKind">SlotKind</a>
 
--- how many of a kind were made
+-- how many of a kind were made on a machine, each in a slot
 abbrev pub <b id="made_of">made_of</b> : <a href="../../machine/StateSpecs/index.html#State">State</a> → <a href="../../laws/ReservedSpecs/index.html#SlotKind">SlotKind</a> → ℕ
 <a href="../../laws/ReservedSpecs/index.html#made_of">made_of</a> s <a href="../../laws/ReservedSpecs/index.html#Memories">Memories</a> = length s.memories
 <a href="../../laws/ReservedSpecs/index.html#made_of">made_of</a> s <a href="../../laws/ReservedSpecs/index.html#Segments">Segments</a> = length s.segments
 <a href="../../laws/ReservedSpecs/index.html#made_of">made_of</a> s <a href="../../laws/ReservedSpecs/index.html#DataSegments">DataSegments</a> = length s.data_segments
 <a href="../../laws/ReservedSpecs/index.html#made_of">made_of</a> s <a href="../../laws/ReservedSpecs/index.html#Globals">Globals</a> = length s.globals
 
--- how many slots for a kind there are among those for each
+-- how many slots are reserved for a kind, of the numbers for each
 abbrev pub <b id="slots_for">slots_for</b> : SlotCounts → <a href="../../laws/ReservedSpecs/index.html#SlotKind">SlotKind</a> → ℕ
 <a href="../../laws/ReservedSpecs/index.html#slots_for">slots_for</a> counts <a href="../../laws/ReservedSpecs/index.html#Memories">Memories</a> = counts.memories
 <a href="../../laws/ReservedSpecs/index.html#slots_for">slots_for</a> counts <a href="../../laws/ReservedSpecs/index.html#Segments">Segments</a> = counts.segments
@@ -5658,7 +5654,7 @@ module _ {S : Type 0} (rules : <a href="../../meter/LimiterSpecs/index.html#Rule
 </code></pre>
 "####]
     pub mod ReservedSpecs {}
-    #[doc = r####"Tenants of a pool that have reserved what their calls need: no reply to them says out of memory.
+    #[doc = r####"The calls and replies of all runs of a tenant of a pool, and tenants that have reserved what their calls need: no reply to them says out of memory.
 
 <pre><code>use Rattle.std.specs.Prelude.{◌≡◌, ◌++◌, ◌∷◌, ℕ, List, [], Some, All, nat_eq, if◌then◌else◌}
 use Rattle.wasmi_machine.specs.declared.calls.Call.{Call}
@@ -5685,7 +5681,7 @@ abbrev pub <b id="of_runs">of_runs</b> : {A : Type 0} → (List Call → List Re
 abbrev pub <b id="calls_of">calls_of</b> : ℕ → List <a href="../../budget/LawsSpecs/index.html#PoolTurn">PoolTurn</a> → List Call
 <a href="../../laws/ReservedPoolsSpecs/index.html#calls_of">calls_of</a> = <a href="../../laws/ReservedPoolsSpecs/index.html#of_runs">of_runs</a> (λ calls replies. calls)
 
--- the replies to them
+-- the replies in all runs of the tenant of an index, one after another
 abbrev pub <b id="replies_of">replies_of</b> : ℕ → List <a href="../../budget/LawsSpecs/index.html#PoolTurn">PoolTurn</a> → List Reply
 <a href="../../laws/ReservedPoolsSpecs/index.html#replies_of">replies_of</a> = <a href="../../laws/ReservedPoolsSpecs/index.html#of_runs">of_runs</a> (λ calls replies. replies)
 
@@ -5705,7 +5701,7 @@ abbrev pub <b id="SlotsSufficeForTenants">SlotsSufficeForTenants</b> : Type 0
 </code></pre>
 "####]
     pub mod ReservedPoolsSpecs {}
-    #[doc = r####"Laws of whole runs, and of the meter over them.
+    #[doc = r####"Laws over turns and runs: runs that are cut in two, sizes and totals that never shrink, plain refusals that change nothing, the caps of a quota, what a run keeps of its meter, and the same run with more fuel.
 
 <pre><code>use Rattle.std.specs.Prelude.{◌≡◌, ◌≤◌, ◌++◌, ℕ, List, length, take, drop, map, Option, Some, slice_get, All, ◌+◌, is_some}
 use Rattle.wasmi_meter.specs.declared.limiter.Kind.{Kind}
@@ -5995,7 +5991,7 @@ abbrev pub <b id="RemovedStayRemoved">RemovedStayRemoved</b> : Type 0
 </code></pre>
 "####]
     pub mod LawsSpecs {}
-    #[doc = r####"A pool of tenants: a tenant's rules, what the machines hold together, what a run of one of them does, and what its errors print.
+    #[doc = r####"A pool of tenants: a tenant's rules, what the machines hold together, how the machine at an index becomes another by a run, a reservation or a removal, which calls ask no limiter, and what the pool's errors print.
 
 <pre><code>use Rattle.wasmi_meter.specs.declared.quota.Holdings.{Holdings}
 use Rattle.wasmi_meter.specs.Capped.{<a href="../../meter/CappedSpecs/index.html#amount_of">amount_of</a>, <a href="../../meter/CappedSpecs/index.html#nothing">nothing</a>, <a href="../../meter/CappedSpecs/index.html#amounts_of">amounts_of</a>, <a href="../../meter/CappedSpecs/index.html#Capped">Capped</a>, <a href="../../meter/CappedSpecs/index.html#capped_rules">capped_rules</a>, <a href="../../meter/CappedSpecs/index.html#held_together">held_together</a>}
@@ -6038,7 +6034,7 @@ abbrev pub <b id="capped_tenant">capped_tenant</b> : <a href="../../meter/Capped
 abbrev pub <b id="tenant_rules">tenant_rules</b> : <a href="../../meter/LimiterSpecs/index.html#Rules">Rules</a> Tenant
 <a href="../../budget/PoolSpecs/index.html#tenant_rules">tenant_rules</a> = <a href="../../meter/CappedSpecs/index.html#capped_rules">capped_rules</a> <a href="../../budget/PoolSpecs/index.html#capped_tenant">capped_tenant</a>
 
--- the tenant where the others hold nothing
+-- a tenant of a pool in which the others hold nothing
 abbrev pub <b id="without_others">without_others</b> : Tenant → Tenant
 <a href="../../budget/PoolSpecs/index.html#without_others">without_others</a> tenant = record tenant { others = <a href="../../meter/CappedSpecs/index.html#nothing">nothing</a> }
 
@@ -6222,7 +6218,7 @@ abbrev pub <b id="reserve_error_text">reserve_error_text</b> : ReserveError → 
 </code></pre>
 "####]
     pub mod PoolSpecs {}
-    #[doc = r####"Values that lie at their indices, of which each is given once: what was removed leaves its index empty.
+    #[doc = r####"Values of any type that lie at their indices, of which each is given once: the place of an index, the value at one, and that what was removed leaves its index empty.
 
 <pre><code>use Rattle.std.specs.Prelude.{◌≡◌, ◌≢◌, ◌&lt;◌, ◌≤◌, ℕ, List, ◌∷◌, Option, Some, None, All, true, is_some, length, map, nat_eq, slice_index_or, if◌then◌else◌}
 use Rattle.std.specs.List.{AllPairs, range_with_len}
@@ -6261,7 +6257,7 @@ module _ {X : Type 0} where
 }
 /// Definitions of `wasmi_region`.
 pub mod region {
-    #[doc = r####"What holds of all tables on regions.
+    #[doc = r####"What holds of all tables on regions: what the limiter alone can refuse, and that they are made and grow as other tables.
 
 <pre><code>use Rattle.std.specs.Prelude.{◌≡◌, ◌+◌, ◌≤◌, ◌⊎◌, ℕ, true, Option, Result, Ok}
 use Rattle.wasmi_meter.specs.Attempt.{<a href="../../meter/AttemptSpecs/index.html#MeteredValue">MeteredValue</a>, <a href="../../meter/AttemptSpecs/index.html#optional_due">optional_due</a>, <a href="../../meter/AttemptSpecs/index.html#covers">covers</a>}
@@ -6328,19 +6324,19 @@ abbrev pub <b id="memory_in">memory_in</b> : <a href="../../store/MemorySpecs/in
 abbrev pub <b id="zeroed">zeroed</b> : List ℕ → ℕ → ℕ → List ℕ
 <a href="../../region/MemorySpecs/index.html#zeroed">zeroed</a> region start end = take start region ++ replicate (end - start) 0 ++ drop end region
 
--- what a call makes in a region, by the size that it returns
+-- the memory that a call makes in a region, by the size that it returns
 abbrev pub <b id="made_in">made_in</b> : <a href="../../store/MemorySpecs/index.html#MemoryTypeValue">MemoryTypeValue</a> → List ℕ → Result ℕ MemoryError → Result <a href="../../store/MemorySpecs/index.html#MemoryValue">MemoryValue</a> MemoryError
 <a href="../../region/MemorySpecs/index.html#made_in">made_in</a> ty region (Ok size) = Ok (<a href="../../region/MemorySpecs/index.html#memory_in">memory_in</a> ty region size)
 <a href="../../region/MemorySpecs/index.html#made_in">made_in</a> ty region (Err error) = Err error
 
--- what a call makes in a region whose first bytes are zeros, by the size that it returns
+-- the memory that a call makes in a region whose first bytes are zeros, by the size that it returns
 abbrev pub <b id="made_in_zeros">made_in_zeros</b> : <a href="../../store/MemorySpecs/index.html#MemoryTypeValue">MemoryTypeValue</a> → List ℕ → Result ℕ MemoryError → Result <a href="../../store/MemorySpecs/index.html#MemoryValue">MemoryValue</a> MemoryError
 <a href="../../region/MemorySpecs/index.html#made_in_zeros">made_in_zeros</a> ty region (Ok size) = Ok (<a href="../../region/MemorySpecs/index.html#memory_in">memory_in</a> ty (<a href="../../region/MemorySpecs/index.html#zeroed">zeroed</a> region 0 size) size)
 <a href="../../region/MemorySpecs/index.html#made_in_zeros">made_in_zeros</a> ty region (Err error) = Err error
 </code></pre>
 "####]
     pub mod MemorySpecs {}
-    #[doc = r####"Tables whose elements are the first of a region that lies with their caller.
+    #[doc = r####"Tables whose elements are the first of a region that lies with their caller: what is asked and paid where one is made or grows, and references and items that get the type of its elements.
 
 <pre><code>use Rattle.std.specs.Prelude.{◌≡◌, ◌+◌, ◌&lt;◌, ℕ, List, take, Result, Ok, Err}
 use Rattle.wasmi_typed.specs.declared.typed_ref.TypedRawRef.{TypedRawRef}
@@ -6356,7 +6352,7 @@ use Rattle.wasmi_store.specs.Table.{<a href="../../store/TableSpecs/index.html#T
 abbrev pub <b id="table_in">table_in</b> : <a href="../../store/TableSpecs/index.html#TableTypeValue">TableTypeValue</a> → List ℕ → ℕ → <a href="../../store/TableSpecs/index.html#TableValue">TableValue</a>
 <a href="../../region/TableSpecs/index.html#table_in">table_in</a> ty region size = <a href="../../store/TableSpecs/index.html#table_of">table_of</a> ty (take size region)
 
--- what a call makes in a region, by the size that it returns
+-- the table that a call makes in a region, by the size that it returns
 abbrev pub <b id="made_in">made_in</b> : <a href="../../store/TableSpecs/index.html#TableTypeValue">TableTypeValue</a> → List ℕ → Result ℕ TableError → Result <a href="../../store/TableSpecs/index.html#TableValue">TableValue</a> TableError
 <a href="../../region/TableSpecs/index.html#made_in">made_in</a> ty region (Ok size) = Ok (<a href="../../region/TableSpecs/index.html#table_in">table_in</a> ty region size)
 <a href="../../region/TableSpecs/index.html#made_in">made_in</a> ty region (Err error) = Err error
@@ -6446,7 +6442,7 @@ pub <b id="use">use</b> Rattle.wasmi_machine.specs.declared.slots.Slot.{Slot}
 }
 /// Definitions of `wasmi_operands`.
 pub mod operands {
-    #[doc = r####"The words of a line, the numbers that they write, and what is taken of a line and what is a bad command.
+    #[doc = r####"The words of a line, the numbers and limits that they write, and what is accepted of a line and what is a bad command.
 
 <pre><code>use Rattle.std.specs.Prelude.{ℕ, List, [], filter, length, map, nat_lt, slice_index_or, ◌==◌, ◌≡◌, ◌&lt;◌, ◌^◌, Option, None, Some, codes, Result, Ok, Err, ⊤}
 use Rattle.std.specs.List.{AllZip, slice_split}
@@ -6502,7 +6498,7 @@ abbrev pub <b id="AcceptsWithMemory">AcceptsWithMemory</b> : {A : Type 0} → Re
 </code></pre>
 "####]
     pub mod LineWordsSpecs {}
-    #[doc = r####"The words of types, references, answers and instructions.
+    #[doc = r####"Lists of names and what a name stands for; the words of types, mutability, references, a limiter's answers, and instructions, also those on a lane; and the words of the lanes of a shuffle.
 
 <pre><code>use Rattle.std.specs.Prelude.{◌≡◌, ℕ, List, [], ◌∷◌, Option, None, Some, cond, bytes_eq, codes, length}
 use Rattle.wasmi_types.specs.declared.index_ty.IndexType.{IndexType}
@@ -6535,7 +6531,7 @@ unfoldable pub <b id="IsNamed">IsNamed</b> : {A : Type 0} → List (<a href="../
 unfoldable pub <b id="IsName">IsName</b> : {A : Type 0} → (A → List ℕ) → List ℕ → A → Type 0
 <a href="../../operands/NamesSpecs/index.html#IsName">IsName</a> name_of word op = word ≡ name_of op
 
--- the bits of an address or of an index
+-- the word of an address type: the bits of an address or of an index
 abbrev pub <b id="width_word">width_word</b> : IndexType → List ℕ
 <a href="../../operands/NamesSpecs/index.html#width_word">width_word</a> index.I32 = codes "32"
 <a href="../../operands/NamesSpecs/index.html#width_word">width_word</a> index.I64 = codes "64"
@@ -6545,7 +6541,7 @@ abbrev pub <b id="reference_word">reference_word</b> : RefType → List ℕ
 <a href="../../operands/NamesSpecs/index.html#reference_word">reference_word</a> Func = codes "func"
 <a href="../../operands/NamesSpecs/index.html#reference_word">reference_word</a> Extern = codes "extern"
 
--- whether a global can be written
+-- the word of a mutability: whether a global can be written
 abbrev pub <b id="mutability_word">mutability_word</b> : Mutability → List ℕ
 <a href="../../operands/NamesSpecs/index.html#mutability_word">mutability_word</a> Const = codes "const"
 <a href="../../operands/NamesSpecs/index.html#mutability_word">mutability_word</a> Var = codes "var"
@@ -6564,14 +6560,14 @@ abbrev pub <b id="value_word">value_word</b> : ValType → List ℕ
 <a href="../../operands/NamesSpecs/index.html#value_word">value_word</a> FuncRef = codes "funcref"
 <a href="../../operands/NamesSpecs/index.html#value_word">value_word</a> ExternRef = codes "externref"
 
--- the word that stands for an answer
+-- the word that stands for a limiter&#x27;s answer
 abbrev pub <b id="answer_text">answer_text</b> : LimiterAnswer → List ℕ
 <a href="../../operands/NamesSpecs/index.html#answer_text">answer_text</a> Permit = codes "permit"
 <a href="../../operands/NamesSpecs/index.html#answer_text">answer_text</a> Deny = codes "deny"
 <a href="../../operands/NamesSpecs/index.html#answer_text">answer_text</a> Error = codes "error"
 <a href="../../operands/NamesSpecs/index.html#answer_text">answer_text</a> Complain = codes "complain"
 
--- the word stands for this answer
+-- the word stands for this answer of a limiter
 abbrev pub <b id="WritesAnswer">WritesAnswer</b> : List ℕ → LimiterAnswer → Type 0
 <a href="../../operands/NamesSpecs/index.html#WritesAnswer">WritesAnswer</a> word answer = word ≡ <a href="../../operands/NamesSpecs/index.html#answer_text">answer_text</a> answer
 
@@ -6590,7 +6586,7 @@ pub record <b id="WritesLanes">WritesLanes</b> (words : <a href="../../operands/
 }
 /// Definitions of `wasmi_grammar`.
 pub mod grammar {
-    #[doc = r####"What the words of a command mean, and those of a memory type or a table type.
+    #[doc = r####"What the words of a command mean, the limits and the type of a memory or a table that they name, and the words that a command begins with.
 
 <pre><code>use Rattle.std.specs.Prelude.{◌≡◌, ◌⊎◌, ℕ, List, Option, ◌≤◌, length, codes, drop}
 use Rattle.wasmi_types.specs.declared.index_ty.IndexType.{IndexType}
@@ -6827,7 +6823,7 @@ abbrev pub <b id="IsVectorWord">IsVectorWord</b> : List ℕ → Type 0
 </code></pre>
 "####]
     pub mod CommandsSpecs {}
-    #[doc = r####"What the words of a header line mean, and what the header lines ask for.
+    #[doc = r####"What the words of a header line or an \`as\` line mean, and what the header lines ask for: a meter, tenants, a region, slots, and the machine that a script starts with.
 
 <pre><code>use Rattle.std.specs.Prelude.{◌≡◌, ◌≤◌, ℕ, Option, List, Some, None, length, codes, replicate}
 use Rattle.std.specs.Option.{option_map, option_map_or}
@@ -6889,7 +6885,7 @@ abbrev pub <b id="tenants_of">tenants_of</b> : Option LimiterLine → ℕ
 <a href="../../grammar/HeadersSpecs/index.html#tenants_of">tenants_of</a> (Some (Tenants line)) = line.count
 <a href="../../grammar/HeadersSpecs/index.html#tenants_of">tenants_of</a> limiter = 0
 
--- a pool has no region
+-- the header lines ask for what goes together: a script with tenants has no region
 abbrev pub <b id="AreApart">AreApart</b> : Option LimiterLine → Option RegionLine → Type 0
 <a href="../../grammar/HeadersSpecs/index.html#AreApart">AreApart</a> (Some (Tenants line)) (Some region) = ⊥
 <a href="../../grammar/HeadersSpecs/index.html#AreApart">AreApart</a> limiter region = Unit {0}
@@ -6926,7 +6922,7 @@ abbrev pub <b id="start_of">start_of</b> : Header → <a href="../../machine/Sta
 </code></pre>
 "####]
     pub mod HeadersSpecs {}
-    #[doc = r####"What the lines of a script add to it, its calls by parts, and why a text is not parsed.
+    #[doc = r####"What a line says and adds to a script, the script that the lines of a text lead to, with the list of all its calls, and the bad lines by which a text isn't parsed.
 
 <pre><code>use Rattle.std.specs.Prelude.{◌≡◌, ◌&lt;◌, ℕ, ◌⊎◌, List, [], ◌∷◌, ◌++◌, Some, None, ◌==◌, codes, drop, map, ◌+◌, ⊤, length}
 use Rattle.std.specs.List.{slice_split}
@@ -7052,7 +7048,7 @@ abbrev pub <b id="IsParseError">IsParseError</b> : List ℕ → ParseError → T
 </code></pre>
 "####]
     pub mod LinesSpecs {}
-    #[doc = r####"What a script says, however its lists are held.
+    #[doc = r####"What a script says, however its lists are held, and the laws of texts: the script that a text writes says one thing, and a text has one first bad line or none.
 
 <pre><code>use Rattle.std.specs.Prelude.{◌≡◌, ℕ, List, Option, map}
 use Rattle.std.specs.Option.{option_map}
@@ -7141,7 +7137,7 @@ abbrev pub <b id="WrittenTextsHaveNoBadLine">WrittenTextsHaveNoBadLine</b> : Typ
 </code></pre>
 "####]
     pub mod MeaningsSpecs {}
-    #[doc = r####"The calls of a script by parts.
+    #[doc = r####"The calls of a script by parts, which \`as\` lines separate, and the places of the parts in the list of all calls.
 
 <pre><code>use Rattle.std.specs.Prelude.{◌≡◌, ◌≤◌, ◌-◌, ℕ, List, [], ◌∷◌, ◌++◌, take, drop, length, flat_map}
 use Rattle.wasmi_machine.specs.declared.calls.Call.{Call}
@@ -7185,7 +7181,7 @@ pub record <b id="AreCut">AreCut</b> (spans : List Span) (start : ℕ) (<a href=
 }
 /// Definitions of `wasmi_script`.
 pub mod script {
-    #[doc = r####"Outcomes that the bytes of a reader decide, and runs under lists in which no answer lets a notice be refused.
+    #[doc = r####"Outcomes that the bytes of a reader decide, where memory isn't refused, and runs under lists in which no answer lets a notice be refused.
 
 <pre><code>use Rattle.std.specs.Prelude.{◌≡◌, ⊤, ℕ, List, All, Option, Some, Ok, Err}
 use Rattle.wasmi_machine.specs.Determinism.{<a href="../../machine/DeterminismSpecs/index.html#IsNotOutOfMemory">IsNotOutOfMemory</a>, <a href="../../machine/DeterminismSpecs/index.html#StaysAccepting">StaysAccepting</a>}
@@ -7230,12 +7226,12 @@ pub record <b id="NeverComplains">NeverComplains</b> (list : <a href="../../mete
   pub <b id="ahead">ahead</b> : All (λ answer. <a href="../../meter/AnswerListSpecs/index.html#notice_answer_by">notice_answer_by</a> answer ≡ Ok tt) list.ahead
   pub <b id="last">last</b> : <a href="../../meter/AnswerListSpecs/index.html#notice_answer_by">notice_answer_by</a> list.last ≡ Ok tt
 
--- such a limiter accepts each notice, and stays one
+-- a limiter that never complains accepts each notice, and stays one
 abbrev pub <b id="QuietListsAcceptNotices">QuietListsAcceptNotices</b> : Type 0
 <a href="../../script/DecidedSpecs/index.html#QuietListsAcceptNotices">QuietListsAcceptNotices</a> = <a href="../../machine/DeterminismSpecs/index.html#StaysAccepting">StaysAccepting</a> <a href="../../meter/AnswerListSpecs/index.html#answer_list_rules">answer_list_rules</a> <a href="../../script/DecidedSpecs/index.html#NeverComplains">NeverComplains</a>
 
--- two runs of one list of calls from one machine under such a limiter, in which no reply says out of memory, have the
--- same replies and end in one world
+-- two runs of one list of calls from one machine under a limiter that never complains, in which no reply says out of
+-- memory, have the same replies and end in one world
 abbrev pub <b id="QuietListsDecideReplies">QuietListsDecideReplies</b> : Type 0
 <a href="../../script/DecidedSpecs/index.html#QuietListsDecideReplies">QuietListsDecideReplies</a> = (calls : List Call) (s : <a href="../../machine/StateSpecs/index.html#State">State</a>) (list : <a href="../../meter/AnswerListSpecs/index.html#AnswersAhead">AnswersAhead</a>) → <a href="../../script/DecidedSpecs/index.html#NeverComplains">NeverComplains</a> list
     → (replies replies&#x27; : List Reply) (v v&#x27; : <a href="../../machine/StateSpecs/index.html#World">World</a> (Option <a href="../../meter/AnswerListSpecs/index.html#AnswersAhead">AnswersAhead</a>))
@@ -7246,7 +7242,7 @@ abbrev pub <b id="QuietListsDecideReplies">QuietListsDecideReplies</b> : Type 0
 </code></pre>
 "####]
     pub mod DecidedSpecs {}
-    #[doc = r####"What a replay prints, why a script isn't run, and how a replay ends.
+    #[doc = r####"The outcome of a replay: the whole text that is printed of it, with what is held, the errors of reading, and the status by which a replay ends.
 
 <pre><code>use Rattle.std.specs.Prelude.{ℕ, Result, Ok, Err, ◌&lt;◌, ⊤, List, Option, None, Some, IfSome, length, ◌≡◌, ◌≤◌, ◌⊎◌, [], ◌++◌, codes, flat_map}
 use Rattle.wasmi_script.specs.declared.error.ReplayError.{ReplayError}
@@ -7366,13 +7362,12 @@ pub record <b id="Replays">Replays</b> (IsOutcome : <a href="../../script/Outcom
 </code></pre>
 "####]
     pub mod OutcomesSpecs {}
-    #[doc = r####"What of a text reaches a writer, or the front of bytes.
+    #[doc = r####"A text as a line, and what of a text reaches a writer by a printer, or the front of bytes.
 
-<pre><code>use Rattle.std.specs.Prelude.{◌≡◌, ◌&lt;◌, ℕ, List, ◌++◌, codes, length, IfSome, OnOk, OnErr, Result, Ok, Err, Option, ◌-◌, ◌^◌, [], take, drop, min, None, Some}
+<pre><code>use Rattle.std.specs.Prelude.{◌≡◌, ◌&lt;◌, ℕ, List, ◌++◌, codes, length, IfSome, OnOk, OnErr, Result, Ok, Err, Option, ◌-◌, ◌^◌, take, drop, min}
 use Rattle.std.specs.Io.KnownBytes.{Appends}
 use Rattle.wasmi_script.specs.declared.printing.Printer.{Printer}
 use Rattle.wasmi_script.specs.declared.printing.TheConstants.{LONGEST}
-use Rattle.std.specs.Fmt.{decimal}
 
 -- a text as a line
 abbrev pub <b id="line">line</b> : List ℕ → List ℕ
@@ -7447,15 +7442,10 @@ pub record <b id="HasFront">HasFront</b> (text start bytes : List ℕ) (written 
 abbrev pub <b id="AddsToFront">AddsToFront</b> : List ℕ → List ℕ → ℕ → List ℕ → ℕ → Type 0
 <a href="../../script/PrintingSpecs/index.html#AddsToFront">AddsToFront</a> text bytes written bytes&#x27; written&#x27; = (before start : List ℕ) → <a href="../../script/PrintingSpecs/index.html#HasFront">HasFront</a> before start bytes written
     → <a href="../../script/PrintingSpecs/index.html#HasFront">HasFront</a> (before ++ text) start bytes&#x27; written&#x27;
-
--- a number, if there is one, after what stands before it
-abbrev pub <b id="number_text">number_text</b> : List ℕ → Option ℕ → List ℕ
-<a href="../../script/PrintingSpecs/index.html#number_text">number_text</a> before None = []
-<a href="../../script/PrintingSpecs/index.html#number_text">number_text</a> before (Some number) = before ++ decimal number
 </code></pre>
 "####]
     pub mod PrintingSpecs {}
-    #[doc = r####"What the run of a script returns, as its header lines ask for it.
+    #[doc = r####"What the run of a script returns, as its header lines ask for it: on a new machine under a new limiter, or by parts on a new pool.
 
 <pre><code>use Rattle.std.specs.Prelude.{◌≡◌, List, [], ◌∷◌, ◌++◌, Option, None, Some, replicate}
 use Rattle.wasmi_meter.specs.Limiter.{<a href="../../meter/LimiterSpecs/index.html#optional_rules">optional_rules</a>, <a href="../../meter/LimiterSpecs/index.html#unlimited_rules">unlimited_rules</a>}
@@ -7551,7 +7541,7 @@ abbrev pub <b id="IsReplayOf">IsReplayOf</b> : Script → <a href="../../budget/
 </code></pre>
 "####]
     pub mod ScriptRunsSpecs {}
-    #[doc = r####"What the program prints of a reply, as a wording or whole, and why it runs no script.
+    #[doc = r####"The text of a reply, of its head and of its bytes, the text of a wording and its numbers, and the text of an error.
 
 <pre><code>use Rattle.std.specs.Prelude.{ℕ, List, [], ◌++◌, codes, flat_map, Option, None, Some}
 use Rattle.std.specs.Fmt.{decimal}
@@ -7567,7 +7557,6 @@ use Rattle.wasmi_script.specs.declared.error.ReplayError.{ReplayError}
 use Rattle.wasmi_script.specs.declared.error.ReplayError.TheVariants.{Parse, TooLong, ReadFault}
 use Rattle.wasmi_grammar.specs.declared.error.ParseError.TheVariants.{BadCommand, OutOfMemory}
 use Rattle.wasmi_operands.specs.Names.{<a href="../../operands/NamesSpecs/index.html#reference_word">reference_word</a>}
-use Rattle.wasmi_script.specs.Printing.{<a href="../../script/PrintingSpecs/index.html#number_text">number_text</a>}
 use Rattle.wasmi_script.specs.declared.printing.Wording.{Wording}
 use Rattle.wasmi_machine.specs.declared.calls.Reply.TheVariants as reply
 
@@ -7624,10 +7613,15 @@ abbrev pub <b id="error_text">error_text</b> : ReplayError → List ℕ
 <a href="../../script/TextsSpecs/index.html#error_text">error_text</a> TooLong = codes "script too long"
 <a href="../../script/TextsSpecs/index.html#error_text">error_text</a> ReadFault = codes "read fault"
 
+-- the text of a number of a wording, if there is one, after what stands before it
+abbrev pub <b id="number_text">number_text</b> : List ℕ → Option ℕ → List ℕ
+<a href="../../script/TextsSpecs/index.html#number_text">number_text</a> before None = []
+<a href="../../script/TextsSpecs/index.html#number_text">number_text</a> before (Some number) = before ++ decimal number
+
 -- the words of a wording, and then its numbers, the second after a space
 abbrev pub <b id="wording_text">wording_text</b> : Wording → List ℕ
 <a href="../../script/TextsSpecs/index.html#wording_text">wording_text</a> wording =
-    wording.start.now ++ (wording.words.now ++ (<a href="../../script/PrintingSpecs/index.html#number_text">number_text</a> [] wording.first ++ <a href="../../script/PrintingSpecs/index.html#number_text">number_text</a> (codes " ") wording.second))
+    wording.start.now ++ (wording.words.now ++ (<a href="../../script/TextsSpecs/index.html#number_text">number_text</a> [] wording.first ++ <a href="../../script/TextsSpecs/index.html#number_text">number_text</a> (codes " ") wording.second))
 </code></pre>
 "####]
     pub mod TextsSpecs {}

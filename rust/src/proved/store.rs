@@ -1,7 +1,8 @@
-//! Linear memories and tables: their types, what they contain, and how they are made and grow.
+//! Linear memories and tables: their types, what they contain, and how they are made and grow, with
+//! a meter or without one.
 pub mod bulk {
-    //! What is written over a range of a memory's bytes or of a table's elements, wherever these lie.
-    //! The bounds are tested first, then the fuel, also for no item. A write that is refused writes and
+    //! Fills, copies and initializations over a range of a memory's bytes or of a table's elements, for
+    //! fuel. The bounds are tested first, then the fuel, also for no item. A write that is refused writes and
     //! takes nothing. A bound is cast after the test alone, when it is no greater than a length.
     //!
     //! Own: upstream's crate has no bulk instructions for memories. They are tested and charged as its
@@ -536,10 +537,12 @@ pub mod laws {
     pub fn table_subtyping_is_transitive() {}
 }
 mod memory {
-    //! Linear memories.
+    //! Linear memories: how one is made and grows, its type and size, and how its bytes are read,
+    //! written, filled, copied and initialized.
 
     mod buffer {
-        //! The bytes of a linear memory: its own, or the front of a borrowed region.
+        //! The bytes of a linear memory: its own, or the front of a borrowed region; how they are lent and
+        //! grow.
 
         use crate::proved::meter::MemoryError;
         use crate::proved::store::range::fill_range;
@@ -837,7 +840,8 @@ mod memory {
         }
     }
     mod ty {
-        //! The types of linear memories.
+        //! The types of linear memories: page sizes, limits in pages and in bytes, subtypes, and the
+        //! builder of a type.
 
         use crate::proved::meter::MemoryError;
         use crate::proved::types::IndexType;
@@ -1921,8 +1925,8 @@ mod memory {
     }
 }
 pub mod range {
-    //! Ranges of lists: whether one lies within its list, and how one is read, written over, and copied
-    //! over another.
+    //! Ranges of a memory's bytes or of other lists, without a charge: whether one lies within its list,
+    //! and how one is read, written over, filled, and copied over another, a part at a time.
 
     use crate::proved::meter::MemoryError;
     use crate::proved::raw::RawRef;
@@ -2117,11 +2121,13 @@ pub mod range {
     }
 }
 mod table {
-    //! Tables.
+    //! Tables: how one is made, grows and is reserved for, its type and size, and how its elements are
+    //! read, set, filled, copied and initialized.
 
     use crate::rattle::Vec;
     mod element {
-        //! Element segments: references that a table can be initialized from.
+        //! Element segments: references that a table can be initialized from, how they are read of an
+        //! iterator, and why one isn't made.
 
         use crate::proved::raw::RawRef;
         use crate::proved::types::RefType;
@@ -2413,7 +2419,7 @@ mod table {
         }
     }
     mod ty {
-        //! The types of tables.
+        //! The types of tables: the type of the elements, limits in elements, and subtypes.
 
         use crate::proved::meter::TableError;
         use crate::proved::store::memory::is_no_looser;
@@ -3044,7 +3050,7 @@ mod table {
         /// Definitions: [`KeepsLoan`](crate::specs::meter::LimiterSpecs#KeepsLoan), [`GrowsTableRaw`](crate::specs::store::TableSpecs#GrowsTableRaw), [`optional_rules`](crate::specs::meter::LimiterSpecs#optional_rules), [`metered_value`](crate::specs::store::GrowthSpecs#metered_value), [`lent_limiter`](crate::specs::meter::LimiterSpecs#lent_limiter).
         ///
         /// `L` is the type of the limiter, a [`ResourceLimiter`](crate::machine::ResourceLimiter#contract).
-        #[inline]
+        #[inline(always)]
         fn grow_raw_metered<L: ResourceLimiter>(
             &mut self,
             delta: u64,

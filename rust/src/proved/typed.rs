@@ -1,6 +1,6 @@
 //! Raw values with their types, shift amounts, and global variables.
 mod global {
-    //! Global variables.
+    //! Global variables, their types, and the errors of writing one.
 
     use crate::proved::raw::RawVal;
     use crate::proved::typed::typed::TypedRawVal;
@@ -353,6 +353,7 @@ mod shift_amount {
         fn into_shift_amount(source: Self::ShiftSource) -> Option<ShiftAmount>;
     }
 
+    // The amount of a shift, or `None` where it is 0.
     /// # Contract
     ///
     /// ```text
@@ -518,7 +519,7 @@ mod shift_amount {
     }
 }
 mod typed {
-    //! Raw values with their types.
+    //! Raw values with their types, and of which value type the values of a Rust type are.
 
     use crate::proved::raw::{F32, F64, RawVal, ReadAs, V128};
     use crate::proved::typed::shift_amount::ShiftAmount;
@@ -869,7 +870,7 @@ mod typed {
     }
 }
 mod typed_ref {
-    //! Raw references with their types.
+    //! Raw references with their types, and the error where a typed raw value is none.
 
     use crate::proved::raw::{RawRef, RawVal};
     use crate::proved::typed::typed::TypedRawVal;

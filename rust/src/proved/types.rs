@@ -1,6 +1,7 @@
-//! The value types, traps and function types of WebAssembly.
+//! The value types, traps, function types and address types of WebAssembly.
 mod func_type {
-    //! Function types, and the errors of making one.
+    //! Function types: how one is read of two iterators, kept, compared and hashed; the errors of
+    //! making one.
 
     use crate::proved::types::ValType;
     use crate::rattle::alloc::AllocError;
@@ -609,7 +610,7 @@ pub mod hint {
     }
 }
 mod index_ty {
-    //! The types of addresses and of table indices.
+    //! Address types: the types of the addresses of a linear memory and of the indices of a table.
 
     use crate::proved::types::ValType;
 
@@ -694,7 +695,7 @@ mod index_ty {
     }
 }
 mod trap {
-    //! Traps: why a call ended early.
+    //! Traps: why a call ended early. Trap codes with their numbers and texts, and errors of the host.
 
     use ::alloc::string::String;
     use core::error::Error;
@@ -1030,7 +1031,7 @@ mod trap {
     }
 }
 mod value {
-    //! Value types and reference types.
+    //! Value types and reference types, and the conversion between them.
 
     /// The type of a value. Ordered as listed.
     ///

@@ -2,8 +2,8 @@
 //! ones.
 #[cfg(any(doc, test))]
 pub mod laws {
-    //! Laws on lanes that are made of lanes of another width, on tests of lanes and on the bits that
-    //! they give.
+    //! Laws on lanes that are made of lanes of another width and on wrapped numbers, on tests of lanes
+    //! and on the bits that they give.
 
     /// Lane i of a vector that is made of half of the narrow lanes is the row of the narrow lanes
     /// `first + i`, wrapped to the wide width. `A` is the integer as which a narrow lane is read.
@@ -158,11 +158,13 @@ pub mod simd {
     //! `i16x8.extend_low_i8x16_s`, which makes 8 lanes of 16 bits of 16 lanes of 8 bits; lane 0 is the
     //! lowest. Core specification: vector instructions; what each gives stands in
     //! `specs/WideningTable.antt`, and for the shifts in `VectorTable` of `wasmi_lanewise`. Upstream:
-    //! `wasmi_core::simd`.
+    //! `wasmi_core::simd`. Private functions here make an instruction for each lane type; how such a
+    //! type takes its lanes at twice their width is in `wide`.
 
     mod wide {
-        //! Lanes at twice their width, as `core::simd` vectors: those of half a vector, every second one of a
-        //! vector, and their products. LLVM takes plain lanes out one by one.
+        //! Lanes at twice their width, as `core::simd` vectors. `ExtendedLane` takes those of half a vector
+        //! and makes their products, `PairedLane` takes every second one of a vector and makes their sums.
+        //! LLVM takes plain lanes out one by one.
 
         use crate::proved::lanes::{SimdLane, bytes_of};
         use crate::proved::raw::V128;
@@ -819,6 +821,7 @@ pub mod simd {
         u32::vector_of(items.shuffle(u32x4::splat(0), [0, 1, 4, 5]))
     }
 
+    // The instructions `extend_low_*_s`, for each lane type.
     /// # Contract
     ///
     /// ```text
@@ -833,6 +836,7 @@ pub mod simd {
         T::Wide::vector_of(T::low_signed(v))
     }
 
+    // The instructions `extend_low_*_u`, for each lane type.
     /// # Contract
     ///
     /// ```text
@@ -847,6 +851,7 @@ pub mod simd {
         T::Wide::vector_of(T::low(v))
     }
 
+    // The instructions `extend_high_*_s`, for each lane type.
     /// # Contract
     ///
     /// ```text
@@ -861,6 +866,7 @@ pub mod simd {
         T::Wide::vector_of(T::high_signed(v))
     }
 
+    // The instructions `extend_high_*_u`, for each lane type.
     /// # Contract
     ///
     /// ```text
@@ -937,7 +943,7 @@ pub mod simd {
         from_low_high::<I32x4, I16x8, _>(low, high, clamped_u16)
     }
 
-    // Applies `f` to the lanes of `low`, then to those of `high`.
+    // The instructions `narrow_*`: applies `f` to the lanes of `low`, then to those of `high`.
     /// # Contract
     ///
     /// ```text
@@ -1232,6 +1238,7 @@ pub mod simd {
         dots::<u8>(lhs, rhs)
     }
 
+    // The instructions `extmul_low_*_s`, for each lane type.
     /// # Contract
     ///
     /// ```text
@@ -1246,6 +1253,7 @@ pub mod simd {
         T::Wide::vector_of(T::products(T::low_signed(lhs), T::low_signed(rhs)))
     }
 
+    // The instructions `extmul_low_*_u`, for each lane type.
     /// # Contract
     ///
     /// ```text
@@ -1260,6 +1268,7 @@ pub mod simd {
         T::Wide::vector_of(T::products(T::low(lhs), T::low(rhs)))
     }
 
+    // The instructions `extmul_high_*_s`, for each lane type.
     /// # Contract
     ///
     /// ```text
@@ -1274,6 +1283,7 @@ pub mod simd {
         T::Wide::vector_of(T::products(T::high_signed(lhs), T::high_signed(rhs)))
     }
 
+    // The instructions `extmul_high_*_u`, for each lane type.
     /// # Contract
     ///
     /// ```text
@@ -1288,6 +1298,7 @@ pub mod simd {
         T::Wide::vector_of(T::products(T::high(lhs), T::high(rhs)))
     }
 
+    // The instructions `extadd_pairwise_*_s`, for each lane type.
     /// # Contract
     ///
     /// ```text
@@ -1302,6 +1313,7 @@ pub mod simd {
         T::Wide::vector_of(T::sums(T::even_signed(v), T::odd_signed(v)))
     }
 
+    // The instructions `extadd_pairwise_*_u`, for each lane type.
     /// # Contract
     ///
     /// ```text
@@ -1323,6 +1335,7 @@ pub mod simd {
         T::Wide::vector_of(T::sums(T::even(v), T::odd(v)))
     }
 
+    // The instructions `dot_*_s`, for each lane type.
     /// # Contract
     ///
     /// ```text
@@ -1685,6 +1698,7 @@ pub mod simd {
         (low >> 63) as u32 | (((high >> 63) as u32) << 1)
     }
 
+    // The instructions `all_true`, for each lane type.
     /// # Contract
     ///
     /// ```text

@@ -1,5 +1,5 @@
--- What a call does to a machine with its limiter, what lines of calls do, what a machine has and reserves in all, and
--- what holds of all calls and runs.
+-- What a call does to a machine with its limiter, what lines of calls do, what a machine has and reserves in all, the
+-- loads, stores and instructions on two vectors that have a number, and what holds of all calls and runs.
 use Rattle.std.specs.Prelude.{◌≡◌, ◌⊎◌, ◌≤◌, ◌<◌, ◌-◌, ℕ, List, length, map, Option, Some, None, MatchOption, Vec, ◌≢◌, ◌^◌, nat_lt, if◌then◌else◌, ◌++◌, ◌∷◌, []}
 use Rattle.std.specs.Global.{Global}
 use Rattle.std.specs.Option.{option_and_then, option_map}
@@ -47,7 +47,7 @@ use Rattle.wasmi_c.specs.declared.instruction.binary.Binary.TheVariants as two
 use Rattle.wasmi_c.specs.declared.instruction.load.Load.TheVariants as load
 use Rattle.wasmi_c.specs.declared.instruction.store.Store.TheVariants as store
 
--- a machine with its limiter, as the laws of machines see it
+-- a machine with its limiter, which calls and runs change, as the laws of machines see it
 abbrev pub world_of : MachineValue → World (Option AnyLimiter)
 world_of machine = world machine.state (Some machine.limiter)
 
@@ -87,7 +87,7 @@ abbrev pub RepliesToList : List CallStruct → List ReplyStruct → MachineValue
     → Type 0
 RepliesToList calls old machine left machine' = RepliesInTurn RepliesToStruct calls machine old left machine'
 
--- the slots that room is for
+-- the slots of each kind that a machine reserves for this room
 abbrev pub slots_of : Room → SlotCounts
 slots_of room = record {
   memories = room.memories;
@@ -118,13 +118,15 @@ abbrev pub ReservesElementsByStatus : ℕ → ℕ → MachineValue → ℕ → M
 ReservesElementsByStatus table elements machine =
     ReservesElementsIn machine (λ state. record machine { state = state }) table elements machine.state
 
--- what a handle holds has become another; where it holds nothing, the status says so, and it holds nothing afterwards
+-- what a call does to what a handle holds, which has become another; where it holds nothing, the status says so, and
+-- it holds nothing afterwards
 abbrev pub ActsOnHeld : {R V : Type 0} → R → Option V → R → Option V → (V → V → Type 0) → Type 0
 ActsOnHeld refusal None result held' Acts = (result ≡ refusal) × (held' ≡ None)
 ActsOnHeld {V = V} refusal (Some value) result held' Acts =
     (value' : V) × Acts value value' × (held' ≡ Some value')
 
--- the machine of a handle, if it has one, acts and gives a result, else that is the refusal; it stays within its caps
+-- what a call does to the machine of a handle: if there is one, it acts and gives a result, else that is the refusal;
+-- it stays within its caps
 pub record OnHeld {R : Type 0} (Acts : MachineValue → R → MachineValue → Type 0) (refusal : R)
     (held : Option MachineValue) (result : R) (held' : Option MachineValue) : Type 0 where
   pub step : ActsOnHeld refusal held result held' (λ machine machine'. Acts machine result machine')
@@ -223,8 +225,8 @@ item_store number index ptr offset value =
 abbrev pub vector_binary : ℕ → ℕ → ℕ → ℕ → Option Call
 vector_binary number dst a b = option_map (λ op. calls.Binary op dst a b) (vector_binary_numbered number)
 
--- a word of the caller's after a reply: the low word of a value, a number, or the fuel that a growth lacks; else the
--- word as it was
+-- what a call on a machine leaves in a word of the caller's: the low word of a value, a number, or the fuel that a
+-- growth lacks; else the word as it was
 abbrev pub word_after : Reply → ℕ → ℕ
 word_after (replies.Value value) word = value.lo
 word_after (replies.Number number) word = number
@@ -243,13 +245,15 @@ RepliesInStatus called machine status machine' = MatchOption called
     ((status ≡ NO_CALL) × (machine' ≡ machine))
     (λ one. (full : Reply) × MachineReplies one machine full machine' × (status ≡ status_of full))
 
--- the reply that has the length of a text, or says that the text has 2 ^ 64 - 1 bytes or more
+-- the reply to lines of calls, which has the length of the text of their replies, or says that the text has
+-- 2 ^ 64 - 1 bytes or more
 abbrev pub length_reply : ℕ → ReplyStruct
 length_reply count = if nat_lt count (2 ^ 64 - 1)
     then with_number DONE count
     else with_number TEXT_CUT (2 ^ 64 - 1)
 
--- as much of a text as fits stands at the front of bytes, those after it stay, and the reply has the text's length
+-- what lines of calls write for the caller: as much of the text of their replies as fits stands at the front of
+-- bytes, those after it stay, and the reply has the text's length
 pub record WritesOut (text old : List ℕ) (reply : ReplyStruct) (new : List ℕ) : Type 0 where
   pub front : FillsFront text old new
   pub length_told : reply ≡ length_reply (length text)

@@ -35,7 +35,7 @@ only status = with_number status 0
 abbrev pub with_value : RawVal → ReplyStruct
 with_value value = record (only DONE) { value = value }
 
--- the number of a reference type among the value types
+-- the number of a reference type in a reply as a struct, which is its number among the value types
 abbrev pub reference_number : RefType → ℕ
 reference_number Func = 5
 reference_number Extern = 6
@@ -52,7 +52,7 @@ memory_fuel error = memory_fuel_needed error 0
 abbrev pub table_fuel : TableError → ℕ
 table_fuel error = table_fuel_needed error 0
 
--- the fuel that a refused call on the meter needs, else 0
+-- the number in the reply to a refused call on the meter: the fuel that it needs, else 0
 abbrev pub meter_fuel : FuelError → ℕ
 meter_fuel (fuel.OutOfFuel required) = required
 meter_fuel error = 0

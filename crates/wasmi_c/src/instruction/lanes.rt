@@ -1,4 +1,4 @@
-//! The instructions on one lane.
+//! The instructions on one lane, the loads and stores of one among them.
 ghost use Rattle.std.specs.Prelude.{◌≡◌, ◌+◌, length};
 ghost use Rattle.wasmi_c.specs.Instruction.{Leaves, each_of, each_of_two, extract_result, extract_results, extracted_value, extraction_of, lane_load_of, lane_store_of, load_lane_result, replace_result, replace_results, replaced_value, replacement_of, store_lane_result};
 

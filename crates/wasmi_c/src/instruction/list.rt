@@ -1,4 +1,4 @@
-//! Lists of instructions.
+//! The instruction at a place of a list, which is its number.
 ghost use Rattle.std.specs.Prelude.{◌≡◌, slice_get};
 ghost use Rattle.wasmi_c.specs.Instruction.{op_numbered};
 

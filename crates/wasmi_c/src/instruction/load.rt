@@ -1,4 +1,4 @@
-//! The loads.
+//! The loads by their numbers, but for those of one lane.
 ghost use Rattle.std.specs.Prelude.{◌≡◌, ◌+◌, length};
 ghost use Rattle.wasmi_c.specs.Instruction.{Leaves, each_of, load_numbered, load_outcome, load_result, load_results, loaded_value};
 

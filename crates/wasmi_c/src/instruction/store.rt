@@ -1,4 +1,4 @@
-//! The stores.
+//! The stores by their numbers, but for those of one lane.
 ghost use Rattle.std.specs.Prelude.{◌≡◌, ◌+◌};
 ghost use Rattle.wasmi_access.specs.LoadStore.{IsStore};
 ghost use Rattle.wasmi_c.specs.Instruction.{store_numbered, store_result, stored_value, Leaves};

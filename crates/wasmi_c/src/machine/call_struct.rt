@@ -1,4 +1,5 @@
-//! Calls as structs of plain numbers, and the calls that these stand for.
+//! Calls as structs of plain numbers, the calls that these stand for, and the loads, the stores and
+//! the instructions on two vectors that have a number.
 ghost use Rattle.std.specs.Prelude.{◌≡◌};
 ghost use Rattle.wasmi_c.specs.Machine.CallStructs.{binary_call, byte_of, call_of, load_call, memory_type_in, mutability_of, range_call, store_call, table_call, table_type_in, typed_reference_of, unary_call, value_call};
 ghost use Rattle.wasmi_c.specs.Machine.Calls.{item_load_numbered, item_store_numbered, vector_binary_numbered};

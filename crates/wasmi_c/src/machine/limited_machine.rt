@@ -1,4 +1,5 @@
-//! A machine with the limiter that it asks.
+//! A machine with the limiter that it asks: its calls, its lists and lines of calls, and what these
+//! leave with the caller.
 ghost use Rattle.std.specs.Prelude.{◌≡◌, Some, IfOk, MatchResult, OnErr};
 ghost use Rattle.wasmi_meter.specs.AnyLimiter.{caps_of};
 ghost use Rattle.wasmi_machine.specs.declared.calls.Call.TheVariants.{CopyMemory, FillMemory, GetFuel, GrowMemory, InitMemory, Load, NewData, NewSegment, Store, Write};

@@ -1,4 +1,5 @@
-//! Order of lanes, and what is chosen by it, on vectors of `std::simd`.
+//! Comparisons of lanes by their order, and the smaller or larger ones of lanes, on vectors of
+//! `std::simd`.
 //!
 //! Lanes that are read signed are moved by half of their range, and then compared as unsigned ones.
 
@@ -79,6 +80,7 @@ pub(super) fn larger_s<T: SimdLane>(lhs: V128, rhs: V128) -> V128
     T::vector_of(T::choose_if_less(T::biased(b), T::biased(a), a, b))
 }
 
+// All ones where the lane of `a` is less than that of `b`, else all zeros.
 #[inline(always)]
 fn ones_if_less<T: SimdLane>(a: T::Vector, b: T::Vector) -> V128
     ensures lanes { (i : ℕ) → i < lane_count T.width

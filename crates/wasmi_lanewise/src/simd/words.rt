@@ -1,7 +1,8 @@
-//! Sums, differences, equality and averages on the two words of a vector, whose lanes stay where they
-//! are.
+//! Sums, differences, negatives, equality and averages of lanes on the two words of a vector, whose
+//! lanes stay where they are.
 //!
-//! What is generic in a lane type takes the highest bits of a word's lanes from it.
+//! What is generic in a lane type takes the highest bits of a word's lanes, the tops, from it.
+//! Lanes whose highest bit marks them as equal or as different are filled with ones.
 
 ghost use Rattle.std.specs.Prelude.{◌≡◌, ℕ, ◌-◌, ◌%◌, ◌^◌, ◌<◌};
 ghost use Rattle.wasmi_raw.specs.RawVal.{vector_of};
@@ -123,8 +124,9 @@ pub(super) fn averages<T: WordLane>(lhs: V128, rhs: V128) -> V128
     )
 }
 
-// Common bits and half of the others, which never borrow from the lane below.
-#[tactic(auto, using(crate::proofs::WordLemmas::averages))]
+// The averages on one word: common bits and half of the others, which never borrow from the lane
+// below.
+#[tactic(auto, using(crate::proofs::AverageLemmas::averages))]
 #[inline(always)]
 fn word_averages(a: u64, b: u64, tops: u64) -> u64
     ensures { (start width : ℕ) → IsLane tops start width

@@ -1,5 +1,6 @@
-//! The bytes of a linear memory: its own, or the front of a borrowed region.
-ghost use Rattle.std.specs.Prelude.{◌≡◌, ◌≤◌, ◌<◌, ℕ, List, length, take, drop, IfOk, IfErr, IsOk, ◌↔◌, ◌-◌, OnOk, OnErr, true, false};
+//! The bytes of a linear memory: its own, or the front of a borrowed region; how they are lent and
+//! grow.
+ghost use Rattle.std.specs.Prelude.{◌≡◌, ◌≤◌, ◌<◌, ℕ, List, length, take, drop, IfOk, IfErr, ◌-◌, OnOk, OnErr, true, false};
 ghost use Rattle.std.proofs.Common.{refl};
 ghost use Rattle.std.specs.Borrow.{sem, Lends, Array, u8};
 ghost use Rattle.wasmi_store.specs.Buffer.{refilled_front, region_refilled, block, block_refilled, with_bytes, with_zeros, fits_room, CanFail, Owned, Lent, zeros_in};

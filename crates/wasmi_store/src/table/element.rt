@@ -1,4 +1,5 @@
-//! Element segments: references that a table can be initialized from.
+//! Element segments: references that a table can be initialized from, how they are read of an
+//! iterator, and why one isn't made.
 ghost use Rattle.std.specs.Prelude.{◌≡◌, ◌<◌, ◌^◌, length, Some};
 
 use std::alloc::Global;

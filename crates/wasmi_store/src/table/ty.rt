@@ -1,4 +1,4 @@
-//! The types of tables.
+//! The types of tables: the type of the elements, limits in elements, and subtypes.
 ghost use Rattle.std.specs.Prelude.{◌≡◌, ◌≤◌, ◌+◌, ◌-◌, ◌^◌, ◌↔◌, IfSome, IsTrue, true, false, MatchOption, MatchResult};
 ghost use Rattle.wasmi_types.specs.Value.{address_bits};
 ghost use Rattle.wasmi_store.specs.Table.{IsSubtype, IsValid, is_indexable, is_within_maximum, same_type};

@@ -60,6 +60,7 @@ struct Script {
 // A script whose calls are answered.
 const METERED: Script = metered! {};
 
+// Compares a printed text with what it has to be.
 fn same_text(rt: &impl Abort, printed: &[u8], expected: &[u8]) {
     let (text, wanted) = (str::from_utf8(printed), str::from_utf8(expected));
     assert!(rt; printed == expected, "{text:?} in place of {wanted:?}");
@@ -73,13 +74,13 @@ fn prints<R: Abort>(rt: &R, alloc: Global, reader: &mut Source<'_>, printed: &st
     same_text(rt, writer.text(), printed.as_bytes());
 }
 
-// A script whose calls are answered.
+// Replays a script whose calls are answered, and compares what is printed.
 fn answers<R: Abort>(rt: &R, alloc: Global, script: &str, printed: &str) {
     let mut reader = Source::of(script.as_bytes());
     prints(rt, alloc, &mut reader, printed, Status::Answered);
 }
 
-// Scripts whose calls are answered.
+// Replays scripts whose calls are answered, and compares what is printed.
 fn answers_each<R: Abort>(rt: &R, alloc: Global, scripts: &[Script]) {
     for script in scripts {
         answers(rt, alloc, script.text, script.printed);

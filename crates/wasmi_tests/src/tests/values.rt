@@ -1,4 +1,4 @@
-//! Raw and typed values, and what a caller knows of a variable after a loan.
+//! Raw and typed values, shift amounts, and what a caller knows of a global variable after a loan.
 
 ghost use Rattle.std.specs.Prelude.{◌≡◌};
 ghost use Rattle.wasmi_typed.specs.Global.{with_value};

@@ -351,7 +351,7 @@ pub mod instruction {
         }
     }
     pub mod lanes {
-        //! The instructions on one lane.
+        //! The instructions on one lane, the loads and stores of one among them.
 
         use crate::generated::c::instruction::list::op_numbered;
         use crate::generated::c::instruction::result::{
@@ -575,7 +575,7 @@ pub mod instruction {
         }
     }
     pub mod list {
-        //! Lists of instructions.
+        //! The instruction at a place of a list, which is its number.
 
         /// The instruction at a place of a list, if it isn't past its end.
         ///
@@ -605,7 +605,7 @@ pub mod instruction {
         }
     }
     pub mod load {
-        //! The loads.
+        //! The loads by their numbers, but for those of one lane.
 
         use crate::generated::c::instruction::list::numbered;
         use crate::generated::c::instruction::numbers::{LOAD_INSTRUCTIONS, load_numbers};
@@ -1136,7 +1136,7 @@ pub mod instruction {
         }
     }
     pub mod store {
-        //! The stores.
+        //! The stores by their numbers, but for those of one lane.
 
         use crate::generated::c::instruction::list::numbered;
         use crate::generated::c::instruction::numbers::STORE_INSTRUCTIONS;
@@ -1462,7 +1462,8 @@ pub mod machine {
     //! limiter. What the calls take and give stands in `include/wasmi_machine.h`.
 
     pub mod call_struct {
-        //! Calls as structs of plain numbers, and the calls that these stand for.
+        //! Calls as structs of plain numbers, the calls that these stand for, and the loads, the stores and
+        //! the instructions on two vectors that have a number.
 
         use crate::generated::c::instruction::binary::{Binary, binary_numbered};
         use crate::generated::c::instruction::lanes::{
@@ -2139,7 +2140,8 @@ pub mod machine {
         fn may_move<T: Send>() {}
     }
     pub mod limited_machine {
-        //! A machine with the limiter that it asks.
+        //! A machine with the limiter that it asks: its calls, its lists and lines of calls, and what these
+        //! leave with the caller.
 
         use crate::generated::c::machine::call_struct::{
             BINARY, CallStruct, LOAD, STORE, item_load_numbered, item_store_numbered,
@@ -2816,7 +2818,8 @@ pub mod machine {
         }
     }
     pub mod limits {
-        //! What a machine is made with, what is reserved on it, and what it has.
+        //! What a machine is made with, the answers of its limiter among it, what is reserved on it, and
+        //! what it has.
 
         use crate::generated::c::types::{if_flag, meter};
         use crate::proved::machine::SlotCounts;
@@ -3180,8 +3183,8 @@ pub mod machine {
     }
 }
 pub mod memory {
-    //! Memories whose bytes are the first of a region that lies with C. `number` is set to the fuel that
-    //! is needed where less is left.
+    //! The calls on memories whose bytes are the first of a region that lies with C. `number` is set to
+    //! the fuel that is needed where less is left.
 
     use crate::generated::c::host::{HostAnswers, Question};
     use crate::generated::c::numbers::{
@@ -3571,7 +3574,7 @@ pub mod memory {
         }
     }
 
-    /// Leaves the fuel that is needed where a write is refused for it, and returns the write's status.
+    /// Leaves the fuel that a write to a memory needs, if it is refused for it, and returns its status.
     ///
     /// # Contract
     ///
@@ -3691,7 +3694,8 @@ pub mod memory {
     }
 }
 pub mod numbers {
-    //! The plain numbers of memories, tables, meters and quotas that lie with C. They may be any.
+    //! The plain numbers of memories, tables, meters, quotas and ranges that lie with C. They may be
+    //! any.
 
     use crate::generated::c::types;
     use crate::proved::meter::{
@@ -4916,7 +4920,7 @@ pub mod pool {
         }
     }
 
-    /// The reply of a machine to the load of an item, which reaches no limiter.
+    /// The reply of a tenant's machine to the load of an item, which reaches no limiter.
     ///
     /// # Contract
     ///
@@ -4936,7 +4940,8 @@ pub mod pool {
         }
     }
 
-    /// The reply of a machine to the question for the fuel that is left, which reaches no limiter.
+    /// The reply of a tenant's machine to the question for the fuel that is left, which reaches no
+    /// limiter.
     ///
     /// # Contract
     ///
@@ -4952,7 +4957,7 @@ pub mod pool {
         }
     }
 
-    /// The reply of a machine to a growth of a memory by no page, which reaches no limiter.
+    /// The reply of a tenant's machine to a growth of a memory by no page, which reaches no limiter.
     ///
     /// # Contract
     ///
@@ -4968,8 +4973,8 @@ pub mod pool {
         }
     }
 
-    /// What is left of a machine's fuel once an amount is taken; or why so much isn't. It is inlined
-    /// before LLVM makes one number of both results, for which each call would wait.
+    /// What is left of the fuel of a tenant's machine once an amount is taken; or why so much isn't. It
+    /// is inlined before LLVM makes one number of both results, for which each call would wait.
     ///
     /// # Contract
     ///
@@ -5210,8 +5215,8 @@ pub mod status {
     }
 }
 pub mod table {
-    //! Tables whose elements are the first of a region of references that lies with C. `number` is set to
-    //! the fuel that is needed where less is left.
+    //! The calls on tables whose elements are the first of a region of references that lies with C.
+    //! `number` is set to the fuel that is needed where less is left.
 
     use crate::generated::c::host::{HostAnswers, Question};
     use crate::generated::c::numbers::{
@@ -5504,7 +5509,7 @@ pub mod table {
         }
     }
 
-    /// Leaves the fuel that is needed where a write is refused for it, and returns the write's status.
+    /// Leaves the fuel that a write to a table needs, if it is refused for it, and returns its status.
     ///
     /// # Contract
     ///
@@ -5632,7 +5637,7 @@ pub mod table {
     }
 }
 pub mod types {
-    //! The types and meters that plain numbers stand for.
+    //! The types and meters that plain numbers stand for, and numbers that a flag says are there.
 
     use crate::proved::meter::{CustomFuelCosts, Fuel, FuelCostsProvider};
     use crate::proved::store::{MemoryType, TableType};

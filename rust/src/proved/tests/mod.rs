@@ -441,15 +441,10 @@ mod machine {
         }
     }
     mod regions {
-        //! What the lender of a machine's spare region finds in it after the loan, and what a caller knows
-        //! of a memory after it wrote through a loan.
-
+        //! What the lender of a machine's spare region finds in it after the loan.
         use super::{memory_type, runs_to, same};
         use crate::proved::machine::{Call, Machine, Reply};
-        use crate::proved::meter::{
-            Fuel, FuelCostsProvider, MemoryError, NoLimits, ResourceLimiterRef,
-        };
-        use crate::proved::store::Memory;
+        use crate::proved::meter::{Fuel, FuelCostsProvider, MemoryError};
         use crate::rattle::Vec;
 
         /// Runs calls on a machine with a region of ten bytes of 7, and compares the replies, and what the
@@ -507,33 +502,6 @@ mod machine {
             ];
             let replies = [Reply::Made(0), Reply::Done, Reply::Done];
             finds(&calls, &replies, [1, 2, 7, 7, 7, 7, 7, 7, 7, 7]);
-        }
-
-        /// A caller that writes through what a memory lends, and knows the memory afterwards.
-        ///
-        /// # Contract
-        ///
-        /// ```text
-        /// ensures bytes: 0 < length memory.old.bytes
-        ///     → memory.new.bytes ≡ slice_set memory.old.bytes 0 7
-        /// ensures same_type: memory.new.ty ≡ memory.old.ty
-        /// ensures room: memory.new.room ≡ memory.old.room
-        /// ```
-        fn put_first(memory: &mut Memory) {
-            let data = memory.data_mut();
-            if 0 < data.len() {
-                data[0] = 7;
-            }
-        }
-
-        #[test]
-        fn writes_through_a_loan() {
-            let mut limiter = ResourceLimiterRef::<NoLimits>::default();
-            let ty = memory_type(3, 0);
-            let mut memory = Memory::new(ty, &mut limiter).expect("three bytes");
-            put_first(&mut memory);
-            same("the bytes", memory.data(), [7, 0, 0].as_slice());
-            drop(memory);
         }
     }
 
@@ -1063,6 +1031,7 @@ mod script {
     // A script whose calls are answered.
     const METERED: Script = metered! {};
 
+    // Compares a printed text with what it has to be.
     fn same_text(printed: &[u8], expected: &[u8]) {
         let (text, wanted) = (str::from_utf8(printed), str::from_utf8(expected));
         assert!(printed == expected, "{text:?} in place of {wanted:?}");
@@ -1076,13 +1045,13 @@ mod script {
         same_text(writer.text(), printed.as_bytes());
     }
 
-    // A script whose calls are answered.
+    // Replays a script whose calls are answered, and compares what is printed.
     fn answers(script: &str, printed: &str) {
         let mut reader = Source::of(script.as_bytes());
         prints(&mut reader, printed, Status::Answered);
     }
 
-    // Scripts whose calls are answered.
+    // Replays scripts whose calls are answered, and compares what is printed.
     fn answers_each(scripts: &[Script]) {
         for script in scripts {
             answers(script.text, script.printed);
@@ -1092,8 +1061,8 @@ mod script {
 mod store {
     //! Meters, limiters, memories and tables; what their tests share: types, meters, values.
     mod limiters {
-        //! Meters, quotas, references to limiters, a limiter that records what it is asked and told, and what a
-        //! lender knows of its limiter afterwards.
+        //! Meters and their errors, quotas, references to limiters, a limiter that records what it is asked
+        //! and told, and what a lender knows of its limiter afterwards.
 
         use super::same;
         use crate::proved::meter::{
@@ -1371,14 +1340,16 @@ mod store {
     }
     mod memories {
         //! Linear memories and their buffers: types, and how they are made, grow, are read and are written;
-        //! what the lender of a region finds in it after the loan.
+        //! what the lender of a region finds in it after the loan, and what a caller knows of a memory
+        //! after it wrote through a loan.
+
         use super::limiters::{COMPLAINT, Failure, Recorder, memory_question, same_record};
         use super::{
             SUBTYPES, ample_memory, build_type, grow, lent_memory, metered, new_memory, page_type,
             same,
         };
         use crate::proved::meter::{LimiterError, MemoryError, NoLimits, Quota, ResourceLimiter};
-        use crate::proved::store::ByteBuffer;
+        use crate::proved::store::{ByteBuffer, Memory};
 
         const DENIED: MemoryError = MemoryError::ResourceLimiterDeniedAllocation;
 
@@ -1631,6 +1602,32 @@ mod store {
                 let rooms = (size, lent.has_room(size), owned.has_room(size));
                 same("room", rooms, (size, size <= 10, true));
             }
+        }
+
+        /// A caller that writes through what a memory lends, and knows the memory afterwards.
+        ///
+        /// # Contract
+        ///
+        /// ```text
+        /// ensures bytes: 0 < length memory.old.bytes
+        ///     → memory.new.bytes ≡ slice_set memory.old.bytes 0 7
+        /// ensures same_type: memory.new.ty ≡ memory.old.ty
+        /// ensures room: memory.new.room ≡ memory.old.room
+        /// ```
+        fn put_first(memory: &mut Memory) {
+            let data = memory.data_mut();
+            if 0 < data.len() {
+                data[0] = 7;
+            }
+        }
+
+        #[test]
+        fn writes_through_a_loan() {
+            let ty = build_type(3, None, 0, false).expect("a type");
+            let mut memory = ample_memory(ty);
+            put_first(&mut memory);
+            same("the bytes", memory.data(), [7, 0, 0].as_slice());
+            drop(memory);
         }
     }
     mod tables {
@@ -2060,7 +2057,7 @@ mod traps {
     }
 }
 mod values {
-    //! Raw and typed values, and what a caller knows of a variable after a loan.
+    //! Raw and typed values, shift amounts, and what a caller knows of a global variable after a loan.
 
     use super::{same, same_text};
     use crate::proved::raw::{RawVal, ReadAs, V128, WriteAs};

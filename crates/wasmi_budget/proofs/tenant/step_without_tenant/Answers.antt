@@ -1,5 +1,5 @@
 use Rattle.wasmi_machine.proofs.StoreLemmas.{changes}
-use Rattle.wasmi_budget.proofs.PoolLemmas.{replies_unasked}
+use Rattle.wasmi_budget.proofs.TenantLemmas.{replies_unasked}
 use Rattle.wasmi_budget.proofs.tenant.step_without_tenant.Goals as goal
 
 pub returns-in-Store : goal.returns-in-Store

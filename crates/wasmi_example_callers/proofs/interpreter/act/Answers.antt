@@ -1,7 +1,6 @@
-use Rattle.std.proofs.Common.{Some, sym, subst}
+use Rattle.std.proofs.Common.{Some}
 use Rattle.wasmi_meter.specs.Limiter.{optional_rules}
 use Rattle.wasmi_core.specs.State.{world}
-use Rattle.wasmi_example_callers.specs.Interpreter.{CarriesOut}
 use Rattle.wasmi_example_callers.proofs.InterpreterLemmas.{answered}
 use Rattle.wasmi_example_callers.proofs.interpreter.act.Goals as goal
 
@@ -13,6 +12,5 @@ returns-in-Calls g c =
     (world c.step_lending.new.self (Some c.step_lending.new.limiter)) c.step_lending.ensures.step in (
       ran.0,
       ran.1,
-      subst (λ action. CarriesOut action c.args.next ran.0 c.place_after.result) (sym c.in-Calls.is)
-          (c.step_lending.result, ran.2, c.place_after.ensures),
+      rw c.in-Calls.is (c.step_lending.result, ran.2, c.place_after.ensures),
     )

@@ -1,7 +1,6 @@
-use Rattle.std.proofs.Common.{◌≡◌, Some, None, ◌++◌, refl, subst, arith}
+use Rattle.std.proofs.Common.{◌≡◌, Some, None, ◌++◌, refl, arith}
 use Rattle.wasmi_meter.specs.Limiter.{optional_rules}
 use Rattle.wasmi_core.specs.State.{world}
-use Rattle.wasmi_example_callers.specs.Interpreter.{Reaches}
 use Rattle.wasmi_example_callers.proofs.InterpreterLemmas.{reaches_more, execution, execution_run}
 use Rattle.wasmi_example_callers.proofs.interpreter.execute.Goals as goal
 
@@ -35,9 +34,7 @@ returns-clause-executed g c =
     (world c.loop-executed.machine (Some c.loop-executed.limiter)) (
       c.loop-executed.invariant.0,
       world c.loop-executed.machine (Some c.loop-executed.limiter),
-      subst (λ n. Reaches (optional_rules g.L.ResourceLimiter.rules) c.args.program.now
-          (world c.args.machine.now (Some c.args.limiter.now)) n c.loop-executed.place c.loop-executed.invariant.0
-          (world c.loop-executed.machine (Some c.loop-executed.limiter))) all c.loop-executed.invariant.1,
+      rw all at c.loop-executed.invariant.1,
       (refl, refl),
     )
 

@@ -1,4 +1,4 @@
-use Rattle.std.proofs.Common.{◌≡◌, Bor, ℕ, List, Result, Ok, Err, IfErr, IfOk, length, refl, rules, subst, sym}
+use Rattle.std.proofs.Common.{◌≡◌, Bor, ℕ, List, Result, Ok, Err, IfErr, IfOk, length, refl, rules}
 use Rattle.wasmi_grammar.proofs.Common.{IfErr-weaker, IfOk-weaker, IsAmong, LineError, BadCommand, OutOfMemory, Accepts, WritesNumber, LineWords, WritesEach, WritesLanes, each_said, not_each}
 use Rattle.wasmi_grammar.proofs.command.lanes_of.Goals as goal
 
@@ -20,7 +20,7 @@ refused_at : (words : LineWords) (word : Bor (List ℕ)) (error : LineError) →
 refused_at words word BadCommand among unfit = (
   refl,
   not_each (WritesNumber 5) words among.0 word among.1.0
-      (λ lane writes. unfit lane (subst (λ w. WritesNumber 5 w.now lane) (sym among.1.1) writes)),
+      (λ lane writes. unfit lane (rw among.1.1 writes)),
 )
 refused_at words word OutOfMemory among refused = absurd refused
 
@@ -36,4 +36,4 @@ returns c =
     let refused : IfErr result (λ error. (error ≡ BadCommand) × WriteNoLanes words) =
     IfErr-weaker _ _ _ (λ error bad. refused_at words bad.0 error bad.1 (search rules))
     c.try_map.ensures.err in
-    subst (λ ws. Accepts result (WritesLanes ws)) same (accepted words result (search rules) taken refused)
+    rw same at (accepted words result (search rules) taken refused)

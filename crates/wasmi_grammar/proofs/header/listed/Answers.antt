@@ -1,7 +1,7 @@
-use Rattle.std.proofs.Common.{◌≡◌, Err, codes, rules, tests, sym, subst}
+use Rattle.std.proofs.Common.{◌≡◌, Err, codes, rules, tests}
 use Rattle.std.specs.Global.{Vec}
 use Rattle.wasmi_meter.specs.declared.answer_list.LimiterAnswer.{LimiterAnswer}
-use Rattle.wasmi_grammar.proofs.Common.{LimiterLine, Answers, AcceptsWithMemory, LineWords, WritesEach, WritesAnswer, NamesLimiterAfter, refused_with_memory}
+use Rattle.wasmi_grammar.proofs.Common.{LimiterLine, Answers, LineWords, WritesEach, WritesAnswer, NamesLimiterAfter, refused_with_memory}
 use Rattle.wasmi_grammar.proofs.header.listed.Goals as goal
 
 -- a line of answers has the words of answers
@@ -13,5 +13,5 @@ answers_of_line words line names = absurd (search (rules, tests, names))
 pub returns-in_err-list_of : goal.returns-in_err-list_of
 returns-in_err-list_of c =
     let same : c.from_residual.result ≡ Err c.in_err-list_of.field-0.0 = search rules in
-    subst (λ result. AcceptsWithMemory result (NamesLimiterAfter (codes "answers") c.args.operands.now)) (sym same)
+    rw same
     (refused_with_memory c.in_err-list_of.field-0.0 _ _ (answers_of_line c.args.operands.now) c.in_err-list_of.ensures)

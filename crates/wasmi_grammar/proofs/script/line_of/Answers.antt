@@ -1,5 +1,5 @@
-use Rattle.std.proofs.Common.{◌≡◌, Err, rules, subst, sym}
-use Rattle.wasmi_grammar.proofs.Common.{refused_with_memory, AcceptsWithMemory, NamesAfter, NamesLine}
+use Rattle.std.proofs.Common.{◌≡◌, Err, rules}
+use Rattle.wasmi_grammar.proofs.Common.{refused_with_memory, NamesAfter, NamesLine}
 use Rattle.wasmi_grammar.proofs.LinesLemmas.{command_only, refused_header, refused_line}
 use Rattle.wasmi_grammar.proofs.script.line_of.Goals as goal
 
@@ -52,8 +52,7 @@ returns-in_err-command-in_default c =
     let name = c.args.name.now in
     let words = c.args.operands.now in
     let is : c.from_residual-in_err-command-in_default.result ≡ Err error = search rules in
-    subst (λ r. AcceptsWithMemory r (NamesLine name words)) (sym is)
-    (refused_with_memory error (NamesAfter name words) (NamesLine name words)
+    rw is (refused_with_memory error (NamesAfter name words) (NamesLine name words)
     (command_only name words c.in_default.not-meter c.in_default.not-quota c.in_default.not-answers
     c.in_default.not-tenants c.in_default.not-region c.in_default.not-reserve c.in_default.not-as) c.in_err-command-in_default.ensures)
 

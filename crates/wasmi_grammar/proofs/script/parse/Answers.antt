@@ -1,7 +1,7 @@
-use Rattle.std.proofs.Common.{ℕ, rules, tests, arith, refl, sym, ap, subst, ◌∙◌, ◌≡◌, ◌+◌, ◌∷◌, [], map, List, ◌==◌, Bor, Bool, false, Option, Some, length}
+use Rattle.std.proofs.Common.{ℕ, rules, tests, arith, refl, sym, ap, ◌∙◌, ◌≡◌, ◌+◌, ◌∷◌, [], map, List, ◌==◌, Bor, Bool, false, Option, Some, length}
 use denote.Param.Members.{Mut}
 use Rattle.std.proofs.lemmas.Iterator.{YieldsList}
-use Rattle.wasmi_grammar.proofs.Common.{map-append, length-map, enumerate_from, words_in, Script, AcceptsLine, AcceptsLines, AreTaken, lines_in, IsBadLine, IsFirstBadLine, parts_in, calls_in}
+use Rattle.wasmi_grammar.proofs.Common.{map-append, length-map, enumerate_from, words_in, Script, AcceptsLine, AreTaken, lines_in, IsBadLine, IsFirstBadLine, parts_in, calls_in}
 use Rattle.std.proofs.lemmas.List.{length-append}
 use Rattle.std.proofs.lemmas.Simd.{map-map}
 use Rattle.std.proofs.lemmas.Iterator.Consumers.{YieldsList-at, YieldsList-so_far, YieldsList-turn, YieldsList-end, YieldsList-from_enumerate}
@@ -18,7 +18,7 @@ use Rattle.wasmi_grammar.proofs.script.parse.Goals as goal
 abbrev line_of : ℕ × Bor (List ℕ) → List ℕ
 line_of item = item.1.now
 
--- the same line, with its number
+-- the text of a line that is yielded, with its number
 abbrev numbered : ℕ × Bor (List ℕ) → ℕ × List ℕ
 numbered item = (item.0, item.1.now)
 
@@ -41,9 +41,8 @@ next_is_bad : {S : Type 0} {steps : S → Option (ℕ × Bor (List ℕ)) → S �
     → next ≡ Some item → steps here next after → AreTaken (map line_of yielded) script
     → IsBadLine script (line_of item) → IsFirstBadLine text (item.0 + 1)
 next_is_bad text yielded next item script lines yields is step taken bad =
-    let texts = sym (map-map (λ p. p.1) numbered yielded) in
     stops_at text (length yielded) (map numbered yielded) (numbered item) script
-    (subst (λ lines. AreTaken lines script) texts taken) (length-map yielded numbered)
+    (rw (map-map (λ p. p.1) numbered yielded) taken) (length-map yielded numbered)
     (YieldsList-so_far lines yielded _ yields) (YieldsList-turn lines yielded _ yields next _ item is step) bad
 
 pub loop-index-init : goal.loop-index-init
@@ -58,8 +57,7 @@ loop-index-preserved c =
     let yielded = c.loop-index.yielded in
     let new = c.take_line.new.self in
     let same : map (λ word. word.now) c.as_slice.result.now ≡ words_in c.in-Some.bytes.now =
-    ap (map (λ word. word.now)) c.as_slice.ensures.value ∙ c.in_ok-read_words.ensures
-    ∙ ap words_in c.in-Ok.ensures.cases.0 in
+    rw (c.as_slice.ensures.value, c.in_ok-read_words.ensures, c.in-Ok.ensures.cases.0) in
     let words = c.as_slice.result.now in
     let line_taken : AcceptsLine c.loop-index.script c.in-Some.bytes.now new =
     (c.in-Ok.ensures.cases.1, words, same, c.in-Ok-take_line.ensures.ok) in (
@@ -72,10 +70,8 @@ loop-index-preserved c =
       record {
         empty = taken.empty;
         is_new = taken.is_new;
-        lines = subst (λ lines. AcceptsLines lines taken.empty new)
-            (sym (map-append line_of yielded ((c.in-Some.index, c.in-Some.bytes) ∷ [])))
-            (one_more (map line_of yielded) c.in-Some.bytes.now taken.empty c.loop-index.script new taken.lines
-            line_taken);
+        lines = rw (map-append line_of yielded) (one_more (map line_of yielded) c.in-Some.bytes.now taken.empty
+            c.loop-index.script new taken.lines line_taken);
       },
     )
 
@@ -90,7 +86,7 @@ returns-clause-script c =
     let line : ℕ × List ℕ → List ℕ = λ p. p.1 in
     let whole = sym (map-map line numbered c.loop-index.yielded) ∙ ap (map line) all.0
     ∙ without_numbers 0 (lines_in c.args.bytes.now) in
-    subst (λ lines. AreTaken lines c.loop-index.script) whole taken
+    rw whole at taken
 
 pub returns-in_default-clause-refused : goal.returns-in_default-clause-refused
 returns-in_default-clause-refused c =
@@ -106,8 +102,7 @@ returns-in-Err-BadCommand-clause-refused c =
     let split = c.split.ensures in
     let words = c.as_slice.result.now in
     let same : map (λ word. word.now) words ≡ words_in c.in-Some.bytes.now =
-    ap (map (λ word. word.now)) c.as_slice.ensures.value ∙ c.in_ok-read_words.ensures
-    ∙ ap words_in c.in-Ok.ensures.cases.0 in
+    rw (c.as_slice.ensures.value, c.in_ok-read_words.ensures, c.in-Ok.ensures.cases.0) in
     next_is_bad c.args.bytes.now c.loop-index.yielded _ (c.in-Some.index, c.in-Some.bytes) c.loop-index.script
     (lines_yielded c.args.bytes.now c.into_iter-index-iterator.ensures.into_iter_gives
     c.enumerate-index-items.ensures.source c.enumerate-index-items.ensures.count split.rest split.done split.closure

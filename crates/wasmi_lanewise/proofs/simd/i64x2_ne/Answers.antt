@@ -1,6 +1,7 @@
 use Rattle.std.proofs.Common.{ℕ, ◌-◌, ◌^◌, ◌∙◌, ap₂, nat_eq, not, if◌then◌else◌, arith}
 use Rattle.wasmi_lanes.specs.Vector.{binary_of_lanes, comparison_of_lanes}
-use Rattle.wasmi_lanewise.proofs.WordLemmas.{turned_choice, lanes_are_words}
+use Rattle.wasmi_lanewise.proofs.MarkLemmas.{turned_choice}
+use Rattle.wasmi_lanewise.proofs.WordLemmas.{lanes_are_words}
 use Rattle.wasmi_lanewise.proofs.simd.i64x2_ne.Goals as goal
 
 pub returns : goal.returns

@@ -16,6 +16,5 @@ returns c =
     c.from_bytes.ensures.lanes i inside
     ∙ picked_or_zero_at c.bytes_of.result (search rules)
     (bytes_fit c.args.s c.bytes_of.result (search rules) c.bytes_of.ensures.lanes) c.bytes_of-2.result i inside
-    ∙ below_or_zero (slice_index c.bytes_of.result i) (slice_index c.bytes_of-2.result)
-    (lane w8 c.args.a) c.bytes_of-2.ensures.lanes
+    ∙ below_or_zero (slice_index c.bytes_of.result i) _ (lane w8 c.args.a) c.bytes_of-2.ensures.lanes
     ∙ ap (λ k. if nat_lt k 16 then lane w8 c.args.a k else 0) (c.bytes_of.ensures.lanes i inside))

@@ -1,4 +1,4 @@
-use Rattle.wasmi_lanewise.proofs.WordLemmas.{equal_where_zero, different_where_some}
+use Rattle.wasmi_lanewise.proofs.MarkLemmas.{equal_where_zero, different_where_some}
 use Rattle.wasmi_lanewise.proofs.simd.ones_if_equal.Goals as goal
 
 pub returns-then-word_differ-eq0 : goal.returns-then-word_differ-eq0

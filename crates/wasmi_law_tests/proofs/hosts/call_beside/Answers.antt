@@ -1,4 +1,4 @@
-use Rattle.wasmi_law_tests.proofs.RunsLemmas.{beside}
+use Rattle.wasmi_law_tests.proofs.HostsLemmas.{beside}
 use Rattle.wasmi_law_tests.proofs.hosts.call_beside.Goals as goal
 
 pub returns : goal.returns

@@ -1,4 +1,4 @@
-use Rattle.wasmi_law_tests.proofs.RunsLemmas.{list_runs}
+use Rattle.wasmi_law_tests.proofs.HostsLemmas.{list_runs}
 use Rattle.wasmi_law_tests.proofs.hosts.call_list.Goals as goal
 
 pub returns : goal.returns

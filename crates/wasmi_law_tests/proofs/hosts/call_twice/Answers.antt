@@ -1,4 +1,4 @@
-use Rattle.wasmi_law_tests.proofs.RunsLemmas.{both_run, placed}
+use Rattle.wasmi_law_tests.proofs.HostsLemmas.{both_run, placed}
 use Rattle.wasmi_law_tests.proofs.hosts.call_twice.Goals as goal
 
 pub returns : goal.returns

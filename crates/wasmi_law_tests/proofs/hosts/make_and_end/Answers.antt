@@ -1,7 +1,7 @@
 use Rattle.std.proofs.Common.{[], ◌∷◌, inl, refl}
 use Rattle.wasmi_law_tests.proofs.Common.{All-head, HoldsSums, UnderQuota}
 use Rattle.wasmi_c.specs.Numbers.{placed}
-use Rattle.wasmi_law_tests.proofs.LimitersLemmas.{nothing_left, nothing_made, not_short}
+use Rattle.wasmi_law_tests.proofs.HostsLemmas.{nothing_left, nothing_made, not_short}
 use Rattle.wasmi_law_tests.proofs.hosts.make_and_end.Goals as goal
 
 pub returns : goal.returns

@@ -1,7 +1,7 @@
 use Rattle.std.proofs.Common.{◌≡◌, [], ◌∷◌, inl, inr, refl, arith}
 use Rattle.std.proofs.lemmas.Bool.Decides.{nat_tests}
 use Rattle.wasmi_law_tests.proofs.Common.{All-head, All-tail, HoldsSums, UnderQuota, sizes_made}
-use Rattle.wasmi_law_tests.proofs.LimitersLemmas.{nothing_made, both_made}
+use Rattle.wasmi_law_tests.proofs.HostsLemmas.{nothing_made, both_made}
 use Rattle.wasmi_law_tests.proofs.hosts.make_both.Goals as goal
 
 pub returns-then-of_memory-eq-DONE : goal.returns-then-of_memory-eq-DONE

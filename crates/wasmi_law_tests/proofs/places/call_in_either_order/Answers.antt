@@ -1,6 +1,6 @@
-use Rattle.std.proofs.Common.{Some, [], refl, ◌∷◌}
-use Rattle.wasmi_law_tests.proofs.Common.{world, store_call}
-use Rattle.wasmi_law_tests.proofs.RunsLemmas.{stores_apart, turn_with}
+use Rattle.std.proofs.Common.{Some, [], refl, ◌∷◌, ◌≢◌}
+use Rattle.wasmi_law_tests.proofs.Common.{All-nil, same_Some, world, IsIndependent, LeavesAlone, MemoryAt, NumberStore, store_call}
+use Rattle.wasmi_law_tests.proofs.RunsLemmas.{turn_with}
 use Rattle.wasmi_law_tests.proofs.places.call_in_either_order.Goals as goal
 
 pub returns-clause-independent : goal.returns-clause-independent
@@ -15,6 +15,18 @@ returns-clause-independent g c =
       refl,
       c.independent_calls_commute.ensures _ turn other _ local other_local apart (_, first.2, (_, second.2, refl)),
     )
+
+-- stores to different memories are independent
+stores_apart : (it other : NumberStore) → it.memory ≢ other.memory
+    → IsIndependent (store_call it) (store_call other)
+stores_apart it other differ = record {
+  changes = λ location here there.
+      let one = same_Some (MemoryAt it.memory) location here in
+      let two = same_Some (MemoryAt other.memory) location there in
+      differ cc;
+  first_leaves = All-nil (λ location. LeavesAlone location (store_call it));
+  second_leaves = All-nil (λ location. LeavesAlone location (store_call other));
+}
 
 pub returns-clause-stores : goal.returns-clause-stores
 returns-clause-stores g c =

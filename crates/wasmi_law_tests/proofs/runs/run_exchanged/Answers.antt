@@ -1,7 +1,7 @@
 use Rattle.std.proofs.Common.{◌≡◌, ◌≤◌, ℕ, Some, arith, slice_get}
 use Rattle.wasmi_law_tests.proofs.Common.{optional_rules, sizes, total}
 use Rattle.wasmi_law_tests.proofs.RunsLemmas.{if_ok_too, holds_after}
-use Rattle.wasmi_law_tests.proofs.LimitersLemmas.{grows_in_regions}
+use Rattle.wasmi_law_tests.proofs.RegionsLemmas.{grows_in_regions}
 use Rattle.wasmi_meter.specs.declared.limiter.Kind.{Kind}
 use Rattle.wasmi_law_tests.proofs.runs.run_exchanged.Goals as goal
 

@@ -1,6 +1,6 @@
 use Rattle.std.proofs.Common.{length, arith}
 use Rattle.wasmi_store.specs.Table.{IsSubtype}
-use Rattle.wasmi_law_tests.proofs.LanesLemmas.{chain_breaks, chain_goes_on, chain_is_forward}
+use Rattle.wasmi_law_tests.proofs.ChainsLemmas.{chain_breaks, chain_goes_on, chain_is_forward}
 use Rattle.wasmi_law_tests.proofs.values.is_table_subtype_chain.Goals as goal
 
 pub loop-i-preserved : goal.loop-i-preserved

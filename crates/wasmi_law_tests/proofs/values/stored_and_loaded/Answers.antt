@@ -1,6 +1,4 @@
-use Rattle.std.proofs.Common.{◌≡◌, ◌∙◌, ℕ, ◌%◌, ◌^◌, MatchResult, Result, Ok, ap, arith, refl, subst, sym}
-use Rattle.wasmi_types.specs.declared.trap.TrapCode.{TrapCode}
-use Rattle.wasmi_types.specs.declared.trap.TrapCode.TheVariants.{MemoryOutOfBounds}
+use Rattle.std.proofs.Common.{◌≡◌, ◌∙◌, ℕ, ◌%◌, ◌^◌, Ok, ap, arith, refl}
 use Rattle.wasmi_law_tests.proofs.RunsLemmas.{if_ok_always}
 use Rattle.wasmi_law_tests.proofs.values.stored_and_loaded.Goals as goal
 
@@ -12,9 +10,7 @@ returns-clause-loaded c =
     c.load_at.ensures.value ∙ c.stored_number_is_loaded.ensures.natural 4
     (value % 2 ^ 32) c.args.address c.args.memory.now c.store_at.new.memory (λ n. n) c.in_ok-store_at.ensures
     ∙ ap Ok whole in
-    let P : Result ℕ TrapCode → Type 0 =
-    λ r. MatchResult r (λ number. number ≡ value) (λ trap. trap ≡ MemoryOutOfBounds) in
-    subst P (sym loaded_again) refl
+    rw loaded_again refl
 
 pub returns-clause-outside : goal.returns-clause-outside
 returns-clause-outside c =

@@ -1,6 +1,4 @@
-use Rattle.std.proofs.Common.{◌+◌, [], ◌∷◌, ◌∙◌, ap, arith, length}
 use Rattle.wasmi_machine.proofs.Common.{length-append, optional_rules, loan_kept}
-use Rattle.wasmi_machine.specs.Replies.{RepliesValue}
 use Rattle.wasmi_machine.proofs.StoreLemmas.{run_more}
 use Rattle.wasmi_machine.proofs.running.run_into.Goals as goal
 
@@ -15,9 +13,7 @@ loop-call-preserved g c =
       loan = loan_kept c.args.limiter.now c.loop-call.limiter c.step-reply.new.limiter c.loop-call.invariant.loan
           c.step-reply.ensures.loan;
       valid = c.step-reply.ensures.valid;
-      count = ap (λ (r : RepliesValue). length r.items) pushed
-          ∙ length-append c.loop-call.replies.items (c.step-reply.result ∷ [])
-          ∙ ap (λ n. n + 1) c.loop-call.invariant.count;
-      room = omega (arith, ap (λ (r : RepliesValue). r.capacity) pushed, c.loop-call.invariant.room);
-      same = ap (λ (r : RepliesValue). r.capacity) pushed ∙ c.loop-call.invariant.same;
+      count = rw (pushed, length-append, c.loop-call.invariant.count);
+      room = rw pushed c.loop-call.invariant.room;
+      same = rw pushed c.loop-call.invariant.same;
     }

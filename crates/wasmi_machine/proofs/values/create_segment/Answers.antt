@@ -1,4 +1,4 @@
-use Rattle.std.proofs.Common.{Iter, List, Result, Ok, Err, ap, inr, subst, refl, rules, ℕ, ◌≡◌, ◌∙◌}
+use Rattle.std.proofs.Common.{Iter, List, Result, Ok, Err, inr, refl, rules, ℕ, ◌≡◌}
 use Rattle.std.specs.Iterator.Adapters.{copied_source, copied_steps}
 use Rattle.std.specs.Slice.Iter.{iter_rest, iter_steps}
 use Rattle.std.specs.declared.iter.Copied.{Copied}
@@ -13,8 +13,7 @@ copies_read : {ty : RefType} {items : List ℕ} {source : Iter ℕ} {copies : Co
     {answer : Result SegmentValue SegmentError}
     → IsReadingOf (λ x i. i ≡ x) (copied_steps iter_steps) ty copies answer → copied_source copies ≡ source
     → iter_rest source ≡ items → IsSegmentOf ty items answer
-copies_read {ty} {answer} read of_source rest = subst (λ items. IsSegmentOf ty items answer)
-    (ap (λ i. iter_rest (copied_source i)) read.made ∙ ap iter_rest of_source ∙ rest)
+copies_read {ty} {answer} read of_source rest = rw (read.made, of_source, rest) at
     (segment_read _ (λ s. iter_rest (copied_source s)) first_copied last_copied ty read.before read.after answer
     read.reads)
 

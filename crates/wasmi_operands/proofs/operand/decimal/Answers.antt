@@ -1,5 +1,4 @@
-use Rattle.std.proofs.Common.{◌≡◌, ◌∙◌, ◌+◌, ◌^◌, ◌<◌, ◌≤◌, Err, add-one, ap, arith, get_or, length, rules, subst, sym, tests, OkIff, take_all}
-use Rattle.std.specs.Str.Parse.{AllDigits, digits_value}
+use Rattle.std.proofs.Common.{◌≡◌, ◌+◌, ◌<◌, Err, add-one, arith, get_or, length, rules, tests, take_all}
 use Rattle.std.proofs.lemmas.Int.Digits.{digits_value_more}
 use Rattle.std.proofs.lemmas.Str.{digit_value_digit}
 use Rattle.std.proofs.lemmas.Str.Parse.{digit_at, digits_value-take-le}
@@ -18,11 +17,10 @@ unfolding IsDecimal decimal_value
 returns-in_err-number-clause-value c =
     let word = c.args.word.now in
     let i = c.loop-digit.digit-index in
-    let inside = subst (λ bytes. i < length bytes) c.as_bytes-digit-items.ensures.value c.loop-digit-test.true in
+    let inside = rw c.as_bytes-digit-items.ensures.value at c.loop-digit-test.true in
     let none = rw (c.as_bytes-digit-items.ensures.value, c.in_err-number.ensures.ok_part) at c.appended.ensures in
     let same : c.from_residual.result ≡ Err c.in_err-number.field-0.0 = search rules in
-    subst (λ result. OkIff result (IsDecimal word × (decimal_value word < 2 ^ 64)) (decimal_value word)) (sym same)
-    (λ h. none (
+    rw same (λ h. none (
       digit_at word i h.0.1 inside,
       omega (
         arith,
@@ -36,8 +34,7 @@ returns-in_err-number-clause-value c =
 pub loop-digit-preserved : goal.loop-digit-preserved
 loop-digit-preserved c =
     let word = c.args.word.now in
-    let inside = subst (λ bytes. c.loop-digit.digit-index < length bytes) c.as_bytes-digit-items.ensures.value
-    c.loop-digit-test.true in
+    let inside = rw c.as_bytes-digit-items.ensures.value at c.loop-digit-test.true in
     let longer = rw (c.as_bytes-digit-items.ensures.value, c.in_ok-number.ensures.ok_part) at c.appended.ensures in
     let worth = digit_value_digit (get_or word c.loop-digit.digit-index 0) longer.0.0 in (
       rw add-one (digits_to word c.loop-digit.digit-index inside c.loop-digit.invariant.0
@@ -51,9 +48,9 @@ unfolding IsDecimal decimal_value
 returns-clause-value c =
     let word = c.args.word.now in
     let i = c.loop-digit.digit-index in
-    let ended = subst (λ bytes. length bytes ≤ i) c.as_bytes-digit-items.ensures.value c.loop-digit-test.false in
+    let ended = rw c.as_bytes-digit-items.ensures.value at c.loop-digit-test.false in
     let whole = take_all i word ended in
-    let digits = subst (AllDigits 10) whole c.loop-digit.invariant.0 in
-    let value : c.loop-digit.number ≡ digits_value 10 word = c.loop-digit.invariant.1 ∙ ap (digits_value 10) whole in
+    let digits = rw whole at c.loop-digit.invariant.0 in
+    let value = rw whole at c.loop-digit.invariant.1 in
     let some : 0 < length word = search (rules, tests, c.is_empty.ensures, c.if-is_empty.false) in
     (((some, digits), omega (arith, value, c.loop-digit.invariant.2)), value)

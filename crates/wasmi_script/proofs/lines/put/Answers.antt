@@ -1,7 +1,5 @@
-use Rattle.std.proofs.Common.{◌≡◌, ◌+◌, ◌-◌, ◌<◌, ◌^◌, arith, length, rules, subst, sym, take}
-use Rattle.wasmi_script.specs.Printing.{AddsToFront}
+use Rattle.std.proofs.Common.{◌≡◌, ◌+◌, ◌-◌, ◌<◌, ◌^◌, arith, length, rules, take}
 use Rattle.wasmi_script.proofs.PrintingLemmas.{added}
-use borrow.Rule.Slice.PartMut.{put_mid}
 use Rattle.wasmi_script.proofs.lines.put.Goals as goal
 
 pub returns : goal.returns
@@ -9,7 +7,6 @@ returns c =
     let copied : c.copy_from_slice.new.self ≡ take c.min-count.result c.args.text.now = search rules in
     let count : c.min-start.result + c.min-count.result - c.min-start.result ≡ c.min-count.result = omega arith in
     let small : length c.args.bytes.now < 2 ^ 64 = search rules in
-    subst (λ bytes. AddsToFront c.args.text.now c.args.bytes.now c.args.written bytes c.saturating_add.result)
-    (λ i. put_mid c.min-start.result (sym count i) c.args.bytes.now (sym copied i))
+    rw (count, copied)
     (added c.args.text.now c.args.bytes.now c.args.written c.min-start.result c.min-count.result
     c.saturating_add.result small c.min-start.ensures c.min-count.ensures c.saturating_add.ensures)

@@ -1,8 +1,6 @@
-use Rattle.std.proofs.Common.{ap, flat_map, subst, sym, ◌∙◌}
 use Rattle.std.proofs.lemmas.Iterator.{YieldsList-from_slice, YieldsList-from_zip}
 use Rattle.std.proofs.lemmas.Iterator.Consumers.{YieldsList-end}
 use Rattle.std.proofs.lemmas.List.Folds.{flat_map-map}
-use Rattle.wasmi_script.specs.Printing.{HasFront}
 use Rattle.wasmi_script.proofs.OutcomesLemmas.{turn_of, turn_text}
 use Rattle.wasmi_script.proofs.PrintingLemmas.{adds_more, fills}
 use Rattle.wasmi_script.proofs.lines.write_lines.Goals as goal
@@ -18,7 +16,6 @@ returns c =
     (YieldsList-from_slice c.args.replies.now cc) in
     let all = YieldsList-end road c.loop-call.yielded c.loop-call.call-iterator c.loop-call.yielded_by _ c.next.new.self
     c.in-None.is c.next.ensures.steps in
-    let has = subst (λ text. HasFront text c.args.bytes.now c.loop-call.bytes c.loop-call.end)
-    (sym (flat_map-map turn_text turn_of c.loop-call.yielded) ∙ ap (flat_map turn_text) all.0)
-    (fills _ _ _ _ c.loop-call.invariant) in
+    let written = fills _ _ _ _ c.loop-call.invariant in
+    let has = rw (← flat_map-map turn_text turn_of c.loop-call.yielded, all.0) at written in
     record { front = has.front; length = has.count }

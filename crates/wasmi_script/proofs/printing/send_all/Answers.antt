@@ -1,4 +1,4 @@
-use Rattle.std.proofs.Common.{Option, ◌≡◌, ℕ, List, [], ◌++◌, rules, take, drop, sym, ap, ◌∙◌, subst, append_assoc, append-nil, take-append-drop, drop_of_length-le}
+use Rattle.std.proofs.Common.{Option, ◌≡◌, ℕ, List, [], ◌++◌, rules, take, drop, sym, ap, ◌∙◌, append_assoc, append-nil, take-append-drop, drop_of_length-le}
 use Rattle.wasmi_script.proofs.Common.{take_rest, Appends, Appends-nil, Appends-trans, Appends-kept}
 use Rattle.wasmi_script.proofs.printing.send_all.Goals as goal
 
@@ -7,7 +7,7 @@ takes_front : (known before after : Option (List ℕ)) (all front rest : List �
     → Appends known before front → Appends before after (take n rest)
     → (all ≡ (front ++ take n rest) ++ drop n rest) × Appends known after (front ++ take n rest)
 takes_front known before after all front rest n split appended more = (
-  split ∙ ap (λ l. front ++ l) (sym (take-append-drop n rest)) ∙ sym (append_assoc front (take n rest) (drop n rest)),
+  rw (append_assoc front (take n rest) (drop n rest), take-append-drop n rest) split,
   Appends-trans known before after front (take n rest) appended more,
 )
 
@@ -39,7 +39,7 @@ returns-clause-ok g c _ =
     let (front, split, appended) = c.loop-rest.invariant in
     let rest = c.loop-rest.rest.now in
     let empty : rest ≡ [] = drop_of_length-le rest {i = 0} (search rules) in
-    subst (Appends _ _) (sym (split ∙ ap (λ l. front ++ l) empty ∙ append-nil front)) appended
+    rw (split, empty, append-nil front) appended
 
 pub returns-clause-front : goal.returns-clause-front
 returns-clause-front g c =

@@ -1,6 +1,6 @@
-use Rattle.std.proofs.Common.{Bor, List, ℕ, ◌≡◌, ◌∙◌, ◌+◌, ◌<◌, [], Option, None, Some, arith, length, refl, sym, ap, subst, take}
+use Rattle.std.proofs.Common.{Bor, List, ℕ, ◌≡◌, ◌∙◌, ◌<◌, [], Option, None, Some, arith, length, refl, sym, ap, take}
 use Rattle.std.specs.Prelude.{IsSome, slice_get}
-use Rattle.wasmi_script.proofs.Common.{option_map, take_all, tenant_start, Call, TenantRun, parts_in, AnswersParts, new_pool}
+use Rattle.wasmi_script.proofs.Common.{option_map, take_all, tenant_start, Call, TenantRun, parts_in, new_pool}
 use Rattle.std.proofs.lemmas.Option.{slice_get-get_or}
 use Rattle.wasmi_script.proofs.ScriptRunsLemmas.{next_part}
 use Rattle.wasmi_script.proofs.replaying.run_pool.Goals as goal
@@ -15,8 +15,7 @@ loop-index-preserved c =
     let i = c.loop-index.index in
     let start = new_pool c.args.line (tenant_start c.args.script.now.header) in
     let found = sym c.get.ensures ∙ ap (option_map run_at) c.unwrap-tenant.ensures in
-    subst (λ replies. AnswersParts start (take (i + 1) parts) replies c.run.new.self)
-    (sym c.in_ok-append.ensures.items)
+    rw c.in_ok-append.ensures.items
     (next_part parts i c.loop-index.replies.items _ c.in-Ok.answered.items start c.loop-index.pool
     c.run.new.self found c.loop-index.invariant c.in-Ok.ensures.ran)
 
@@ -28,7 +27,7 @@ returns c =
     take_all c.loop-index.index parts (omega (arith, c.loop-index-test.false, c.len-index-end.ensures)) in (
       c.loop-index.pool,
       refl,
-      subst (λ ps. AnswersParts start ps c.loop-index.replies.items c.loop-index.pool) all c.loop-index.invariant,
+      rw all at c.loop-index.invariant,
     )
 
 pub loop-index-init : goal.loop-index-init

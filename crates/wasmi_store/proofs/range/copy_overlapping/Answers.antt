@@ -1,5 +1,5 @@
-use Rattle.std.proofs.Common.{◌+◌, ◌≤◌, ◌∙◌, arith}
-use Rattle.wasmi_store.proofs.WriteLemmas.{copied_down, copied_up}
+use Rattle.std.proofs.Common.{◌+◌, ◌≤◌, arith}
+use Rattle.wasmi_store.proofs.RangeLemmas.{copied_down, copied_up}
 use Rattle.wasmi_store.proofs.range.copy_overlapping.Goals as goal
 
 pub loop-done-preserved : goal.loop-done-preserved
@@ -8,9 +8,9 @@ loop-done-preserved g c =
     let within : c.loop-done.done + c.min-count.result ≤ c.args.len = omega (arith, c.loop-done-test.true) in
     record {
       within = within;
-      copied = c.copy_chunk-in-loop-done.ensures.copied
-          ∙ copied_down c.args.elements.now c.loop-done.elements c.args.dst c.args.src c.loop-done.done
-          c.min-count.result c.if-dst-src.true (omega (arith, within, c.requires.src)) c.loop-done.invariant.copied;
+      copied = rw c.copy_chunk-in-loop-done.ensures.copied
+          (copied_down c.args.elements.now c.loop-done.elements c.args.dst c.args.src c.loop-done.done
+          c.min-count.result c.if-dst-src.true (omega (arith, within, c.requires.src)) c.loop-done.invariant.copied);
     }
 
 pub loop-left-preserved : goal.loop-left-preserved
@@ -19,9 +19,8 @@ loop-left-preserved g c =
     let some : c.min-count-in-loop-left.result ≤ c.loop-left.left = omega arith in
     record {
       within = omega (arith, c.loop-left.invariant.within);
-      copied = c.copy_chunk-in-loop-left.ensures.copied
-          ∙ copied_up c.args.elements.now c.loop-left.elements c.args.dst c.args.src c.args.len c.loop-left.left
-          c.min-count-in-loop-left.result
-          (omega (arith, c.if-dst-src.false)) some c.loop-left.invariant.within c.requires.dst
-          c.loop-left.invariant.copied;
+      copied = rw c.copy_chunk-in-loop-left.ensures.copied
+          (copied_up c.args.elements.now c.loop-left.elements c.args.dst c.args.src c.args.len c.loop-left.left
+          c.min-count-in-loop-left.result (omega (arith, c.if-dst-src.false)) some c.loop-left.invariant.within
+          c.requires.dst c.loop-left.invariant.copied);
     }

@@ -1,5 +1,5 @@
-//! Meters, quotas, references to limiters, a limiter that records what it is asked and told, and what a
-//! lender knows of its limiter afterwards.
+//! Meters and their errors, quotas, references to limiters, a limiter that records what it is asked
+//! and told, and what a lender knows of its limiter afterwards.
 ghost use Rattle.wasmi_meter.specs.Limiter.{optional_rules, lent_limiter, KeepsLoan};
 ghost use Rattle.wasmi_meter.specs.declared.limiter.Kind.TheVariants.{Bytes};
 ghost use Rattle.std.specs.Prelude.{◌≡◌, None, Some, IfOk, if◌then◌else◌};

@@ -1,5 +1,8 @@
 //! Linear memories and their buffers: types, and how they are made, grow, are read and are written;
-//! what the lender of a region finds in it after the loan.
+//! what the lender of a region finds in it after the loan, and what a caller knows of a memory
+//! after it wrote through a loan.
+ghost use Rattle.std.specs.Prelude.{◌≡◌, ◌<◌, length, slice_set};
+
 use super::limiters::{COMPLAINT, Failure, Recorder, memory_question, same_record};
 use super::{
     SUBTYPES, ample_memory, build_type, grow, lent_memory, metered, new_memory, page_type, same,
@@ -7,7 +10,7 @@ use super::{
 use std::alloc::Global;
 use std::process::Abort;
 use wasmi_meter::{LimiterError, MemoryError, NoLimits, Quota, ResourceLimiter};
-use wasmi_store::ByteBuffer;
+use wasmi_store::{ByteBuffer, Memory};
 
 const DENIED: MemoryError = MemoryError::ResourceLimiterDeniedAllocation;
 
@@ -259,4 +262,26 @@ fn only_a_shorter_region_has_no_room(rt: HostRuntime) {
         let rooms = (size, lent.has_room(size), owned.has_room(size));
         same(&rt, "room", rooms, (size, size <= 10, true));
     }
+}
+
+/// A caller that writes through what a memory lends, and knows the memory afterwards.
+fn put_first(memory: &mut Memory)
+    ensures bytes { 0 < length memory.old.bytes
+        → memory.new.bytes ≡ slice_set memory.old.bytes 0 7 }
+    ensures same_type { memory.new.ty ≡ memory.old.ty }
+    ensures room { memory.new.room ≡ memory.old.room }
+{
+    let data = memory.data_mut();
+    if 0 < data.len() {
+        data[0] = 7;
+    }
+}
+
+#[test]
+fn writes_through_a_loan(rt: HostRuntime) {
+    let ty = build_type(3, None, 0, false).expect(&rt, "a type");
+    let mut memory = ample_memory(&rt, rt.alloc(), ty);
+    put_first(&mut memory);
+    same(&rt, "the bytes", memory.data(), [7, 0, 0].as_slice());
+    drop(memory);
 }

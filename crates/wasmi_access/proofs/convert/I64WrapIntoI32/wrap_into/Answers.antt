@@ -1,5 +1,5 @@
 use Rattle.std.proofs.Common.{arith, w32, w64}
-use Rattle.wasmi_access.proofs.ByteLemmas.{low_value, low_wrap}
+use Rattle.wasmi_access.proofs.ConvertLemmas.{low_value, low_wrap}
 use Rattle.wasmi_access.proofs.convert.I64WrapIntoI32.wrap_into.Goals as goal
 
 pub returns-clause-value : goal.returns-clause-value

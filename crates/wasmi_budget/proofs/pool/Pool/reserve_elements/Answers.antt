@@ -1,6 +1,7 @@
 use Rattle.std.proofs.Common.{refl}
 use Rattle.wasmi_budget.specs.Pool.{pool_of}
-use Rattle.wasmi_budget.proofs.PoolLemmas.{alike_kept, becomes_alike, elements_alike}
+use Rattle.wasmi_budget.proofs.PoolLemmas.{alike_kept, becomes_alike}
+use Rattle.wasmi_budget.proofs.TenantLemmas.{elements_alike}
 use Rattle.wasmi_budget.proofs.pool.Pool.reserve_elements.Goals as goal
 
 pub invariant_of-self-2 : goal.invariant_of-self-2

@@ -1,5 +1,3 @@
-use Rattle.std.proofs.Common.{◌∷◌, [], subst}
-use Rattle.wasmi_budget.specs.Pool.{PoolValue, RunsTenant, pool_of}
 use Rattle.wasmi_budget.proofs.PoolLemmas.{unasked_kept, unasked_runs}
 use Rattle.wasmi_budget.proofs.pool.Pool.step_unasked.Goals as goal
 
@@ -7,9 +5,7 @@ pub invariant_of-self-2 : goal.invariant_of-self-2
 invariant_of-self-2 c = unasked_kept c.self.invariant c.args.index c.args.call.now _ _ c.in-Some.ensures.stepped
 
 pub returns-clause-ran : goal.returns-clause-ran
-returns-clause-ran c = subst
-    (λ (pool : PoolValue). RunsTenant pool c.args.index (c.args.call.now ∷ []) (c.in-Some.reply ∷ [])
-    (pool_of c.self.inside.caps c.step_unasked.new.self)) c.self.view_is
+returns-clause-ran c = rw (← c.self.view_is)
     (unasked_runs c.self.invariant c.args.index c.args.call.now _ _ c.in-Some.ensures.stepped)
 
 pub returns-clause-within : goal.returns-clause-within

@@ -1,6 +1,4 @@
-use Rattle.std.proofs.Common.{◌∷◌, [], subst}
 use Rattle.wasmi_machine.specs.declared.calls.Call.TheVariants.{Write}
-use Rattle.wasmi_budget.specs.Pool.{PoolValue, RunsTenant, pool_of}
 use Rattle.wasmi_budget.proofs.PoolLemmas.{unasked_kept, unasked_runs}
 use Rattle.wasmi_budget.proofs.pool.Pool.write.Goals as goal
 
@@ -15,11 +13,8 @@ returns-clause-ran c =
     let written = c.in-Some.ensures.stepped in (
       written.0,
       written.1,
-      subst
-          (λ (pool : PoolValue). RunsTenant pool c.args.index (Write c.args.memory c.args.offset written.0 ∷ [])
-          (c.in-Some.reply ∷ []) (pool_of c.self.inside.caps c.write.new.self)) c.self.view_is
-          (unasked_runs c.self.invariant c.args.index (Write c.args.memory c.args.offset written.0) c.in-Some.reply _
-          written.2),
+      rw (← c.self.view_is) (unasked_runs c.self.invariant c.args.index
+          (Write c.args.memory c.args.offset written.0) c.in-Some.reply _ written.2),
     )
 
 pub returns-clause-within : goal.returns-clause-within

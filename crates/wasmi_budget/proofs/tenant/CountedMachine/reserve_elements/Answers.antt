@@ -1,4 +1,4 @@
-use Rattle.wasmi_budget.proofs.PoolLemmas.{counted_alike, elements_alike}
+use Rattle.wasmi_budget.proofs.TenantLemmas.{counted_alike, elements_alike}
 use Rattle.wasmi_budget.proofs.tenant.CountedMachine.reserve_elements.Goals as goal
 
 pub invariant_of-self : goal.invariant_of-self

@@ -1,5 +1,5 @@
 use Rattle.wasmi_meter.specs.declared.limiter.Kind.TheVariants.{Bytes, Elements}
-use Rattle.wasmi_budget.proofs.PoolLemmas.{all_before, part_fits, part_held}
+use Rattle.wasmi_budget.proofs.TenantLemmas.{all_before, part_fits, part_held}
 use Rattle.wasmi_budget.proofs.tenant.CountedMachine.run.Goals as goal
 
 pub new-tenant-requires : goal.new-tenant-requires

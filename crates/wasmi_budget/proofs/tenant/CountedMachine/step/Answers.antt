@@ -4,7 +4,7 @@ use Rattle.wasmi_meter.specs.declared.limiter.Kind.{Kind}
 use Rattle.wasmi_meter.specs.declared.limiter.Kind.TheVariants.{Bytes, Elements}
 use Rattle.wasmi_machine.proofs.StoreLemmas.{run_of_one}
 use Rattle.wasmi_machine.specs.State.{HoldsTotals, IsRefusal, total, world}
-use Rattle.wasmi_budget.proofs.PoolLemmas.{all_before, all_same, counted_alike, held_total, part_fits, part_held, part_holds, refused_total, runs_as_part, step_holds}
+use Rattle.wasmi_budget.proofs.TenantLemmas.{all_before, all_same, counted_alike, held_total, part_fits, part_held, part_holds, refused_total, runs_as_part, step_holds}
 use Rattle.wasmi_budget.specs.Pool.{holdings, tenant_rules}
 use Rattle.wasmi_budget.proofs.tenant.CountedMachine.step.Goals as goal
 use Rattle.wasmi_budget.proofs.tenant.CountedMachine.step.Goals.{After-step_lending-reply}

@@ -1,6 +1,4 @@
-use Rattle.std.proofs.Common.{subst}
-use Rattle.wasmi_budget.specs.Pool.{RepliesUnasked}
-use Rattle.wasmi_budget.proofs.PoolLemmas.{counted_alike, total_unasked}
+use Rattle.wasmi_budget.proofs.TenantLemmas.{counted_alike, total_unasked}
 use Rattle.wasmi_budget.proofs.tenant.CountedMachine.step_unasked.Goals as goal
 
 pub invariant_of-self : goal.invariant_of-self
@@ -9,8 +7,4 @@ invariant_of-self c =
     (total_unasked _ _ c.args.call.now _ c.step_without_tenant.ensures.replied) c.self.invariant
 
 pub returns : goal.returns
-returns c = record {
-  replied = subst
-      (λ s. RepliesUnasked c.args.call.now s c.step_without_tenant.result c.step_without_tenant.new.machine)
-      c.self.view_is c.step_without_tenant.ensures.replied;
-}
+returns c = record { replied = rw (← c.self.view_is) c.step_without_tenant.ensures.replied }

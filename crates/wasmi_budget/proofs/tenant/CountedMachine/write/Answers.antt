@@ -1,8 +1,6 @@
-use Rattle.std.proofs.Common.{rules, subst}
-use Rattle.wasmi_machine.specs.Steps.{SomeCopy}
+use Rattle.std.proofs.Common.{rules}
 use Rattle.wasmi_machine.specs.declared.calls.Call.TheVariants.{Write}
-use Rattle.wasmi_budget.specs.Pool.{RepliesUnasked}
-use Rattle.wasmi_budget.proofs.PoolLemmas.{counted_alike, total_unasked, write_unasked}
+use Rattle.wasmi_budget.proofs.TenantLemmas.{counted_alike, total_unasked, write_unasked}
 use Rattle.wasmi_budget.proofs.tenant.CountedMachine.write.Goals as goal
 
 pub invariant_of-self : goal.invariant_of-self
@@ -14,10 +12,6 @@ invariant_of-self c =
 
 pub returns : goal.returns
 returns c = record {
-  replied = subst
-      (λ s. SomeCopy c.args.bytes.now
-      (λ copy. RepliesUnasked (Write c.args.memory c.args.offset copy) s c.write.result c.write.new.self))
-      c.self.view_is
-      (write_unasked c.args.memory c.args.offset c.args.bytes.now (search rules) c.self.inside.machine c.write.result
-      c.write.new.self c.write.ensures.memories c.write.ensures.rest);
+  replied = rw (← c.self.view_is) (write_unasked c.args.memory c.args.offset c.args.bytes.now (search rules)
+      c.self.inside.machine c.write.result c.write.new.self c.write.ensures.memories c.write.ensures.rest);
 }

@@ -1,5 +1,4 @@
-use Rattle.std.proofs.Common.{◌≡◌, ◌∙◌, Err, refl, rules, sym}
-use Rattle.std.proofs.lemmas.Option.{none-some}
+use Rattle.std.proofs.Common.{◌≡◌, Err, refl, rules}
 use Rattle.wasmi_budget.specs.declared.error.ReserveError.TheVariants.{OutOfMemory}
 use Rattle.wasmi_budget.proofs.TenantsLemmas.{becomes_at, its_value, no_value}
 use Rattle.wasmi_budget.proofs.tenants.Tenants.reserve.Goals as goal
@@ -15,7 +14,7 @@ returns-in_err-reserve-clause-no_tenant c =
     let there = its_value c.self.invariant c.self.view_is c.deref.ensures.value _ _ c.in-Some.ensures.found
     c.index_mut-counted.ensures.value in
     let refused : c.from_residual.result ≡ Err OutOfMemory = search rules in
-    (λ error. absurd cc, λ none. absurd (none-some _ (sym none ∙ there)))
+    (λ error. absurd cc, λ none. absurd (cc (none, there)))
 
 pub returns : goal.returns
 returns c =
@@ -24,6 +23,6 @@ returns c =
     record {
       reserved = becomes_at c.self.invariant c.self.view_is c.deref.ensures.value _ _ c.in-Some.ensures.found
           c.index_mut-counted.ensures.value _ _ c.in_ok-reserve.ensures.reserved;
-      no_tenant = (λ error. absurd cc, λ none. absurd (none-some _ (sym none ∙ there)));
+      no_tenant = (λ error. absurd cc, λ none. absurd (cc (none, there)));
       refused = tt;
     }

@@ -1,5 +1,4 @@
-use Rattle.std.proofs.Common.{◌≡◌, ◌∙◌, Err, refl, rules, sym}
-use Rattle.std.proofs.lemmas.Option.{none-some}
+use Rattle.std.proofs.Common.{◌≡◌, Err, refl, rules}
 use Rattle.wasmi_budget.specs.declared.error.PoolError.TheVariants.{OutOfMemory}
 use Rattle.wasmi_budget.proofs.PoolLemmas.{is_part}
 use Rattle.wasmi_budget.proofs.TenantsLemmas.{its_value, no_value, ran_at}
@@ -22,7 +21,7 @@ returns-in_err-replies-clause-no_tenant c =
     let there = its_value c.self.invariant c.self.view_is c.deref.ensures.value _ _ c.in-Some.ensures.found
     c.index_mut-machine.ensures.value in
     let refused : c.from_residual.result ≡ Err OutOfMemory = search rules in
-    (λ error. absurd cc, λ none. absurd (none-some _ (sym none ∙ there)))
+    (λ error. absurd cc, λ none. absurd (cc (none, there)))
 
 pub returns : goal.returns
 returns c =
@@ -30,7 +29,7 @@ returns c =
     c.index_mut-machine.ensures.value c.requires.kept c.in_ok-replies.ensures.run in
     record {
       ran = ran.0;
-      no_tenant = (λ error. absurd cc, λ none. absurd (none-some _ (sym none ∙ ran.0.found)));
+      no_tenant = (λ error. absurd cc, λ none. absurd (cc (none, ran.0.found)));
       refused = tt;
       kept = ran.1;
     }

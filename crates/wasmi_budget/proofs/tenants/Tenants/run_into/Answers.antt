@@ -1,5 +1,4 @@
-use Rattle.std.proofs.Common.{◌≡◌, ◌∙◌, Err, refl, rules, sym}
-use Rattle.std.proofs.lemmas.Option.{none-some}
+use Rattle.std.proofs.Common.{◌≡◌, Err, refl, rules}
 use Rattle.wasmi_budget.specs.declared.error.RunIntoError.TheVariants.{TooManyCalls}
 use Rattle.wasmi_budget.proofs.PoolLemmas.{is_part}
 use Rattle.wasmi_budget.proofs.TenantsLemmas.{its_value, no_value, ran_at, value_put_back}
@@ -22,7 +21,7 @@ returns-in_err-run_into-clause-no_tenant c =
     let there = its_value c.self.invariant c.self.view_is c.deref.ensures.value _ _ c.in-Some.ensures.found
     c.index_mut-counted.ensures.value in
     let refused : c.from_residual.result ≡ Err TooManyCalls = search rules in
-    (λ error. absurd cc, λ none. absurd (none-some _ (sym none ∙ there)))
+    (λ error. absurd cc, λ none. absurd (cc (none, there)))
 
 pub returns-in_err-run_into-clause-refused : goal.returns-in_err-run_into-clause-refused
 returns-in_err-run_into-clause-refused c =
@@ -39,7 +38,7 @@ returns c =
     c.index_mut-counted.ensures.value c.requires.kept c.in_ok-run_into.ensures.run in
     record {
       ran = ran.0;
-      no_tenant = (λ error. absurd cc, λ none. absurd (none-some _ (sym none ∙ ran.0.found)));
+      no_tenant = (λ error. absurd cc, λ none. absurd (cc (none, ran.0.found)));
       too_many = λ error. absurd cc;
       accepted = search rules;
       refused = tt;

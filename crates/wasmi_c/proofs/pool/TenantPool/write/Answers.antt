@@ -1,5 +1,5 @@
 use Rattle.std.proofs.Common.{inl, inr, refl, rules}
-use Rattle.wasmi_machine.proofs.StepsLemmas.{vec_of}
+use Rattle.wasmi_machine.proofs.StoreLemmas.{vec_of}
 use Rattle.wasmi_c.proofs.Common.{TenantReplies, TenantRepliesToItems}
 use Rattle.wasmi_c.proofs.pool.TenantPool.write.Goals.{in-Ok, in-Err}
 use Rattle.wasmi_c.proofs.pool.TenantPool.write.Goals as goal

@@ -1,7 +1,7 @@
-use Rattle.std.proofs.Common.{◌≡◌, ◌∙◌, ◌-◌, ◌<◌, Some, length, take, drop, arith, refl, sym, ap}
-use Rattle.wasmi_grammar.proofs.Common.{slice_get, take_rest, parts_in}
+use Rattle.std.proofs.Common.{◌≡◌, ◌<◌, length, arith, refl, ap}
+use Rattle.wasmi_grammar.proofs.Common.{take_rest}
 use Rattle.std.proofs.lemmas.Option.{slice_get_read}
-use Rattle.wasmi_grammar.proofs.LinesLemmas.{span_within, at_earlier, at_last, at_none}
+use Rattle.wasmi_grammar.proofs.PartsLemmas.{span_within, at_earlier, at_last, at_none}
 use Rattle.wasmi_grammar.proofs.script.Parts.get.Goals as goal
 
 pub calls_at-requires : goal.calls_at-requires
@@ -22,12 +22,9 @@ returns-then-index-len c =
     let span = c.index-span.result.now in
     let index : c.args.index < length inside.earlier.items =
     omega (arith, c.if-index-len.true, c.len.ensures, inside.earlier.ok.0) in
-    let same = c.calls_at.ensures.calls
-    ∙ ap (λ calls. take (span.end - span.start) (drop span.start calls)) c.deref.ensures.value in
-    ap (λ calls. Some (record { tenant = span.tenant; calls = calls })) same
-    ∙ sym (at_earlier inside.calls.items inside.earlier.items inside.start inside.tenant c.args.index span
-    (slice_get_read inside.earlier.items _ c.args.index _ refl index c.index-span.ensures))
-    ∙ ap (λ parts. slice_get (parts_in parts) c.args.index) c.self.view_is
+    let here = at_earlier inside.calls.items inside.earlier.items inside.start inside.tenant c.args.index span
+    (slice_get_read inside.earlier.items _ c.args.index _ refl index c.index-span.ensures) in
+    rw (← c.self.view_is, here, c.calls_at.ensures.calls, c.deref.ensures.value)
 
 pub returns-then-index-len-2 : goal.returns-then-index-len-2
 returns-then-index-len-2 c =
@@ -37,12 +34,15 @@ returns-then-index-len-2 c =
     omega (arith, c.if-index-len-2.true, c.len-else-index-len.ensures, inside.earlier.ok.0) in
     let count : c.len-then-index-len-2.result ≡ length calls =
     omega (arith, c.len-then-index-len-2.ensures, inside.calls.ok.0) in
-    let same = c.calls_at-then-index-len-2.ensures.calls
-    ∙ (λ i. take (count i - inside.start) (drop inside.start (c.deref-then-index-len-2.ensures.value i)))
-    ∙ take_rest calls inside.start in
-    ap (λ calls. Some (record { tenant = inside.tenant; calls = calls })) same
-    ∙ sym (at_last calls inside.earlier.items inside.start inside.tenant c.args.index index)
-    ∙ ap (λ parts. slice_get (parts_in parts) c.args.index) c.self.view_is
+    let here = at_last calls inside.earlier.items inside.start inside.tenant c.args.index index in
+    rw (
+      ← c.self.view_is,
+      here,
+      c.calls_at-then-index-len-2.ensures.calls,
+      c.deref-then-index-len-2.ensures.value,
+      count,
+      take_rest calls inside.start,
+    )
 
 pub returns-else-index-len-2 : goal.returns-else-index-len-2
 returns-else-index-len-2 c =
@@ -56,5 +56,4 @@ returns-else-index-len-2 c =
       c.len-else-index-len.ensures,
       inside.earlier.ok.0,
     ) in
-    sym (at_none inside.calls.items inside.earlier.items inside.start inside.tenant c.args.index past)
-    ∙ ap (λ parts. slice_get (parts_in parts) c.args.index) c.self.view_is
+    rw (← c.self.view_is, at_none inside.calls.items inside.earlier.items inside.start inside.tenant c.args.index past)

@@ -1,5 +1,4 @@
-use Rattle.std.proofs.Common.{subst}
-use Rattle.wasmi_grammar.proofs.Common.{IfErr-weaker, AddsLine}
+use Rattle.wasmi_grammar.proofs.Common.{IfErr-weaker}
 use Rattle.wasmi_grammar.proofs.LinesLemmas.{refused_as}
 use Rattle.wasmi_grammar.proofs.script.Script.take.Goals as goal
 
@@ -18,5 +17,4 @@ returns-in-Reserve-clause-refused c = refused_as _ _ _ _ c.in-Reserve.is c.take_
 pub returns-in-As-clause-refused : goal.returns-in-As-clause-refused
 returns-in-As-clause-refused c =
     IfErr-weaker c.take_part.result _ _
-    (λ error refused bad new adds. refused bad new (subst (λ line. AddsLine c.args.self.now line new) c.in-As.is adds))
-    c.take_part.ensures.refused
+    (λ error refused bad new adds. refused bad new (rw c.in-As.is at adds)) c.take_part.ensures.refused

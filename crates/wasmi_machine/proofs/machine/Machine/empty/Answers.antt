@@ -1,5 +1,5 @@
 use Rattle.std.proofs.Common.{◌≡◌, ◌<◌, ◌∙◌, sym, arith, get_or, replicate}
-use Rattle.wasmi_machine.proofs.Common.{same_lists, get_or-replicate, option_copied_mut}
+use Rattle.wasmi_machine.proofs.Common.{same_lists, get_or-replicate}
 use Rattle.wasmi_machine.proofs.machine.Machine.empty.Goals as goal
 use Rattle.wasmi_raw.specs.RawVal.{raw_of}
 
@@ -12,20 +12,4 @@ returns c =
     let zero : get_or registers k d ≡ raw_of 0 =
     λ i. record { lo = (all.at k d within).0 i; hi = (all.at k d within).1 i } in
     zero ∙ sym (get_or-replicate 16 k (raw_of 0) d within)) in
-    λ i. record {
-      memories = (c.new.ensures i).items;
-      tables = (c.new-2.ensures i).items;
-      segments = (c.new-3.ensures i).items;
-      data_segments = (c.new-4.ensures i).items;
-      globals = (c.new-5.ensures i).items;
-      registers = zeros i;
-      meter = c.args.fuel;
-      spare = option_copied_mut c.args.spare;
-      reserved = record {
-        memories = (c.new.ensures i).reserved;
-        tables = (c.new-2.ensures i).reserved;
-        segments = (c.new-3.ensures i).reserved;
-        data_segments = (c.new-4.ensures i).reserved;
-        globals = (c.new-5.ensures i).reserved;
-      };
-    }
+    rw (c.new.ensures, c.new-2.ensures, c.new-3.ensures, c.new-4.ensures, c.new-5.ensures, zeros)

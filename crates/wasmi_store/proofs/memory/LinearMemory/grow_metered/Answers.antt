@@ -1,8 +1,13 @@
-use Rattle.std.proofs.Common.{ap, arith, refl, sym, ◌∙◌}
-use Rattle.wasmi_store.proofs.Common.{err_from_is_err_and, optional_rules, cond-false, MatchBool-at_true, memory_of}
+use Rattle.std.proofs.Common.{◌≡◌, ℕ, ◌+◌, ◌-◌, length, ap, arith, refl, sym, ◌∙◌}
+use Rattle.wasmi_store.proofs.Common.{err_from_is_err_and, optional_rules, cond-false, MatchBool-at_true, memory_of, BufferValue, with_zeros}
 use Rattle.wasmi_store.proofs.GrowthLemmas.{growing, grows_unasked, grows_refused, grows_met}
-use Rattle.wasmi_store.proofs.MemoryLemmas.{memory_growth, growth_asked, growth_permitted, zeros_added}
+use Rattle.wasmi_store.proofs.MemoryLemmas.{memory_growth, growth_asked, growth_permitted}
 use Rattle.wasmi_store.proofs.memory.LinearMemory.grow_metered.Goals as goal
+
+-- zeros up to a size that is n greater are n zeros
+zeros_added : (b b' : BufferValue) (n : ℕ) {size : ℕ} → size ≡ length b.bytes + n
+    → b' ≡ with_zeros b (size - length b.bytes) → b' ≡ with_zeros b n
+zeros_added b b' n sized grown = grown ∙ ap (with_zeros b) (omega arith)
 
 pub returns-in_default-clause-grown : goal.returns-in_default-clause-grown
 returns-in_default-clause-grown g c = rw (← c.self.view_is)

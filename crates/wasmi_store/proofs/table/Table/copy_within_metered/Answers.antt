@@ -1,5 +1,6 @@
 use Rattle.std.proofs.Common.{Some, refl}
-use Rattle.wasmi_store.proofs.WriteLemmas.{table_writes, writes_elements, same_as_itself}
+use Rattle.wasmi_store.proofs.TableLemmas.{same_as_itself}
+use Rattle.wasmi_store.proofs.WriteLemmas.{table_writes, writes_elements}
 use Rattle.wasmi_store.proofs.table.Table.copy_within_metered.Goals as goal
 
 pub returns : goal.returns

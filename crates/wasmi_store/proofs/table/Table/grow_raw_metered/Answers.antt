@@ -1,9 +1,20 @@
-use Rattle.std.proofs.Common.{sym, ap, ◌∙◌, ◌+◌, ◌<◌, length, refl, arith}
-use Rattle.wasmi_store.proofs.Common.{cond-false, err_from_is_err_and, optional_rules}
+use Rattle.std.proofs.Common.{◌≡◌, ℕ, true, Result, Ok, Err, List, ◌++◌, ◌-◌, take, replicate, sym, ap, ◌∙◌, ◌+◌, ◌<◌, length, refl, arith}
+use Rattle.wasmi_store.proofs.Common.{cond-false, err_from_is_err_and, optional_rules, take_all, OnErr, is_err}
 use Rattle.wasmi_store.proofs.GrowthLemmas.{growing, grows_unasked, grows_denied, grows_late, grows_unpaid, grows_refused, grows_met}
-use Rattle.wasmi_store.proofs.TableLemmas.{of_failure, resized, table_growth, growth_asked, growth_permitted}
+use Rattle.wasmi_store.proofs.TableLemmas.{table_growth, growth_asked, growth_permitted}
 use Rattle.wasmi_store.proofs.WriteLemmas.{table_with}
 use Rattle.wasmi_store.proofs.table.Table.grow_raw_metered.Goals as goal
+
+-- where a call failed, what holds of its failures holds
+of_failure : {T E P : Type 0} (result : Result T E) → is_err result ≡ true → OnErr result P → P
+of_failure (Ok value) failed fact = cc
+of_failure (Err error) failed fact = fact
+
+-- a list that is resized upwards
+resized : (xs : List ℕ) (size n desired reference : ℕ) → size ≡ length xs → desired ≡ length xs + n
+    → take desired xs ++ replicate (desired - size) reference ≡ xs ++ replicate n reference
+resized xs size n desired reference e reaches =
+    let more : desired - size ≡ n = omega arith in rw (take_all desired xs (omega arith), more) refl
 
 pub returns-in_default-clause-grown : goal.returns-in_default-clause-grown
 returns-in_default-clause-grown g c = rw (← c.self.view_is) (grows_unasked

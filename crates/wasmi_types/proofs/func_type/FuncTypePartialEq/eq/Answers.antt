@@ -1,5 +1,4 @@
-use Rattle.std.proofs.Common.{◌≡◌, rules, sym, subst}
-use Rattle.std.specs.Bool.{Decides}
+use Rattle.std.proofs.Common.{◌≡◌, rules}
 use denote.Enum.Bare.{sameb}
 use Rattle.wasmi_types.specs.contracts.value.ValType.{the_type}
 use Rattle.wasmi_types.specs.FunctionType.{same_lists}
@@ -9,5 +8,4 @@ use Rattle.wasmi_types.proofs.func_type.FuncTypePartialEq.eq.Goals as goal
 pub returns-clause-same : goal.returns-clause-same
 returns-clause-same c =
     let e : c.eq.result ≡ same_lists (sameb the_type) c.args.self.now c.args.other.now = search rules in
-    subst (λ r. Decides r (c.args.self.now ≡ c.args.other.now)) (sym e)
-    (same_lists_decides same_type_decides c.args.self.now c.args.other.now)
+    rw e (same_lists_decides same_type_decides c.args.self.now c.args.other.now)

@@ -1,5 +1,5 @@
 use Rattle.std.proofs.Common.{◌∷◌, [], ap, arith, length, length-append}
-use Rattle.wasmi_store.proofs.TableLemmas.{read_next, read_refused}
+use Rattle.wasmi_store.proofs.SegmentLemmas.{read_next, read_refused}
 use Rattle.wasmi_store.proofs.table.element.ElementSegment.read.Goals as goal
 
 pub returns-then-is_err : goal.returns-then-is_err
