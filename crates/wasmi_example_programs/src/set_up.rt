@@ -7,22 +7,17 @@ use wasmi_core::{
     run_into_lending, run_lending,
 };
 
-/// Makes a machine with a region, sets it up, and runs the guests on it.
+/// Sets a machine up, and runs the guests on it one after another.
 pub fn main(rt: HostRuntime) -> anyhow::Result<()> {
     let mut region = [0; 64];
     let fuel = Fuel::new(false, FuelCostsProvider::default());
     let mut machine = Machine::with_region(rt.alloc(), fuel, &mut region);
-    host(&rt, &mut machine)
-}
-
-/// Sets the machine up, and runs the guests on it one after another.
-fn host(rt: &HostRuntime, machine: &mut Machine) -> anyhow::Result<()> {
-    set_up(rt, machine)?;
+    set_up(&rt, &mut machine)?;
     let mut replies = Replies::with_capacity(rt.alloc(), 3)?;
 
     let mut done = 0u32;
     for guest in 0..1000u32 {
-        if runs(machine, guest, &mut replies)? {
+        if runs(&mut machine, guest, &mut replies)? {
             done = done.saturating_add(1);
         }
     }

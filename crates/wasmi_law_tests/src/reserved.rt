@@ -76,7 +76,10 @@ pub fn run_with_slots<L: ResourceLimiter>(
     let Ok(()) = machine.reserve(slots) else {
         return false;
     };
-    run_into_lending(machine, calls, limiter, replies).is_ok()
+    let Ok(()) = run_into_lending(machine, calls, limiter, replies) else {
+        return false;
+    };
+    true
 }
 
 /// Makes one call, which needs no memory but what was reserved: it doesn't run out of memory.
@@ -229,5 +232,8 @@ pub fn run_tenant_beside(
     let Ok(()) = pool.run_into(other, between, replies) else {
         return false;
     };
-    pool.run_into(index, calls, replies).is_ok()
+    let Ok(()) = pool.run_into(index, calls, replies) else {
+        return false;
+    };
+    true
 }

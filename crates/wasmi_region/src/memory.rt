@@ -252,6 +252,13 @@ pub fn init(
     ensures { BulkWrites (copied bytes.old dst segment.now src len) len
         (metered bytes.old (Some fuel.old)) result (metered bytes.new (Some fuel.new)) }
 {
-    let (src, len) = (u64::from(src), u64::from(len));
-    copy_items(bytes, dst, segment, src, len, OUTSIDE, fuel)
+    copy_items(
+        bytes,
+        dst,
+        segment,
+        u64::from(src),
+        u64::from(len),
+        OUTSIDE,
+        fuel,
+    )
 }

@@ -201,16 +201,11 @@ mod pool {
         // One page of 64 KiB for both tenants together, and no tables. Each asks for a page: the second
         // one is denied.
         let mut pool = Pool::new(65_536, 0);
-        host(&mut pool, &calls)
-    }
-
-    /// Adds two tenants, runs the calls on each, and prints what they hold.
-    fn host(pool: &mut Pool, calls: &[Call]) -> Result<(), Box<dyn std::error::Error>> {
         for _tenant in 0..2 {
-            add(pool)?;
+            add(&mut pool)?;
         }
         for tenant in 0..pool.len() {
-            run(pool, tenant, calls)?;
+            run(&mut pool, tenant, &calls)?;
         }
         for tenant in 0..pool.len() {
             let bytes = pool.held_bytes(tenant).unwrap_or(0);
@@ -294,22 +289,17 @@ mod set_up {
         ValType, run_into_lending, run_lending,
     };
 
-    /// Makes a machine with a region, sets it up, and runs the guests on it.
+    /// Sets a machine up, and runs the guests on it one after another.
     pub fn main() -> Result<(), Box<dyn std::error::Error>> {
         let mut region = [0; 64];
         let fuel = Fuel::new(false, FuelCostsProvider::default());
         let mut machine = Machine::with_region(fuel, &mut region);
-        host(&mut machine)
-    }
-
-    /// Sets the machine up, and runs the guests on it one after another.
-    fn host(machine: &mut Machine) -> Result<(), Box<dyn std::error::Error>> {
-        set_up(machine)?;
+        set_up(&mut machine)?;
         let mut replies = Replies::with_capacity(3)?;
 
         let mut done = 0u32;
         for guest in 0..1000u32 {
-            if runs(machine, guest, &mut replies)? {
+            if runs(&mut machine, guest, &mut replies)? {
                 done = done.saturating_add(1);
             }
         }

@@ -131,6 +131,10 @@ mod load_store {
         ///
         /// # Errors
         ///
+        /// [`MemoryOutOfBounds`](crate::TrapCode::MemoryOutOfBounds) if the bytes end past the memory; then nothing is written.
+        ///
+        /// # Errors
+        ///
         /// [`MemoryOutOfBounds`](crate::TrapCode::MemoryOutOfBounds) if the bytes would end past the memory; then nothing is written.
         ///
         /// # Contract
@@ -1152,6 +1156,10 @@ mod vector {
 
     impl StoreLaneOp {
         /// Stores the lane at `ptr + offset`.
+        ///
+        /// # Errors
+        ///
+        /// [`MemoryOutOfBounds`](crate::TrapCode::MemoryOutOfBounds) if the bytes end past the memory; then nothing is written.
         ///
         /// # Errors
         ///
