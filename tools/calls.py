@@ -378,13 +378,14 @@ def named_lookup(call, part):
 
 
 def equal_lookup(call, part, proof):
+    """The equation of a look-up, by what a call's words say."""
     if part.kind == "named":
-        return f"named_is {NAMED[part.lookup]}.enum tt {part.lookup} refl (word {part.word}) {part.term} {proof} i"
+        return f"named_is {NAMED[part.lookup]}.enum tt {part.lookup} refl (word {part.word}) {part.term} {proof}"
     if part.kind == "op":
-        return f"named_is {part.lookup}.enum tt {part.lookup}_name refl (word {part.word}) {part.term} {proof} i"
+        return f"named_is {part.lookup}.enum tt {part.lookup}_name refl (word {part.word}) {part.term} {proof}"
     if part.kind == "lane_op":
-        return f"lane_is {part.lookup}.enum tt {part.lookup}_name {part.lookup}_op (word {part.word}) (word {call.lane}) refl {part.term} {proof} i"
-    return f"{looked_up(part, 'is')} {part.term} {proof} i"
+        return f"lane_is {part.lookup}.enum tt {part.lookup}_name {part.lookup}_op (word {part.word}) (word {call.lane}) refl {part.term} {proof}"
+    return f"{looked_up(part, 'is')} {part.term} {proof}"
 
 
 def searched_in(call):
@@ -403,13 +404,15 @@ def named_value(call):
     def value(k):
         part = call.parts[k]
         if part.kind == "number":
-            return f"number {part.word}" if "." in part.term else f"(number {part.word})"
-        return f"(raw_of (number {part.word}))" if part.kind == "low" else bound(part)
+            return f"n {part.word}" if "." in part.term else f"(n {part.word})"
+        return f"(raw_of (n {part.word}))" if part.kind == "low" else bound(part)
     if any(part.kind == "text" for part in call.parts):
         return "beside drops_named (word 0)"
     words = f"(drop {call.count} words)" if call.count else "words"
-    said = meaning(call, value, f"(numbers_in {words})")
-    return nested(said, [(bound(part), named_lookup(call, part)) for part in searched_in(call)])
+    lookups = [(bound(part), named_lookup(call, part)) for part in searched_in(call)]
+    if len(lookups) == 1 and call.name not in MEANINGS:
+        return f"made ({lookups[0][1]}) (λ {lookups[0][0]}. {call.applied(value)})"
+    return nested(meaning(call, value, f"(numbers_in {words})"), lookups)
 
 
 def proofs(call):
@@ -421,27 +424,32 @@ def proofs(call):
 
 
 def equal_value(call):
-    places = list(proofs(call))
-
-    def value(k):
-        part, (root, at) = call.parts[k], places[k]
-        if part.kind == "low":
-            return f"(sym ({root}.{at + 2} ∙ ap raw_of {root}.{at + 1}.1) i)"
-        if part.kind != "number":
-            return bound(part)
-        return f"sym {root}.{at}.1 i" if "." in part.term else f"(sym {root}.{at}.1 i)"
-    words = f"(drop {call.count} words)" if call.count else "words"
-    it = "w.1" if call.parts else "w"
-    listed = None
+    """What a call says, by the equations that its words give: of what is looked up and of the list, and of the numbers."""
+    looked, numbers = [], []
+    for part, (root, at) in zip(call.parts, proofs(call)):
+        if part.kind == "text":
+            looked.append(f"{root}.{at}")
+        elif part in searched_in(call):
+            looked.append(equal_lookup(call, part, f"{root}.{at}"))
+        else:
+            numbers += [f"← {root}.{at}.1"] if part.kind == "number" else [f"← {root}.{at + 1}.1", f"← {root}.{at + 2}"]
     if call.list:
-        field, type = call.list
-        listed = f"(numbers_is 5 {words} {field} {it}.written i)" if type.startswith("[") else \
-            f"(numbers_is {8 if type == 'Vec<u8>' else 32} {words} {field}.items {it} i)"
-    said = meaning(call, value, listed)
-    lookups = [(bound(part), equal_lookup(call, part, f"{root}.{at}")) for part, (root, at) in zip(call.parts, places) if part in searched_in(call)]
-    if any(part.kind == "text" for part in call.parts):
-        return f"ap (beside drops_named) w.1 ∙ (λ i. Some ({said}))"
-    return f"λ i. {nested(said, lookups)}" if call.fields else "refl"
+        (field, type), it = call.list, "w.1" if call.parts else "w"
+        words = f"(drop {call.count} words)" if call.count else "words"
+        looked.append(f"numbers_is 5 {words} {field} {it}.written" if type.startswith("[") else
+                      f"numbers_is {8 if type == 'Vec<u8>' else 32} {words} {field}.items {it}")
+    return looked, numbers
+
+
+def meaning_line(call):
+    """The line of a call: by one list of equations, or by several where one doesn't fit."""
+    head, (looked, numbers) = f"  call_is {call.pattern()} w =", equal_value(call)
+    line = f"{head} rw ({', '.join(looked + numbers)})" if looked or numbers else f"{head} refl"
+    if len(line) <= 120:
+        return f"{line}\n"
+    parts = [f"rw ({it})" for it in looked] + [f"rw ({', '.join(numbers)})"] * bool(numbers)
+    whole, closed = " (".join(parts), ")" * (len(parts) - 1)
+    return f"{head}\n" + "".join(f"      {it}\n" for it in ([f"{whole}{closed}"] if len(whole + closed) <= 114 else f"{whole}{closed}".replace(" (rw", "\n(rw").split("\n")))
 
 
 def meanings(its):
@@ -452,7 +460,7 @@ def meanings(its):
 
 def meaning_lemma(its):
     type = "(call : Call) → WritesOperands words call → beside calls_named (command_word call) ≡ Some (call_meaning call)"
-    lines = [filled(f"call_is {it.pattern()} w = {equal_value(it)}", 2) for it in its]
+    lines = [meaning_line(it) for it in its]
     return definition("operands that write a call give what the call says, beside its word", "call_is", type, ["  unfolding IsName\n", *lines], "", 2)
 
 

@@ -6,7 +6,7 @@ import re
 import urllib.parse
 
 from .source import Unknown
-from .tables import ERRORS, METHOD_NAMES, ON_FLOATS, module_of, standard_name
+from .tables import ERRORS, LOADED, METHOD_NAMES, ON_FLOATS, module_of, standard_name
 
 NAME = r"[^\s(){}\[\].,;:=λ→\"|]+"
 WORD = re.compile(rf"(\w+\.)?({NAME})")
@@ -208,7 +208,7 @@ def on_floats(name, given, result, standard):
         body = f"{number}::from_bits({call}.cast_unsigned())"
     elif f"<{integer}," in result:
         body = f"{call}.map({number}::from_bits)"
-    errors = ERRORS["IsStore " if "store" in name else "result ≡ loaded "].replace("`MemoryOutOfBounds`", "[`MemoryOutOfBounds`](TrapCode::MemoryOutOfBounds)")
+    errors = ERRORS["IsStore " if "store" in name else LOADED].replace("`MemoryOutOfBounds`", "[`MemoryOutOfBounds`](TrapCode::MemoryOutOfBounds)")
     marks = f"        ///\n        /// # Errors\n        ///\n        /// {errors}\n" if "Result" in result else "        #[must_use]\n"
     marks += f'        #[doc(alias = "{standard_name(own)}")]\n' * (standard_name(own) in standard)
     return f"""\

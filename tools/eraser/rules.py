@@ -5,6 +5,7 @@
 | `requires` of a `pub fn` | an `assert!` of the table `REQUIRES` and a section `Panics` of its docs, or nothing if Rust tests it or no test can |
 | `requires` of a function of a public trait | an `assert!` of the table `OF_TRAITS` in the implementations |
 | a clause of a form of `ERRORS` | a section `Errors` of the function's docs |
+| docs "As `f`, with .." of a function that returns a `Result` | the same, with the errors of `f` |
 | a clause, `impl Model`, a ghost member | a section `Contract` or `Model` of the item's docs |
 | `derive(Drop)`, `T: Drop`, an `impl Drop` that only takes apart | nothing: Rust drops every value |
 | a parameter, field or argument `alloc`, `rt.alloc()` | nothing: Rust has one allocator |
@@ -149,8 +150,8 @@ class File(Source):
 
     def errors(self, found, head, clauses):
         """The errors that the forms of the clauses tell; in docs that say them already, each gets a link to its variant."""
-        returned = re.search(r"-> Result<.*?(\w+(?:Error|Code))\b", head, re.S)
-        variants = self.known.errors[returned[1]] if returned and returned[1] in PLACES_OF_ERRORS and not self.is_test else ()
+        returned = None if self.is_test else re.search(r"-> Result<.*?(\w+(?:Error|Code))\b", head, re.S)
+        variants = self.known.errors[returned[1]] if returned and returned[1] in PLACES_OF_ERRORS else ()
 
         def linked(name):
             return f"[`{name[1]}`]({PLACES_OF_ERRORS[returned[1]]}::{returned[1]}::{name[1]})" if name[1] in variants else name[0]
@@ -159,7 +160,9 @@ class File(Source):
         title = next((n for n, mark in enumerate(marks) if self.kept[int(mark)] == "/// # Errors"), len(marks))
         for mark in map(int, marks[title:]):
             self.kept[mark] = re.sub(r"`(\w+)`", linked, self.kept[mark])
-        return [re.sub(r"`(\w+)`", linked, its) for form, its in ERRORS.items() if variants and re.search(form, " ".join(clauses))]
+        if variants and marks and (other := re.match(r"/// As `(\w+?)(?:_metered)?`, with", self.kept[int(marks[0])])):
+            return [f"Those of `{other[1]}`."]
+        return [re.sub(r"`(\w+)`", linked, its) for form, its in ERRORS.items() if returned and re.search(form, " ".join(clauses))]
 
     def must_use(self, found, head, opening):
         """`#[must_use]` of a public function whose result is all that it does."""

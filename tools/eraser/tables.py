@@ -84,12 +84,20 @@ CRATES_OF_TESTS = {"wasmi_core"}
 # The modules of the Rust crate's root that have another name than under `proved`.
 PUBLIC = {"wasmi_budget": "pool", "wasmi_core": "machine"}
 
+# The form of a load's clause, but for that of the private `load_front`.
+LOADED = r"result ≡ loaded(?:_raw|_vector|_lane)? (?!self bytes)"
 # The errors of a function that has a clause of such a form.
 ERRORS = {
-    r"result ≡ loaded ": "`MemoryOutOfBounds` if the bytes end past the memory.",
+    LOADED: "`MemoryOutOfBounds` if the bytes end past the memory.",
     r"IsStore ": "`MemoryOutOfBounds` if the bytes would end past the memory; then nothing is written.",
     r"result ≡ idiv_s ": "In the order of the tests: `IntegerDivisionByZero` if the divisor is 0; `IntegerOverflow` for the least number by -1.",
     r"result ≡ (?:idiv_u|irem_[su]) ": "`IntegerDivisionByZero` if the divisor is 0.",
+    r"rules\.(?:asked|noticed) self": "An implementation's own. The call then returns `ResourceLimiterDeniedAllocation`.",
+    r"\(optional_rules L\.rules\)\.(?:asked|noticed) \(lent_limiter self": "The limiter's. Without a limiter there is none.",
+    r"≡ meter_set self|result ≡ Ok \(amount_left ": "`FuelMeteringDisabled` if the meter is off.",
+    r"result ≡ binary_raw ": "Divisions and remainders alone can trap: by zero with `IntegerDivisionByZero`, and a signed division"
+                             " of the least number by -1 with `IntegerOverflow`.",
+    r"SetsGlobal ": "In the order of the tests: `ImmutableWrite` if the variable is a constant; `TypeMismatch` if the value is of another type.",
 }
 # The module of each public error.
 PLACES_OF_ERRORS = dict.fromkeys(("FuelError", "GlobalError", "MemoryError", "TableError", "TrapCode"), "crate") | {

@@ -40,10 +40,9 @@ outside_by_length : (old new : List ℕ) (a : ℕ) (ys : List ℕ) → overwrite
 outside_by_length old new a ys e =
     let facts = accepted old a ys new e in
     let before : length (take a old) ≡ a = length-take-le a old (omega (arith, facts.0)) in
-    let through : length (take a old ++ ys) ≡ a + length ys = omega (arith, length-append (take a old) ys, before) in
     rw (← facts.1) (
       rw append_assoc (take_at (take a old) (ys ++ drop (a + length ys) old) a before),
-      drop_at (take a old ++ ys) (drop (a + length ys) old) (a + length ys) through,
+      drop_at (take a old ++ ys) _ (a + length ys) (omega (arith, length-append (take a old) ys, before)),
     )
 
 -- an accepted store: its address is below 2 to the power 64, and the list has its bytes
@@ -54,8 +53,7 @@ stored_there false found new e = cc
 
 -- a load of what was stored
 pub loaded-stored : {V : Type 0} (k n a : ℕ) (old new : List ℕ) (value : ℕ → V)
-    → IsStore old a (le_bytes k n) new (Ok (tt {0}))
-    → loaded k value new a ≡ Ok (value (n % 2 ^ (8 * k)))
+    → IsStore old a (le_bytes k n) new (Ok (tt {0})) → loaded k value new a ≡ Ok (value (n % 2 ^ (8 * k)))
 loaded-stored k n a old new value e =
     let facts = stored_there (nat_lt a (2 ^ 64)) (overwrite old a (le_bytes k n)) new e in
     let there = rw (length-low_first 0 k n) at (at-overwrite old a (le_bytes k n) new facts.1) in

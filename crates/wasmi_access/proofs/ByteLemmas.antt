@@ -1,14 +1,13 @@
 -- Bytes of numbers: the bytes of a number, the number of a list of bytes, and each of the other, for any number of bytes
 -- and for the widths of integers.
-use Rattle.std.proofs.Common.{◌≡◌, ℕ, ◌+◌, ◌-◌, ◌*◌, ◌/◌, ◌%◌, ◌^◌, ◌<◌, ◌∙◌, suc, sym, refl, ap, arith, mod-eq_of_lt, zero, List, [], ◌∷◌, ◌++◌, length, take, get_or, div-one, lit<, mul_comm, ℤ, pos, length-take-le, take_all, take-suc}
-use Rattle.std.specs.Int.{Width, w8, w16, w32, w64, w128, cast_signed, cast_unsigned, bytes_low_first, byte_at, byte_worth, sum_through, from_le_bytes, to_le_bytes, byte_len}
+use Rattle.std.proofs.Common.{◌≡◌, ℕ, ◌+◌, ◌-◌, ◌*◌, ◌/◌, ◌%◌, ◌^◌, ◌<◌, ◌∙◌, suc, sym, refl, ap, arith, mod-eq_of_lt, zero, List, [], ◌∷◌, ◌++◌, length, take, get_or, div-one, lit<, mul_comm, pos, length-take-le, take_all, take-suc}
+use Rattle.std.specs.Int.{Width, w8, w16, w32, w64, w128, bytes_low_first, byte_at, byte_worth, sum_through, from_le_bytes, to_le_bytes, byte_len}
 use Rattle.wasmi_types.specs.Numbers.{wrap, number_of, le_bytes}
 use Rattle.wasmi_types.proofs.NumbersLemmas.{wrap_unsigned, wrap_signed, wrap_of_bits, wrap_of_image}
 use Rattle.std.proofs.lemmas.Int.{to_z-of_z}
 use Rattle.std.proofs.lemmas.Nat.{pow_pos, pow-add}
 use mir.Val.{bits}
 use Rattle.std.proofs.Math.Nat.{div-div-eq-div-mul, pow-suc, mod-one}
-use Rattle.std.proofs.Math.Facts.{sfits_to_z}
 use lib.Arith.{mod-mul}
 
 -- ---- the bytes of a number
@@ -19,10 +18,6 @@ bytes_power zero = refl
 bytes_power (suc k) =
     let more : 8 * suc k ≡ 8 * k + 8 = omega arith in
     rw (pow-suc 256 k, bytes_power k, more, pow-add 2 (8 * k) 8)
-
--- a power of 256 is above 0
-pow-pos : (k : ℕ) → 0 < 256 ^ k
-pow-pos k = rw (bytes_power k) (pow_pos (8 * k))
 
 -- the k bytes of a number from byte i on are k
 pub length-low_first : (i k n : ℕ) → length (bytes_low_first i k n) ≡ k
@@ -41,7 +36,7 @@ number_of-low_first i zero n = sym (mod-one (n / 256 ^ i))
 number_of-low_first i (suc k) n =
     let next : n / 256 ^ suc i ≡ n / 256 ^ i / 256 = rw (pow-suc 256 i) (sym (div-div-eq-div-mul n (256 ^ i) 256)) in
     rw (byte_at-is i n, number_of-low_first (suc i) k n, next, pow-suc 256 k)
-    (omega (arith, mod-mul (n / 256 ^ i) {m = 256 ^ k} {c = 256} (pow-pos k) (lit< tt)))
+    (omega (arith, mod-mul (n / 256 ^ i) {m = 256 ^ k} {c = 256} (rw (bytes_power k) (pow_pos (8 * k))) (lit< tt)))
 
 -- ---- the number of some bytes
 
@@ -49,8 +44,7 @@ number_of-low_first i (suc k) n =
 number_of-push : (bs : List ℕ) (b : ℕ) → number_of (bs ++ b ∷ []) ≡ number_of bs + b * 256 ^ length bs
 unfolding number_of
 number_of-push [] b = omega arith
-number_of-push (c ∷ bs) b =
-    rw (pow-suc 256 (length bs)) (omega (arith, number_of-push bs b))
+number_of-push (c ∷ bs) b = rw (pow-suc 256 (length bs)) (omega (arith, number_of-push bs b))
 
 -- what the bytes 0 to k are worth together is the number of the first k + 1 bytes
 pub sum_through-number_of : (bs : List ℕ) (k : ℕ) → k < length bs
@@ -82,11 +76,6 @@ low_first-number_of (b ∷ bs) h =
     let quotient : (b + 256 * number_of bs) / 256 ≡ number_of bs = omega (arith, small) in
     rw (first, low_first-next 0 (length bs), quotient, low_first-number_of bs (λ i. h (suc i)))
 
--- the same, where the length of the list is k
-le_bytes-number_of : (bs : List ℕ) (k : ℕ) → length bs ≡ k → ((i : ℕ) → get_or bs i 0 < 256)
-    → le_bytes k (number_of bs) ≡ bs
-le_bytes-number_of bs k e h = ap (λ j. le_bytes j (number_of bs)) (sym e) ∙ low_first-number_of bs h
-
 -- ---- at the widths of the numbers
 
 -- the number of the k bytes of n is n, where n is below 256 to the power k
@@ -101,20 +90,15 @@ number_of-whole bs k e = sum_through-number_of bs k (omega arith) ∙ ap number_
 -- the bytes of what the bytes of a list are worth together are the list
 pub le_bytes-whole : (bs : List ℕ) (k n : ℕ) → length bs ≡ suc k → ((i : ℕ) → get_or bs i 0 < 256)
     → n ≡ sum_through (λ i. byte_worth i (get_or bs i 0)) k → le_bytes (suc k) n ≡ bs
-le_bytes-whole bs k n e h is = ap (le_bytes (suc k)) (is ∙ number_of-whole bs k e) ∙ le_bytes-number_of bs (suc k) e h
+le_bytes-whole bs k n e h is =
+    ap (le_bytes (suc k)) (is ∙ number_of-whole bs k e) ∙ ap (λ j. le_bytes j (number_of bs)) (sym e)
+    ∙ low_first-number_of bs h
 
 -- the same of a number of an unsigned type, cut to its width
 pub le_bytes-unsigned : (w : Width) (bs : List ℕ) (k n : ℕ) → n < 2 ^ bits w → length bs ≡ suc k
     → ((i : ℕ) → get_or bs i 0 < 256)
     → n ≡ sum_through (λ i. byte_worth i (get_or bs i 0)) k → le_bytes (suc k) (wrap w (pos n)) ≡ bs
 le_bytes-unsigned w bs k n below e h is = ap (le_bytes (suc k)) (wrap_unsigned w n below) ∙ le_bytes-whole bs k n e h is
-
--- the bytes of the signed number with the bits of a number are those of that number
-pub le_bytes-of_bits : (w : Width) (k n : ℕ) (z : ℤ) (bs : List ℕ) → n < 2 ^ bits w → z ≡ cast_signed w n
-    → le_bytes k (wrap w (pos n)) ≡ bs → le_bytes k (wrap w (cast_signed w (cast_unsigned w z))) ≡ bs
-le_bytes-of_bits w k n z bs below is bytes =
-    rw (is, to_z-of_z w (cast_signed w n) (sfits_to_z (record { fits = below })), wrap_of_bits w n below)
-    (rw (wrap_unsigned w n below) at bytes)
 
 -- what holds at each width of a number
 pub record AtEachWidth (P : Width → Type 0) : Type 0 where

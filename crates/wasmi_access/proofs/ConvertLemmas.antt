@@ -11,23 +11,20 @@ use mir.Val.{SFits, bits}
 complement-mod : (q m n : ℕ) → 0 < m → n < q * m → m - 1 - n % m ≡ (q * m - suc n) % m
 complement-mod q m n h l =
     let small : n % m < m = mod_below n m h in
-    let whole : q * m ≡ ((q - suc (n / m)) + suc (n / m)) * m =
-    ap (λ k. k * m) (omega (arith, div_below n m q h l)) in
+    let whole : q * m ≡ ((q - suc (n / m)) + suc (n / m)) * m = ap (λ k. k * m) (omega (arith, div_below n m q h l)) in
     let left : q * m - suc n ≡ (q - suc (n / m)) * m + (m - 1 - n % m) = omega (arith, whole, div-add-mod' n m, small) in
     rw left (sym (mod-mul-add (q - suc (n / m)) m (m - 1 - n % m) (omega (arith, small))))
 
 -- the narrow width is a part of the wide one
 part_of : (v w : Width) → bits v ≤ bits w → 2 ^ bits w ≡ 2 ^ (bits w - bits v) * 2 ^ bits v
-part_of v w le =
-    rw (← pow-add 2 (bits w - bits v) (bits v)) (ap (λ k. 2 ^ k) (omega arith))
+part_of v w le = rw (← pow-add 2 (bits w - bits v) (bits v)) (ap (λ k. 2 ^ k) (omega arith))
 
 -- a number of the width w wrapped to v is the lowest bits of its unsigned image, read signed
 wrap_low : (v w : Width) (z : ℤ) → bits v ≤ bits w → SFits w z
     → int_wrap v z ≡ cast_signed v (cast_unsigned w z % 2 ^ bits v)
 unfolding int_wrap
 wrap_low v w (pos n) le f = refl
-wrap_low v w (negsuc n) le f =
-    rw (part_of v w le)
+wrap_low v w (negsuc n) le f = rw (part_of v w le)
     (ap (cast_signed v) (complement-mod (2 ^ (bits w - bits v)) (2 ^ bits v) n (pow_pos (bits v))
     (omega (arith, half_below w, part_of v w le, f.sfits))))
 
@@ -39,8 +36,7 @@ wrap_wrapped w z r e =
 
 -- a number of a width that is at least as great, cut to a width, is the low bits of its unsigned image
 pub image_low : (v w : Width) (z : ℤ) → bits v ≤ bits w → SFits w z → wrap v z ≡ cast_unsigned w z % 2 ^ bits v
-image_low v w z le f =
-    sym (wrap_wrapped v z (int_wrap v z) refl) ∙ wrap_signed v (int_wrap v z) (SFits-int_wrap v z)
+image_low v w z le f = sym (wrap_wrapped v z (int_wrap v z) refl) ∙ wrap_signed v (int_wrap v z) (SFits-int_wrap v z)
     ∙ ap (cast_unsigned v) (wrap_low v w z le f)
     ∙ of_z-to_z v (cast_unsigned w z % 2 ^ bits v) (mod_below (cast_unsigned w z) (2 ^ bits v) (pow_pos (bits v)))
 
@@ -49,8 +45,7 @@ module _ (v w : Width) {z r : ℤ} {n : ℕ} (le : bits v ≤ bits w) (fits : SF
     (image : n ≡ cast_unsigned w (cast_signed w (cast_unsigned w z))) (is : r ≡ cast_signed v (n % 2 ^ bits v)) where
   -- r is z, wrapped, as a conversion says it
   pub low_value : cast_signed v (cast_unsigned v r) ≡ int_wrap v z
-  low_value =
-      rw (is, image, to_z-of_z w z fits, ← wrap_low v w z le fits)
+  low_value = rw (is, image, to_z-of_z w z fits, ← wrap_low v w z le fits)
       (to_z-of_z v (int_wrap v z) (SFits-int_wrap v z))
 
   -- r and z, cut to the width v, are one number

@@ -32,8 +32,7 @@ IsStore old a ys new result = MatchResult result
 
 -- the n bytes into which a load copies the memory at a: they are those, or the load traps and they are the same
 abbrev pub IsCopy : List ℕ → ℕ → ℕ → List ℕ → List ℕ → Result (Unit {0}) TrapCode → Type 0
-IsCopy memory a n old new result = MatchResult result
-    (λ _. accessed a (at memory a n) ≡ Some new)
+IsCopy memory a n old new result = MatchResult result (λ _. accessed a (at memory a n) ≡ Some new)
     (λ trap. (trap ≡ MemoryOutOfBounds) × (accessed a (at memory a n) ≡ None) × (new ≡ old))
 
 -- after a store, the bytes before a and those from a + n on are the same

@@ -132,9 +132,8 @@ pub trait LittleEndianConvert: Number {
             ≡ le_bytes Self.Bytes.LEN (wrap Self.width (Self.number self)) }
         ensures number { number_of (Self.Bytes.bytes_of result)
             ≡ wrap Self.width (Self.number self) }
-        ensures round_trip { Self.of_number
-            (number_of_bits Self.is_signed Self.width (number_of (Self.Bytes.bytes_of result)))
-            ≡ self };
+        ensures round_trip { Self.of_number (number_of_bits Self.is_signed Self.width
+            (number_of (Self.Bytes.bytes_of result))) ≡ self };
 
     /// The value of some bytes, the lowest first.
     fn from_le_bytes(bytes: Self::Bytes) -> Self
@@ -155,8 +154,7 @@ pub trait LittleEndianConvert: Number {
 /// `MemoryOutOfBounds`. Core specification, effective addresses under memory instructions.
 #[inline(always)]
 pub fn effective_address(ptr: u64, offset: u64) -> Result<usize, TrapCode>
-    ensures { MatchResult result
-        (λ address. address ≡ ptr + offset)
+    ensures { MatchResult result (λ address. address ≡ ptr + offset)
         (λ trap. (trap ≡ TrapCode.MemoryOutOfBounds) × (2 ^ 64 ≤ ptr + offset)) }
 {
     let address = ptr.wrapping_add(offset);
@@ -198,9 +196,8 @@ pub fn load_extend<T, U>(memory: &[u8], ptr: u64, offset: u64) -> Result<T, Trap
 where
     T: Number,
     U: LittleEndianConvert + ExtendInto<T>,
-    ensures { result
-        ≡ loaded U.Bytes.LEN (λ n. T.of_number (number_of_bits U.is_signed U.width n)) memory.now
-        (ptr + offset) }
+    ensures { result ≡ loaded U.Bytes.LEN
+        (λ n. T.of_number (number_of_bits U.is_signed U.width n)) memory.now (ptr + offset) }
 {
     load_extend_at::<T, U>(memory, effective_address(ptr, offset)?)
 }
@@ -210,8 +207,7 @@ pub fn load_extend_at<T, U>(memory: &[u8], address: usize) -> Result<T, TrapCode
 where
     T: Number,
     U: LittleEndianConvert + ExtendInto<T>,
-    ensures { result
-        ≡ loaded U.Bytes.LEN
+    ensures { result ≡ loaded U.Bytes.LEN
         (λ n. T.of_number (number_of_bits U.is_signed U.width n)) memory.now address }
 {
     Ok(load_at::<U>(memory, address)?.extend_into())

@@ -88,13 +88,13 @@ impl ExtendInto<i64> for u32 {
 
 impl WrapInto<i8> for i32 {
     fn wrap_into(self) -> i8 {
-        ((self.cast_unsigned() % 256) as u8).cast_signed()
+        <i64 as WrapInto<i8>>::wrap_into(self as i64)
     }
 }
 
 impl WrapInto<i16> for i32 {
     fn wrap_into(self) -> i16 {
-        ((self.cast_unsigned() % 65536) as u16).cast_signed()
+        <i64 as WrapInto<i16>>::wrap_into(self as i64)
     }
 }
 

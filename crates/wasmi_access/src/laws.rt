@@ -17,8 +17,7 @@ pub fn stored_number_is_loaded()
         → IsStore old a (le_bytes k n) new (Ok (tt {0}))
         → loaded k value new a ≡ Ok (value (n % 2 ^ (8 * k))) }
     ensures outside { (k n a : ℕ) (old new : List ℕ)
-        → IsStore old a (le_bytes k n) new (Ok (tt {0}))
-        → IsSameOutside old new a k }
+        → IsStore old a (le_bytes k n) new (Ok (tt {0})) → IsSameOutside old new a k }
 {}
 
 /// The bytes of the value of some bytes are those bytes.

@@ -1,12 +1,10 @@
 -- What a tenant is permitted beside others, it is permitted alone: its runs in a pool, as those of the only tenant, and
 -- its machine, which stays at its index over the calls of others.
-use Rattle.std.proofs.Common.{◌≡◌, ◌≢◌, ℕ, ◌+◌, ◌-◌, Bool, Option, Some, None, Ok, true, false, List, [], ◌∷◌, ◌++◌, inl, inr, refl, sym, ap, ◌∙◌, arith}
-use Rattle.std.proofs.lemmas.Bool.{cases_lt, false≢true}
-use Rattle.std.proofs.lemmas.Bool.Decides.{Decides-eqb}
+use Rattle.std.proofs.Common.{◌≡◌, ◌≢◌, ℕ, ◌+◌, ◌-◌, Option, Some, None, Ok, true, List, [], ◌∷◌, ◌++◌, inl, inr, refl, sym, ap, ◌∙◌, arith}
+use Rattle.std.proofs.lemmas.Bool.{cases_eq, cases_lt, eq-eqb, ne_eqb}
 use Rattle.std.proofs.lemmas.List.{get_or_append_left, get_or-set_other, get_or-set_same}
 use Rattle.std.proofs.lemmas.Option.{same_Some}
-use Rattle.std.specs.Bool.{Decides}
-use Rattle.std.specs.Prelude.{MatchBool, if◌then◌else◌, get_or, nat_eq, slice_set}
+use Rattle.std.specs.Prelude.{if◌then◌else◌, get_or, nat_eq, slice_set}
 use Rattle.std.specs.Option.{option_map}
 use Rattle.wasmi_meter.specs.declared.limiter.Kind.{Kind}
 use Rattle.wasmi_meter.specs.declared.limiter.Kind.TheVariants.{Bytes, Elements}
@@ -25,10 +23,6 @@ use Rattle.wasmi_budget.specs.Laws.{PoolTurn, Added, Ran, Removed, Refused, Rese
 use Rattle.wasmi_machine.specs.Determinism.{permitting}
 use Rattle.wasmi_machine.proofs.RevealingLemmas.{permitted_run, run_carried}
 
--- an answer isn't both yes and no
-no_permission : {answer : Answer} {taken : Bool} → answer ≡ Ok true → answer ≡ Ok taken → taken ≡ false → ⊥
-no_permission permitted answered denied = cc
-
 -- nothing, as is held beside a tenant alone, has the amount 0 of each kind
 amount_of-nothing : (kind : Kind) → amount_of nothing kind ≡ 0
 amount_of-nothing Bytes = refl
@@ -41,7 +35,7 @@ permitted_alone : (tenant tenant' : Tenant) (q : Question) (answer : Answer) →
 permitted_alone tenant tenant' q answer permitted (taken, answered, more) =
     let together = held_together capped_tenant tenant q.kind in
     elim (cases_lt (amount_of tenant.caps q.kind) (together + (q.desired - q.current))) [
-      | inl above ↦ absurd (no_permission permitted answered (more.takes.above above).0)
+      | inl above ↦ let denied = (more.takes.above above).0 in absurd cc
       | inr fits ↦ (
         true,
         permitted,
@@ -141,24 +135,17 @@ module _ (caps : Amounts) (index : ℕ) (pool' : PoolValue) where
     found = ap (λ p. machine_of p index) is ∙ at;
   }
 
-  module _ (pool : PoolValue) (s : State) (there : IsThere pool s) (calls : List Call) (replies : List Reply)
-      (next : PoolValue) where
-    -- a permitted run of the tenant of the index is one of the only tenant
-    own_run : RunsTenantBy (permitting (optional_rules tenant_rules)) pool index calls replies next
-        → (t : State) × IsThere next t × RunsTenant (only caps s) 0 calls replies (only caps t)
-    own_run runs =
-        let own = same_Some runs.machine s (sym runs.found ∙ there.found) in (
-          runs.machine',
-          there_among pool s runs.machine' next (slice_set pool.machines index (Some runs.machine')) there runs.after
-              (set_at pool.machines index s runs.machine' there.found),
-          rw (there.capped, own) at (run_alone pool index calls replies next runs),
-        )
-
-    -- a run of another tenant leaves the machine of the index
-    other_run : (i : ℕ) → index ≢ i → RunsTenant pool i calls replies next → IsThere next s
-    other_run i other runs =
-        there_among pool s s next (slice_set pool.machines i (Some runs.machine')) there runs.after
-        (kept_set pool.machines index i s (Some runs.machine') other there.found)
+  -- a permitted run of the tenant of the index is one of the only tenant
+  own_run : (pool : PoolValue) (s : State) → IsThere pool s → (calls : List Call) (replies : List Reply)
+      (next : PoolValue) → RunsTenantBy (permitting (optional_rules tenant_rules)) pool index calls replies next
+      → (t : State) × IsThere next t × RunsTenant (only caps s) 0 calls replies (only caps t)
+  own_run pool s there calls replies next runs =
+      let own = same_Some runs.machine s (sym runs.found ∙ there.found) in (
+        runs.machine',
+        there_among pool s runs.machine' next (slice_set pool.machines index (Some runs.machine')) there runs.after
+            (set_at pool.machines index s runs.machine' there.found),
+        rw (there.capped, own) at (run_alone pool index calls replies next runs),
+      )
 
   module _ (pool : PoolValue) (s : State) (there : IsThere pool s) (next : PoolValue) (i : ℕ)
       (becomes : BecomesAlike pool i next) (turn : PoolTurn)
@@ -166,18 +153,18 @@ module _ (caps : Amounts) (index : ℕ) (pool' : PoolValue) where
       (rest : (t : State) → IsThere next t → EndsAlone t turns) where
     -- a turn by which a machine became another that has as much is one of the only tenant if the machine is that of the
     -- index, and leaves that otherwise
-    by_alike : (same : Bool) → Decides same (i ≡ index) → EndsAlone s (if same then turn ∷ turns else turns)
-    by_alike true decides =
-        let t = becomes.machine' in
-        let is = decides.0 refl in
-        let own = same_Some becomes.machine s (sym becomes.found ∙ ap (machine_of pool) is ∙ there.found) in
-        let tail = rest t (there_among pool s t next (slice_set pool.machines i (Some t)) there becomes.after
-        (rw (← is) (set_at pool.machines i becomes.machine t becomes.found))) in
-        (tail.0, tail.1, (only caps t, rw own at step, tail.2))
-    by_alike false decides =
-        rest s (there_among pool s s next (slice_set pool.machines i (Some becomes.machine')) there becomes.after
-        (kept_set pool.machines index i s (Some becomes.machine')
-        (λ same. false≢true (decides.1 (sym same))) there.found))
+    by_alike : EndsAlone s (if nat_eq i index then turn ∷ turns else turns)
+    by_alike = elim (cases_eq i index) [
+      | inl is ↦
+          let t = becomes.machine' in
+          let own = same_Some becomes.machine s (sym becomes.found ∙ ap (machine_of pool) is ∙ there.found) in
+          let tail = rest t (there_among pool s t next (slice_set pool.machines i (Some t)) there becomes.after
+          (rw (← is) (set_at pool.machines i becomes.machine t becomes.found))) in
+          rw (eq-eqb i index is) (tail.0, tail.1, (only caps t, rw own at step, tail.2))
+      | inr other ↦ rw (ne_eqb i index other)
+          (rest s (there_among pool s s next (slice_set pool.machines i (Some becomes.machine')) there becomes.after
+          (kept_set pool.machines index i s (Some becomes.machine') (λ same. other (sym same)) there.found)))
+    ]
 
   -- a change of the machine of a pool of one
   only_becomes : {change : State → State → Type 0} {s s' : State} → change s s'
@@ -196,28 +183,24 @@ module _ (caps : Amounts) (index : ℕ) (pool' : PoolValue) where
       (kept_set pool.machines index i s None (λ same. other (sym same)) there.found)) turns ran
   ends_alone pool s there (Reserved i more ∷ turns) (next, reserves, ran) =
       by_alike pool s there next i (becomes_alike (slots_alike more) reserves) (Reserved 0 more)
-      (only_becomes reserves.1.becomes) (own_turns index turns)
-      (λ t at. ends_alone next t at turns ran) (nat_eq i index) (Decides-eqb i index)
+      (only_becomes reserves.1.becomes) (own_turns index turns) (λ t at. ends_alone next t at turns ran)
   ends_alone pool s there (ReservedElements i table elements reply ∷ turns) (next, reserves, ran) =
       by_alike pool s there next i (becomes_alike (elements_alike table elements reply) reserves)
       (ReservedElements 0 table elements reply) (only_becomes reserves.1.becomes) (own_turns index turns)
-      (λ t at. ends_alone next t at turns ran) (nat_eq i index) (Decides-eqb i index)
+      (λ t at. ends_alone next t at turns ran)
   ends_alone pool s there (Refused ∷ turns) (next, same, ran) =
       ends_alone next s (there_among pool s s next pool.machines there same there.found) turns ran
-  ends_alone pool s there (Ran i calls replies ∷ turns) (next, runs, ran) =
-      by_index (λ t at. ends_alone next t at turns ran) (nat_eq i index) (Decides-eqb i index) runs
-    where
-      by_index : ((t : State) → IsThere next t → EndsAlone t (own_turns index turns)) → (same : Bool)
-          → Decides same (i ≡ index)
-          → MatchBool same (RunsTenantBy (permitting (optional_rules tenant_rules)) pool i calls replies next)
-          (RunsTenant pool i calls replies next)
-          → EndsAlone s (if same then Ran 0 calls replies ∷ own_turns index turns else own_turns index turns)
-      by_index rest true decides runs =
-          let own = own_run pool s there calls replies next (rw (decides.0 refl) at runs) in
-          let tail = rest own.0 own.1 in
-          (tail.0, tail.1, (only caps own.0, own.2, tail.2))
-      by_index rest false decides runs =
-          rest s (other_run pool s there calls replies next i (λ same. false≢true (decides.1 (sym same))) runs)
+  ends_alone pool s there (Ran i calls replies ∷ turns) (next, runs, ran) = elim (cases_eq i index) [
+    | inl is ↦
+        let own = own_run pool s there calls replies next (rw (eq-eqb i index is, is) at runs) in
+        let tail = ends_alone next own.0 own.1 turns ran in
+        rw (eq-eqb i index is) (tail.0, tail.1, (only caps own.0, own.2, tail.2))
+    | inr other ↦
+        let run = rw (ne_eqb i index other) at runs in
+        rw (ne_eqb i index other) (ends_alone next s (there_among pool s s next
+        (slice_set pool.machines i (Some run.machine')) there run.after
+        (kept_set pool.machines index i s (Some run.machine') (λ same. other (sym same)) there.found)) turns ran)
+  ]
 
 -- a tenant that is never denied gets what it gets alone under the same caps
 pub permitted_runs_as_alone : RunsAsAlone

@@ -1,6 +1,6 @@
 -- What stays over all calls on a pool: its caps, that all machines together are within them, and that the index of a
 -- removed tenant is vacant.
-use Rattle.std.proofs.Common.{◌≡◌, Option, Some, List, refl, sym, ◌∙◌, ℕ, ◌<◌, None, length, [], ◌∷◌, ◌++◌, ap, arith}
+use Rattle.std.proofs.Common.{◌≡◌, Option, Some, List, refl, sym, ◌∙◌, ℕ, ◌<◌, None, length, [], ◌∷◌, ap, arith}
 use Rattle.std.proofs.lemmas.List.{get_or_append_left, get_or-set_other, get_or-set_same, length-append, length-set}
 use Rattle.std.proofs.lemmas.Option.{none-some}
 use Rattle.wasmi_machine.specs.State.{State}
@@ -45,15 +45,7 @@ pub record IsVacant (pool : PoolValue) (index : ℕ) : Type 0 where
   pub vacant : machine_of pool index ≡ None
 
 module _ (pool : PoolValue) (index : ℕ) (vacant : IsVacant pool index) where
-  -- a vacant index stays so where other machines lie behind those that are there
-  vacant_added : (t : Option State) (pool' : PoolValue) → pool' ≡ record pool { machines = pool.machines ++ t ∷ [] }
-      → IsVacant pool' index
-  vacant_added t pool' is = rw is (record {
-    given = omega (arith, vacant.given, length-append pool.machines (t ∷ []));
-    vacant = get_or_append_left pool.machines (t ∷ []) None index vacant.given ∙ vacant.vacant;
-  })
-
-  -- and where another index gets another machine or none
+  -- a vacant index stays so where another index gets another machine or none
   vacant_set : (i : ℕ) (s : State) (t : Option State) (pool' : PoolValue) → machine_of pool i ≡ Some s
       → pool' ≡ record pool { machines = slice_set pool.machines i t } → IsVacant pool' index
   vacant_set i s t pool' found is = rw is (record {
@@ -69,7 +61,10 @@ module _ (pool : PoolValue) (index : ℕ) (vacant : IsVacant pool index) where
 
   -- a vacant index stays so after one call
   pub vacant_stays : (turn : PoolTurn) (pool' : PoolValue) → PoolStep pool turn pool' → IsVacant pool' index
-  vacant_stays (Added s) pool' adds = vacant_added (Some s) pool' adds.added
+  vacant_stays (Added s) pool' adds = rw adds.added (record {
+    given = omega (arith, vacant.given, length-append pool.machines (Some s ∷ []));
+    vacant = get_or_append_left pool.machines (Some s ∷ []) None index vacant.given ∙ vacant.vacant;
+  })
   vacant_stays (Ran i calls replies) pool' runs =
       vacant_set i runs.machine (Some runs.machine') pool' runs.found runs.after
   vacant_stays (Reserved i more) pool' reserves =

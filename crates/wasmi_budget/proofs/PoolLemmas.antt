@@ -5,7 +5,7 @@ use Rattle.std.proofs.lemmas.Bool.{cases_lt}
 use Rattle.std.proofs.lemmas.List.{get_or_past}
 use Rattle.std.proofs.lemmas.Option.{same_Some, none-some}
 use Rattle.wasmi_meter.specs.declared.limiter.Kind.{Kind}
-use Rattle.wasmi_meter.specs.Capped.{amount_of, amounts_of, IsWithin, held_together}
+use Rattle.wasmi_meter.specs.Capped.{amount_of, amounts_of, held_together}
 use Rattle.wasmi_meter.specs.Limiter.{optional_rules}
 use Rattle.wasmi_machine.specs.State.{Turn, world, State, total, HoldsTotals}
 use Rattle.wasmi_machine.specs.Steps.{Run, IsRunOf}
@@ -80,10 +80,6 @@ module _ {pool : PoolValue} {all : Amounts} (kept : IsKept pool all) (index : �
 -- a machine becomes another under its limiter
 module _ (pool : PoolValue) (within : IsWithinCaps pool) (index : ℕ) (s : State)
     (found : machine_of pool index ≡ Some s) (s' : State) (tenant' : Tenant) where
-  -- before its run the tenant is within the caps
-  first_within : IsWithin capped_tenant (tenant_at pool index s)
-  first_within kind = rw (tenant_held_together pool index s found kind) (within kind)
-
   module _ (stays : IsLater capped_tenant (tenant_at pool index s) tenant') (held : HoldsTotals (holdings tenant') s') where
     -- with the other machine, all have what the tenant that holds what it has holds together with the others
     replaced_total : (kind : Kind)
@@ -103,7 +99,8 @@ module _ (pool : PoolValue) (within : IsWithinCaps pool) (index : ℕ) (s : Stat
       → Run (optional_rules tenant_rules) (record { state = s; limiter = Some (tenant_at pool index s) }) turns
       (record { state = s'; limiter = Some tenant' }) → IsLater capped_tenant (tenant_at pool index s) tenant'
   ran_within turns ran =
-      run_is_later capped_tenant tenant_keeps (tenant_at pool index s) first_within s turns
+      run_is_later capped_tenant tenant_keeps (tenant_at pool index s)
+      (λ kind. rw (tenant_held_together pool index s found kind) (within kind)) s turns
       (record { state = s'; limiter = Some tenant' }) ran
 
 -- what the machine of an index has run under its own tenant, and what both have become
@@ -198,12 +195,6 @@ pub adds_within : (pool : PoolValue) (s : State) (pool' : PoolValue) → IsWithi
     → IsWithinCaps pool'
 adds_within pool s pool' within adds kind = rw adds.added
     (let bound = within kind in omega (arith, bound, pushed_total pool.machines s adds.empty kind))
-
--- a machine that is added to a pool has nothing if it was found to have no bytes and no elements
-pub has_nothing : (s : State) (bytes elements : ℕ) → bytes ≡ total s Bytes → bytes ≤ 0 → elements ≡ total s Elements
-    → elements ≤ 0 → HasNothing s
-has_nothing s bytes elements is_bytes no_bytes is_elements no_elements =
-    record { bytes = omega (arith, is_bytes, no_bytes); elements = omega (arith, is_elements, no_elements) }
 
 -- a pool is kept with the same amounts where a machine that has nothing is added
 pub kept_added : (pool : PoolValue) (held : Amounts) (s : State) → IsKept pool held → HasNothing s

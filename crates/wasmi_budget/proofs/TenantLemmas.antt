@@ -3,7 +3,7 @@
 use Rattle.std.proofs.Common.{◌≡◌, Option, Some, List, refl, sym, ◌∙◌, ℕ, ◌≤◌, ◌<◌, ◌^◌, None, length, [], ◌∷◌, sum, ap, arith, ⊎_elim}
 use Rattle.std.proofs.lemmas.Option.{same_Some}
 use Rattle.wasmi_meter.specs.declared.limiter.Kind.{Kind}
-use Rattle.wasmi_meter.specs.Capped.{amount_of, amounts_of, nothing, IsWithin, held_together}
+use Rattle.wasmi_meter.specs.Capped.{amount_of, amounts_of, nothing, held_together}
 use Rattle.wasmi_meter.specs.Limiter.{optional_rules}
 use Rattle.wasmi_meter.proofs.CappedLemmas.{KeepsCaps}
 use Rattle.wasmi_machine.specs.MemoryEffects.{WritesMemoryAt}
@@ -109,18 +109,14 @@ module _ {caps all held : Amounts} {s now : State} (view : s ≡ now) (is : held
     part_together Bytes = rw tenant_is (omega (arith, part_held Bytes))
     part_together Elements = rw tenant_is (omega (arith, part_held Elements))
 
-    -- the tenant is within the caps
-    part_within : IsWithin capped_tenant tenant
-    part_within kind =
-        let cap = ap (λ (t : Tenant). amount_of t.caps kind) tenant_is in
-        omega (arith, part_together kind, cap, part.within kind)
-
     module _ {calls : List Call} {replies : List Reply} {s' : State} {tenant' : Tenant}
         (ran : IsRunOf (optional_rules tenant_rules) calls (world s (Some tenant)) replies (world s' (Some tenant')))
       where
         -- the tenant stays within the caps
         part_stays : IsLater capped_tenant tenant tenant'
-        part_stays = run_is_later capped_tenant tenant_keeps tenant part_within s ran.0 (world s' (Some tenant')) ran.3
+        part_stays = run_is_later capped_tenant tenant_keeps tenant (λ kind.
+            let cap = ap (λ (t : Tenant). amount_of t.caps kind) tenant_is in
+            omega (arith, part_together kind, cap, part.within kind)) s ran.0 (world s' (Some tenant')) ran.3
 
         -- what all hold then are numbers of 64 bits
         pub part_fits : (kind : Kind) → held_together capped_tenant tenant' kind < 2 ^ 64

@@ -1,11 +1,9 @@
 -- Values at their indices: at which place an index lies, what a change of one value changes, and what a change of the
 -- machine at the place of an index is to a pool.
-use Rattle.std.proofs.Common.{◌≡◌, ◌≢◌, ◌∙◌, ◌<◌, ◌≤◌, ◌+◌, ◌++◌, ◌⊎◌, inl, inr, [], ◌∷◌, List, Ok, Err, Result, Option, Some, None, ap, arith, get_or, length, map, refl, set, sym, suc, zero, ℕ, Bool, true, false}
+use Rattle.std.proofs.Common.{◌≡◌, ◌≢◌, ◌∙◌, ◌<◌, ◌≤◌, ◌+◌, ◌-◌, ◌++◌, inl, inr, [], ◌∷◌, List, Ok, Err, Result, Option, Some, None, ap, arith, get_or, length, map, refl, set, sym, suc, zero, ℕ, true, false}
 use Rattle.std.specs.Prelude.{All, MatchResult, ◌↔◌, is_some, nat_eq, remove, if◌then◌else◌}
 use Rattle.std.specs.List.{range_with_len}
-use Rattle.std.specs.Bool.{Decides}
-use Rattle.std.proofs.lemmas.Bool.Decides.{Decides-eqb}
-use Rattle.std.proofs.lemmas.Bool.{cases_lt, ne_eqb, eq-eqb}
+use Rattle.std.proofs.lemmas.Bool.{cases_eq, cases_lt, ne_eqb, eq-eqb}
 use Rattle.std.specs.Result.{result_ok}
 use Rattle.std.proofs.lemmas.List.Sorted.{searched}
 use Rattle.std.specs.List.Sorted.{IsBinarySearchResult}
@@ -23,32 +21,20 @@ use Rattle.wasmi_budget.proofs.PoolLemmas.{part_kept, part_runs}
 use Rattle.wasmi_budget.specs.Pool.{BecomesAt, IsKept, RunsAsPart, RunsTenant, pool_of}
 use Rattle.wasmi_budget.specs.Tenants.{HasAllUpTo, value_of, by_index, IsListed, IsPlace, Rises}
 
--- an index among rising ones is at least its place
-at_least : (indices : List ℕ) → Rises indices → (p : ℕ) → p < length indices → p ≤ get_or indices p 0
-at_least indices rises zero within = omega arith
-at_least indices rises (suc p) within =
-    let before = at_least indices rises p (omega (arith, within)) in
-    let less = rises p (suc p) 0 (omega arith) within in
+-- rising indices at places that are so far apart are as far apart, or farther
+gaps : (indices : List ℕ) → Rises indices → (k d n : ℕ) → n ≡ k + d → n < length indices
+    → get_or indices k 0 + d ≤ get_or indices n 0
+gaps indices rises k zero n is within = let same : n ≡ k = omega (arith, is) in rw same (omega arith)
+gaps indices rises k (suc d) n is within =
+    let before = gaps indices rises k d (k + d) refl (omega (arith, is, within)) in
+    let less = rises (k + d) n 0 (omega (arith, is)) within in
     omega (arith, before, less)
-
--- up to an index that is its own place each is its own
-own_before : (indices : List ℕ) → Rises indices → (n : ℕ) → n < length indices → get_or indices n 0 ≡ n
-    → (k : ℕ) → k ≤ n → get_or indices k 0 ≡ k
-own_before indices rises zero within at k le =
-    let none : k ≡ 0 = omega (arith, le) in rw none at
-own_before indices rises (suc n) within at k le = elim (cases_lt k (suc n)) [
-  | inl before ↦
-      let least = at_least indices rises n (omega (arith, within)) in
-      let less = rises n (suc n) 0 (omega arith) within in
-      own_before indices rises n (omega (arith, within)) (omega (arith, least, less, at)) k (omega (arith, before))
-  | inr past ↦ let last : k ≡ suc n = omega (arith, le, past) in rw last at
-]
 
 -- a number at a place that isn't before it is its own place
 own_place : (indices : List ℕ) → Rises indices → (n p : ℕ) → p < length indices → get_or indices p 0 ≡ n → n ≤ p
     → IsPlace indices n (Some n)
 own_place indices rises n p within at le =
-    let least = at_least indices rises p within in
+    let least = gaps indices rises 0 p p (omega arith) within in
     let same : p ≡ n = omega (arith, least, at, le) in
     (omega (arith, within, same), ap (λ q. get_or indices q 0) (sym same) ∙ at)
 
@@ -62,15 +48,13 @@ module _ {X : Type 0} where
   -- an index that has a value is one of the indices
   among : (indices : List ℕ) (values : List X) (j : ℕ) → is_some (value_of indices values j) ≡ true
       → (p : ℕ) × (p < length indices) × (get_or indices p 0 ≡ j)
-  among [] values j has = absurd cc
-  among (i ∷ indices) [] j has = absurd cc
-  among (i ∷ indices) (x ∷ values) j has = by (nat_eq i j) (Decides-eqb i j) (among indices values j) has where
-    by : (b : Bool) → Decides b (i ≡ j)
-        → (is_some (value_of indices values j) ≡ true → (p : ℕ) × (p < length indices) × (get_or indices p 0 ≡ j))
-        → is_some (if b then Some x else value_of indices values j) ≡ true
-        → (p : ℕ) × (p < suc (length indices)) × (get_or (i ∷ indices) p 0 ≡ j)
-    by true d rest has = (0, omega arith, d.0 refl)
-    by false d rest has = let (p, within, at) = rest has in (suc p, omega (arith, within), at)
+  among (i ∷ indices) (x ∷ values) j has = elim (cases_eq i j) [
+    | inl same ↦ (0, omega arith, same)
+    | inr other ↦
+        let (p, within, at) = among indices values j (rw (ne_eqb i j other) at has) in
+        (suc p, omega (arith, within), at)
+  ]
+  among indices values j has = absurd cc
 
   -- where each index up to this one has a value, it is its own place
   first_places : (indices : List ℕ) (values : List X) → Rises indices → (n : ℕ)
@@ -81,23 +65,17 @@ module _ {X : Type 0} where
   first_places indices values rises (suc n) has =
       let before = first_places indices values rises n (λ k le. has k (omega (arith, le))) in
       let (p, within, at) = among indices values (suc n) (has (suc n) (omega arith)) in
-      own_place indices rises (suc n) p within at (elim (cases_lt p n) [
-        | inl less ↦ let r = rises p n 0 less before.0 in absurd (omega (arith, r, at, before.1))
-        | inr past ↦ elim (cases_lt n p) [
-          | inl more ↦ more
-          | inr last ↦
-              let same : p ≡ n = omega (arith, past, last) in
-              let value = ap (λ q. get_or indices q 0) same in absurd (omega (arith, value, at, before.1))
-        ]
+      own_place indices rises (suc n) p within at (elim (cases_lt n p) [
+        | inl more ↦ more
+        | inr less ↦
+            let gap = gaps indices rises p (n - p) n (omega (arith, less)) before.0 in
+            absurd (omega (arith, gap, at, before.1))
       ])
 
-module _ {X : Type 0} where
   -- the value of the index at a place
   pub value_at : (indices : List ℕ) (values : List X) (p j : ℕ) (x : X) → Rises indices
       → length values ≡ length indices → p < length indices → get_or indices p 0 ≡ j → get_or values p x ≡ x
       → value_of indices values j ≡ Some x
-  value_at [] values p j x rises same within at is = absurd (omega (arith, within))
-  value_at (i ∷ indices) [] p j x rises same within at is = absurd (omega (arith, same))
   value_at (i ∷ indices) (y ∷ values) zero j x rises same within at is =
       rw (at, eq-eqb j j refl) (ap Some is)
   value_at (i ∷ indices) (y ∷ values) (suc p) j x rises same within at is =
@@ -105,15 +83,15 @@ module _ {X : Type 0} where
       rw (ne_eqb i j (λ e. absurd (omega (arith, e, less))))
       (value_at indices values p j x (λ a b d less in'. rises (suc a) (suc b) d (omega (arith, less)) (omega (arith, in')))
       (omega (arith, same)) (omega (arith, within)) at is)
+  value_at indices values p j x rises same within at is = absurd (omega (arith, same, within))
 
   -- an index that isn't among them has none
   pub value_none : (indices : List ℕ) (values : List X) (j : ℕ) → ((k : ℕ) → k < length indices → get_or indices k 0 ≢ j)
       → value_of indices values j ≡ None
-  value_none [] values j other = refl
-  value_none (i ∷ indices) [] j other = refl
   value_none (i ∷ indices) (y ∷ values) j other =
       rw (ne_eqb i j (other 0 (omega arith)))
       (value_none indices values j (λ k within. other (suc k) (omega (arith, within))))
+  value_none indices values j other = refl
 
   -- another value at a place changes that of its index alone
   value_set_other : (indices : List ℕ) (values : List X) (p k : ℕ) (x : X) → p < length indices → get_or indices p 0 ≢ k
@@ -142,12 +120,11 @@ module _ {X : Type 0} where
   -- and another index has the one that it had
   value_kept : (indices : List ℕ) (values : List X) (p k : ℕ) → p < length indices → length values ≡ length indices
       → get_or indices p 0 ≢ k → value_of (remove indices p) (remove values p) k ≡ value_of indices values k
-  value_kept [] values p k within same other = absurd (omega (arith, within))
-  value_kept (i ∷ indices) [] p k within same other = absurd (omega (arith, same))
   value_kept (i ∷ indices) (y ∷ values) zero k within same other = rw (ne_eqb i k other) refl
   value_kept (i ∷ indices) (y ∷ values) (suc p) k within same other =
       ap (λ rest. if nat_eq i k then Some y else rest)
       (value_kept indices values p k (omega (arith, within)) (omega (arith, same)) other)
+  value_kept indices values p k within same other = absurd (omega (arith, same, within))
 
   -- one more value is that of one more index
   value_pushed_other : (indices : List ℕ) (values : List X) (n k : ℕ) (x : X) → length values ≡ length indices → n ≢ k
@@ -206,19 +183,12 @@ module _ {X : Type 0} where
             → set (by_index next indices values) index v ≡ by_index next changed values'
         by_kept changed values' v own others =
             fill_by_all (value_of changed values') (set (by_index next indices values) index v) next None
-            (length-set (by_index next indices values) index v ∙ length-by_index) at
-          where
-            at : (k : ℕ) → k < next → get_or (set (by_index next indices values) index v) k None
-                ≡ value_of changed values' k
-            at k inside = by (nat_eq k index) (Decides-eqb k index) where
-              by : (b : Bool) → Decides b (k ≡ index) → get_or (set (by_index next indices values) index v) k None
-                  ≡ value_of changed values' k
-              by true d = rw (d.0 refl) (get_or-set_same (by_index next indices values) index v None
+            (length-set (by_index next indices values) index v ∙ length-by_index) (λ k inside. elim (cases_eq k index) [
+              | inl same ↦ rw same (get_or-set_same (by_index next indices values) index v None
                   (omega (arith, length-by_index, index_below)) ∙ sym own)
-              by false d =
-                  let other : k ≢ index = λ e. let f : false ≡ true = d.1 e in absurd cc in
-                  get_or-set_other (by_index next indices values) index k v None other
+              | inr other ↦ get_or-set_other (by_index next indices values) index k v None other
                   ∙ get_or-by_index k inside ∙ sym (others k (λ e. other (sym e)))
+            ])
 
         -- another value at a place
         pub set_at : (x : X) → set (by_index next indices values) index (Some x) ≡ by_index next indices (set values p x)
@@ -245,16 +215,13 @@ module _ {X : Type 0} where
             length-remove values p (omega (arith, listed.same, within)),
           );
           rises = all_pairs_remove (λ i j. i < j) indices p within listed.rises;
-          below = λ k d inside. kept_below k d inside (cases_lt k p);
-        }
-          where
-            kept_below : (k d : ℕ) → k < length (remove indices p) → (k < p) ⊎ (p ≤ k)
-                → get_or (remove indices p) k d < next
-            kept_below k d inside (inl before) =
-                rw (get_or-remove_below indices p d k before within) (listed.below k d (omega (arith, before, within)))
-            kept_below k d inside (inr after) =
-                rw (get_or-remove_above indices p d k after within)
+          below = λ k d inside. elim (cases_lt k p) [
+            | inl before ↦ rw (get_or-remove_below indices p d k before within)
+                (listed.below k d (omega (arith, before, within)))
+            | inr after ↦ rw (get_or-remove_above indices p d k after within)
                 (listed.below (k + 1) d (omega (arith, inside, length-remove indices p within)))
+          ];
+        }
 
       -- the next index gets a value
       pub pushed_at : (x : X) → by_index next indices values ++ Some x ∷ []
@@ -331,21 +298,21 @@ module _ {X : Type 0} {next : ℕ} {indices : List ℕ} {values : List X} (liste
   pub in_place : IsPlace seen j (Some j) ↔ HasAllUpTo view j
   in_place = (
     λ place k le.
-        let own = own_before indices listed.rises j (omega (arith, place.0, ap length sees)) (rw sees at place.1)
-        k le in
-        let within : k < length indices = omega (arith, le, place.0, ap length sees) in
+        let inside : j < length indices = omega (arith, place.0, ap length sees) in
+        let within : k < length indices = omega (arith, le, inside) in
+        let least = gaps indices listed.rises 0 k k (omega arith) within in
+        let most = gaps indices listed.rises k (j - k) j (omega (arith, le)) inside in
+        let own : get_or indices k 0 ≡ k = omega (arith, least, most, le, rw sees at place.1) in
         let there = something values k (omega (arith, within, listed.same)) in
         rw (← is, found_at next indices values listed k k there.0 within own there.1) refl,
-    λ has. rw sees (first_places indices values listed.rises j (λ k le. has_value k (cases_lt k next) (has k le))),
-  )
-    where
-      has_value : (k : ℕ) → (k < next) ⊎ (next ≤ k) → is_some (get_or view k None) ≡ true
-          → is_some (value_of indices values k) ≡ true
-      has_value k (inl below) has = rw (← get_or-by_index next indices values k below, is) has
-      has_value k (inr past) has =
+    λ has. rw sees (first_places indices values listed.rises j (λ k le. elim (cases_lt k next) [
+      | inl below ↦ rw (← get_or-by_index next indices values k below, is) (has k le)
+      | inr past ↦
           let none : get_or view k None ≡ None = get_or_past view k None
           (omega (arith, past, ap length (sym is), length-by_index next indices values)) in
-          let f : false ≡ true = ap is_some (sym none) ∙ has in absurd cc
+          let f : false ≡ true = ap is_some (sym none) ∙ has k le in absurd cc
+    ])),
+  )
 
 module _ {next : ℕ} {indices : List ℕ} {machines : List State} (listed : IsListed next indices machines)
     {view : List (Option State)} (is : by_index next indices machines ≡ view) {seen : List ℕ} (sees : seen ≡ indices)
@@ -377,12 +344,11 @@ module _ {next : ℕ} {indices : List ℕ} {machines : List State} (listed : IsL
 pub searched_place : (indices : List ℕ) (j : ℕ) (r : Result ℕ ℕ) (place : Option ℕ) → Rises indices
     → IsBinarySearchResult (λ y. nat_cmp y j) indices r → place ≡ result_ok r → IsPlace indices j place
 searched_place indices j r place rises found is =
-    rw is (by r (searched indices j r found (λ a b le inside. up a b (cases_lt a b) le inside)))
+    rw is (by r (searched indices j r found (λ a b le inside. elim (cases_lt a b) [
+      | inl less ↦ let more = rises a b 0 less inside in omega (arith, more)
+      | inr same ↦ let e : a ≡ b = omega (arith, same, le) in rw e (omega arith)
+    ])))
   where
-    up : (a b : ℕ) → (a < b) ⊎ (b ≤ a) → a ≤ b → b < length indices → get_or indices a 0 ≤ get_or indices b 0
-    up a b (inl less) le inside = let r = rises a b 0 less inside in omega (arith, r)
-    up a b (inr same) le inside = let e : a ≡ b = omega (arith, same, le) in rw e (omega arith)
-
     by : (r : Result ℕ ℕ) → MatchResult r (λ i. (i < length indices) × (get_or indices i 0 ≡ j))
         (λ i. (i ≤ length indices) × ((k : ℕ) → k < i → get_or indices k 0 < j)
         × ((k : ℕ) → i ≤ k → k < length indices → j < get_or indices k 0))

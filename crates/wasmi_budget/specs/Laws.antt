@@ -56,15 +56,13 @@ PermittingRun index = RunBy (PermittingStep index)
 -- the runs and reservations of the tenant of an index, as those of the only tenant
 abbrev pub own_turns : ℕ → List PoolTurn → List PoolTurn
 own_turns index [] = []
-own_turns index (Added s ∷ turns) = own_turns index turns
 own_turns index (Ran i calls replies ∷ turns) =
     if nat_eq i index then Ran 0 calls replies ∷ own_turns index turns else own_turns index turns
 own_turns index (Reserved i more ∷ turns) =
     if nat_eq i index then Reserved 0 more ∷ own_turns index turns else own_turns index turns
 own_turns index (ReservedElements i table elements reply ∷ turns) =
     if nat_eq i index then ReservedElements 0 table elements reply ∷ own_turns index turns else own_turns index turns
-own_turns index (Removed i s ∷ turns) = own_turns index turns
-own_turns index (Refused ∷ turns) = own_turns index turns
+own_turns index (turn ∷ turns) = own_turns index turns
 
 -- after all calls the caps are the same, and all machines together are within them
 abbrev pub CapsHold : Type 0

@@ -1,7 +1,7 @@
 -- What calls and lists of calls do to a machine with its limiter, whether the limiter is kept after calls, writes and
 -- reservations, and how a machine is made.
 use Rattle.std.proofs.Common.{◌≡◌, ◌+◌, ◌<◌, ◌≤◌, ◌++◌, set, take, length, get_or, All, Option, Some, None, false, is_some, map, Ok, Err, List, Result, arith, IfOk, OnErr, [], ◌∷◌, refl, sym, ap, ℕ, ◌∙◌, ◌^◌, sum, inl, inr}
-use Rattle.wasmi_c.proofs.Common.{take_all, take_more, take_more_set, Vec, optional_rules, holdings, quota_rules, SameCaps, Quota, State, with_memories, with_reserved, total, Turn, byte_count, slot_count, world, with_tables, Write, CallsAreRuns, InTurn, ListsAreRuns, MachineReplies, QuotasAreKept, world_of, ReplyStruct}
+use Rattle.wasmi_c.proofs.Common.{take_all, take_more, take_more_set, Vec, optional_rules, holdings, quota_rules, SameCaps, State, with_memories, with_reserved, total, Turn, byte_count, slot_count, world, with_tables, Write, CallsAreRuns, InTurn, ListsAreRuns, MachineReplies, QuotasAreKept, world_of, ReplyStruct}
 use Rattle.std.specs.Global.{Global}
 use Rattle.std.specs.declared.alloc.AllocError.{AllocError}
 use Rattle.wasmi_meter.specs.AnyLimiter.{any_limiter_rules, caps_of}
@@ -17,7 +17,7 @@ use Rattle.wasmi_budget.proofs.TenantLemmas.{elements_alike}
 use Rattle.wasmi_machine.specs.declared.calls.Call.{Call}
 use Rattle.wasmi_machine.specs.declared.calls.Reply.{Reply}
 use Rattle.wasmi_machine.specs.declared.slots.SlotCounts.{SlotCounts}
-use Rattle.wasmi_c.specs.Machine.Caps.{IsKept, Keeps, MachineValue}
+use Rattle.wasmi_c.specs.Machine.Caps.{Keeps, MachineValue}
 use Rattle.wasmi_c.specs.Machine.CallStructs.{call_of}
 use Rattle.wasmi_c.specs.Machine.NewMachines.{IsAnswer, IsNewWithAnswers, MakesMachine, MakesWithAnswers, answer_of}
 use Rattle.wasmi_c.specs.declared.machine.call_struct.CallStruct.{CallStruct}
@@ -30,28 +30,21 @@ use Rattle.wasmi_meter.specs.declared.any_limiter.AnyLimiter.TheVariants as limi
 abbrev KeptAfter : AnyLimiter → State → AnyLimiter → Type 0
 KeptAfter l s' l' = Keeps s' l' × (caps_of l' ≡ caps_of l)
 
--- a quota that holds what a machine has does so after a run, within the same caps
-quota_kept : HoldsTotalsAlways quota_rules holdings → QuotasStayWithin → (turns : List Turn) (s : State)
-    (quota : Quota) (s' : State) (quota' : Quota) → IsKept s quota
-    → Run (optional_rules quota_rules) (world s (Some quota)) turns (world s' (Some quota'))
-    → KeptAfter (limiter.Quota quota) s' (limiter.Quota quota')
-quota_kept holds stays turns s quota s' quota' kept ran =
-    let held = holds s quota kept.totals turns (world s' (Some quota')) ran in
-    let within = stays s quota kept.within turns (world s' (Some quota')) ran in
-    let same : quota' ≡ within.0 = cc in
-    let is_held : quota' ≡ held.0 = cc in
-    let caps : SameCaps quota quota' = rw same within.3 in (
-      record { totals = rw is_held held.2; within = rw same within.2 },
-      (λ i. Some (record { bytes = caps Bytes i; elements = caps Elements i })),
-    )
-
 -- a limiter that is related by the rules of its kind to one after a run is kept by it
 kept_by_kind : HoldsTotalsAlways quota_rules holdings → QuotasStayWithin → (turns : List Turn) (s : State)
     (l : AnyLimiter) (s' : State) (l' : AnyLimiter) → Keeps s l
     → RelatesByKind (λ L rules w w'. Run rules w turns w') s l s' l' → KeptAfter l s' l'
 kept_by_kind holds stays turns s limiter.Unlimited s' l' kept (same, ran) = rw same (tt, refl)
 kept_by_kind holds stays turns s (limiter.Quota quota) s' l' kept (quota', same, ran) =
-    rw same (quota_kept holds stays turns s quota s' quota' kept ran)
+    let held = holds s quota kept.totals turns (world s' (Some quota')) ran in
+    let within = stays s quota kept.within turns (world s' (Some quota')) ran in
+    let stayed : quota' ≡ within.0 = cc in
+    let is_held : quota' ≡ held.0 = cc in
+    let caps : SameCaps quota quota' = rw stayed within.3 in
+    rw same (
+      record { totals = rw is_held held.2; within = rw stayed within.2 },
+      (λ i. Some (record { bytes = caps Bytes i; elements = caps Elements i })),
+    )
 kept_by_kind holds stays turns s (limiter.Answers list) s' l' kept (list', same, ran) = rw same (tt, refl)
 
 -- quotas are kept in each run
@@ -103,7 +96,7 @@ kept_by_totals s (limiter.Quota quota) s' same kept = record {
 }
 kept_by_totals s (limiter.Answers list) s' same kept = tt
 
--- memories that keep their sizes count as much
+-- a limiter is kept where the memories keep their sizes
 kept_by_sizes : (s : State) (l : AnyLimiter) (s' : State)
     → map (slot_count byte_count) s'.memories ≡ map (slot_count byte_count) s.memories
     → s' ≡ with_memories s s'.memories → Keeps s l → Keeps s' l

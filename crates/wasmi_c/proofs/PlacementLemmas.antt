@@ -1,9 +1,9 @@
 -- Creations and growths of what lies with C, and writes to it: what they take of its meter, and that they are under the
 -- quota of some numbers, or under a limiter that allows the host's answers.
 use Rattle.std.proofs.Common.{◌≡◌, Bool, true, false, ℕ, ◌-◌, Option, Some, None, Result, refl, ap, inl, inr, Ok, List, take, drop, length, ◌++◌, ◌∙◌}
-use Rattle.wasmi_c.proofs.Common.{take_at, drop_at, nat_eq, if◌then◌else◌, option_map, unwrap_or, Rules, Question, Answer, Failure, NoticeAnswer, optional_rules, AskedIf, NoticedIf, Meter, meter_after, meter_of, with_left, KeepsMeter, MeteredRegion, SameRest, limiter_of, quota_numbers_rules, Embedded, embedded, WritesBytesAs, of_memory, WritesTableAs, of_table, TableTypeValue, TableValue, TableWrite, WritesTable, table_of, Quota, quota_rules, Placed, Lent, MemoryTypeValue, creation_of, new_memory}
+use Rattle.wasmi_c.proofs.Common.{take_at, drop_at, nat_eq, if◌then◌else◌, option_map, unwrap_or, Rules, Question, Answer, Failure, NoticeAnswer, optional_rules, AskedIf, NoticedIf, Meter, meter_after, meter_of, with_left, KeepsMeter, MeteredRegion, SameRest, limiter_of, quota_numbers_rules, Embedded, embedded, WritesBytesAs, of_memory, WritesTableAs, of_table, TableTypeValue, TableValue, TableWrite, WritesTable, table_of, Quota, quota_rules, Placed, Lent, MemoryTypeValue, creation_of}
 use Rattle.std.specs.Prelude.{OnErr}
-use Rattle.wasmi_store.specs.Growth.{Growth, Grows, Makes, metered_value, metered}
+use Rattle.wasmi_store.specs.Growth.{Growth, Grows, metered_value, metered}
 use Rattle.wasmi_store.specs.Memory.{IsValid, MakesMemory, named_type}
 use Rattle.wasmi_store.specs.Write.{BulkWrites, item_price}
 use Rattle.wasmi_region.specs.Memory.{made_in}
@@ -16,7 +16,7 @@ use Rattle.wasmi_meter.specs.declared.error.MemoryError.{MemoryError}
 use Rattle.wasmi_meter.proofs.AttemptLemmas.{meter_after_nothing}
 use Rattle.wasmi_meter.specs.Attempt.{MeteredValue, Attempt, Request, AttemptOutcome, Unasked, Denied, Met, Failed, Follows, answer_of}
 use Rattle.wasmi_meter.specs.declared.error.TableError.{TableError}
-use Rattle.wasmi_c.specs.Placement.{status_of, grown_number, written_number, Placement, GrowsAs, LeavesAs, WritesAs, Limited, limiter_after, Allows, SettlesGrowth, SettlesCreation}
+use Rattle.wasmi_c.specs.Placement.{status_of, grown_number, written_number, Placement, GrowsAs, GrowsBy, LeavesAs, WritesAs, Limited, limiter_after, Allows, SettlesGrowth, SettlesCreation}
 use Rattle.wasmi_c.specs.declared.numbers.MemoryNumbers.{MemoryNumbers}
 use Rattle.wasmi_c.specs.declared.numbers.QuotaNumbers.{QuotaNumbers}
 use Rattle.wasmi_c.specs.MemoryCalls.{MakesEmbedded}
@@ -154,14 +154,6 @@ growth_by g r r' stays follows = grows_too g g.request
     (λ same. rw (same, stays (ap (λ s. s.limiter) same)) refl)
     (λ outcome answered a. (answered, attempt_by r r' a (follows outcome a.follows)))
 
--- a creation under the numbers of a quota, which may be off, is one under the quota
-pub made_by_quota : {T E : Type 0} (e : Request (Unit {0}) E) (made : T) {result : Result T E} (q q' : QuotaNumbers)
-    → Makes (optional_rules quota_numbers_rules) e made (Some q) result (Some q')
-    → Makes (optional_rules quota_rules) e made (limiter_of q) result (limiter_of q')
-made_by_quota e made q q' makes =
-    let seen_so = follows e (Some q) (Some q') makes.0 makes.1.follows in
-    (makes.0, attempt_by (limiter_of q) (limiter_of q') makes.1 seen_so, makes.2)
-
 -- a creation of a memory under the numbers of a quota, which may be off, is one by a call
 pub makes_memory : (a a' : Placed MemoryNumbers) (ty : MemoryTypeValue) (q q' : QuotaNumbers) {status : ℕ}
     → (named_type (settings_of a.numbers) ≡ Some ty) × IsValid ty → (result : Result ℕ MemoryError)
@@ -174,7 +166,12 @@ makes_memory a a' ty q q' named result makes is left = inr (
   named.1,
   record {
     result = result;
-    makes = made_by_quota (creation_of (Lent a.region) ty) (new_memory (Lent a.region) ty) q q' makes;
+    makes = (
+      makes.0,
+      attempt_by (limiter_of q) (limiter_of q') makes.1
+          (follows (creation_of (Lent a.region) ty) (Some q) (Some q') makes.0 makes.1.follows),
+      makes.2,
+    );
     status_is = is;
     left = left;
   },
@@ -185,10 +182,6 @@ pub made_is : {T E : Type 0} (e : Request (Unit {0}) E) (made x : T) (outcome : 
     → Ok x ≡ answer_of e made outcome → x ≡ made
 made_is e made x Met is = cc
 made_is e made x outcome is = cc
-
--- what holds of two values holds of what equals them
-pub of_equals : {T : Type 0} (Holds : T → T → Type 0) {s s' t t' : T} → s ≡ t → s' ≡ t' → Holds t t' → Holds s s'
-of_equals Holds before after holds = rw (before, after) holds
 
 module _ {H T V E : Type 0} (p : Placement H T V E) (growth : List ℕ → V → Growth V E) (ty : T) where
   -- the value at the front of a region
@@ -217,14 +210,15 @@ module _ {H T V E : Type 0} (p : Placement H T V E) (growth : List ℕ → V →
 
   -- a growth under the numbers of a quota, which may be off, is one under the quota
   pub by_quota : {h h' : H} {region region' : List ℕ} {m m' : MeterNumbers} {n n' status : ℕ} (q q' : QuotaNumbers)
-      → GrowsAs p quota_numbers_rules growth ty (embedded h region m (Some q) n) status
+      → p.IsAt h region ty → GrowsAs p quota_numbers_rules growth ty (embedded h region m (Some q) n) status
       (embedded h' region' m' (Some q') n')
-      → GrowsAs p quota_rules growth ty (embedded h region m (limiter_of q) n) status
+      → GrowsBy p quota_rules growth (embedded h region m (limiter_of q) n) status
       (embedded h' region' m' (limiter_of q') n')
-  by_quota {h = h} {region = region} q q' g =
+  by_quota {h = h} {region = region} q q' at g =
       let grown = growth region (p.value ty region (p.size h)) in
-      under g (limiter_of q) (limiter_of q')
-      (growth_by grown (limiter_of q) (limiter_of q') (ap seen) (follows grown.request (Some q) (Some q')) g.grows.1)
+      let acts = under g (limiter_of q) (limiter_of q')
+      (growth_by grown (limiter_of q) (limiter_of q') (ap seen) (follows grown.request (Some q) (Some q')) g.grows.1) in
+      inr (ty, at, acts)
 
   -- a growth of the library on a region under a lent limiter, with what is left of its meter, is one of what lies with C
   pub grown_with : {S : Type 0} {rules : Rules S} {s s' : Embedded H S} {status : ℕ} {result : Result ℕ E} {m' : Meter}
@@ -250,10 +244,6 @@ module _ {H T V E : Type 0} (p : Placement H T V E) (growth : List ℕ → V →
         number_is = tells.1;
       }
 
--- where the answers are as they began, nobody was asked or told
-untouched : {S : Type 0} (a a' : HostAnswers) (l : Limited S) → a' ≡ fresh a → limiter_after a' l ≡ l.before
-untouched a a' l same = rw same refl
-
 module _ {V E S : Type 0} (rules : Rules S) (e : Request V E) (a a' : HostAnswers) (l : Limited S)
     (allows : Allows rules e a' l) where
   -- an answer to the question is one by the rules, and the limiter is then what it was after the question
@@ -261,10 +251,9 @@ module _ {V E S : Type 0} (rules : Rules S) (e : Request V E) (a a' : HostAnswer
       → AskedIf host_rules (Some (fresh a)) e.question answer (Some a')
       → rules.asked l.before e.question answer (limiter_after a' l)
   by_answer answer asks =
-      let was_asked : a'.asked ≡ 1 = rw asks.1 refl in
       let kept : a'.answer ≡ a.answer = rw asks.1 refl in
       let state : limiter_after a' l ≡ l.asked = rw asks.1 refl in
-      rw (state, asks.0, ← kept) (allows.asks was_asked)
+      rw (state, asks.0, ← kept) (allows.asks (rw asks.1 refl))
 
   -- a failure after the permission is one by the rules, and the limiter is then what it was after the notice
   by_failure : (cause : E) (notice_answer : NoticeAnswer) (permitted : Option HostAnswers)
@@ -274,21 +263,19 @@ module _ {V E S : Type 0} (rules : Rules S) (e : Request V E) (a a' : HostAnswer
       × rules.noticed p (e.notice cause) notice_answer (limiter_after a' l)
   by_failure cause notice_answer None asks tells = absurd asks
   by_failure cause notice_answer (Some b) asks tells =
-      let was_asked : a'.asked ≡ 1 = rw (tells.1, asks.1) refl in
-      let was_told : a'.told ≡ 1 = rw tells.1 refl in
       let answered : a'.answer ≡ a.answer = rw (tells.1, asks.1) refl in
       let noticed : a'.notice_answer ≡ b.notice_answer = rw tells.1 refl in
       let state : limiter_after a' l ≡ l.told = rw tells.1 refl in (
         l.asked,
-        rw asks.0 (rw answered at allows.asks was_asked),
-        rw (state, tells.0, ← noticed) (allows.tells was_told cause),
+        rw asks.0 (rw answered at (allows.asks (rw (tells.1, asks.1) refl))),
+        rw (state, tells.0, ← noticed) (allows.tells (rw tells.1 refl) cause),
       )
 
   -- every end of an attempt is one by the rules
   by_outcome : (outcome : AttemptOutcome E)
       → Follows e (optional_rules host_rules) (Some (fresh a)) outcome (Some a')
       → Follows e rules l.before outcome (limiter_after a' l)
-  by_outcome (Unasked cause) same = let e : a' ≡ fresh a = cc in untouched a a' l e
+  by_outcome (Unasked cause) same = let e : a' ≡ fresh a = cc in rw e refl
   by_outcome (Denied answer) asks = by_answer answer asks
   by_outcome Met asks = by_answer (Ok true) asks
   by_outcome (Failed cause notice_answer) fails = by_failure cause notice_answer fails.0 fails.1 fails.2
@@ -297,7 +284,7 @@ module _ {V E S : Type 0} (rules : Rules S) (e : Request V E) (a a' : HostAnswer
 pub settled_growth : {V E S : Type 0} (rules : Rules S) (g : Growth V E) (x : V)
     → SettlesGrowth rules g x
 settled_growth rules g x x' m m' a a' l result charge grows allows =
-    growth_by g l.before (limiter_after a' l) (λ same. untouched a a' l (let e : a' ≡ fresh a = cc in e))
+    growth_by g l.before (limiter_after a' l) (λ same. let e : a' ≡ fresh a = cc in rw e refl)
     (by_outcome rules g.request a a' l allows) grows
 
 -- a creation by the host's answers is one by the rules that allow them

@@ -265,10 +265,9 @@ module _ (u u' : UnderQuota) (holds : HoldsSums u) (keeps : KeepsQuota u.quota u
       elim c.makes [
         | inl refused ↦ summed_same Bytes refused.3 (rw (c.sizes, refused.1) refl) c.others
         | inr made ↦
-            let makes = rw (limiter_on u.quota holds.on, limiter_on u'.quota on) at made.3.makes in
             let counts = creation_counts (creation_of (Lent c.before.region) made.0)
             (new_memory (Lent c.before.region) made.0) (made_size byte_count) (length_made (minimum_bytes made.0) 0) (λ cause. refl)
-            (λ cause. refl) q q' _ makes in
+            (λ cause. refl) q q' _ (rw (limiter_on u.quota holds.on, limiter_on u'.quota on) at made.3.makes) in
             let sized = ap sum c.sizes
             ∙ memory_summed made.0 c.before c.after made.3.result c.status u.bytes made.3.status_is made.3.left in
             summed Bytes 0 _ counts (omega (arith, sized)) c.others
@@ -280,9 +279,9 @@ module _ (u u' : UnderQuota) (holds : HoldsSums u) (keeps : KeepsQuota u.quota u
       on_live (table_type_of c.before.numbers) _ _ c.makes
       (λ refused. summed_same Elements refused.2 (rw (c.sizes, refused.0) refl) c.others)
       (λ ty found made.
-      let makes = rw (limiter_on u.quota holds.on, limiter_on u'.quota on) at made.makes in
       let counts = creation_counts (creation_in ty (length c.before.region)) (new_table ty reference)
-      (made_size size_of) (length_made ty.minimum reference) (λ cause. refl) (λ cause. refl) q q' _ makes in
+      (made_size size_of) (length_made ty.minimum reference) (λ cause. refl) (λ cause. refl) q q' _
+      (rw (limiter_on u.quota holds.on, limiter_on u'.quota on) at made.makes) in
       let sized = ap sum c.sizes
       ∙ table_summed ty c.before c.after made.result c.status u.elements made.status_is made.left in
       summed Elements 0 _ counts (omega (arith, sized)) c.others)
@@ -343,9 +342,8 @@ module _ (u u' : UnderQuota) (holds : HoldsSums u) (keeps : KeepsQuota u.quota u
     ended_counts a status h' (inr (ty, at, inl done)) =
         let releases = rw (limiter_on u.quota holds.on, limiter_on u'.quota on) at done.0 in
         let less = held_less k (p.size a.numbers) (holdings q) (holdings q') releases.0 in
-        let none = ap p.size done.2 ∙ nothing a.numbers in
         record {
-          held = omega (arith, less.0, none);
+          held = omega (arith, less.0, ap p.size done.2 ∙ nothing a.numbers);
           others = less.1;
           within = released_within q q' k (p.size a.numbers) true releases.0 releases.1;
         }

@@ -13,11 +13,6 @@ use Rattle.wasmi_machine.specs.declared.calls.Reply.TheVariants as reply
 
 module _ (pool : PoolValue) (tenant : ℕ) (s : State) (found : machine_of pool tenant ≡ Some s) (call : Call) (full : Reply)
     (replies : (t : Tenant) → RepliesWith (optional_rules tenant_rules) call (world s (Some t)) full (world s (Some t))) where
-  -- the pool is the same with the machine that a tenant has
-  put_back : pool ≡ record pool { machines = slice_set pool.machines tenant (Some s) }
-  put_back = sym (ap (λ machines. record pool { machines = machines })
-      (ap (slice_set pool.machines tenant) (sym found) ∙ set-get_or pool.machines tenant None))
-
   -- a call that changes nothing on a tenant's machine is a run that leaves the pool
   pub runs_in_place : RunsTenant pool tenant (call ∷ []) (full ∷ []) pool
   runs_in_place =
@@ -27,7 +22,8 @@ module _ (pool : PoolValue) (tenant : ℕ) (s : State) (found : machine_of pool 
         machine' = s;
         tenant' = own;
         ran = run_of_one (optional_rules tenant_rules) call _ full _ (replies own);
-        after = put_back;
+        after = sym (ap (λ machines. record pool { machines = machines })
+            (ap (slice_set pool.machines tenant) (sym found) ∙ set-get_or pool.machines tenant None));
       }
 
   -- a call that changes nothing on a tenant's machine leaves a status and a word
@@ -80,8 +76,7 @@ module _ (pool : PoolValue) (tenant : ℕ) (s : State) (found : machine_of pool 
       → RunsTenant pool tenant (SetFuel (had - amount) ∷ []) (full ∷ []) pool' → pool' ≡ paid_pool
   paid_by_set had is full pool' run =
       let same : run.machine ≡ s = cc in
-      let set = set_by_run (optional_rules tenant_rules) (had - amount) _ full _ run.ran in
-      rw (run.after, set, same, is) refl
+      rw (run.after, set_by_run (optional_rules tenant_rules) (had - amount) _ full _ run.ran, same, is) refl
 
   module _ (told : ReplyStruct) (pool' : PoolValue) where
     -- the amount is taken where so much was left

@@ -1,5 +1,5 @@
-//! The calls on memories whose bytes are the first of a region that lies with C. `number` is set to
-//! the fuel that is needed where less is left.
+//! How a memory whose bytes are the first of a region that lies with C is made, grows, is read and is
+//! written. `number` is set to the fuel that is needed where less is left.
 ghost use Rattle.std.specs.Prelude.{◌≡◌, ◌≤◌, ◌+◌, ◌/◌, ◌^◌, ◌⊎◌, false, Some, OnErr, IfOk, length};
 ghost use Rattle.wasmi_meter.specs.Capped.{quota_rules};
 ghost use Rattle.wasmi_meter.specs.Limiter.{optional_rules};

@@ -1,6 +1,6 @@
 -- A plug-in's machine is within the caps of its quota, a memory is within the limit of a limiter of one's own, and the
 -- bill of a run is right.
-use Rattle.std.proofs.Common.{ℕ, ◌≡◌, ◌≤◌, Some, List, sym, arith, ◌∙◌, ◌+◌, ◌*◌, true, nat_le, Option, None, Result, length, replicate, ap, inl, inr, length-append, ◌-◌, refl, All}
+use Rattle.std.proofs.Common.{ℕ, ◌≡◌, ◌≤◌, Some, List, sym, arith, ◌∙◌, ◌+◌, ◌*◌, true, nat_le, Option, None, Result, length, replicate, ap, inl, inr, length-append, ◌-◌, All, unwrap_or}
 use Rattle.std.proofs.lemmas.Option.{same_Some}
 use Rattle.wasmi_meter.specs.declared.limiter.Kind.TheVariants.{Bytes, Elements}
 use Rattle.wasmi_meter.specs.Meter.{Meter, amount_left}
@@ -14,6 +14,7 @@ use Rattle.std.proofs.lemmas.List.{length-replicate}
 use Rattle.wasmi_meter.specs.declared.error.MemoryError.{MemoryError}
 use Rattle.wasmi_meter.specs.Attempt.{MeteredValue, Request, AttemptOutcome, Unasked, Denied, Met, Failed, Follows, value_after}
 use Rattle.wasmi_meter.specs.Limiter.{optional_rules, Rules}
+use Rattle.wasmi_store.specs.Growth.{metered_value}
 use Rattle.wasmi_store.specs.Memory.{MemoryValue, GrowsMemoryCharging, growth_of, page_bytes}
 use Rattle.wasmi_example_callers.specs.declared.limiter.AtMost.{AtMost}
 use Rattle.wasmi_core.specs.Account.{SetsNoFuel}
@@ -66,11 +67,8 @@ module _ (l l' : AtMost) where
   module _ (x x' : MemoryValue) (m m' : Option Meter) where
     -- a memory has grown under the limiter
     abbrev Grown : ℕ → Result ℕ MemoryError → ℕ → Type 0
-    Grown pages result charge = GrowsMemoryCharging (optional_rules at_most_rules) pages (record {
-      value = x;
-      meter = m;
-      limiter = Some l;
-    }) result charge (record { value = x'; meter = m'; limiter = Some l' })
+    Grown pages result charge = GrowsMemoryCharging (optional_rules at_most_rules) pages (metered_value x m (Some l))
+        result charge (metered_value x' m' (Some l'))
 
     -- the limiter stays after a growth
     pub grown_stays : (pages : ℕ) (result : Result ℕ MemoryError) (charge : ℕ) → Grown pages result charge → l' ≡ l
@@ -86,10 +84,6 @@ module _ (l l' : AtMost) where
     grown_within pages result charge (inr some) small =
         rw some.attempt.value (value_within x pages some.outcome some.attempt.follows small)
 
--- the amount that is left is what a meter that is on has
-left_is : (m : Meter) (left : ℕ) → m.left ≡ Some left → amount_left m ≡ left
-left_is m left on = rw on refl
-
 -- the bill of a run is right
 pub ran_billed : {S : Type 0} (rules : Rules S) → ChargesAreSpent rules
     → (calls : List Call) (replies : List Reply) (w w' : World S) (charged : ℕ)
@@ -100,8 +94,8 @@ ran_billed rules law calls replies w w' charged is none ran =
     → Accounts ran.0 left charged (amount_left w'.state.meter) =
     λ left on.
     let spent = law w left on ran.0 w' ran.3 (rw ran.1 none) in
-    let before = left_is w.state.meter left on in
-    let after = left_is w'.state.meter spent.0 spent.1 in
+    let before : amount_left w.state.meter ≡ left = ap (λ o. unwrap_or o 0) on in
+    let after : amount_left w'.state.meter ≡ spent.0 = ap (λ o. unwrap_or o 0) spent.1 in
     record {
       charges_of = omega (arith, is, before, after, spent.2.charged);
       left = omega (arith, is, before, after, spent.2.charged);

@@ -1,5 +1,5 @@
--- What a program of the interpreter did is a run, whose instructions set no fuel and take one each: the answers to its
--- calls, its actions and growths, and the fuel that is taken and spent.
+-- What a program of the interpreter did is a run, whose instructions set no fuel and take one each: the replies to its
+-- growths, its actions, and the fuel that is taken and spent.
 use Rattle.std.proofs.Common.{◌≡◌, ◌∙◌, ◌+◌, ◌-◌, ◌*◌, ◌<◌, ◌≤◌, ◌⊎◌, inl, inr, ℕ, zero, suc, Bool, true, false, ◌==◌, Option, Some, None, MatchOption, MatchBool, Result, Ok, Err, cond, List, [], ◌∷◌, ◌++◌, map, refl, sym, ap, arith, All, if◌then◌else◌, is_some, IsSome, slice_get, add-one, add-zero}
 use Rattle.std.specs.Option.{option_map, option_map_or, option_and_then, unwrap_or}
 use Rattle.std.proofs.Math.Nat.{mul-le-mul_left}
@@ -10,23 +10,23 @@ use Rattle.wasmi_meter.specs.declared.fuel.FuelError.{FuelError}
 use Rattle.wasmi_meter.specs.declared.fuel.FuelError.TheVariants.{FuelMeteringDisabled, OutOfFuel}
 use Rattle.wasmi_meter.specs.declared.error.MemoryError.{MemoryError}
 use Rattle.wasmi_meter.specs.Limiter.{Rules}
-use Rattle.wasmi_meter.specs.Meter.{Meter, amount_left, meter_after, ConsumesFuel}
+use Rattle.wasmi_meter.specs.Meter.{Meter, amount_left, ConsumesFuel}
 use Rattle.wasmi_raw.specs.RawVal.{raw_of}
-use Rattle.wasmi_core.specs.Types.{Call, Reply}
+use Rattle.wasmi_core.specs.Types.{Reply}
 use Rattle.wasmi_core.specs.Calls.{SetFuel, GrowMemory, SetRegister}
 use Rattle.wasmi_core.specs.Replies.{Done, Fuel, Number, Memory}
 use Rattle.wasmi_core.specs.Account.{SetsNoFuel, charges, has_written, bytes_written, writing_turns, charges_for_writing}
 use Rattle.wasmi_core.specs.State.{State, World, Turn, world}
-use Rattle.wasmi_core.specs.Steps.{Step, RepliesWith, Run, AreTurns}
+use Rattle.wasmi_core.specs.Steps.{Step, Run, AreTurns}
 use Rattle.wasmi_core.specs.Laws.{RunsJoin, ChargesAreSpent, FuelBoundsWriting}
 use Rattle.wasmi_example_callers.specs.declared.interpreter.Instruction.{Instruction}
-use Rattle.wasmi_example_callers.specs.declared.interpreter.Instruction.TheVariants.{Constant, Copy, Add, Multiply, AddBytes, Load, Store, Grow, Size, Branch, BranchIf, Return}
+use Rattle.wasmi_example_callers.specs.declared.interpreter.Instruction.TheVariants.{Constant}
 use Rattle.wasmi_example_callers.specs.declared.interpreter.Action.{Action}
-use Rattle.wasmi_example_callers.specs.declared.interpreter.Action.TheVariants.{Calls, Grows, Continues, Branches, Returns}
+use Rattle.wasmi_example_callers.specs.declared.interpreter.Action.TheVariants.{Calls, Grows, Continues, Branches}
 use Rattle.wasmi_example_callers.specs.declared.interpreter.Ending.{Ending}
 use Rattle.wasmi_example_callers.specs.declared.interpreter.Ending.TheVariants as ending
 use Rattle.wasmi_example_callers.specs.declared.interpreter.Outcome.{Outcome}
-use Rattle.wasmi_example_callers.specs.Interpreter.{action_of, action_at, grow_result, place_after, IsGrowth, CarriesOut, is_out_of_fuel, fuel_taken, Stops, StepsAt, Reaches, ExecutesProgram, HasRun, last_instruction, instructions_of, PaysProgramFuel}
+use Rattle.wasmi_example_callers.specs.Interpreter.{action_of, action_at, grow_result, place_after, CarriesOut, is_out_of_fuel, fuel_taken, Stops, StepsAt, Reaches, ExecutesProgram, HasRun, last_instruction, instructions_of, PaysProgramFuel}
 
 -- the state with so much fuel left
 abbrev with_left : State → Option ℕ → State
@@ -45,77 +45,27 @@ module _ (s s' : State) (result : Result ℕ FuelError)
     (on : IsSome s.meter.left → ConsumesFuel s.meter 1 (amount_left s.meter - 1) result s'.meter)
     (off : s.meter.left ≡ None → (result ≡ Err FuelMeteringDisabled) × (s' ≡ s))
     (rest : s' ≡ record s { meter = s'.meter }) where
-  -- whether no fuel is left, by what is left
-  tested : (o : Option ℕ) → s.meter.left ≡ o → is_out_of_fuel s.meter ≡ option_map_or (λ n. n == 0) o false
-  tested o is = ap (λ o. option_map_or (λ n. n == 0) o false) is
-
-  -- the state after a request for fuel, by its meter
-  metered : (m : Meter) → s'.meter ≡ m → s' ≡ record s { meter = m }
-  metered m is = rest ∙ ap (λ m. record s { meter = m }) is
-
   -- what the answer to a request for one fuel tells, by what was left
   told_by : (o : Option ℕ) → s.meter.left ≡ o → Tells s s' result
-  told_by None is =
-      let answer = off is in rw answer.0 (tested None is, answer.1 ∙ sym (taken_off s is))
+  told_by None is = let answer = off is in rw answer.0 (rw is, answer.1 ∙ sym (taken_off s is))
   told_by (Some zero) is =
       let short = (on (ap is_some is)).short (omega (arith, ap (λ o. unwrap_or o 0) is)) in
-      rw short.0 (tested (Some 0) is, metered s.meter short.1)
+      rw short.0 (rw is, rest ∙ ap (λ (m : Meter). record s { meter = m }) short.1)
   told_by (Some (suc n)) is =
       let enough = (on (ap is_some is)).enough (omega (arith, ap (λ o. unwrap_or o 0) is)) in
       let some : (suc n == 0) ≡ false = grind (arith, nat_tests) in
-      rw enough.0 (tested (Some (suc n)) is ∙ some, metered (meter_after s.meter 1) enough.1)
+      rw enough.0 (rw is some, rest ∙ ap (λ (m : Meter). record s { meter = m }) enough.1)
 
   -- what the answer to a request for one fuel tells, whatever was left
   pub told : Tells s s' result
   told = told_by s.meter.left refl
 
-module _ {S : Type 0} (rules : Rules S) where
-  -- a call that is answered is a run of one turn
-  pub answered : (c : Call) (w : World S) (reply : Reply) (w' : World S) → RepliesWith rules c w reply w'
-      → (turns : List Turn) × Run rules w turns w' × AreTurns (c ∷ []) (reply ∷ []) turns
-  answered c w reply w' (charge, written, step) = (
-    record { call = c; reply = reply; charge = charge; written = written } ∷ [],
-    (w', step, refl),
-    record { calls_of = refl; replies_of = refl },
-  )
-
-  -- two calls that are answered one after the other are a run of two turns
-  pub answered_twice : (c c' : Call) (w : World S) (reply : Reply) (v : World S) (reply' : Reply) (w' : World S)
-      → RepliesWith rules c w reply v → RepliesWith rules c' v reply' w'
-      → (turns : List Turn) × Run rules w turns w' × AreTurns (c ∷ c' ∷ []) (reply ∷ reply' ∷ []) turns
-  answered_twice c c' w reply v reply' w' (charge, written, step) (charge', written', step') = (
-    record { call = c; reply = reply; charge = charge; written = written }
-        ∷ record { call = c'; reply = reply'; charge = charge'; written = written' } ∷ [],
-    (v, step, (w', step', refl)),
-    record { calls_of = refl; replies_of = refl },
-  )
-
--- a growth whose reply gives a result sets a register to it
-pub grown : (dst pages : ℕ) (turns : List Turn) (reply last : Reply) (size : ℕ) → grow_result reply ≡ Some size
-    → AreTurns (GrowMemory 0 pages ∷ SetRegister dst (raw_of size) ∷ []) (reply ∷ last ∷ []) turns
-    → IsGrowth dst pages turns last
-grown dst pages turns reply last size is are = (reply, rw is are)
-
 -- a reply that is neither a number nor an error of a memory gives no result
-no_result : (reply : Reply) → ((size : ℕ) → reply ≡ Number size → ⊥)
+pub no_result : (reply : Reply) → ((size : ℕ) → reply ≡ Number size → ⊥)
     → ((error : MemoryError) → reply ≡ Memory error → ⊥) → grow_result reply ≡ None
 no_result (Number size) number memory = absurd (number size refl)
 no_result (Memory error) number memory = absurd (memory error refl)
 no_result reply number memory = refl
-
--- a growth whose reply gives no result ends there
-pub ungrown : (dst pages : ℕ) (turns : List Turn) (reply : Reply) → ((size : ℕ) → reply ≡ Number size → ⊥)
-    → ((error : MemoryError) → reply ≡ Memory error → ⊥)
-    → AreTurns (GrowMemory 0 pages ∷ []) (reply ∷ []) turns → IsGrowth dst pages turns reply
-ungrown dst pages turns reply number memory are = (reply, rw (no_result reply number memory) (are, refl))
-
--- one instruction more leads on from where those so far have led
-pub reaches_more : {S : Type 0} (rules : Rules S) (program : List Instruction) (w : World S) (n at : ℕ)
-    (turns : List Turn) (v : World S) → Reaches rules program w n at turns v → (more : List Turn) (at' : ℕ)
-    (v' : World S) → StepsAt rules program at v more (Ok at') v'
-    → Reaches rules program w (n + 1) at' (turns ++ more) v'
-reaches_more rules program w n at turns v path more at' v' steps =
-    rw (add-one n) (at, turns, v, path, more, steps, refl)
 
 -- the call of an action doesn't set the fuel
 abbrev ActsWithoutFuel : Option Action → Type 0
@@ -139,20 +89,13 @@ of_branch : (stays : Bool) (target : ℕ) → ActsWithoutFuel (Some (if stays th
 of_branch true target = tt
 of_branch false target = tt
 
+-- an action that is made of values, or a branch, doesn't set the fuel
+ruleset without_fuel = (of_bound, of_one, of_branch)
+
 -- no instruction sets the fuel
 acts_without_fuel : (i : Instruction) (s : State) → ActsWithoutFuel (action_of i s)
 acts_without_fuel (Constant dst number) s = tt
-acts_without_fuel (Copy dst src) s = search of_one
-acts_without_fuel (Add dst a b) s = search (of_bound, of_one)
-acts_without_fuel (Multiply dst a b) s = search (of_bound, of_one)
-acts_without_fuel (AddBytes dst a b) s = tt
-acts_without_fuel (Load dst ptr offset) s = search of_one
-acts_without_fuel (Store ptr offset value) s = search (of_bound, of_one)
-acts_without_fuel (Grow dst pages) s = search (of_bound, of_one)
-acts_without_fuel (Size dst) s = search of_one
-acts_without_fuel (Branch target) s = tt
-acts_without_fuel (BranchIf condition target) s = search (of_one, of_branch)
-acts_without_fuel (Return local) s = search of_one
+acts_without_fuel i s = search without_fuel
 
 -- the turns of a growth don't set the fuel, by its result
 growth_without_fuel : (o : Option ℕ) (dst pages : ℕ) (turns : List Turn) (reply last : Reply)
@@ -172,9 +115,7 @@ action_without_fuel (Calls c) next turns result free (reply, are, is) =
     rw are.calls_of (All-cons SetsNoFuel c [] free (All-nil SetsNoFuel))
 action_without_fuel (Grows dst pages) next turns result free (last, (reply, are), is) =
     growth_without_fuel (grow_result reply) dst pages turns reply last are
-action_without_fuel Continues next turns result free (none, is) = rw none (All-nil SetsNoFuel)
-action_without_fuel (Branches target) next turns result free (none, is) = rw none (All-nil SetsNoFuel)
-action_without_fuel (Returns value) next turns result free (none, is) = rw none (All-nil SetsNoFuel)
+action_without_fuel action next turns result free follows = rw follows.0 (All-nil SetsNoFuel)
 
 -- whether an instruction takes fuel, by what follows it
 abbrev instruction_of : Result ℕ Ending → ℕ
@@ -192,9 +133,7 @@ action_instruction : (action : Action) (next : ℕ) (turns : List Turn) (result 
 action_instruction (Calls c) next turns result (reply, are, is) = ap instruction_of is ∙ reply_instruction reply next
 action_instruction (Grows dst pages) next turns result (reply, are, is) =
     ap instruction_of is ∙ reply_instruction reply next
-action_instruction Continues next turns result (none, is) = ap instruction_of is
-action_instruction (Branches target) next turns result (none, is) = ap instruction_of is
-action_instruction (Returns value) next turns result (none, is) = ap instruction_of is
+action_instruction action next turns result follows = ap instruction_of follows.1
 
 -- two lists of turns have written as much, by as many turns, which were charged as much for it
 record IsWrittenAs (all turns : List Turn) : Type 0 where
@@ -305,11 +244,7 @@ module _ {S : Type 0} (rules : Rules S) (joins : RunsJoin rules) (spends : Charg
   needs_taken w turns fuel w' (inl (none, same, free)) = record {
     all = [];
     run = same;
-    written = record {
-      bytes = sym (ap bytes_written none);
-      number = sym (ap writing_turns none);
-      charged = sym (ap charges_for_writing none);
-    };
+    written = record { bytes = rw none; number = rw none; charged = rw none };
     spent = λ left on. (left, ap (λ (v : World S). v.state.meter.left) same ∙ on, omega (arith, free, ap charges none));
   }
   needs_taken w turns fuel w' (inr (fuelled, run, quiet, one)) =

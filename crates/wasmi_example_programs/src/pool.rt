@@ -12,11 +12,16 @@ pub fn main(rt: HostRuntime) -> anyhow::Result<()> {
     // One page of 64 KiB for both tenants together, and no tables. Each asks for a page: the second
     // one is denied.
     let mut pool = Pool::new(rt.alloc(), 65_536, 0);
+    host(&rt, &mut pool, &calls)
+}
+
+/// Adds two tenants, runs the calls on each, and prints what they hold.
+fn host(rt: &HostRuntime, pool: &mut Pool, calls: &[Call]) -> anyhow::Result<()> {
     for _tenant in 0..2 {
-        add(&rt, &mut pool)?;
+        add(rt, pool)?;
     }
     for tenant in 0..pool.len() {
-        run(&rt, &mut pool, tenant, &calls)?;
+        run(rt, pool, tenant, calls)?;
     }
     for tenant in 0..pool.len() {
         let bytes = pool.held_bytes(tenant).unwrap_or(0);

@@ -7,17 +7,22 @@ use wasmi_core::{
     run_into_lending, run_lending,
 };
 
-/// Sets a machine up, and runs the guests on it one after another.
+/// Makes a machine with a region, sets it up, and runs the guests on it.
 pub fn main(rt: HostRuntime) -> anyhow::Result<()> {
     let mut region = [0; 64];
     let fuel = Fuel::new(false, FuelCostsProvider::default());
     let mut machine = Machine::with_region(rt.alloc(), fuel, &mut region);
-    set_up(&rt, &mut machine)?;
+    host(&rt, &mut machine)
+}
+
+/// Sets the machine up, and runs the guests on it one after another.
+fn host(rt: &HostRuntime, machine: &mut Machine) -> anyhow::Result<()> {
+    set_up(rt, machine)?;
     let mut replies = Replies::with_capacity(rt.alloc(), 3)?;
 
     let mut done = 0u32;
     for guest in 0..1000u32 {
-        if runs(&mut machine, guest, &mut replies)? {
+        if runs(machine, guest, &mut replies)? {
             done = done.saturating_add(1);
         }
     }

@@ -21,11 +21,9 @@ limits_named minimum maximum width =
 pub limits_are : (minimum maximum width : List ℕ) (limits : Limits) → WritesLimits minimum maximum width limits
     → limits_named minimum maximum width ≡ Some limits
 unfolding limits_named
-limits_are minimum maximum width limits w = λ i. option_map (λ index. record {
-  index = index;
-  minimum = sym w.minimum_word.1 i;
-  maximum = limit_is maximum limits.maximum w.maximum_word i;
-}) (named_is index.enum tt width_word refl width limits.index w.width_text i)
+limits_are minimum maximum width limits w =
+    rw (named_is index.enum tt width_word refl width limits.index w.width_text)
+    (rw (← w.minimum_word.1, limit_is maximum limits.maximum w.maximum_word))
 
 -- three words write one limits at most
 one_limits : {minimum maximum width : List ℕ} {limits limits' : Limits} → WritesLimits minimum maximum width limits

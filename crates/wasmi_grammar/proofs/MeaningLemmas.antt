@@ -41,6 +41,10 @@ found_or (entry ∷ entries) word other = cond (bytes_eq entry.0 word) entry.1 (
 abbrev beside : {A : Type 0} → List (List ℕ × Option A) → List ℕ → Option A
 beside entries word = found_or entries word None
 
+-- the meaning of a call of what words name, if they name something
+abbrev made : {A : Type 0} → Option A → (A → Call) → Option CallMeaning
+made named make = option_map (λ it. Other (make it)) named
+
 -- what a line says, with its lists as lists
 pub data LineMeaning : Type 0 where
   MeterMeaning : MeterLine → LineMeaning
@@ -75,118 +79,89 @@ module _ (words : LineWords) where
   word k = word_at words k
 
   -- the number that the word at a place writes
-  abbrev number : ℕ → ℕ
-  number k = decimal_value (word_at words k)
+  abbrev n : ℕ → ℕ
+  n k = decimal_value (word_at words k)
 
   -- what is dropped, by the word after
   abbrev drops_named : List (List ℕ × Option CallMeaning)
   drops_named =
-      (codes "memory", Some (Other (call.DropMemory (number 1)))) ∷ (codes "table", Some (Other (call.DropTable (number 1)))) ∷ []
+      (codes "memory", Some (Other (call.DropMemory (n 1)))) ∷ (codes "table", Some (Other (call.DropTable (n 1)))) ∷ []
 
   -- What tools/generate writes begins.
   -- the call that operands write, by the word before them
   abbrev calls_named : List (List ℕ × Option CallMeaning)
   calls_named =
-      (codes "fuel", Some (Other (call.SetFuel (number 0)))) ∷
-      (codes "left", Some (Other call.GetFuel)) ∷ (
-        codes "memory",
-        option_map (λ ty. Other (call.NewMemory ty)) (memory_named (word 0) (word 1) (word 2) (word 3)),
-      ) ∷ (
-        codes "lent",
-        option_map (λ ty. Other (call.NewLentMemory ty)) (memory_named (word 0) (word 1) (word 2) (word 3)),
-      ) ∷
-      (codes "grow", Some (Other (call.GrowMemory (number 0) (number 1)))) ∷
+      (codes "fuel", Some (Other (call.SetFuel (n 0)))) ∷
+      (codes "left", Some (Other call.GetFuel)) ∷
+      (codes "memory", made (memory_named (word 0) (word 1) (word 2) (word 3)) (λ ty. call.NewMemory ty)) ∷
+      (codes "lent", made (memory_named (word 0) (word 1) (word 2) (word 3)) (λ ty. call.NewLentMemory ty)) ∷
+      (codes "grow", Some (Other (call.GrowMemory (n 0) (n 1)))) ∷
       (codes "drop", beside drops_named (word 0)) ∷
-      (codes "read", Some (Other (call.Read (number 0) (number 1) (number 2)))) ∷
-      (codes "write", Some (WriteMeaning (number 0) (number 1) (numbers_in (drop 2 words)))) ∷ (
-        codes "load",
-        option_map (λ op. Other (call.Load op (number 1) (number 2) (number 3)))
-            (named load.enum tt load_name (word 0)),
-      ) ∷ (
+      (codes "read", Some (Other (call.Read (n 0) (n 1) (n 2)))) ∷
+      (codes "write", Some (WriteMeaning (n 0) (n 1) (numbers_in (drop 2 words)))) ∷
+      (codes "load", made (named load.enum tt load_name (word 0)) (λ op. call.Load op (n 1) (n 2) (n 3))) ∷ (
         codes "store",
-        option_map (λ op. Other (call.Store op (number 1) (number 2) (number 3) (raw_of (number 4))))
-            (named store.enum tt store_name (word 0)),
+        made (named store.enum tt store_name (word 0)) (λ op. call.Store op (n 1) (n 2) (n 3) (raw_of (n 4))),
       ) ∷
-      (codes "mfill", Some (Other (call.FillMemory (number 0) (number 1) (number 2) (number 3)))) ∷
-      (codes "mcopy", Some (Other (call.CopyMemory (number 0) (number 1) (number 2) (number 3) (number 4)))) ∷
-      (codes "minit", Some (Other (call.InitMemory (number 0) (number 1) (number 2) (number 3) (number 4)))) ∷ (
+      (codes "mfill", Some (Other (call.FillMemory (n 0) (n 1) (n 2) (n 3)))) ∷
+      (codes "mcopy", Some (Other (call.CopyMemory (n 0) (n 1) (n 2) (n 3) (n 4)))) ∷
+      (codes "minit", Some (Other (call.InitMemory (n 0) (n 1) (n 2) (n 3) (n 4)))) ∷ (
         codes "table",
         option_and_then (λ ty. option_map (λ init. Other (call.NewTable ty init)) (reference_named (word 4) (word 5)))
             (table_named (word 0) (word 1) (word 2) (word 3)),
-      ) ∷ (
-        codes "tgrow",
-        option_map (λ init. Other (call.GrowTable (number 0) (number 1) init)) (reference_named (word 2) (word 3)),
       ) ∷
-      (codes "get", Some (Other (call.GetElement (number 0) (number 1)))) ∷ (
-        codes "tset",
-        option_map (λ value. Other (call.SetElement (number 0) (number 1) value)) (reference_named (word 2) (word 3)),
-      ) ∷
-      (codes "init", Some (Other (call.InitTable (number 0) (number 1) (number 2) (number 3) (number 4)))) ∷
-      (codes "copy", Some (Other (call.CopyTable (number 0) (number 1) (number 2) (number 3) (number 4)))) ∷ (
-        codes "fill",
-        option_map (λ value. Other (call.FillTable (number 0) (number 1) value (number 4)))
-            (reference_named (word 2) (word 3)),
-      ) ∷ (
+      (codes "tgrow", made (reference_named (word 2) (word 3)) (λ init. call.GrowTable (n 0) (n 1) init)) ∷
+      (codes "get", Some (Other (call.GetElement (n 0) (n 1)))) ∷
+      (codes "tset", made (reference_named (word 2) (word 3)) (λ value. call.SetElement (n 0) (n 1) value)) ∷
+      (codes "init", Some (Other (call.InitTable (n 0) (n 1) (n 2) (n 3) (n 4)))) ∷
+      (codes "copy", Some (Other (call.CopyTable (n 0) (n 1) (n 2) (n 3) (n 4)))) ∷
+      (codes "fill", made (reference_named (word 2) (word 3)) (λ value. call.FillTable (n 0) (n 1) value (n 4))) ∷ (
         codes "segment",
         option_map (λ ty. SegmentMeaning ty (numbers_in (drop 1 words)))
             (named reference_type.enum tt reference_word (word 0)),
       ) ∷
-      (codes "empty", Some (Other (call.DropItems (number 0)))) ∷
+      (codes "empty", Some (Other (call.DropItems (n 0)))) ∷
       (codes "data", Some (DataMeaning (numbers_in words))) ∷
-      (codes "dempty", Some (Other (call.DropData (number 0)))) ∷ (
+      (codes "dempty", Some (Other (call.DropData (n 0)))) ∷ (
         codes "global",
-        option_and_then (λ content. option_map (λ mutability. Other (call.NewGlobal
-            (record { lo = number 2; hi = number 3 }) (record { content = content; mutability = mutability })))
+        option_and_then (λ content. option_map (λ mutability. Other (call.NewGlobal (record { lo = n 2; hi = n 3 })
+            (record { content = content; mutability = mutability })))
             (named mutability.enum tt mutability_word (word 1))) (named value_type.enum tt value_word (word 0)),
       ) ∷ (
         codes "gset",
-        option_map (λ ty. Other (call.SetGlobal (number 0)
-            (record { ty = ty; raw = record { lo = number 2; hi = number 3 } })))
-            (named value_type.enum tt value_word (word 1)),
+        made (named value_type.enum tt value_word (word 1)) (λ ty. call.SetGlobal (n 0)
+            (record { ty = ty; raw = record { lo = n 2; hi = n 3 } })),
       ) ∷
-      (codes "gget", Some (Other (call.GetGlobal (number 0)))) ∷
-      (codes "set", Some (Other (call.SetRegister (number 0) (record { lo = number 1; hi = number 2 })))) ∷
-      (codes "show", Some (Other (call.GetRegister (number 0)))) ∷ (
-        codes "make",
-        option_map (λ op. Other (call.Make op (number 1) (number 2))) (named make.enum tt make_name (word 0)),
-      ) ∷ (
-        codes "unary",
-        option_map (λ op. Other (call.Unary op (number 1) (number 2))) (named unary.enum tt unary_name (word 0)),
-      ) ∷ (
-        codes "binary",
-        option_map (λ op. Other (call.Binary op (number 1) (number 2) (number 3)))
-            (named binary.enum tt binary_name (word 0)),
-      ) ∷ (
+      (codes "gget", Some (Other (call.GetGlobal (n 0)))) ∷
+      (codes "set", Some (Other (call.SetRegister (n 0) (record { lo = n 1; hi = n 2 })))) ∷
+      (codes "show", Some (Other (call.GetRegister (n 0)))) ∷
+      (codes "make", made (named make.enum tt make_name (word 0)) (λ op. call.Make op (n 1) (n 2))) ∷
+      (codes "unary", made (named unary.enum tt unary_name (word 0)) (λ op. call.Unary op (n 1) (n 2))) ∷
+      (codes "binary", made (named binary.enum tt binary_name (word 0)) (λ op. call.Binary op (n 1) (n 2) (n 3))) ∷ (
         codes "ternary",
-        option_map (λ op. Other (call.Ternary op (number 1) (number 2) (number 3) (number 4)))
-            (named ternary.enum tt ternary_name (word 0)),
-      ) ∷ (
-        codes "shift",
-        option_map (λ op. Other (call.Shift op (number 1) (number 2) (number 3)))
-            (named shift.enum tt shift_name (word 0)),
+        made (named ternary.enum tt ternary_name (word 0)) (λ op. call.Ternary op (n 1) (n 2) (n 3) (n 4)),
       ) ∷
-      (codes "test", option_map (λ op. Other (call.Test op (number 1))) (named test.enum tt test_name (word 0))) ∷ (
+      (codes "shift", made (named shift.enum tt shift_name (word 0)) (λ op. call.Shift op (n 1) (n 2) (n 3))) ∷
+      (codes "test", made (named test.enum tt test_name (word 0)) (λ op. call.Test op (n 1))) ∷ (
         codes "extract",
-        option_map (λ op. Other (call.Extract op (number 1)))
-            (lane_named extract.enum tt extract_name extract_op (word 0) (word 2)),
+        made (lane_named extract.enum tt extract_name extract_op (word 0) (word 2)) (λ op. call.Extract op (n 1)),
       ) ∷ (
         codes "replace",
-        option_map (λ op. Other (call.Replace op (number 1) (number 2) (number 4)))
-            (lane_named replace.enum tt replace_name replace_op (word 0) (word 3)),
+        made (lane_named replace.enum tt replace_name replace_op (word 0) (word 3))
+            (λ op. call.Replace op (n 1) (n 2) (n 4)),
       ) ∷
-      (codes "shuffle", Some (Other (call.Shuffle (number 0) (number 1) (number 2) (numbers_in (drop 3 words))))) ∷ (
+      (codes "shuffle", Some (Other (call.Shuffle (n 0) (n 1) (n 2) (numbers_in (drop 3 words))))) ∷ (
         codes "vload",
-        option_map (λ op. Other (call.VectorLoad op (number 1) (number 2) (number 3) (number 4)))
-            (named vector_load.enum tt vector_load_name (word 0)),
+        made (named vector_load.enum tt vector_load_name (word 0)) (λ op. call.VectorLoad op (n 1) (n 2) (n 3) (n 4)),
       ) ∷ (
         codes "vloadlane",
-        option_map (λ op. Other (call.LoadLane op (number 1) (number 2) (number 4) (number 5) (number 6))) (lane_named
-            load_lane.enum tt load_lane_name load_lane_op (word 0) (word 3)),
+        made (lane_named load_lane.enum tt load_lane_name load_lane_op (word 0) (word 3))
+            (λ op. call.LoadLane op (n 1) (n 2) (n 4) (n 5) (n 6)),
       ) ∷
-      (codes "vstore", Some (Other (call.VectorStore (number 0) (number 1) (number 2) (number 3)))) ∷ (
+      (codes "vstore", Some (Other (call.VectorStore (n 0) (n 1) (n 2) (n 3)))) ∷ (
         codes "vstorelane",
-        option_map (λ op. Other (call.StoreLane op (number 1) (number 3) (number 4) (number 5))) (lane_named
-            store_lane.enum tt store_lane_name store_lane_op (word 0) (word 2)),
+        made (lane_named store_lane.enum tt store_lane_name store_lane_op (word 0) (word 2))
+            (λ op. call.StoreLane op (n 1) (n 3) (n 4) (n 5)),
       ) ∷
       []
 
@@ -194,116 +169,95 @@ module _ (words : LineWords) where
   call_is : (call : Call) → WritesOperands words call → beside calls_named (command_word call) ≡ Some
       (call_meaning call)
   unfolding IsName
-  call_is (call.SetFuel fuel) w = λ i. Some (Other (call.SetFuel (sym w.1.1 i)))
+  call_is (call.SetFuel fuel) w = rw (← w.1.1)
   call_is call.GetFuel w = refl
-  call_is (call.NewMemory ty) w = λ i. option_map (λ ty. Other (call.NewMemory ty))
-      (memory_is (word 0) (word 1) (word 2) (word 3) ty w.1 i)
-  call_is (call.NewLentMemory ty) w = λ i. option_map (λ ty. Other (call.NewLentMemory ty))
-      (memory_is (word 0) (word 1) (word 2) (word 3) ty w.1 i)
-  call_is (call.GrowMemory memory pages) w = λ i. Some (Other (call.GrowMemory (sym w.1.1 i) (sym w.2.1 i)))
-  call_is (call.DropMemory memory) w = ap (beside drops_named) w.1 ∙ (λ i. Some (Other (call.DropMemory (sym w.2.1 i))))
-  call_is (call.Read memory offset len) w = λ i. Some (Other (call.Read (sym w.1.1 i) (sym w.2.1 i) (sym w.3.1 i)))
-  call_is (call.Write memory offset bytes) w = λ i. Some (WriteMeaning (sym w.0.1.1 i) (sym w.0.2.1 i)
-      (numbers_is 8 (drop 2 words) bytes.items w.1 i))
-  call_is (call.Load op memory ptr offset) w = λ i. option_map
-      (λ op. Other (call.Load op (sym w.2.1 i) (sym w.3.1 i) (sym w.4.1 i)))
-      (named_is load.enum tt load_name refl (word 0) op w.1 i)
-  call_is (call.Store op memory ptr offset value) w = λ i. option_map (λ op. Other (call.Store op (sym w.2.1 i)
-      (sym w.3.1 i) (sym w.4.1 i) (sym (w.7 ∙ ap raw_of w.6.1) i)))
-      (named_is store.enum tt store_name refl (word 0) op w.1 i)
-  call_is (call.FillMemory memory dst value len) w = λ i. Some (Other
-      (call.FillMemory (sym w.1.1 i) (sym w.2.1 i) (sym w.3.1 i) (sym w.4.1 i)))
-  call_is (call.CopyMemory dst_memory dst src_memory src len) w = λ i. Some (Other (call.CopyMemory (sym w.1.1 i)
-      (sym w.2.1 i) (sym w.3.1 i) (sym w.4.1 i) (sym w.5.1 i)))
-  call_is (call.InitMemory memory segment dst src len) w = λ i. Some (Other (call.InitMemory (sym w.1.1 i) (sym w.2.1 i)
-      (sym w.3.1 i) (sym w.4.1 i) (sym w.5.1 i)))
-  call_is (call.NewTable ty init) w = λ i. option_and_then (λ ty. option_map (λ init. Other (call.NewTable ty init))
-      (reference_is (word 4) (word 5) init w.2 i)) (table_is (word 0) (word 1) (word 2) (word 3) ty w.1 i)
-  call_is (call.GrowTable table delta init) w = λ i. option_map
-      (λ init. Other (call.GrowTable (sym w.1.1 i) (sym w.2.1 i) init)) (reference_is (word 2) (word 3) init w.3 i)
-  call_is (call.DropTable table) w = ap (beside drops_named) w.1 ∙ (λ i. Some (Other (call.DropTable (sym w.2.1 i))))
-  call_is (call.GetElement table index) w = λ i. Some (Other (call.GetElement (sym w.1.1 i) (sym w.2.1 i)))
-  call_is (call.SetElement table index value) w = λ i. option_map
-      (λ value. Other (call.SetElement (sym w.1.1 i) (sym w.2.1 i) value)) (reference_is (word 2) (word 3) value w.3 i)
-  call_is (call.InitTable table segment dst src len) w = λ i. Some (Other (call.InitTable (sym w.1.1 i) (sym w.2.1 i)
-      (sym w.3.1 i) (sym w.4.1 i) (sym w.5.1 i)))
-  call_is (call.CopyTable dst_table dst src_table src len) w = λ i. Some (Other (call.CopyTable (sym w.1.1 i)
-      (sym w.2.1 i) (sym w.3.1 i) (sym w.4.1 i) (sym w.5.1 i)))
-  call_is (call.FillTable table dst value len) w = λ i. option_map (λ value. Other
-      (call.FillTable (sym w.1.1 i) (sym w.2.1 i) value (sym w.4.1 i))) (reference_is (word 2) (word 3) value w.3 i)
-  call_is (call.NewSegment ty items) w = λ i. option_map
-      (λ ty. SegmentMeaning ty (numbers_is 32 (drop 1 words) items.items w.1 i))
-      (named_is reference_type.enum tt reference_word refl (word 0) ty w.0.1 i)
-  call_is (call.DropItems segment) w = λ i. Some (Other (call.DropItems (sym w.1.1 i)))
-  call_is (call.NewData bytes) w = λ i. Some (DataMeaning (numbers_is 8 words bytes.items w i))
-  call_is (call.DropData segment) w = λ i. Some (Other (call.DropData (sym w.1.1 i)))
-  call_is (call.NewGlobal value ty) w = λ i. option_and_then (λ content. option_map (λ mutability. Other (call.NewGlobal
-      (record { lo = sym w.3.1 i; hi = sym w.4.1 i }) (record { content = content; mutability = mutability })))
-      (named_is mutability.enum tt mutability_word refl (word 1) ty.mutability w.2 i))
-      (named_is value_type.enum tt value_word refl (word 0) ty.content w.1 i)
-  call_is (call.SetGlobal global value) w = λ i. option_map (λ ty. Other (call.SetGlobal (sym w.1.1 i)
-      (record { ty = ty; raw = record { lo = sym w.3.1 i; hi = sym w.4.1 i } })))
-      (named_is value_type.enum tt value_word refl (word 1) value.ty w.2 i)
-  call_is (call.GetGlobal global) w = λ i. Some (Other (call.GetGlobal (sym w.1.1 i)))
-  call_is (call.SetRegister dst value) w = λ i. Some (Other (call.SetRegister (sym w.1.1 i)
-      (record { lo = sym w.2.1 i; hi = sym w.3.1 i })))
-  call_is (call.GetRegister a) w = λ i. Some (Other (call.GetRegister (sym w.1.1 i)))
-  call_is (call.Make op dst a) w = λ i. option_map (λ op. Other (call.Make op (sym w.2.1 i) (sym w.3.1 i)))
-      (named_is make.enum tt make_name refl (word 0) op w.1 i)
-  call_is (call.Unary op dst a) w = λ i. option_map (λ op. Other (call.Unary op (sym w.2.1 i) (sym w.3.1 i)))
-      (named_is unary.enum tt unary_name refl (word 0) op w.1 i)
-  call_is (call.Binary op dst a b) w = λ i. option_map
-      (λ op. Other (call.Binary op (sym w.2.1 i) (sym w.3.1 i) (sym w.4.1 i)))
-      (named_is binary.enum tt binary_name refl (word 0) op w.1 i)
-  call_is (call.Ternary op dst a b c) w = λ i. option_map (λ op. Other
-      (call.Ternary op (sym w.2.1 i) (sym w.3.1 i) (sym w.4.1 i) (sym w.5.1 i)))
-      (named_is ternary.enum tt ternary_name refl (word 0) op w.1 i)
-  call_is (call.Shift op dst a amount) w = λ i. option_map
-      (λ op. Other (call.Shift op (sym w.2.1 i) (sym w.3.1 i) (sym w.4.1 i)))
-      (named_is shift.enum tt shift_name refl (word 0) op w.1 i)
-  call_is (call.Test op a) w = λ i. option_map (λ op. Other (call.Test op (sym w.2.1 i)))
-      (named_is test.enum tt test_name refl (word 0) op w.1 i)
-  call_is (call.Extract op a) w = λ i. option_map (λ op. Other (call.Extract op (sym w.2.1 i))) (lane_is extract.enum tt
-      extract_name extract_op (word 0) (word 2) refl op w.1 i)
-  call_is (call.Replace op dst a item) w = λ i. option_map
-      (λ op. Other (call.Replace op (sym w.2.1 i) (sym w.3.1 i) (sym w.4.1 i))) (lane_is replace.enum tt replace_name
-      replace_op (word 0) (word 3) refl op w.1 i)
-  call_is (call.Shuffle dst a b lanes) w = λ i. Some (Other (call.Shuffle (sym w.0.1.1 i) (sym w.0.2.1 i)
-      (sym w.0.3.1 i) (numbers_is 5 (drop 3 words) lanes w.1.written i)))
-  call_is (call.VectorLoad op dst memory ptr offset) w = λ i. option_map (λ op. Other (call.VectorLoad op (sym w.2.1 i)
-      (sym w.3.1 i) (sym w.4.1 i) (sym w.5.1 i))) (named_is vector_load.enum tt vector_load_name refl (word 0) op w.1 i)
-  call_is (call.LoadLane op dst a memory ptr offset) w = λ i. option_map (λ op. Other (call.LoadLane op (sym w.2.1 i)
-      (sym w.3.1 i) (sym w.4.1 i) (sym w.5.1 i) (sym w.6.1 i))) (lane_is load_lane.enum tt load_lane_name load_lane_op
-      (word 0) (word 3) refl op w.1 i)
-  call_is (call.VectorStore a memory ptr offset) w = λ i. Some (Other
-      (call.VectorStore (sym w.1.1 i) (sym w.2.1 i) (sym w.3.1 i) (sym w.4.1 i)))
-  call_is (call.StoreLane op a memory ptr offset) w = λ i. option_map (λ op. Other
-      (call.StoreLane op (sym w.2.1 i) (sym w.3.1 i) (sym w.4.1 i) (sym w.5.1 i))) (lane_is store_lane.enum tt
-      store_lane_name store_lane_op (word 0) (word 2) refl op w.1 i)
+  call_is (call.NewMemory ty) w = rw (memory_is (word 0) (word 1) (word 2) (word 3) ty w.1)
+  call_is (call.NewLentMemory ty) w = rw (memory_is (word 0) (word 1) (word 2) (word 3) ty w.1)
+  call_is (call.GrowMemory memory pages) w = rw (← w.1.1, ← w.2.1)
+  call_is (call.DropMemory memory) w = rw (w.1, ← w.2.1)
+  call_is (call.Read memory offset len) w = rw (← w.1.1, ← w.2.1, ← w.3.1)
+  call_is (call.Write memory offset bytes) w = rw (numbers_is 8 (drop 2 words) bytes.items w.1, ← w.0.1.1, ← w.0.2.1)
+  call_is (call.Load op memory ptr offset) w =
+      rw (named_is load.enum tt load_name refl (word 0) op w.1) (rw (← w.2.1, ← w.3.1, ← w.4.1))
+  call_is (call.Store op memory ptr offset value) w =
+      rw (named_is store.enum tt store_name refl (word 0) op w.1) (rw (← w.2.1, ← w.3.1, ← w.4.1, ← w.6.1, ← w.7))
+  call_is (call.FillMemory memory dst value len) w = rw (← w.1.1, ← w.2.1, ← w.3.1, ← w.4.1)
+  call_is (call.CopyMemory dst_memory dst src_memory src len) w = rw (← w.1.1, ← w.2.1, ← w.3.1, ← w.4.1, ← w.5.1)
+  call_is (call.InitMemory memory segment dst src len) w = rw (← w.1.1, ← w.2.1, ← w.3.1, ← w.4.1, ← w.5.1)
+  call_is (call.NewTable ty init) w =
+      rw (table_is (word 0) (word 1) (word 2) (word 3) ty w.1) (rw (reference_is (word 4) (word 5) init w.2))
+  call_is (call.GrowTable table delta init) w = rw (reference_is (word 2) (word 3) init w.3, ← w.1.1, ← w.2.1)
+  call_is (call.DropTable table) w = rw (w.1, ← w.2.1)
+  call_is (call.GetElement table index) w = rw (← w.1.1, ← w.2.1)
+  call_is (call.SetElement table index value) w = rw (reference_is (word 2) (word 3) value w.3, ← w.1.1, ← w.2.1)
+  call_is (call.InitTable table segment dst src len) w = rw (← w.1.1, ← w.2.1, ← w.3.1, ← w.4.1, ← w.5.1)
+  call_is (call.CopyTable dst_table dst src_table src len) w = rw (← w.1.1, ← w.2.1, ← w.3.1, ← w.4.1, ← w.5.1)
+  call_is (call.FillTable table dst value len) w =
+      rw (reference_is (word 2) (word 3) value w.3) (rw (← w.1.1, ← w.2.1, ← w.4.1))
+  call_is (call.NewSegment ty items) w =
+      rw (named_is reference_type.enum tt reference_word refl (word 0) ty w.0.1)
+      (rw (numbers_is 32 (drop 1 words) items.items w.1))
+  call_is (call.DropItems segment) w = rw (← w.1.1)
+  call_is (call.NewData bytes) w = rw (numbers_is 8 words bytes.items w)
+  call_is (call.DropData segment) w = rw (← w.1.1)
+  call_is (call.NewGlobal value ty) w =
+      rw (named_is value_type.enum tt value_word refl (word 0) ty.content w.1)
+      (rw (named_is mutability.enum tt mutability_word refl (word 1) ty.mutability w.2)
+      (rw (← w.3.1, ← w.4.1)))
+  call_is (call.SetGlobal global value) w =
+      rw (named_is value_type.enum tt value_word refl (word 1) value.ty w.2) (rw (← w.1.1, ← w.3.1, ← w.4.1))
+  call_is (call.GetGlobal global) w = rw (← w.1.1)
+  call_is (call.SetRegister dst value) w = rw (← w.1.1, ← w.2.1, ← w.3.1)
+  call_is (call.GetRegister a) w = rw (← w.1.1)
+  call_is (call.Make op dst a) w = rw (named_is make.enum tt make_name refl (word 0) op w.1, ← w.2.1, ← w.3.1)
+  call_is (call.Unary op dst a) w = rw (named_is unary.enum tt unary_name refl (word 0) op w.1, ← w.2.1, ← w.3.1)
+  call_is (call.Binary op dst a b) w =
+      rw (named_is binary.enum tt binary_name refl (word 0) op w.1) (rw (← w.2.1, ← w.3.1, ← w.4.1))
+  call_is (call.Ternary op dst a b c) w =
+      rw (named_is ternary.enum tt ternary_name refl (word 0) op w.1) (rw (← w.2.1, ← w.3.1, ← w.4.1, ← w.5.1))
+  call_is (call.Shift op dst a amount) w =
+      rw (named_is shift.enum tt shift_name refl (word 0) op w.1) (rw (← w.2.1, ← w.3.1, ← w.4.1))
+  call_is (call.Test op a) w = rw (named_is test.enum tt test_name refl (word 0) op w.1, ← w.2.1)
+  call_is (call.Extract op a) w =
+      rw (lane_is extract.enum tt extract_name extract_op (word 0) (word 2) refl op w.1) (rw (← w.2.1))
+  call_is (call.Replace op dst a item) w =
+      rw (lane_is replace.enum tt replace_name replace_op (word 0) (word 3) refl op w.1)
+      (rw (← w.2.1, ← w.3.1, ← w.4.1))
+  call_is (call.Shuffle dst a b lanes) w =
+      rw (numbers_is 5 (drop 3 words) lanes w.1.written) (rw (← w.0.1.1, ← w.0.2.1, ← w.0.3.1))
+  call_is (call.VectorLoad op dst memory ptr offset) w =
+      rw (named_is vector_load.enum tt vector_load_name refl (word 0) op w.1) (rw (← w.2.1, ← w.3.1, ← w.4.1, ← w.5.1))
+  call_is (call.LoadLane op dst a memory ptr offset) w =
+      rw (lane_is load_lane.enum tt load_lane_name load_lane_op (word 0) (word 3) refl op w.1)
+      (rw (← w.2.1, ← w.3.1, ← w.4.1, ← w.5.1, ← w.6.1))
+  call_is (call.VectorStore a memory ptr offset) w = rw (← w.1.1, ← w.2.1, ← w.3.1, ← w.4.1)
+  call_is (call.StoreLane op a memory ptr offset) w =
+      rw (lane_is store_lane.enum tt store_lane_name store_lane_op (word 0) (word 2) refl op w.1)
+      (rw (← w.2.1, ← w.3.1, ← w.4.1, ← w.5.1))
 
   -- What tools/generate writes ends.
 
   -- the line that operands write, by the word before them
   abbrev lines_named : List (List ℕ × Option LineMeaning)
   lines_named =
-      (codes "meter", Some (MeterMeaning (cond (bytes_eq (word 0) (codes "off")) Off (On (number 1))))) ∷
-      (codes "quota", Some (LimiterTold (OtherLimiter (Quota (record { bytes = number 0; elements = number 1 }))))) ∷
+      (codes "meter", Some (MeterMeaning (cond (bytes_eq (word 0) (codes "off")) Off (On (n 1))))) ∷
+      (codes "quota", Some (LimiterTold (OtherLimiter (Quota (record { bytes = n 0; elements = n 1 }))))) ∷
       (codes "answers", Some (LimiterTold (AnswersMeaning (answers_named words)))) ∷ (
         codes "tenants",
         Some (LimiterTold (OtherLimiter
-            (Tenants (record { count = number 0; caps = record { bytes = number 1; elements = number 2 } })))),
+            (Tenants (record { count = n 0; caps = record { bytes = n 1; elements = n 2 } })))),
       ) ∷
-      (codes "region", Some (RegionMeaning (record { len = number 0; byte = number 1 }))) ∷ (
+      (codes "region", Some (RegionMeaning (record { len = n 0; byte = n 1 }))) ∷ (
         codes "reserve",
         Some (ReserveMeaning (record {
-          memories = number 0;
-          tables = number 1;
-          segments = number 2;
-          data_segments = number 3;
-          globals = number 4;
+          memories = n 0;
+          tables = n 1;
+          segments = n 2;
+          data_segments = n 3;
+          globals = n 4;
         })),
       ) ∷
-      (codes "as", Some (TenantMeaning (number 0))) ∷
+      (codes "as", Some (TenantMeaning (n 0))) ∷
       []
 
   -- what a line says, by its first word
@@ -317,31 +271,15 @@ module _ (words : LineWords) where
 
   -- a first word and operands that say a line give what it says
   pub line_is : (name : List ℕ) (line : Line) → NamesLine name words line → line_named name ≡ Some (line_meaning line)
-  line_is name (Meter Off) (is, (many, off)) =
-      ap line_named is ∙ (λ i. Some (MeterMeaning (cond (bytes_eq (off i) (codes "off")) Off (On (number 1)))))
-  line_is name (Meter (On bytes)) (is, (many, on, fuel)) =
-      ap line_named is ∙ (λ i. Some (MeterMeaning (cond (bytes_eq (on i) (codes "off")) Off (On (sym fuel.1 i)))))
-  line_is name (Limiter (Quota line)) (is, (many, bytes, elements)) =
-      ap line_named (sym is)
-      ∙ (λ i. Some (LimiterTold (OtherLimiter (Quota (record { bytes = sym bytes.1 i; elements = sym elements.1 i })))))
-  line_is name (Limiter (Answers answers)) w =
-      ap line_named (sym w.0) ∙ (λ i. Some (LimiterTold (AnswersMeaning (answers_is words answers.items w.1 i))))
+  line_is name (Meter Off) (is, (many, off)) = rw (is, off)
+  line_is name (Meter (On bytes)) (is, (many, on, fuel)) = rw (is, on, ← fuel.1)
+  line_is name (Limiter (Quota line)) (is, (many, bytes, elements)) = rw (← is, ← bytes.1, ← elements.1)
+  line_is name (Limiter (Answers answers)) w = rw (← w.0, answers_is words answers.items w.1)
   line_is name (Limiter (Tenants line)) (is, (many, count, some, most, bytes, elements)) =
-      ap line_named (sym is)
-      ∙ (λ i. Some (LimiterTold (OtherLimiter (Tenants (record {
-        count = sym count.1 i;
-        caps = record { bytes = sym bytes.1 i; elements = sym elements.1 i };
-      })))))
-  line_is name (Region line) (is, (many, len, byte)) =
-      ap line_named is ∙ (λ i. Some (RegionMeaning (record { len = sym len.1 i; byte = sym byte.1 i })))
-  line_is name (Reserve slots) (is, (many, a, b, c, d, e)) = ap line_named is ∙ (λ i. Some (ReserveMeaning (record {
-    memories = sym a.1 i;
-    tables = sym b.1 i;
-    segments = sym c.1 i;
-    data_segments = sym d.1 i;
-    globals = sym e.1 i;
-  })))
-  line_is name (As tenant) (is, (many, index)) = ap line_named is ∙ (λ i. Some (TenantMeaning (sym index.1 i)))
+      rw (← is, ← count.1, ← bytes.1, ← elements.1)
+  line_is name (Region line) (is, (many, len, byte)) = rw (is, ← len.1, ← byte.1)
+  line_is name (Reserve slots) (is, (many, a, b, c, d, e)) = rw (is, ← a.1, ← b.1, ← c.1, ← d.1, ← e.1)
+  line_is name (As tenant) (is, (many, index)) = rw (is, ← index.1)
   line_is name (Command call) w =
       ap line_named (sym w.0) ∙ told_by_call call (option_map CallTold (beside calls_named (command_word call)))
       ∙ ap (option_map CallTold) (call_is call w.1)

@@ -7,7 +7,7 @@ use Rattle.std.proofs.Math.Seq.{take-append-add}
 use Rattle.wasmi_grammar.specs.Lines.{AddsHeader}
 use Rattle.wasmi_grammar.specs.declared.header.Header.{Header}
 use Rattle.wasmi_grammar.specs.declared.script.Line.TheVariants.{Call as Command}
-use Rattle.wasmi_grammar.specs.Meanings.{call_meaning, limiter_meaning, LimiterMeaning, OtherLimiter, part_meaning, TextsWriteOneScript, FirstBadLinesAreOne, WrittenTextsHaveNoBadLine}
+use Rattle.wasmi_grammar.specs.Meanings.{call_meaning, limiter_meaning, part_meaning, TextsWriteOneScript, FirstBadLinesAreOne, WrittenTextsHaveNoBadLine}
 use Rattle.wasmi_grammar.proofs.MeaningLemmas.{line_meaning, line_is, meaning_of, lines_meaning, LinesHaveSameMeaning, meaning_after, added}
 use Rattle.wasmi_grammar.proofs.TextsLemmas.{none_mapped, retell}
 
@@ -60,16 +60,14 @@ apart_too None (Some (Tenants line)) (Some region) same apart = absurd cc
 apart_too (Some other) (Some (Tenants line)) (Some region) same apart = absurd cc
 apart_too limiter limiter' region same apart = tt
 
--- how many tenants a script asks for, by what its limiter line says: as many as all scripts that say the same
-tenants_meaning : Option LimiterMeaning → ℕ
-tenants_meaning (Some (OtherLimiter line)) = tenants_of (Some line)
-tenants_meaning other = 0
-
--- how many tenants a limiter line asks for is how many it says, so scripts that say the same ask for as many
-tenants_is : (limiter : Option LimiterLine) → tenants_of limiter ≡ tenants_meaning (option_map limiter_meaning limiter)
-unfolding tenants_meaning
-tenants_is (Some (Tenants line)) = refl
-tenants_is limiter = refl
+-- scripts whose limiter lines say the same ask for as many tenants
+tenants_too : (limiter limiter' : Option LimiterLine)
+    → option_map limiter_meaning limiter ≡ option_map limiter_meaning limiter'
+    → tenants_of limiter ≡ tenants_of limiter'
+tenants_too (Some (Tenants line)) (Some (Tenants line')) same = let told : line ≡ line' = cc in rw told
+tenants_too (Some (Tenants line)) limiter' same = absurd cc
+tenants_too limiter (Some (Tenants line)) same = absurd cc
+tenants_too limiter limiter' same = refl
 
 -- of scripts whose lines say the same one takes what the other takes
 module _ (old old' : Script) (same : LinesHaveSameMeaning old old') where
@@ -80,11 +78,6 @@ module _ (old old' : Script) (same : LinesHaveSameMeaning old old') where
     no_parts = none_mapped part_meaning old'.parts.earlier
         (ap (λ s. s.earlier) (sym same) ∙ ap (map part_meaning) none.no_parts);
   }
-
-  -- scripts whose lines say the same ask for as many tenants
-  tenants_same : tenants_of old.header.limiter_line ≡ tenants_of old'.header.limiter_line
-  tenants_same = tenants_is old.header.limiter_line ∙ ap (λ s. tenants_meaning s.limiter) same
-      ∙ sym (tenants_is old'.header.limiter_line)
 
   -- a header line that the one takes is one that the other takes, where what allows the first allows the second
   header_too : {Allowed Allowed' : Type 0} {header header' : Header} {new : Script} → (Allowed → Allowed')
@@ -114,9 +107,10 @@ module _ (old old' : Script) (same : LinesHaveSameMeaning old old') where
   takes_too (Reserve slots) (Reserve slots') says new a =
       header_too (λ first. ap (λ s. s.reserve) (sym same) ∙ first) a
   takes_too (As tenant) (As tenant') says new a =
-      let told : tenant ≡ tenant' = cc in (
+      let told : tenant ≡ tenant' = cc in
+      let many = tenants_too old.header.limiter_line old'.header.limiter_line (ap (λ s. s.limiter) same) in (
         record old' { parts = record { earlier = parts_in old'.parts; tenant = tenant'; calls = [] } },
-        record { there = omega (arith, a.there, told, tenants_same); parts = refl; header = refl },
+        record { there = omega (arith, a.there, told, many); parts = refl; header = refl },
       )
   takes_too (Command call) (Command call') says new a = (
     record old' { parts = record old'.parts { calls = old'.parts.calls ++ call' ∷ [] } },
@@ -124,15 +118,11 @@ module _ (old old' : Script) (same : LinesHaveSameMeaning old old') where
   )
   takes_too line line' says new a = absurd cc
 
-  -- words that add something to the one add something to the other
-  words_too : (words : LineWords) (new : Script) → AddsWords old words new → (new' : Script) × AddsWords old' words new'
-  words_too words new (inl a) = (old', inl (a.0, refl))
-  words_too words new (inr (line, names, adds)) =
-      let after = takes_too line line refl new adds in (after.0, inr (line, names, after.1))
-
   -- a line that the one takes the other takes
   line_too : (line : List ℕ) (new : Script) → AcceptsLine old line new → (new' : Script) × AcceptsLine old' line new'
-  line_too line new taken = let after = words_too taken.1 new taken.3 in (after.0, (taken.0, taken.1, taken.2, after.1))
+  line_too line new (utf8, words, same, inl a) = (old', (utf8, words, same, inl (a.0, refl)))
+  line_too line new (utf8, words, same, inr (told, names, adds)) =
+      let after = takes_too told told refl new adds in (after.0, (utf8, words, same, inr (told, names, after.1)))
 
 -- words add nothing to a script if one line that they say can't be added: all lines that words say have one meaning
 pub no_words : (old : Script) (words : LineWords) (line : Line) → 1 ≤ length words

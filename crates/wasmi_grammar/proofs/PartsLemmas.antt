@@ -60,8 +60,7 @@ pub one_call : (calls calls' : List Call) (call : Call) (spans : List Span) (sta
     → AreCut spans start calls → calls' ≡ calls ++ call ∷ [] → seen calls' spans start tenant
     ≡ record (seen calls spans start tenant) { calls = drop start calls ++ call ∷ [] }
 one_call calls calls' call spans start tenant cut is =
-    let last = drop-append-le start calls (call ∷ []) cut.within in
-    rw (is, kept calls (call ∷ []) 0 spans start cut.follow cut.within, last)
+    rw (is, kept calls (call ∷ []) 0 spans start cut.follow cut.within, drop-append-le start calls _ cut.within)
 
 -- the places of one of some parts that follow one another
 pub span_within : (from : ℕ) (spans : List Span) (to index : ℕ) (span : Span) → Follow from spans to

@@ -45,23 +45,15 @@ pub field_add : (k w a b : ℕ) → a % 2 ^ k + b % 2 ^ k < 2 ^ k → field k w 
 unfolding field
 field_add k w a b h = rw (shr_add k a b h) (add-mod (a / 2 ^ k) (b / 2 ^ k) (2 ^ w))
 
--- the lower bits of a difference, where nothing is borrowed
-low_sub : (k a b : ℕ) → b ≤ a → b % 2 ^ k ≤ a % 2 ^ k → (a - b) % 2 ^ k + b % 2 ^ k < 2 ^ k
-low_sub k a b le low =
+-- the bits of a difference from k on, where nothing is borrowed from below, are the difference of those of a and b
+shr_sub : (k a b : ℕ) → b ≤ a → b % 2 ^ k ≤ a % 2 ^ k → (a - b) / 2 ^ k + b / 2 ^ k ≡ a / 2 ^ k
+shr_sub k a b le low =
     let p : ℕ = 2 ^ k in
     let high : b / p ≤ a / p = shr_mono k le in
     let c : ℕ = a / p - b / p in
     let rows : a / p * p ≡ (c + b / p) * p = ap (λ n. n * p) (omega arith) in
     let parts : a - b ≡ c * p + (a % p - b % p) = omega (arith, div-add-mod' a p, div-add-mod' b p) in
-    let rest : (a - b) % p ≡ a % p - b % p =
-    rw parts (mod-mul-add c p (a % p - b % p) (omega (arith, mod-lt a (pow_pos k)))) in
-    omega (arith, mod-lt a (pow_pos k))
-
--- the laws of a number's two parts give those of a difference with no borrow
-shr_sub : (k a b : ℕ) → b ≤ a → b % 2 ^ k ≤ a % 2 ^ k → (a - b) / 2 ^ k + b / 2 ^ k ≡ a / 2 ^ k
-shr_sub k a b le low =
-    let whole : a ≡ (a - b) + b = omega arith in
-    sym (shr_add k (a - b) b (low_sub k a b le low)) ∙ ap (λ n. n / 2 ^ k) (sym whole)
+    rw (parts, div-mul-add c p (a % p - b % p) (omega (arith, mod-lt a (pow_pos k)))) (omega (arith, high))
 
 -- where c + b is a, c modulo q is the difference of a modulo q and b modulo q, wrapped
 wrap_sub : (q a b c : ℕ) → 0 < q → c + b ≡ a → c % q ≡ (a % q + (q - b % q)) % q
@@ -87,20 +79,17 @@ field_mod k w n a within =
 complement : (j k v : ℕ) → v < 2 ^ (j + k)
     → 2 ^ (j + k) - 1 - v ≡ (2 ^ j - 1 - v / 2 ^ k) * 2 ^ k + (2 ^ k - 1 - v % 2 ^ k)
 complement j k v fits =
-    let d : ℕ = 2 ^ j - 1 - v / 2 ^ k in
-    let rows : (d + v / 2 ^ k) * 2 ^ k ≡ (2 ^ j - 1) * 2 ^ k =
+    let rows : (2 ^ j - 1 - v / 2 ^ k + v / 2 ^ k) * 2 ^ k ≡ (2 ^ j - 1) * 2 ^ k =
     ap (λ n. n * 2 ^ k) (omega (arith, shr_below v j k fits)) in
     omega (arith, ones_split j k, rows, div-add-mod' v (2 ^ k), mod-lt v (pow_pos k))
 
 -- the upper j bits of the complement of j + k bits are the complement of the upper j bits
 complement_shr : (j k v : ℕ) → v < 2 ^ (j + k) → (2 ^ (j + k) - 1 - v) / 2 ^ k ≡ 2 ^ j - 1 - v / 2 ^ k
-complement_shr j k v fits =
-    rw (complement j k v fits) (div-mul-add _ (2 ^ k) _ (omega (arith, pow_pos k)))
+complement_shr j k v fits = rw (complement j k v fits) (div-mul-add _ (2 ^ k) _ (omega (arith, pow_pos k)))
 
 -- the lower k bits of the complement of j + k bits are the complement of the lower k bits
 complement_mod : (j k v : ℕ) → v < 2 ^ (j + k) → (2 ^ (j + k) - 1 - v) % 2 ^ k ≡ 2 ^ k - 1 - v % 2 ^ k
-complement_mod j k v fits =
-    rw (complement j k v fits) (mod-mul-add _ (2 ^ k) _ (omega (arith, pow_pos k)))
+complement_mod j k v fits = rw (complement j k v fits) (mod-mul-add _ (2 ^ k) _ (omega (arith, pow_pos k)))
 
 -- a field of `!v` at n bits is the complement of the field
 pub field_not : (k w n v : ℕ) → k + w ≤ n → v < 2 ^ n → field k w (2 ^ n - 1 - v) ≡ 2 ^ w - 1 - field k w v

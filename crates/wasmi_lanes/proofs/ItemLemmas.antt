@@ -33,8 +33,7 @@ pub zipped : {n : ℕ} {f g : ℕ → ℕ} {xs ys : List ℕ} (op : ℕ → ℕ 
     → AreItems n 0 (λ i. op (f i) (g i)) (zip2 op xs ys)
 zipped {xs} {ys} op of_x of_y = record {
   long = length-zip2 op xs ys (of_x.long ∙ sym of_y.long) ∙ of_x.long;
-  are = λ i inside.
-      get_or-zip2 op xs ys i 0 0 0 (omega (arith, of_x.long)) (omega (arith, of_y.long))
+  are = λ i inside. get_or-zip2 op xs ys i 0 0 0 (omega (arith, of_x.long)) (omega (arith, of_y.long))
       ∙ ap₂ op (of_x.are i inside) (of_y.are i inside);
 }
 

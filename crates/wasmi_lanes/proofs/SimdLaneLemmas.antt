@@ -66,8 +66,7 @@ number_below b (x ∷ xs) fits =
 -- the number of the digits of v
 pub number_of_digits : (b n v : ℕ) → number_l (2 ^ b) (digits_l (2 ^ b) n v) ≡ v % 2 ^ (n * b)
 number_of_digits b zero v = rw (zero-mul b) (sym (mod-one v))
-number_of_digits b (suc n) v =
-    rw (suc-mul n b, mod-pow-add v (n * b) b, number_of_digits b n (v / 2 ^ b)) (omega arith)
+number_of_digits b (suc n) v = rw (suc-mul n b, mod-pow-add v (n * b) b, number_of_digits b n (v / 2 ^ b)) (omega arith)
 
 -- a lane of a vector, as it is read from its bytes
 pub read_at : (b n v : ℕ) (bytes : List ℕ) (i d : ℕ) → i < n → number_l 256 bytes ≡ v
@@ -82,13 +81,6 @@ signed_read_at w n v bytes long is i inside =
     get_or-map (signed w) (digits_l (2 ^ bits w) n (number_l 256 bytes)) i 0 (pos 0) (omega arith)
     ∙ ap (signed w) (read_at (bits w) n v bytes i 0 inside is)
 
--- a lane of the vector whose number is that of xs
-pub lane_of_number : (w : Width) (n : ℕ) (xs : List ℕ) (r i : ℕ) → length xs ≡ n
-    → ((k : ℕ) → get_or xs k 0 < 2 ^ bits w) → i < n → r ≡ number_l (2 ^ bits w) xs → get_or xs i 0 ≡ lane w r i
-lane_of_number w n xs r i long fits below is =
-    let each = Each1-from_get_or (λ x. x < 2 ^ bits w) xs 0 (λ k inside. fits k) in
-    rw is (sym (number_at (bits w) xs i 0 each (rw long below)))
-
 -- a lane of a vector, as it is written by its bytes
 pub written_at : (w : Width) (n : ℕ) (xs : List ℕ) (r i : ℕ) → n * bits w ≡ 128 → length xs ≡ n
     → ((k : ℕ) → get_or xs k 0 < 2 ^ bits w) → i < n
@@ -97,7 +89,7 @@ written_at w n xs r i filled long fits below is =
     let number = number_l (2 ^ bits w) xs in
     let each = Each1-from_get_or (λ x. x < 2 ^ bits w) xs 0 (λ k inside. fits k) in
     let small = rw (long, filled) at (number_below (bits w) xs each) in
-    lane_of_number w n xs r i long fits below (is ∙ number_of_digits 8 16 number ∙ mod-eq_of_lt small)
+    rw (is ∙ number_of_digits 8 16 number ∙ mod-eq_of_lt small) (sym (number_at (bits w) xs i 0 each (rw long below)))
 
 -- a lane of 16 bits of a vector, as it is written by its bytes
 pub written_16 : (xs : List ℕ) (i : ℕ) → i < 8 → length xs ≡ 8 → ((k : ℕ) → get_or xs k 0 < 65536)

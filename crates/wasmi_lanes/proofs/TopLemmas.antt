@@ -1,7 +1,7 @@
 -- One lane as a number of its own: its highest bit and the rest, sums, differences and inequality by these two; and
 -- what leaves room for a carry or a borrow where a lane begins.
 use Rattle.std.proofs.Common.{◌≡◌, ℕ, zero, suc, ◌+◌, ◌-◌, ◌*◌, ◌/◌, ◌%◌, ◌^◌, ◌<◌, ◌≤◌, max, ◌⊎◌, refl, sym, ap, ◌∙◌, inl, inr, arith, mod-lt, mod-eq_of_lt, bit_and, bit_or, bit_xor, cond, eqb, pow-suc, one-mul, zero-mul, zero-add, add-zero, pos_of_ne-zero, w64, one-add}
-use Rattle.wasmi_lanes.proofs.Common.{mod-one, div-eq_of_lt, add-mod_right, add-mul-mod_self_right, mod-add-mod, pow_pos, pow-add, mod-pow-add, and_mask, xor_lt, bit_at, eq-eqb, ne_eqb, cases_eq, field}
+use Rattle.wasmi_lanes.proofs.Common.{mod-one, div-eq_of_lt, div-mul-add, add-mod_right, add-mul-mod_self_right, mod-add-mod, pow_pos, pow-add, mod-pow-add, and_mask, xor_lt, bit_at, eq-eqb, ne_eqb, cases_eq, field}
 use Rattle.std.proofs.lemmas.Nat.Bits.{and_pow, bit_at_and, bit_at_or, bit_at_xor, bit_at-lt, bit_at_not}
 use Rattle.std.specs.Int.Bits.{xor_block, or_add_and, xor_zero_r, xor_zero_l, or_zero_r, xor_self, xor_assoc}
 use Rattle.std.proofs.Math.Numerals.{sub-one}
@@ -9,8 +9,7 @@ use Rattle.wasmi_lanes.proofs.FieldLemmas.{field_not}
 
 -- the bits of v below k, whose top is clear
 pub clear_top : (v j : ℕ) → bit_at v j ≡ 0 → v % 2 ^ suc j < 2 ^ j
-clear_top v j e =
-    rw (← one-add j, mod-pow-add v 1 j, e) (omega (arith, mod-lt v (pow_pos j)))
+clear_top v j e = rw (← one-add j, mod-pow-add v 1 j, e) (omega (arith, mod-lt v (pow_pos j)))
 
 -- where a lane of tops begins, what is kept beside the tops leaves room for a carry
 pub room : (tops k v : ℕ) → tops < 2 ^ 64 → k ≤ 64 → (k ≡ 0) ⊎ (bit_at tops (k - 1) ≡ 1)
@@ -51,18 +50,15 @@ flipped h (suc (suc c)) m bit low = absurd (omega arith)
 
 -- to flip the top bit is to add it
 pub xor_top : (h z t : ℕ) → z < 2 ^ suc h → t < 2 → bit_xor z (t * 2 ^ h) ≡ (z + t * 2 ^ h) % 2 ^ suc h
-xor_top h z zero fits bit =
-    rw (zero-mul (2 ^ h), xor_zero_r z, add-zero z) (sym (mod-eq_of_lt fits))
-xor_top h z (suc zero) fits bit =
-    rw (lane_split h z fits, add-zero (1 * 2 ^ h))
+xor_top h z zero fits bit = rw (zero-mul (2 ^ h), xor_zero_r z, add-zero z) (sym (mod-eq_of_lt fits))
+xor_top h z (suc zero) fits bit = rw (lane_split h z fits, add-zero (1 * 2 ^ h))
     at (flipped h (bit_at z h) (z % 2 ^ h) (bit_at-lt z h) (mod-lt z (pow_pos h)))
 xor_top h z (suc (suc t)) fits bit = absurd (omega arith)
 
 -- of the tops that are added, two cancel
 turns : (h z n : ℕ) → (z + n % 2 * 2 ^ h) % 2 ^ suc h ≡ (z + n * 2 ^ h) % 2 ^ suc h
 turns h z n =
-    let halves : n ≡ n / 2 * 2 + n % 2 = omega arith in
-    let all : n * 2 ^ h ≡ (n / 2 * 2 + n % 2) * 2 ^ h = ap (λ m. m * 2 ^ h) halves in
+    let all : n * 2 ^ h ≡ (n / 2 * 2 + n % 2) * 2 ^ h = ap (λ m. m * 2 ^ h) (omega arith) in
     let sum : z + n * 2 ^ h ≡ (z + n % 2 * 2 ^ h) + n / 2 * 2 ^ suc h = rw (pow-suc 2 h) (omega (arith, all)) in
     rw sum (sym (add-mul-mod_self_right (z + n % 2 * 2 ^ h) (n / 2) (2 ^ suc h)))
 
@@ -93,8 +89,7 @@ or_top h x fits = omega (arith, or_add_and x (2 ^ h), and_pow x h, lane_split h 
 -- the top of the complement of h + 1 bits is the complement of their top
 pub not_top : (h y : ℕ) → y < 2 ^ suc h → bit_at (2 ^ suc h - 1 - y) h ≡ 1 - bit_at y h
 unfolding field
-not_top h y fits =
-    field_not h 1 (suc h) y (omega arith) fits
+not_top h y fits = field_not h 1 (suc h) y (omega arith) fits
 
 -- x with its top set less the bits of y below the top, top flipped where the tops are equal, is x - y, wrapped
 pub lane_sub : (h x y : ℕ) → x < 2 ^ suc h → y < 2 ^ suc h →
@@ -106,8 +101,7 @@ lane_sub h x y fx fy =
     let n : ℕ = bit_at x h + bit_at (m - 1 - y) h in
     let tops : (n + bit_at y h) * 2 ^ h ≡ (bit_at x h + 1) * 2 ^ h =
     ap (λ k. k * 2 ^ h) (omega (arith, not_top h y fy, bit_at-lt y h)) in
-    let sum : z + n * 2 ^ h ≡ x + (m - y) + m =
-    omega (
+    let sum : z + n * 2 ^ h ≡ x + (m - y) + m = omega (
       arith,
       pow-suc 2 h,
       or_top h x fx,
@@ -121,27 +115,20 @@ lane_sub h x y fx fy =
 
 -- numbers with no different bit are one
 same_from_xor : (x y : ℕ) → bit_xor x y ≡ 0 → x ≡ y
-same_from_xor x y e =
-    cc (xor_zero_r x, xor_self y, xor_assoc x y y, xor_zero_l y)
-
--- a bit b that makes a number of at least p out of p and a rest below p is 1
-top_case : (b p r s : ℕ) → b < 2 → r < p → b * p + r ≡ s → p ≤ s → b ≡ 1
-top_case zero p r s bit low e le = absurd (omega arith)
-top_case (suc zero) p r s bit low e le = refl
-top_case (suc (suc b)) p r s bit low e le = absurd (omega arith)
+same_from_xor x y e = cc (xor_zero_r x, xor_self y, xor_assoc x y y, xor_zero_l y)
 
 -- a number of h + 1 bits that is at least 2 ^ h has its top
 top_of : (h s : ℕ) → s < 2 ^ suc h → 2 ^ h ≤ s → bit_at s h ≡ 1
 top_of h s fits le =
-    top_case (bit_at s h) (2 ^ h) (s % 2 ^ h) s (bit_at-lt s h) (mod-lt s (pow_pos h)) (lane_split h s fits) le
+    let parts : s ≡ 1 * 2 ^ h + (s - 2 ^ h) = omega arith in
+    rw (parts, div-mul-add 1 (2 ^ h) (s - 2 ^ h) (omega (arith, pow-suc 2 h)))
 
 -- where z of h + 1 bits isn't 0, z or the sum s of its bits below the top and 2 ^ h - 1 has the top
 some_top : (h z s b : ℕ) → z < 2 ^ suc h → 0 < z → s ≡ z % 2 ^ h + (2 ^ h - 1) → s < 2 ^ suc h → bit_at z h ≡ b
     → max (bit_at s h) b ≡ 1
 some_top h z s zero fits pos e small at =
     let whole = rw at at (lane_split h z fits) in
-    let le : 2 ^ h ≤ s = omega (arith, pow_pos h) in
-    omega (arith, top_of h s small le)
+    omega (arith, top_of h s small (omega (arith, pow_pos h)))
 some_top h z s (suc zero) fits pos e small at = omega (arith, bit_at-lt s h)
 some_top h z s (suc (suc b)) fits pos e small at = absurd (omega (arith, bit_at-lt z h))
 

@@ -12,10 +12,7 @@ lane_below w v i = mod-lt (v / 2 ^ (bits w * i)) (pow_pos (bits w))
 -- where n lanes of a width make 128 bits, 128 divided by the width is n
 pub lanes_of_width : (w : Width) (n : ℕ) → n * bits w ≡ 128 → 128 / bits w ≡ n
 lanes_of_width w8 n e = omega arith
-lanes_of_width w16 n e = omega arith
-lanes_of_width w32 n e = omega arith
-lanes_of_width w64 n e = omega arith
-lanes_of_width w128 n e = omega arith
+lanes_of_width w n e = omega arith
 
 -- where f gives the first n lanes of v, the number of these lanes is the bits of v that they take
 first_lanes_are : (w : Width) (v : ℕ) (f : ℕ → ℕ) (n : ℕ) → ((i : ℕ) → i < n → lane w v i ≡ f i)
@@ -45,16 +42,10 @@ module _ {A : Type 0} (item : Ghosts A) where
   item_fits v i x is = rw is (item.laws.read_fits (lane item.width v i) (lane_below item.width v i))
 
   -- a vector whose lanes read as items has the numbers of these items as its lanes
-  pub items_make_vector :
-      (n : ℕ) (items : ℕ → A) (r : ℕ) (f : ℕ → ℕ)
-      → n * bits item.width ≡ 128
-      → ((i : ℕ) → i < n → items i ≡ item.read (lane item.width r i))
-      → r < 2 ^ 128
-      → ((i : ℕ) → i < n → item.Fits (items i) → item.image (items i) ≡ f i)
-      → r ≡ from_lanes item.width f
-  items_make_vector n items r f filled is below rows =
-      lanes_make_vector item.width n r f filled below
-      (λ i h.
+  pub items_make_vector : (n : ℕ) (items : ℕ → A) (r : ℕ) (f : ℕ → ℕ) → n * bits item.width ≡ 128
+      → ((i : ℕ) → i < n → items i ≡ item.read (lane item.width r i)) → r < 2 ^ 128
+      → ((i : ℕ) → i < n → item.Fits (items i) → item.image (items i) ≡ f i) → r ≡ from_lanes item.width f
+  items_make_vector n items r f filled is below rows = lanes_make_vector item.width n r f filled below (λ i h.
       rw (← item.laws.image_of_read (lane item.width r i) (lane_below item.width r i), ← is i h)
       (rows i h (item_fits r i (items i) (is i h))))
 
@@ -76,9 +67,7 @@ module _ {A : Type 0} (item : Ghosts A) where
       → AreLanesOf n a x → AreLanesOf n b y → AreLanesOf n r z → ((i : ℕ) → i < n → P (x i) (y i) (z i))
       → RelatedLanes n P a b r
   related_lanes {n} {a} {b} {r} {x} {y} {z} P filled below is_x is_y is_z given = record {
-    make_vector = λ row rows.
-        items_make_vector n z r _ filled is_z below
-        (λ i h fits_z.
+    make_vector = λ row rows. items_make_vector n z r _ filled is_z below (λ i h fits_z.
         rows (x i) (y i) (z i) (item_fits a i (x i) (is_x i h)) (item_fits b i (y i) (is_y i h)) fits_z (given i h)
         ∙ ap₂ row (is_x i h) (is_y i h));
     each = λ i h. rw (sym (is_x i h), sym (is_y i h), sym (is_z i h)) (given i h);
@@ -117,8 +106,7 @@ lane_of_first w f (suc n) i inside =
 -- lane i of the vector of the lanes f is f i at the lane's width, where n lanes make 128 bits
 pub lane_of_lanes : (w : Width) (f : ℕ → ℕ) (n i : ℕ) → n * bits w ≡ 128 → i < n
     → lane w (from_lanes w f) i ≡ f i % 2 ^ bits w
-lane_of_lanes w f n i filled inside =
-    rw (lanes_of_width w n filled) (lane_of_first w f n i inside)
+lane_of_lanes w f n i filled inside = rw (lanes_of_width w n filled) (lane_of_first w f n i inside)
 
 module _ (w : Width) (i : ℕ) (inside : i < 128 / bits w) where
   -- lane i of the vector of the lanes f is f i at the lane's width

@@ -26,9 +26,7 @@ module _ (tops k w top : ℕ) (fits : tops < 2 ^ 64) (starts : (k ≡ 0) ⊎ (bi
 
   -- below the field, what v has beside the tops is less than half of what fits
   below : (v : ℕ) → 2 * (bit_and v (2 ^ 64 - 1 - tops) % 2 ^ k) < 2 ^ k
-  below v =
-      let start : k ≤ 64 = omega arith in
-      room tops k v fits start starts
+  below v = room tops k v fits (omega arith) starts
 
   -- the field of the sum of two words, made without carries over tops, is that sum of their fields
   sum_at : (a b : ℕ) →
@@ -152,10 +150,9 @@ from_fields v start [] fits whole =
     rw (end, div-eq_of_lt fits)
 from_fields v start (width ∷ widths) fits whole =
     let p : ℕ = 2 ^ start in
-    let q : ℕ = 2 ^ width in
     let x : ℕ = v / p in
     let rest = from_fields v (start + width) widths fits (omega (arith, sum_by-cons (λ x. x) width widths)) in
-    rw (rest, ← shr-shr v start width, pow-add 2 start width) (omega (arith, ap (λ n. n * p) (div-add-mod' x q)))
+    rw (rest, ← shr-shr v start width, pow-add 2 start width) (omega (arith, ap (λ n. n * p) (div-add-mod' x (2 ^ width))))
 
 -- a word is the word of its own lanes, whatever their widths are, where these have the sum 64
 pub word_from_lanes : (v : ℕ) (widths : List ℕ) → v < 2 ^ 64 → sum widths ≡ 64
@@ -170,16 +167,14 @@ widths_of_lanes tops start (width ∷ widths) lanes =
 
 -- two functions that agree on every lane of tops give the same word of these lanes
 same_lanes : (tops start : ℕ) (widths : List ℕ) (f g : ℕ → ℕ → ℕ) → ((k w : ℕ) → IsLane tops k w → f k w ≡ g k w)
-    → AreLanes tops start widths
-    → word_of_lanes f start widths ≡ word_of_lanes g start widths
+    → AreLanes tops start widths → word_of_lanes f start widths ≡ word_of_lanes g start widths
 same_lanes tops start [] f g each end = refl
 same_lanes tops start (width ∷ widths) f g each lanes =
     ap₂ (λ m n. m * 2 ^ start + n) (each start width lanes.0) (same_lanes tops (start + width) widths f g each lanes.1)
 
 -- a word whose lanes of tops are f is the word of the lanes f
 pub lanes_make_word : (tops v : ℕ) (widths : List ℕ) (f : ℕ → ℕ → ℕ) → v < 2 ^ 64 → AreLanes tops 0 widths
-    → ((k w : ℕ) → IsLane tops k w → field k w v ≡ f k w)
-    → v ≡ word_of_lanes f 0 widths
+    → ((k w : ℕ) → IsLane tops k w → field k w v ≡ f k w) → v ≡ word_of_lanes f 0 widths
 lanes_make_word tops v widths f fits lanes each =
     let whole : sum widths ≡ 64 = omega (arith, widths_of_lanes tops 0 widths lanes) in
     word_from_lanes v widths fits whole ∙ same_lanes tops 0 widths (λ k w. field k w v) f each lanes

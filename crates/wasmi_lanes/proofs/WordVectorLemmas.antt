@@ -60,10 +60,7 @@ module _ (w : Width) (whole : lanes_in_word w * bits w ≡ 64) where
       let n : ℕ = lanes_in_word w in
       let low_word : r % 2 ^ 64 ≡ low = omega arith in
       let high_word : r / 2 ^ 64 ≡ high = omega arith in
-      let below : r < 2 ^ 128 = omega arith in
-      lanes_make_vector w (n + n) r f filled below
-      (λ i inside.
-      elim (cases_lt i n) as (λ _. lane w r i ≡ f i) [
+      lanes_make_vector w (n + n) r f filled (omega arith) (λ i inside. elim (cases_lt i n) as (λ _. lane w r i ≡ f i) [
         | inl lower ↦ rw (low_lane r i lower, low_word) (low_is i lower)
         | inr upper ↦
             let at : i ≡ n + (i - n) = omega arith in
@@ -83,8 +80,7 @@ module _ (w : Width) (whole : lanes_in_word w * bits w ≡ 64) where
 
   -- words whose lanes are a row of one operand's make the vector whose lanes are that row of the operand's
   pub words_make_unary : {low_a high_a low high : ℕ} (row : ℕ → ℕ) (a r : ℕ) → AreWords a low_a high_a
-      → MakeVector low high r
-      → EachLane w (λ k. field k (bits w) low ≡ row (field k (bits w) low_a))
+      → MakeVector low high r → EachLane w (λ k. field k (bits w) low ≡ row (field k (bits w) low_a))
       → EachLane w (λ k. field k (bits w) high ≡ row (field k (bits w) high_a))
       → r ≡ from_lanes w (λ i. row (lane w a i))
   words_make_unary row a r of_a of_r = words_make_binary (λ x _. row x) a a r of_a of_a of_r
@@ -127,8 +123,7 @@ top_in_range (suc h) pos = rw (sub-one (suc h), pow-suc 2 h) (omega (arith, pow_
 -- a word with the highest bit of each lane of w bits divides a word into these lanes
 pub equal_lanes : (w : Width) (tops : ℕ) → lanes_in_word w * bits w ≡ 64 → tops ≡ in_each_lane w (2 ^ (bits w - 1))
     → EachLane w (λ k. IsLane tops k (bits w))
-equal_lanes w tops whole is =
-    tops_each (bits w) (lanes_in_word w) tops (some_bits w) (omega (arith, whole))
+equal_lanes w tops whole is = tops_each (bits w) (lanes_in_word w) tops (some_bits w) (omega (arith, whole))
     (lane_of_each w (2 ^ (bits w - 1)) tops (top_in_range (bits w) (some_bits w)) is)
 
 -- what begins right above a top, or at the bottom, does so without the highest bit of the word
@@ -137,9 +132,7 @@ starts_within : (tops k : ℕ) → k ≤ 63 → (k ≡ 0) ⊎ (bit_at tops (k - 
 unfolding field
 starts_within tops zero le starts = inl refl
 starts_within tops (suc j) le (inl e) = absurd (omega arith)
-starts_within tops (suc j) le (inr e) =
-    let room : suc j - 1 + 1 ≤ 63 = omega arith in
-    inr (field_mod (suc j - 1) 1 63 tops room ∙ e)
+starts_within tops (suc j) le (inr e) = inr (field_mod (suc j - 1) 1 63 tops (omega arith) ∙ e)
 
 -- without the highest bit of the word, the lane of tops that ends the word has no top
 last_is_free : (tops k w : ℕ) → 0 < w → field k w tops ≡ 2 ^ (w - 1) → k + w ≡ 64 → field k w (tops % 2 ^ 63) ≡ 0

@@ -1,5 +1,5 @@
--- The signed and unsigned integers of a width are the items of lanes of the width; the numbers of the lanes of a word.
-use Rattle.std.specs.Prelude.{ℕ, pos, negsuc, ◌-◌, ◌*◌, ◌^◌, ◌<◌, ◌≡◌, refl, FitsSigned}
+-- The signed and unsigned integers of a width are the items of lanes of the width.
+use Rattle.std.specs.Prelude.{ℕ, pos, negsuc, ◌-◌, ◌^◌, ◌<◌, ◌≡◌, refl, FitsSigned}
 use Rattle.std.specs.Int.{cast_unsigned}
 use Rattle.std.proofs.lemmas.Int.{of_z-to_z}
 use Rattle.std.proofs.Math.Facts.{sfits_to_z}
@@ -7,11 +7,9 @@ use mir.Syntax.{w128}
 use mir.Val.{Fits}
 use Rattle.wasmi_types.specs.Numbers.{Width, w8, w16, w32, w64, bits, signed}
 use Rattle.wasmi_lanes.specs.Vector.{ReadsLanes, unsigned}
-use Rattle.wasmi_lanes.specs.Words.{IsWordLane, lanes_in_word, in_each_lane}
 
 -- the unsigned integers of a width
-pub unsigned_lanes : (w : Width)
-    → ReadsLanes w unsigned (λ item. item) (λ item. item < 2 ^ bits w) (2 ^ bits w - 1) 0
+pub unsigned_lanes : (w : Width) → ReadsLanes w unsigned (λ item. item) (λ item. item < 2 ^ bits w) (2 ^ bits w - 1) 0
 unsigned_lanes w = record {
   image_of_ones = refl;
   image_of_zeros = refl;
@@ -39,12 +37,3 @@ signed_lanes w = record {
   image_of_read = of_z-to_z w;
   read_fits = signed_fits w;
 }
-
--- the numbers of the lanes of a word are each what the width asks for
-pub word_lane : {w : Width} {lane_bits tops ones : ℕ}
-    → lane_bits ≡ bits w
-    → lanes_in_word w * bits w ≡ 64
-    → tops ≡ in_each_lane w (2 ^ (bits w - 1))
-    → ones ≡ in_each_lane w 1
-    → IsWordLane w lane_bits tops ones
-word_lane wide whole highest lowest = record { wide = wide; whole = whole; highest = highest; lowest = lowest }

@@ -78,5 +78,4 @@ ComputesLane {A} Fits image Makes row = (x z : A) → Fits x → Fits z → Make
 
 -- what is made of two items in range has the number that the row names for them
 abbrev pub ComputesLaneOfTwo : {A : Type 0} → (A → Type 0) → (A → ℕ) → (A → A → A → Type 0) → (A → A → ℕ) → Type 0
-ComputesLaneOfTwo {A} Fits image Makes row =
-    (x y z : A) → Fits x → Fits y → Fits z → Makes x y z → image z ≡ row x y
+ComputesLaneOfTwo {A} Fits image Makes row = (x y z : A) → Fits x → Fits y → Fits z → Makes x y z → image z ≡ row x y

@@ -50,12 +50,10 @@ pub record IsWordLane (width : Width) (lane_bits tops ones : ℕ) : Type 0 where
 
 -- every lane of w bits of a word is 0 or its highest bit alone
 abbrev pub AreMarks : Width → ℕ → Type 0
-AreMarks w marks =
-    (i : ℕ) → i < lanes_in_word w
+AreMarks w marks = (i : ℕ) → i < lanes_in_word w
     → (field (bits w * i) (bits w) marks ≡ 0) ⊎ (field (bits w * i) (bits w) marks ≡ 2 ^ (bits w - 1))
 
 -- the lanes that have their highest bit in marks are all ones in word, the others all zeros
 abbrev pub AreFilled : Width → ℕ → ℕ → Type 0
-AreFilled w marks word =
-    (i : ℕ) → i < lanes_in_word w
+AreFilled w marks word = (i : ℕ) → i < lanes_in_word w
     → field (bits w * i) (bits w) word ≡ (if field (bits w * i) (bits w) marks == 0 then 0 else 2 ^ bits w - 1)

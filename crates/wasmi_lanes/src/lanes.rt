@@ -89,16 +89,14 @@ pub trait Lanes: Copy {
     /// `ALL_ONES` in the lanes where `f` holds, `ALL_ZEROS` in the others.
     fn lanewise_comparison<F: Fn(Self::Item, Self::Item) -> bool>(self, other: Self, f: F) -> Self
         requires callable { F.IsAlwaysCallable f }
-        ensures lanes { (i : ℕ) → i < LANES
-            → (holds : Bool) × F.post f (item self i) (item other i) holds
-            × (item result i ≡ (if holds then ALL_ONES else ALL_ZEROS)) };
+        ensures lanes { (i : ℕ) → i < LANES → (holds : Bool) × F.post f (item self i)
+            (item other i) holds × (item result i ≡ (if holds then ALL_ONES else ALL_ZEROS)) };
 
     /// Turns `acc` into `f(i, lane i, acc)` for each lane index from 0 upwards.
     fn lanewise_reduce<T, F: Fn(u8, Self::Item, T) -> T>(self, acc: T, f: F) -> T
         requires callable { F.IsAlwaysCallable f }
         ensures steps { ReducesTo
-            (λ i before after. F.post f i (item self i) before after) LANES acc
-            result };
+            (λ i before after. F.post f i (item self i) before after) LANES acc result };
 
     /// The lanes make 128 bits, there are as many indices, and all ones and all zeros are those of
     /// the item's type.
@@ -399,9 +397,8 @@ pub trait FromNarrow<S: FromWide<Self>>: Lanes {
     /// Lane i is made of the narrow lanes i of the upper halves of both operands.
     fn high_binary<F: Fn(S::Item, S::Item) -> Self::Item>(a: S, b: S, f: F) -> Self
         requires callable { F.IsAlwaysCallable f }
-        ensures lanes { (i : ℕ) → i < Self.LANES
-            → F.post f (S.item a (Self.LANES + i)) (S.item b (Self.LANES + i))
-            (Self.item result i) };
+        ensures lanes { (i : ℕ) → i < Self.LANES → F.post f
+            (S.item a (Self.LANES + i)) (S.item b (Self.LANES + i)) (Self.item result i) };
 }
 
 impl<T: Narrower<U, N, M>, U: LaneItem<M>, const N: usize, const M: usize> FromNarrow<

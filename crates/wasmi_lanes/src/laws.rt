@@ -34,13 +34,11 @@ pub fn lanes_of_rows<L: Lanes>()
     ensures unary { (read : ℕ → L.Item) (row : L.Item → ℕ) (a i : ℕ) → i < L.LANES
         → lane L.Item.width (unary_of_lanes L.Item.width read row a) i
         ≡ row (read (lane L.Item.width a i)) % 2 ^ bits L.Item.width }
-    ensures binary { (read : ℕ → L.Item) (row : L.Item → L.Item → ℕ) (a b i : ℕ) → i < L.LANES
-        → lane L.Item.width (binary_of_lanes L.Item.width read row a b) i
-        ≡ row (read (lane L.Item.width a i))
-        (read (lane L.Item.width b i)) % 2 ^ bits L.Item.width }
+    ensures binary { (read : ℕ → L.Item) (row : L.Item → L.Item → ℕ) (a b i : ℕ)
+        → i < L.LANES → lane L.Item.width (binary_of_lanes L.Item.width read row a b) i ≡ row
+        (read (lane L.Item.width a i)) (read (lane L.Item.width b i)) % 2 ^ bits L.Item.width }
     ensures comparison { (read : ℕ → L.Item) (test : L.Item → L.Item → Bool) (a b i : ℕ)
-        → i < L.LANES
-        → lane L.Item.width (comparison_of_lanes L.Item.width read test a b) i
+        → i < L.LANES → lane L.Item.width (comparison_of_lanes L.Item.width read test a b) i
         ≡ (if test (read (lane L.Item.width a i))
         (read (lane L.Item.width b i)) then 2 ^ bits L.Item.width - 1 else 0) }
 {}
@@ -53,8 +51,7 @@ pub fn word_is_made_of_lanes(word: u64)
 
 /// The sums of the lanes of two words are the word of `word_add`.
 pub fn sums_of_lanes(a: u64, b: u64, tops: u64) -> u64
-    ensures { (widths : List ℕ) → AreLanes tops 0 widths
-        → result ≡ word_of_lanes
+    ensures { (widths : List ℕ) → AreLanes tops 0 widths → result ≡ word_of_lanes
         (λ start width. (field start width a + field start width b) % 2 ^ width) 0 widths }
 {
     word_add(a, b, tops)
@@ -62,20 +59,16 @@ pub fn sums_of_lanes(a: u64, b: u64, tops: u64) -> u64
 
 /// The differences of the lanes of two words are the word of `word_sub`.
 pub fn differences_of_lanes(a: u64, b: u64, tops: u64) -> u64
-    ensures { (widths : List ℕ) → AreLanes tops 0 widths
-        → result ≡ word_of_lanes
-        (λ start width. (field start width a + (2 ^ width - field start width b)) % 2 ^ width) 0
-        widths }
+    ensures { (widths : List ℕ) → AreLanes tops 0 widths → result ≡ word_of_lanes (λ start width.
+        (field start width a + (2 ^ width - field start width b)) % 2 ^ width) 0 widths }
 {
     word_sub(a, b, tops)
 }
 
 /// The highest bits of the lanes in which two words differ are the word of `word_differ`.
 pub fn tops_of_different_lanes(a: u64, b: u64, tops: u64) -> u64
-    ensures { (widths : List ℕ) → AreLanes tops 0 widths
-        → result ≡ word_of_lanes
-        (λ start width. if field start width a == field start width b then 0 else 2 ^
-        (width - 1)) 0 widths }
+    ensures { (widths : List ℕ) → AreLanes tops 0 widths → result ≡ word_of_lanes (λ start width.
+        if field start width a == field start width b then 0 else 2 ^ (width - 1)) 0 widths }
 {
     word_differ(a, b, tops)
 }

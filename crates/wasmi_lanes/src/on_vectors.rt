@@ -11,12 +11,10 @@ use wasmi_raw::V128;
 #[inline(always)]
 pub fn unary<L: Lanes, F: Fn(L::Item) -> L::Item>(a: V128, f: F) -> V128
     requires callable { F.IsAlwaysCallable f }
-    ensures each { (i : ℕ) → i < L.LANES
-        → F.post f (L.Item.read (lane L.Item.width a i))
-        (L.Item.read (lane L.Item.width result i)) }
-    ensures lanes { (row : L.Item → ℕ)
-        → ComputesLane L.Item.Fits L.Item.image (λ x z. F.post f x z) row
-        → result ≡ unary_of_lanes L.Item.width L.Item.read row a }
+    ensures each { (i : ℕ) → i < L.LANES → F.post f
+        (L.Item.read (lane L.Item.width a i)) (L.Item.read (lane L.Item.width result i)) }
+    ensures lanes { (row : L.Item → ℕ) → ComputesLane L.Item.Fits L.Item.image
+        (λ x z. F.post f x z) row → result ≡ unary_of_lanes L.Item.width L.Item.read row a }
 {
     L::from_v128(a).lanewise_unary(f).into_v128()
 }
@@ -25,12 +23,10 @@ pub fn unary<L: Lanes, F: Fn(L::Item) -> L::Item>(a: V128, f: F) -> V128
 #[inline(always)]
 pub fn binary<L: Lanes, F: Fn(L::Item, L::Item) -> L::Item>(a: V128, b: V128, f: F) -> V128
     requires callable { F.IsAlwaysCallable f }
-    ensures each { (i : ℕ) → i < L.LANES
-        → F.post f (L.Item.read (lane L.Item.width a i)) (L.Item.read (lane L.Item.width b i))
-        (L.Item.read (lane L.Item.width result i)) }
-    ensures lanes { (row : L.Item → L.Item → ℕ)
-        → ComputesLaneOfTwo L.Item.Fits L.Item.image (λ x y z. F.post f x y z) row
-        → result ≡ binary_of_lanes L.Item.width L.Item.read row a b }
+    ensures each { (i : ℕ) → i < L.LANES → F.post f (L.Item.read (lane L.Item.width a i))
+        (L.Item.read (lane L.Item.width b i)) (L.Item.read (lane L.Item.width result i)) }
+    ensures lanes { (row : L.Item → L.Item → ℕ) → ComputesLaneOfTwo L.Item.Fits L.Item.image
+        (λ x y z. F.post f x y z) row → result ≡ binary_of_lanes L.Item.width L.Item.read row a b }
 {
     L::from_v128(a)
         .lanewise_binary(L::from_v128(b), f)

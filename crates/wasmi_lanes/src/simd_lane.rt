@@ -296,8 +296,7 @@ impl VariableLane for u64 {
 #[inline(always)]
 fn bytes_at(vector: V128, indices: u32) -> u8x16
     requires inside { (i : ℕ) → i < 16 → lane w8 indices i < 16 }
-    ensures lanes { (i : ℕ) → i < 16
-        → slice_index result i ≡ lane w8 vector (lane w8 indices i) }
+    ensures lanes { (i : ℕ) → i < 16 → slice_index result i ≡ lane w8 vector (lane w8 indices i) }
 {
     let places = u32x4::from_array([indices, 0, 0, 0]).to_le_bytes();
     bytes_of(vector).swizzle_dyn_within::<16>(places)

@@ -7,7 +7,6 @@
 
 ghost use Rattle.std.specs.Prelude.{◌≡◌, ℕ, ◌+◌, ◌-◌, ◌%◌, ◌^◌, ◌==◌, if◌then◌else◌, bit_and, refl};
 ghost use Rattle.wasmi_lanes.specs.Words.{field, IsLane, IsLastLane, IsWordLane};
-ghost use Rattle.wasmi_lanes.specs.LaneProofs.{word_lane};
 
 use crate::item::LaneInteger;
 
@@ -26,11 +25,9 @@ pub fn word_add(a: u64, b: u64, tops: u64) -> u64
 /// The differences of the lanes of `a` and `b`, each modulo 2 to the power of its width.
 #[tactic(auto, using(crate::proofs::WordLemmas::sub_lane, crate::proofs::WordLemmas::sub_last))]
 pub fn word_sub(a: u64, b: u64, tops: u64) -> u64
-    ensures lanes { (start width : ℕ) → IsLane tops start width
-        → field start width result
+    ensures lanes { (start width : ℕ) → IsLane tops start width → field start width result
         ≡ (field start width a + (2 ^ width - field start width b)) % 2 ^ width }
-    ensures last { (start width : ℕ) → IsLastLane tops start width
-        → field start width result
+    ensures last { (start width : ℕ) → IsLastLane tops start width → field start width result
         ≡ (field start width a + (2 ^ width - field start width b)) % 2 ^ width }
 {
     (a | tops).wrapping_sub(b & !tops) ^ ((a ^ !b) & tops)
@@ -39,8 +36,7 @@ pub fn word_sub(a: u64, b: u64, tops: u64) -> u64
 /// The highest bits of the lanes in which `a` and `b` differ.
 #[tactic(auto, using(crate::proofs::WordLemmas::differ))]
 pub fn word_differ(a: u64, b: u64, tops: u64) -> u64
-    ensures lanes { (start width : ℕ) → IsLane tops start width
-        → field start width result
+    ensures lanes { (start width : ℕ) → IsLane tops start width → field start width result
         ≡ (if field start width a == field start width b then 0 else 2 ^ (width - 1)) }
     ensures tops_alone { bit_and result tops ≡ result }
 {
@@ -83,7 +79,7 @@ impl WordLane for u8 {
 
     ghost ONES = { 0x0101_0101_0101_0101 };
 
-    ghost laws = { word_lane refl refl refl refl };
+    ghost laws = { record { wide = refl; whole = refl; highest = refl; lowest = refl } };
 }
 
 impl WordLane for u16 {
@@ -99,7 +95,7 @@ impl WordLane for u16 {
 
     ghost ONES = { 0x0001_0001_0001_0001 };
 
-    ghost laws = { word_lane refl refl refl refl };
+    ghost laws = { record { wide = refl; whole = refl; highest = refl; lowest = refl } };
 }
 
 impl WordLane for u32 {
@@ -115,7 +111,7 @@ impl WordLane for u32 {
 
     ghost ONES = { 0x0000_0001_0000_0001 };
 
-    ghost laws = { word_lane refl refl refl refl };
+    ghost laws = { record { wide = refl; whole = refl; highest = refl; lowest = refl } };
 }
 
 impl WordLane for u64 {
@@ -131,5 +127,5 @@ impl WordLane for u64 {
 
     ghost ONES = { 1 };
 
-    ghost laws = { word_lane refl refl refl refl };
+    ghost laws = { record { wide = refl; whole = refl; highest = refl; lowest = refl } };
 }

@@ -1,6 +1,6 @@
 -- The averages of lanes, rounded up, by the bits that either lane has and half of those that differ, which never borrow
 -- from the lane below.
-use Rattle.std.proofs.Common.{◌≡◌, ℕ, zero, suc, ◌+◌, ◌-◌, ◌*◌, ◌/◌, ◌%◌, ◌^◌, ◌<◌, ◌≤◌, inl, inr, refl, sym, ap, ◌∙◌, arith, mod-eq_of_lt, bit_and, bit_or, bit_xor, ◌⊎◌, pow-suc, one-add, add-one}
+use Rattle.std.proofs.Common.{◌≡◌, ℕ, zero, suc, ◌+◌, ◌-◌, ◌*◌, ◌/◌, ◌%◌, ◌^◌, ◌<◌, ◌≤◌, inl, inr, sym, ap, ◌∙◌, arith, mod-eq_of_lt, bit_and, bit_or, bit_xor, ◌⊎◌, pow-suc, one-add, add-one}
 use Rattle.wasmi_lanewise.proofs.Common.{add-mod_right, and_mod, or_mod, xor_mod, mod-pow-add, field_of, or_lt, and_le_l, field, IsLane, field_lt, field_not, field_or, field_xor, field_sub, lane_shr, w64, lane, bit_at_and, bit_at_not, bit_at}
 use Rattle.std.specs.Int.Bits.{or_add_and, xor_add_and}
 
@@ -22,11 +22,22 @@ mean_low (suc j) z rest (inr e) =
 pub xor_le_or : (a b : ℕ) → bit_xor a b ≤ bit_or a b
 xor_le_or a b = omega (arith, xor_add_and a b, or_add_and a b)
 
--- a lane of the average of two words, which never borrows from the lane below
-mean_suc_lane : (k h a b rest : ℕ) → (k ≡ 0) ⊎ (bit_at rest (k - 1) ≡ 0) → field k (suc h) rest ≡ 2 ^ h - 1 →
-    field k (suc h) (bit_or a b - bit_and (bit_xor a b / 2) rest) ≡ (field k (suc h) a + field k (suc h) b + 1) / 2
-mean_suc_lane k h a b rest starts is =
+-- a lane of the bits of either, less half of those that differ, is the mean of both lanes, rounded up: nothing is
+-- borrowed from the lane below, since the mask, `tops` inverted, lacks the bit right below the lane
+pub mean_lane : (tops k w a b : ℕ) → tops < 2 ^ 64 → IsLane tops k w →
+    field k w (bit_or a b - bit_and (bit_xor a b / 2) (2 ^ 64 - 1 - tops)) ≡ (field k w a + field k w b + 1) / 2
+mean_lane tops k zero a b fits lane = absurd (omega (arith, lane.top, field_lt k 0 tops))
+mean_lane tops k (suc h) a b fits lane =
     let w : ℕ = suc h in
+    let rest : ℕ = 2 ^ 64 - 1 - tops in
+    let back : suc h - 1 ≡ h = omega arith in
+    let top : field k w tops ≡ 2 ^ h = lane.top ∙ ap (λ n. 2 ^ n) back in
+    let is : field k w rest ≡ 2 ^ h - 1 = field_not k w 64 tops lane.within fits ∙ omega (arith, top, pow-suc 2 h) in
+    let starts : (k ≡ 0) ⊎ (bit_at rest (k - 1) ≡ 0) =
+    elim lane.starts [
+      | inl e ↦ inl e
+      | inr e ↦ inr (omega (arith, bit_at_not w64 tops (k - 1) fits (omega (arith, lane.within))))
+    ] in
     let s : ℕ = bit_and (bit_xor a b / 2) rest in
     let x : ℕ = field k w a in
     let y : ℕ = field k w b in
@@ -41,24 +52,5 @@ mean_suc_lane k h a b rest starts is =
     omega (arith, xor_add_and x y, or_add_and x y) in
     rw (field_sub k w (bit_or a b) s le low, field_or k w a b, half, mean, add-mod_right ((x + y + 1) / 2) (2 ^ w))
     (mod-eq_of_lt (omega (arith, field_lt k w a, field_lt k w b)))
-
--- where `tops` has the bit right below k, the mask of an average, which is `tops` inverted, hasn't, unless k is 0
-not_starts : (tops k : ℕ) → tops < 2 ^ 64 → k ≤ 64 → (k ≡ 0) ⊎ (bit_at tops (k - 1) ≡ 1)
-    → (k ≡ 0) ⊎ (bit_at (2 ^ 64 - 1 - tops) (k - 1) ≡ 0)
-not_starts tops zero fits le starts = inl refl
-not_starts tops (suc j) fits le (inl e) = absurd (omega arith)
-not_starts tops (suc j) fits le (inr e) =
-    inr (omega (arith, bit_at_not w64 tops (suc j - 1) fits (omega arith)))
-
--- a lane of the bits of either, less half of those that differ, is the mean of both lanes, rounded up
-pub mean_lane : (tops k w a b : ℕ) → tops < 2 ^ 64 → IsLane tops k w →
-    field k w (bit_or a b - bit_and (bit_xor a b / 2) (2 ^ 64 - 1 - tops)) ≡ (field k w a + field k w b + 1) / 2
-mean_lane tops k zero a b fits lane = absurd (omega (arith, lane.top, field_lt k 0 tops))
-mean_lane tops k (suc h) a b fits lane =
-    let back : suc h - 1 ≡ h = omega arith in
-    let top : field k (suc h) tops ≡ 2 ^ h = lane.top ∙ ap (λ n. 2 ^ n) back in
-    let kept : field k (suc h) (2 ^ 64 - 1 - tops) ≡ 2 ^ h - 1 =
-    field_not k (suc h) 64 tops lane.within fits ∙ omega (arith, top, pow-suc 2 h) in
-    mean_suc_lane k h a b (2 ^ 64 - 1 - tops) (not_starts tops k fits (omega (arith, lane.within)) lane.starts) kept
 
 pub ruleset averages = (and_le_l, xor_le_or, mean_lane)

@@ -1,6 +1,6 @@
 -- Bytes chosen by indices, as std::simd chooses them for the shuffle and the swizzle: by the low four bits of an index,
 -- and 0 for an index above 15.
-use Rattle.std.proofs.Common.{ℕ, ◌%◌, ◌<◌, ◌≤◌, ◌≡◌, List, length, get_or, replicate, map, ◌+◌, ◌*◌, ◌/◌, ◌⊎◌, refl, ◌∙◌, arith, inl, inr, nat_lt, if◌then◌else◌, true, false, not, ◌||◌, cond, ltb, leb, bit_and, w8, Fits, mod-eq_of_lt, T}
+use Rattle.std.proofs.Common.{ℕ, ◌%◌, ◌<◌, ◌≤◌, ◌≡◌, List, length, get_or, replicate, map, ◌+◌, ◌*◌, ◌/◌, refl, ◌∙◌, arith, inl, inr, nat_lt, if◌then◌else◌, true, false, not, ◌||◌, cond, ltb, leb, bit_and, w8, Fits, T}
 use Rattle.wasmi_lanewise.proofs.Common.{zip2, sel_l, Each1, cases_lt, lt-ltb, le-ltb, and_mask, swz_l, SwzOk, SwzOk-from_Each1, Each1-from_get_or, Each1-get_or, below_from_Fits, get_or-swz_l, lane, lane_below}
 use Rattle.wasmi_lanes.proofs.ItemLemmas.{AreItems, items, repeated, zipped, chosen_by}
 use Rattle.wasmi_lanes.proofs.VariableLaneLemmas.{computed, indices_may_index, picked_inside_at}
@@ -17,18 +17,14 @@ module _ (js : List ℕ) (long : length js ≡ 16) where
       let masked = zipped bit_and (items 16 js long) (repeated 16 15) in
       record { long = masked.long; are = λ i inside. masked.are i inside ∙ and_mask (get_or js i 0) 4 }
 
-  -- a nibble is below 16
-  nibble_below : (i : ℕ) → i < 16 → get_or js i 0 % 16 < 16
-  nibble_below i inside = omega arith
-
   -- a choice of std::simd among 16 bytes may be by the nibbles
   pub nibbles_may_index : SwzOk w8 16 16 0 (nibbles js)
-  nibbles_may_index = indices_may_index nibbles_are nibble_below
+  nibbles_may_index = indices_may_index nibbles_are (λ i inside. omega arith)
 
   -- the byte that a nibble chooses of a table is the one at the index modulo 16
   pub picked_at : (table : List ℕ) (i : ℕ) → i < 16
       → get_or (swz_l w8 16 table 0 (nibbles js)) i 0 ≡ get_or table (get_or js i 0 % 16) 0
-  picked_at = picked_inside_at nibbles_are nibble_below
+  picked_at = picked_inside_at nibbles_are (λ i inside. omega arith)
 
   -- of two lists, an item of the first where the index in its place is below 16, else one of the second
   pub chosen_at : (low high : List ℕ) (i : ℕ) → length low ≡ 16 → length high ≡ 16 → i < 16
@@ -50,10 +46,6 @@ position j = bit_and ((cond (ltb j 16) j 16 + 112) % 256) 143
 -- the position of an index is 128 or more just where the index isn't below 16
 zero_from_16 : (j : ℕ) → j < 256 → leb 128 (position j) ≡ not (ltb j 16)
 zero_from_16 j below = computed (λ k. leb 128 (position k)) (λ k. not (ltb k 16)) 256 j false refl below
-
--- the position of an index below 16 is the index
-same_below_16 : (j : ℕ) → j < 16 → position j ≡ j
-same_below_16 j below = computed position (λ k. k) 16 j 0 refl below
 
 -- a position is 128 or more, or below 16
 position_fits : (j : ℕ) → j < 256 → (leb 128 (position j) || ltb (position j) 16) ≡ true
@@ -100,12 +92,10 @@ module _ (js : List ℕ) (long : length js ≡ 16) (fits : Each1 (Fits w8) js) w
       let is = positions_are.are i inside in
       let place : 16 * ((0 + i) / 16) + get_or (positions js) i 0 ≡ position j = omega (arith, is) in
       rw (get_or-swz_l w8 16 table 0 (positions js) i (omega arith), place, is, zero_from_16 j (index_below i inside))
-      (either (cases_lt j 16))
-    where
-      either : {j : ℕ} → (j < 16) ⊎ (16 ≤ j)
-          → cond (not (ltb j 16)) 0 (get_or table (position j) 0) ≡ (if nat_lt j 16 then get_or table j 0 else 0)
-      either {j} (inl below) = rw (same_below_16 j below, lt-ltb j 16 below)
-      either {j} (inr above) = rw (le-ltb j 16 above)
+      (elim (cases_lt j 16) [
+        | inl below ↦ rw (computed position (λ k. k) 16 j 0 refl below, lt-ltb j 16 below)
+        | inr above ↦ rw (le-ltb j 16 above)
+      ])
 
 -- the bytes of a vector, as indices, fit into 8 bits
 pub bytes_fit : (v : ℕ) (xs : List ℕ) → length xs ≡ 16 → ((i : ℕ) → i < 16 → get_or xs i 0 ≡ lane w8 v i)
@@ -116,17 +106,10 @@ bytes_fit v xs long are =
 
 -- ---- choices by an index
 
--- of the numbers f of the first 16 indices, the one at k, and another where k is above 15
-pub first_or_other : (k low high other : ℕ) (f : ℕ → ℕ) → low ≡ f (k % 16) → (16 ≤ k → high ≡ other)
-    → (if nat_lt k 16 then low else high) ≡ (if nat_lt k 16 then f k else other)
-first_or_other k low high other f is_low is_other =
-    elim (cases_lt k 16) [
-      | inl below ↦ rw (lt-ltb k 16 below, is_low, mod-eq_of_lt below)
-      | inr above ↦ rw (le-ltb k 16 above) (is_other above)
-    ]
-
--- of two tables that agree below 16, what an index below 16 chooses, else 0, is the same
-pub below_or_zero : (k : ℕ) (f g : ℕ → ℕ) → ((i : ℕ) → i < 16 → f i ≡ g i)
-    → (if nat_lt k 16 then f k else 0) ≡ (if nat_lt k 16 then g k else 0)
-below_or_zero k f g same =
-    elim (cases_lt k 16) [ inl below ↦ rw (lt-ltb k 16 below) (same k below) | inr above ↦ rw (le-ltb k 16 above) ]
+-- what an index chooses by whether it is below 16 is the same, of numbers that are the same there
+pub chosen_same : (k : ℕ) {low low' high high' : ℕ} → (k < 16 → low ≡ low') → (16 ≤ k → high ≡ high')
+    → (if nat_lt k 16 then low else high) ≡ (if nat_lt k 16 then low' else high')
+chosen_same k same_low same_high = elim (cases_lt k 16) [
+  | inl below ↦ rw (lt-ltb k 16 below) (same_low below)
+  | inr above ↦ rw (le-ltb k 16 above) (same_high above)
+]

@@ -2,9 +2,9 @@
 -- which masks take from the word.
 use Rattle.std.proofs.Common.{◌≡◌, ℕ, zero, suc, ◌+◌, ◌-◌, ◌*◌, ◌/◌, ◌%◌, ◌^◌, ◌<◌, refl, sym, ap, ap₂, ◌∙◌, ◌⊎◌, inl, inr, arith, mul-add, mul-suc, mul-zero, add-mul, mul-one, mod-lt, mod-eq_of_lt, bit_and, pow-suc, lit<, count_ones, add_comm}
 use Rattle.wasmi_lanewise.proofs.Common.{mod-one, pow_pos, shr-shr, mod-pow-add, and_mask, and_le_l, and_le_r, ones_cat, ones-le, mod-mod-pow, bit_at_and, bit_at_ones_above, bit_at, field, field_and, field_add, field_lt, field_mod, field_wrapping_sub, repeated_lane, top_of_lane}
-use Rattle.std.specs.Int.Count.{ones}
 use Rattle.wasmi_lanes.proofs.TopLemmas.{clear_top}
 use Rattle.wasmi_lanewise.proofs.AverageLemmas.{mean_low}
+use Rattle.std.proofs.lemmas.Nat.{ones_le_self, zero_from_ones}
 
 -- a lane, masked by the ones of its lower half, is that half
 lower_half : (w k y mask : ℕ) → field k (w + w) mask ≡ 2 ^ w - 1 → field k (w + w) (bit_and y mask) ≡ field k w y
@@ -74,10 +74,7 @@ count_step w n v y mask pos fits is counted i lt =
 
 -- a single bit is the number of its ones
 one_bit : (b : ℕ) → b < 2 → b ≡ count_ones b
-unfolding ones
-one_bit zero lt = refl
-one_bit (suc zero) lt = refl
-one_bit (suc (suc b)) lt = absurd (omega arith)
+one_bit b lt = grind (arith, ones_le_self b, zero_from_ones b)
 
 -- two bits are twice the upper one and the lower one
 pair_split : (k v : ℕ) → field k 2 v ≡ field (k + 1) 1 v * 2 + field k 1 v

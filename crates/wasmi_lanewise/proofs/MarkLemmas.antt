@@ -174,31 +174,6 @@ module _ (w : Width) (tops a b r : ℕ) (lanes : EachLane w (λ k. IsLane tops k
 
 -- ---- words that are equal, where no lane is marked as different
 
--- r has the highest bits of those of the n lanes of w bits in which a and b differ
-abbrev DiffersIn : ℕ → ℕ → ℕ → ℕ → ℕ → Type 0
-DiffersIn w n a b r =
-    (i : ℕ) → i < n → field (w * i) w r ≡ cond (eqb (field (w * i) w a) (field (w * i) w b)) 0 (2 ^ (w - 1))
-
--- words of which no lane differs are the same
-same_where_none_differs : (w n a b r : ℕ) → a < 2 ^ (n * w) → b < 2 ^ (n * w) → DiffersIn w n a b r → r ≡ 0 → a ≡ b
-same_where_none_differs w n a b r fits_a fits_b differs none =
-    same_words w n a b fits_a fits_b
-    (λ i inside. same_lane (field (w * i) w a) (field (w * i) w b)
-    (sym (differs i inside) ∙ ap (field (w * i) w) none ∙ field_of_zero (w * i) w))
-  where
-    same_lane : (x y : ℕ) → cond (eqb x y) 0 (2 ^ (w - 1)) ≡ 0 → x ≡ y
-    same_lane x y is = elim (eqb_tells x y) [
-      | inl same ↦ same.1
-      | inr other ↦ absurd (omega (arith, pow_pos (w - 1), sym (ap (λ t. cond t 0 (2 ^ (w - 1))) other.0) ∙ is))
-    ]
-
--- of two words that are the same, no lane differs
-none_differs_where_same : (w n a b r : ℕ) → r < 2 ^ (n * w) → DiffersIn w n a b r → a ≡ b → r ≡ 0
-none_differs_where_same w n a b r fits differs same =
-    same_words w n r 0 fits (pow_pos (n * w))
-    (λ i inside.
-    rw (differs i inside, eq-eqb _ _ (ap (field (w * i) w) same)) (sym (field_of_zero (w * i) w)))
-
 -- the bits of a word are its lanes of one bit, each with itself as its mark
 bit_lane : (i : ℕ) → i < 64 → IsLane (2 ^ 64 - 1) (1 * i) 1
 bit_lane = tops_each 1 64 (2 ^ 64 - 1) (omega arith) (omega arith) (λ j inside. ones_lane (1 * j) 1 (omega arith))
@@ -213,20 +188,27 @@ module _ {a b r : ℕ} (fits_a : a < 2 ^ 64) (fits_b : b < 2 ^ 64) (differs : Di
   -- where no bit differs, a choice by whether the words are equal is its first
   pub equal_where_zero : (p q : ℕ) → r ≡ 0 → p ≡ cond (eqb a b) p q
   equal_where_zero p q none =
-      rw (eq-eqb a b (same_where_none_differs 1 64 a b r fits_a fits_b
-      (λ i inside. differs (1 * i) 1 (bit_lane i inside)) none))
+      rw (eq-eqb a b (same_words 1 64 a b fits_a fits_b
+      (λ i inside. same_bit (field (1 * i) 1 a) (field (1 * i) 1 b)
+      (sym (differs (1 * i) 1 (bit_lane i inside)) ∙ ap (field (1 * i) 1) none ∙ field_of_zero (1 * i) 1))))
+    where
+      same_bit : (x y : ℕ) → cond (eqb x y) 0 (2 ^ 0) ≡ 0 → x ≡ y
+      same_bit x y is = grind (arith, eqb_tells)
 
   -- where some bit differs, it is its second
   pub different_where_some : (p q : ℕ) → r < 2 ^ 64 → (r ≡ 0 → ⊥) → q ≡ cond (eqb a b) p q
   different_where_some p q fits some =
-      rw (ne_eqb a b (λ same. some
-      (none_differs_where_same 1 64 a b r fits (λ i inside. differs (1 * i) 1 (bit_lane i inside)) same)))
+      rw (ne_eqb a b (λ same. some (same_words 1 64 r 0 fits (pow_pos 64)
+      (λ i inside.
+      rw (differs (1 * i) 1 (bit_lane i inside), eq-eqb _ _ (ap (field (1 * i) 1) same))
+      (sym (field_of_zero (1 * i) 1))))))
+
+-- the choice between a number and 0, inverted within the number
+pub turned : (n : ℕ) (t : Bool) → n - cond t n 0 ≡ cond (not t) n 0
+turned n true = omega arith
+turned n false = omega arith
 
 -- the choice by whether two words are equal, inverted
 pub turned_choice : {x : ℕ} (a b : ℕ) → x ≡ cond (eqb a b) (2 ^ 64 - 1) 0
     → 2 ^ 64 - 1 - x ≡ cond (not (eqb a b)) (2 ^ 64 - 1) 0
-turned_choice a b is = ap (λ n. 2 ^ 64 - 1 - n) is ∙ turned (eqb a b)
-  where
-    turned : (t : Bool) → 2 ^ 64 - 1 - cond t (2 ^ 64 - 1) 0 ≡ cond (not t) (2 ^ 64 - 1) 0
-    turned true = refl
-    turned false = refl
+turned_choice a b is = ap (λ n. 2 ^ 64 - 1 - n) is ∙ turned (2 ^ 64 - 1) (eqb a b)

@@ -1,12 +1,13 @@
 -- Comparisons by an order of lanes, what is chosen by it, and the vectors that are made of such rows of lanes, or of
 -- inverted comparisons. Numbers of w bits, moved by half of their range, stand in the order of the signed numbers with
 -- their bits.
-use Rattle.std.proofs.Common.{ℕ, ℤ, suc, ◌+◌, ◌-◌, ◌*◌, ◌%◌, ◌^◌, ◌<◌, ◌≤◌, ◌≡◌, min, max, Bool, true, false, not, cond, if◌then◌else◌, ltb, leb, refl, sym, ap, ap₂, ◌∙◌, arith, pos, negsuc, int_lt, int_le, mod-eq_of_lt, w8}
+use Rattle.std.proofs.Common.{ℕ, ℤ, suc, ◌+◌, ◌-◌, ◌*◌, ◌%◌, ◌^◌, ◌<◌, ◌≤◌, ◌≡◌, Bool, true, false, not, cond, if◌then◌else◌, ltb, leb, refl, sym, ap, ap₂, ◌∙◌, arith, pos, negsuc, int_lt, int_le, mod-eq_of_lt, w8}
 use Rattle.wasmi_lanewise.proofs.Common.{pow_pos, int_min, int_max, add-mod_right, lt-ltb, le-ltb, ltb-true, ltb-false, Width, w16, w32, w64, bits, signed, wrap, lane, lane_count, from_lanes, comparison_of_lanes, field, field_not, field_of_zero, lane_ends, lanes_make_vector, lane_below, lane_count_fills, lane_of_comparison, v128_not}
 use Rattle.wasmi_types.proofs.NumbersLemmas.{wrap_of_bits}
 use Rattle.std.proofs.lemmas.Bool.Decides.{leb_tells}
 use mir.Syntax.{w128}
 use mir.Val.{sel, hbits}
+use Rattle.wasmi_lanewise.proofs.MarkLemmas.{turned}
 
 -- half of the range of w bits
 half_is : (w : Width) → 2 ^ (bits w - 1) ≡ 2 ^ hbits w
@@ -74,16 +75,8 @@ module _ (w : Width) where
         (λ h. omega arith)
 
     -- moved numbers are in the order of the signed numbers with their bits
-    biased_is_less : ltb (biased w x) (biased w y) ≡ int_lt (signed w x) (signed w y)
+    pub biased_is_less : ltb (biased w x) (biased w y) ≡ int_lt (signed w x) (signed w y)
     biased_is_less = less_where (ltb x (2 ^ hbits w)) (ltb y (2 ^ hbits w)) refl refl
-
--- of two numbers, the second where it is less, else the first, is the smaller
-pub smaller_is : (a b : ℕ) → (if ltb b a then b else a) ≡ min a b
-smaller_is a b = grind (arith, leb_tells)
-
--- of two numbers, the first where the second is less, else the second, is the larger
-pub larger_is : (a b : ℕ) → (if ltb b a then a else b) ≡ max a b
-larger_is a b = grind (arith, leb_tells)
 
 -- the number of the one of two signed numbers that a test chooses
 wrap_chosen : (w : Width) (t : Bool) (x y : ℕ) → x < 2 ^ bits w → y < 2 ^ bits w
@@ -102,11 +95,6 @@ pub signed_larger_is : (w : Width) (a b : ℕ) → a < 2 ^ bits w → b < 2 ^ bi
     → (if ltb (biased w b) (biased w a) then a else b) ≡ wrap w (int_max (signed w a) (signed w b))
 signed_larger_is w a b fits_a fits_b =
     rw (biased_is_less w b a fits_b fits_a) (wrap_chosen w (int_lt (signed w b) (signed w a)) a b fits_a fits_b)
-
--- all ones or all zeros by a comparison, in the order of the signed numbers
-pub ones_where_less : (w : Width) (n p q : ℕ) → p < 2 ^ bits w → q < 2 ^ bits w
-    → (if ltb (biased w p) (biased w q) then n else 0) ≡ (if int_lt (signed w p) (signed w q) then n else 0)
-ones_where_less w n p q fits_p fits_q = ap (λ t. if t then n else 0) (biased_is_less w p q fits_p fits_q)
 
 -- a lane of a vector whose bits are inverted, as those of a comparison are
 lane_of_inverted : (w : Width) (v i : ℕ) → v < 2 ^ 128 → i < lane_count w
@@ -144,18 +132,6 @@ inverted_comparison w read test opposite a b {v} {r} is_opposite fits below is i
       is_opposite (read (lane w a i)) (read (lane w b i)),
     )
     (turned (2 ^ bits w - 1) (test (read (lane w b i)) (read (lane w a i)))))
-  where
-    turned : (n : ℕ) (t : Bool) → n - (if t then n else 0) ≡ (if not t then n else 0)
-    turned n true = omega arith
-    turned n false = omega arith
-
--- lanes that are chosen from two vectors, each with one number in all its lanes, are chosen from the two numbers
-pub chosen_numbers : {n : ℕ} (chosen other : ℕ) (test : ℕ → Bool) {r from_chosen from_other : ℕ → ℕ}
-    → ((i : ℕ) → i < n → r i ≡ (if test i then from_chosen i else from_other i))
-    → ((i : ℕ) → i < n → from_chosen i ≡ chosen) → ((i : ℕ) → i < n → from_other i ≡ other)
-    → (i : ℕ) → i < n → r i ≡ (if test i then chosen else other)
-chosen_numbers chosen other test is is_chosen is_other i inside =
-    is i inside ∙ ap₂ (λ p q. if test i then p else q) (is_chosen i inside) (is_other i inside)
 
 -- ---- vectors whose lanes are chosen by an order of the operands' lanes x and y, as they are or moved
 

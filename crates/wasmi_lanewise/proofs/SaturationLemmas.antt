@@ -1,12 +1,13 @@
 -- Clamped sums and differences of lanes read unsigned, and rounded products of q15 numbers by the halves of a product
 -- of lanes whose sign was copied to 32 bits, as std::simd computes them.
 use Rattle.std.proofs.Common.{ℕ, ◌+◌, ◌-◌, ◌%◌, ◌^◌, ◌<◌, ◌≡◌, List, length, get_or, map, refl, sym, ap, ◌∙◌, arith, Bool, true, false, cond, ltb, Fits, pos, ◌+ℤ◌, ◌-ℤ◌, ℤ, negsuc, suc, ◌*◌, ◌/◌, ◌≤◌, ◌⊎◌, inl, inr, ◌*ℤ◌, nat_lt, if◌then◌else◌, ap₂, FitsSigned, unsigned_abs, replicate, bit_xor, mod-lt, mod-eq_of_lt}
-use Rattle.wasmi_lanewise.proofs.Common.{zip2, sel_l, Each1, add-mod_right, mul-le-mul, mod-add-mod, ltb-true, ltb-false, cases_lt, lt-ltb, ints, fits_signed_from_abs, unsigned_abs-mul, of_z-to_z, wrapping_mul_is, int_wrap_fits, Each1-get_or, Each1-from_get_or, below_from_Fits, get_or-replicate, Width, bits, clamp_unsigned, w16, w32, signed, wrap, clamp_signed, lane, lane_count, signed_fits, binary_of_lanes, lane_below, lanes_make_vector, lane_count_fills, add_sat_u, sub_sat_u, q15mulr, cast_unsigned, int_shr, pow_pos, mul-mod, mod-mod-pow}
+use Rattle.wasmi_lanewise.proofs.Common.{zip2, sel_l, Each1, add-mod_right, mul-le-mul, mod-add-mod, ltb-true, ltb-false, cases_lt, lt-ltb, ints, fits_signed_from_abs, unsigned_abs-mul, of_z-to_z, wrapping_mul_is, int_wrap_fits, Each1-get_or, Each1-from_get_or, below_from_Fits, get_or-replicate, Width, bits, clamp_unsigned, w16, w32, signed, wrap, clamp_signed, lane, lane_count, signed_fits, binary_of_lanes, lane_below, lanes_make_vector, lane_count_fills, add_sat_u, sub_sat_u, q15mulr, cast_unsigned, int_shr, pow_pos, mul-mod, mod-mod-pow, mul-le}
 use Rattle.wasmi_lanes.proofs.ItemLemmas.{AreItems, items, repeated, mapped, zipped, chosen_by}
 use lib.Lanes.{top}
 use mir.Val.{hbits, sel}
 use Rattle.std.specs.Int.Signed.{shr_z}
 use Rattle.wasmi_lanes.proofs.TopLemmas.{xor_top}
+use Rattle.std.proofs.Math.Facts.{sfits_widen}
 
 -- the tests by which sums and differences are clamped: for each lane, whether that of xs is less than that of ys
 abbrev tests : Width → List ℕ → List ℕ → List Bool
@@ -75,44 +76,37 @@ module _ (w : Width) (xs ys : List ℕ) (long_x : length xs ≡ lane_count w) (l
 
 -- ---- a product of two lanes, at 32 bits
 
--- a q15 number is at most 2 ^ 15 away from 0
-abs_of_lane : (x : ℤ) → FitsSigned w16 x → unsigned_abs x ≤ 32768
-abs_of_lane (pos n) fits = let below = fits.sfits in omega arith
-abs_of_lane (negsuc n) fits = let below = fits.sfits in omega arith
+-- a signed number of w bits is at most half of their range away from 0
+pub abs_at_most : {w : Width} (z : ℤ) → FitsSigned w z → unsigned_abs z ≤ 2 ^ hbits w
+abs_at_most (pos n) fits = let below = fits.sfits in omega arith
+abs_at_most (negsuc n) fits = let below = fits.sfits in omega arith
 
 module _ (x y : ℤ) (fits_x : FitsSigned w16 x) (fits_y : FitsSigned w16 y) where
   -- the product is at most 2 ^ 30 away from 0
   product_is_small : unsigned_abs (x *ℤ y) ≤ 2 ^ 30
   product_is_small =
-      omega (arith, mul-le-mul (abs_of_lane x fits_x) (abs_of_lane y fits_y), unsigned_abs-mul x y)
+      omega (arith, mul-le-mul (abs_at_most x fits_x) (abs_at_most y fits_y), unsigned_abs-mul x y)
 
   -- the largest product is far above the next one
   product_has_gap : (unsigned_abs (x *ℤ y) ≤ 2 ^ 30 - 2 ^ 15) ⊎ (2 ^ 30 ≤ unsigned_abs (x *ℤ y))
-  product_has_gap = gap (cases_lt (unsigned_abs x) 32768) (cases_lt (unsigned_abs y) 32768)
-    where
-      gap : (unsigned_abs x < 32768) ⊎ (32768 ≤ unsigned_abs x) → (unsigned_abs y < 32768) ⊎ (32768 ≤ unsigned_abs y)
-          → (unsigned_abs (x *ℤ y) ≤ 2 ^ 30 - 2 ^ 15) ⊎ (2 ^ 30 ≤ unsigned_abs (x *ℤ y))
-      gap (inl below) _ =
-          let small : unsigned_abs x ≤ 32767 = omega arith in
-          let bound : unsigned_abs x * unsigned_abs y ≤ 32767 * 32768 = mul-le-mul small (abs_of_lane y fits_y) in
+  product_has_gap = elim (cases_lt (unsigned_abs x) 32768) [
+    | inl below ↦
+        let bound = mul-le (unsigned_abs x) (unsigned_abs y) 32767 32768 (omega arith) (abs_at_most y fits_y) in
+        inl (omega (arith, bound, unsigned_abs-mul x y))
+    | inr least_x ↦ elim (cases_lt (unsigned_abs y) 32768) [
+      | inl below ↦
+          let bound = mul-le (unsigned_abs x) (unsigned_abs y) 32768 32767 (abs_at_most x fits_x) (omega arith) in
           inl (omega (arith, bound, unsigned_abs-mul x y))
-      gap (inr _) (inl below) =
-          let small : unsigned_abs y ≤ 32767 = omega arith in
-          let bound : unsigned_abs x * unsigned_abs y ≤ 32768 * 32767 = mul-le-mul (abs_of_lane x fits_x) small in
-          inl (omega (arith, bound, unsigned_abs-mul x y))
-      gap (inr least_x) (inr least_y) =
-          inr (omega (arith, mul-le-mul least_x least_y, unsigned_abs-mul x y))
-
-  -- a signed number of 16 bits is one of 32 bits
-  lane_in_32_bits : (z : ℤ) → FitsSigned w16 z → FitsSigned w32 z
-  lane_in_32_bits z fits = fits_signed_from_abs w32 z (let small = abs_of_lane z fits in omega arith)
+      | inr least_y ↦ inr (omega (arith, mul-le-mul least_x least_y, unsigned_abs-mul x y))
+    ]
+  ]
 
   -- the product of the bits, modulo 2 ^ 32, has the bits of the product
   product_in_32_bits : cast_unsigned w32 x * cast_unsigned w32 y % 2 ^ 32 ≡ cast_unsigned w32 (x *ℤ y)
   product_in_32_bits =
       sym (of_z-to_z w32 _ (mod-lt _ (pow_pos 32)))
       ∙ ap (cast_unsigned w32)
-      (wrapping_mul_is w32 x y (lane_in_32_bits x fits_x) (lane_in_32_bits y fits_y)
+      (wrapping_mul_is w32 x y (sfits_widen tt fits_x) (sfits_widen tt fits_y)
       ∙ int_wrap_fits w32 (x *ℤ y) (fits_signed_from_abs w32 (x *ℤ y) (let small = product_is_small in omega arith)))
 
 -- the bits of a lane whose sign was copied to 32 bits
@@ -156,13 +150,8 @@ doubled_is h part fits = chosen (cases_lt ((h + 32768) % 65536) 49151) part
     chosen (inr above) (inl small) = let last : h ≡ 16383 = omega arith in rw last
     chosen (inr above) (inr large) = absurd (omega arith)
 
--- the largest half whose double fits, in each lane
-abbrev pub most : List ℕ
-most = replicate 8 16383
-
--- a lane of the largest halves whose double fits
-pub most_at : (i : ℕ) → i < 8 → get_or most i 0 ≡ 16383
-most_at i inside = get_or-replicate 8 i 16383 0 inside
+-- for a lane of the largest halves whose double fits
+pub ruleset most_at = (get_or-replicate)
 
 -- both halves of u together
 abbrev of_halves : ℕ → ℕ
@@ -251,17 +240,3 @@ module _ (xs ys : List ℕ) (long_x : length xs ≡ 8) (long_y : length ys ≡ 8
   pub upper_halves_at : (i : ℕ) → i < 8
       → get_or (map (λ x. x) (uppers xs ys)) i 0 ≡ get_or xs i 0 * get_or ys i 0 % 2 ^ 32 / 65536
   upper_halves_at = let cast = mapped uppers_are (λ x. x) in cast.are
-
--- lower halves, rounded: halved, 2 ^ 13 added and divided by 2 ^ 14
-abbrev pub quotients : List ℕ → List ℕ
-quotients xs =
-    zip2 (λ a b. a / 2 ^ b)
-    (zip2 (λ a b. (a + b) % 65536) (zip2 (λ a b. a / 2 ^ b) xs (replicate 8 1)) (replicate 8 8192))
-    (replicate 8 14)
-
--- the quotients of 8 lower halves are the lower halves, rounded
-pub quotients_are : {f : ℕ → ℕ} {xs : List ℕ} → AreItems 8 0 f xs → AreItems 8 0 (λ i. rounded (f i)) (quotients xs)
-quotients_are of_x =
-    let halved = zipped (λ a b. a / 2 ^ b) of_x (repeated 8 1) in
-    let biased = zipped (λ a b. (a + b) % 65536) halved (repeated 8 8192) in
-    zipped (λ a b. a / 2 ^ b) biased (repeated 8 14)

@@ -11,20 +11,10 @@ ones_lane k w within =
 
 -- ---- a vector inverted, and its words
 
--- the vector of the inverted words of a vector is the vector inverted
-pub inverted_is : (v r : ℕ) → v < 2 ^ 128 → r ≡ vector_of (2 ^ 64 - 1 - v % 2 ^ 64) (2 ^ 64 - 1 - v / 2 ^ 64)
-    → r ≡ v128_not v
-inverted_is v r fits is = omega (arith, is)
-
 -- the words of what is inverted, inverted again
 pub inverted_word_pair : {v i low high : ℕ} → v < 2 ^ 128 → i ≡ v128_not v → AreWords i low high
     → AreWords v (2 ^ 64 - 1 - low) (2 ^ 64 - 1 - high)
 inverted_word_pair fits is of_i = u64x2_of (omega (arith, is, of_i.low_is)) (omega (arith, is, of_i.high_is))
-
--- the vector of inverted words, inverted, is the vector of the words
-pub inverted_words : {low high i r : ℕ} → low < 2 ^ 64 → high < 2 ^ 64
-    → i ≡ vector_of (2 ^ 64 - 1 - low) (2 ^ 64 - 1 - high) → r ≡ v128_not i → r ≡ vector_of low high
-inverted_words fits_low fits_high is_i is_r = omega (arith, is_i, is_r)
 
 -- ---- a lane and all ones, inverted: the lane negated
 

@@ -1,12 +1,12 @@
 -- Calls by a handle, on its machine or on a tenant of its pool, and what a memory and a table that are made under one
 -- quota, or end, leave of it.
 use Rattle.std.proofs.Common.{[], ◌≡◌, Option, Some, List, ◌∷◌, map, refl, sym, ap, ◌∙◌, arith, ℕ, true, None, inl, inr, ◌≢◌, ◌≤◌, false}
-use Rattle.wasmi_law_tests.proofs.Common.{MatchOption, KeepsTenant, RunsBoth, RunsList, IsWithinCaps, get_or-set_other, KeepsQuota, Placed, limiter_of, quota_of, HoldsSums, OneQuotaHoldsEach, sizes_made}
+use Rattle.wasmi_law_tests.proofs.Common.{MatchOption, KeepsTenant, RunsList, IsWithinCaps, get_or-set_other, KeepsQuota, Placed, limiter_of, quota_of, HoldsSums, OneQuotaHoldsEach, sizes_made}
 use Rattle.wasmi_machine.specs.declared.calls.Call.{Call}
 use Rattle.wasmi_budget.specs.Pool.{PoolValue, machine_of}
 use Rattle.wasmi_c.specs.Machine.CallStructs.{call_of}
 use Rattle.wasmi_c.specs.Machine.Caps.{MachineValue}
-use Rattle.wasmi_c.specs.Machine.Calls.{ActsOnHeld, CallsAreRuns, ListsAreRuns, MachineRunsJoin, RepliesInStruct, RepliesInTurn, RepliesToList, RepliesToStruct}
+use Rattle.wasmi_c.specs.Machine.Calls.{ActsOnHeld, ListsAreRuns, RepliesInStruct, RepliesInTurn, RepliesToList, RepliesToStruct}
 use Rattle.wasmi_c.specs.Machine.Replies.{only}
 use Rattle.wasmi_c.specs.Pool.{TenantReplies, TenantRepliesToStruct}
 use Rattle.wasmi_c.specs.declared.status.TheConstants.{DONE, NO_MACHINE, NO_POOL, NOT_HELD}
@@ -38,22 +38,6 @@ pub placed : (numbers : CallStruct) (held held' : Option MachineValue) (reply : 
 placed numbers held held' reply machine call step there is =
     let here = rw there at step in
     (here.0, numbered numbers call machine here.0 reply is here.1, here.2)
-
--- two calls on the machine of a handle, one after the other, are one run of both
-pub both_run : CallsAreRuns → MachineRunsJoin → (call call' : Call) (machine : MachineValue)
-    (held' held'' : Option MachineValue) (reply reply' : ReplyStruct)
-    (one : RepliesInHandle call machine reply held')
-    → RepliesInHandle call' one.0 reply' held'' → RunsBoth call call' machine (reply, reply') held''
-both_run alone join call call' machine held' held'' reply reply' one two =
-    let run = alone call machine one.1.0 one.0 one.1.1 in
-    let run' = alone call' one.0 two.1.0 two.0 two.1.1 in (
-      one.1.0,
-      two.1.0,
-      two.0,
-      join (call ∷ []) (call' ∷ []) machine one.0 two.0 (one.1.0 ∷ []) (two.1.0 ∷ []) run run',
-      (λ i. (one.1.2 i, two.1.2 i)),
-      two.2,
-    )
 
 -- the calls of a list that is made are one run
 pub list_runs : ListsAreRuns → (numbers : List CallStruct) (known : List Call) (old new : List ReplyStruct) (status : ℕ)

@@ -1,11 +1,10 @@
 -- Memories that grow, also in lent regions: the size that was answered, and the growth or the denial in each turn.
-use Rattle.std.proofs.Common.{◌≡◌, ◌∙◌, ℕ, ◌+◌, ◌*◌, Option, Some, Result, length, replicate, IfOk, ap, inl, inr, arith, length-append, ◌⊎◌, Ok, Err, List, ⊎_elim}
-use Rattle.wasmi_law_tests.proofs.Common.{length-replicate, Rules, MemoryValue, GrowsMemoryCharging, pages_of, growth_of, page_bytes, Reply, Number, Memory, IsRefusal, LentGrowthsSucceed, Run, Sequence, MemoryGrown, HasEffect, Step, live_at, with_memories, World, Turn, outcome_of, world, CanGrowInRegion, IsGrownOrDenied, GrowsInRegion}
+use Rattle.std.proofs.Common.{◌≡◌, ◌∙◌, ℕ, ◌+◌, ◌*◌, Some, Result, length, replicate, IfOk, ap, inl, inr, arith, length-append, ◌⊎◌, Ok, Err, List, ⊎_elim}
+use Rattle.wasmi_law_tests.proofs.Common.{length-replicate, Rules, MemoryValue, GrowsMemoryCharging, pages_of, growth_of, page_bytes, Number, Memory, IsRefusal, LentGrowthsSucceed, Run, Sequence, MemoryGrown, HasEffect, Step, live_at, World, Turn, outcome_of, CanGrowInRegion, IsGrownOrDenied, GrowsInRegion}
 use Rattle.wasmi_meter.specs.declared.error.MemoryError.{MemoryError}
 use Rattle.wasmi_meter.specs.Attempt.{MeteredValue, AttemptOutcome, Met, answer_of, value_after}
-use Rattle.wasmi_meter.specs.Meter.{Meter}
-use Rattle.wasmi_store.specs.Growth.{IsDenied, metered_value}
-use Rattle.wasmi_machine.specs.Effects.{ActsAt, reply_of}
+use Rattle.wasmi_store.specs.Growth.{IsDenied}
+use Rattle.wasmi_machine.specs.Effects.{reply_of}
 use Rattle.wasmi_machine.proofs.StoreLemmas.{each_turn}
 
 module _ {S : Type 0} (pages : ℕ) (s s' : MeteredValue MemoryValue S) (result : Result ℕ MemoryError) where
@@ -58,30 +57,17 @@ module _ {S : Type 0} (rules : Rules S) (pages : ℕ) (s s' : MeteredValue Memor
 module _ {S : Type 0} (rules : Rules S) (succeed : LentGrowthsSucceed rules) where
   module _ (w : World S) (k pages : ℕ) (x : MemoryValue) (found : live_at w.state.memories k ≡ Some x)
       (can : CanGrowInRegion (Some w.state.meter) pages x) where
-    -- the memory of an index has grown, or the limiter has denied it, where a call acts on it
-    acted : (w' : World S) (m' : Option Meter) (reply : Reply) (charge : ℕ)
-        → ActsAt k (reply_of Number Memory) (GrowsMemoryCharging rules pages)
-        (metered_value w.state.memories (Some w.state.meter) w.limiter) reply charge
-        (metered_value w'.state.memories m' w'.limiter) → IsGrownOrDenied rules k pages x w reply w'
-    acted w' m' reply charge acts =
-        let live = rw found at acts in
-        rw live.3 (
-        ⊎_elim (λ longer. inl (longer.0, (live.1, live.4, longer.1))) (λ denied. inr denied)
-        (told rules pages _ _ charge succeed can live.0 live.2))
-
     -- the memory of an index has grown, or the limiter has denied it, in a turn that grows it
     grown : (turn : Turn) (w' : World S) → HasEffect rules (MemoryGrown k pages) w (outcome_of turn) w'
         → IsGrownOrDenied rules k pages x w turn.reply w'
     grown turn w' grows =
-        let state = record (with_memories w.state grows.part) { meter = grows.meter } in
-        let after = world state grows.limiter in
-        rw grows.after (acted after (Some grows.meter) turn.reply turn.charge grows.effect)
-
-  -- a memory has grown, or the limiter has denied it, in a turn by a call that grows it
-  grows_in_region : (w : World S) (turn : Turn) (w' : World S) → Step rules w turn w' → GrowsInRegion rules w turn w'
-  grows_in_region w turn w' step k pages x is found can = grown w k pages x found can turn w' (rw is at step)
+        let live = rw found at grows.effect in
+        rw (grows.after, live.3) (
+        ⊎_elim (λ longer. inl (longer.0, (live.1, live.4, longer.1))) (λ denied. inr denied)
+        (told rules pages _ _ turn.charge succeed can live.0 live.2))
 
   -- a memory has grown, or the limiter has denied it, in each turn of a run by a call that grows it
   pub grows_in_regions : (w : World S) (turns : List Turn) (w' : World S) → Run rules w turns w'
       → Sequence (λ v turn v'. Step rules v turn v' × GrowsInRegion rules v turn v') w turns w'
-  grows_in_regions = each_turn rules (GrowsInRegion rules) grows_in_region
+  grows_in_regions = each_turn rules (GrowsInRegion rules)
+      (λ w turn w' step k pages x is found can. grown w k pages x found can turn w' (rw is at step))

@@ -1,40 +1,32 @@
 -- The rules of a recorder, a limiter that keeps what it permitted and each failure in its trace, and how the trace and
 -- the sizes of a machine have grown by one call.
-use Rattle.std.specs.Prelude.{◌≡◌, ℕ, Ok, Err, length, ◌<◌, ◌⊎◌, ◌++◌, Bool, true, false, Some, List, [], ◌∷◌, slice_get, slice_set}
+use Rattle.std.specs.Prelude.{◌≡◌, ℕ, Ok, Err, length, ◌<◌, ◌⊎◌, ◌++◌, true, false, Some, List, [], ◌∷◌, slice_get, slice_set}
 use Rattle.wasmi_meter.specs.declared.limiter.Kind.{Kind}
 use Rattle.std.specs.Vec.{vec_capacity}
-use Rattle.wasmi_meter.specs.Limiter.{Question, Answer, kind_of, NoticeAnswer, Rules}
+use Rattle.wasmi_meter.specs.Limiter.{Question, Answer, kind_of, Rules}
 use Rattle.wasmi_machine.specs.Exchange.{NothingGrows}
 use Rattle.wasmi_law_tests.specs.declared.recorder.Event.{Event}
 use Rattle.wasmi_law_tests.specs.declared.recorder.Event.TheVariants.{Permitted, Failed}
 use Rattle.wasmi_law_tests.specs.declared.recorder.Recorder.{Recorder}
 
--- a permission is kept in the trace, which then has room for one failure; without room nothing is permitted
-abbrev pub KeepsPermission : Recorder → Event → Bool → Recorder → Type 0
-KeepsPermission l event true l' =
-    (l'.events.items ≡ l.events.items ++ event ∷ []) × (length l'.events.items < vec_capacity l'.events)
-KeepsPermission l event false l' = l'.events.items ≡ l.events.items
-
--- a failure is kept where there is room for it
-abbrev pub KeepsFailure : Recorder → Kind → NoticeAnswer → Recorder → Type 0
-KeepsFailure l kind notice_answer l' =
-    length l.events.items < vec_capacity l.events
-    → (notice_answer ≡ Ok tt) × (l'.events.items ≡ l.events.items ++ Failed kind ∷ [])
-
 -- the event that a permitted question leaves in a trace
 abbrev pub event_of : Question → Event
 event_of q = Permitted q.kind q.current q.desired
 
--- a recorder answers a question: it permits where it can keep the trace, and gives no error
+-- a recorder answers a question: a permission is kept in the trace, which then has room for one failure; without room
+-- nothing is permitted, and no error is given
 abbrev pub AnswersQuestion : Recorder → Question → Answer → Recorder → Type 0
-AnswersQuestion l q (Ok permitted) l' = KeepsPermission l (event_of q) permitted l'
+AnswersQuestion l q (Ok true) l' =
+    (l'.events.items ≡ l.events.items ++ event_of q ∷ []) × (length l'.events.items < vec_capacity l'.events)
+AnswersQuestion l q (Ok false) l' = l'.events.items ≡ l.events.items
 AnswersQuestion l q (Err error) l' = ⊥
 
--- the rules of a recorder
+-- the rules of a recorder: a failure is kept where there is room for it
 abbrev pub recorder_rules : Rules Recorder
 recorder_rules = record {
   asked = AnswersQuestion;
-  noticed = λ l failure notice_answer l'. KeepsFailure l (kind_of failure) notice_answer l';
+  noticed = λ l failure notice_answer l'. length l.events.items < vec_capacity l.events
+      → (notice_answer ≡ Ok tt) × (l'.events.items ≡ l.events.items ++ Failed (kind_of failure) ∷ []);
 }
 
 -- one size of a kind has become another: a new one, or one that was there

@@ -1,7 +1,7 @@
 -- What a caller says of a run of a machine or of a tenant of a pool, also by a handle: its bill, its refused turns, its
 -- growths in lent regions, its exchange with a limiter, valid states, caps, and other runs of the same calls.
 use Rattle.std.specs.Prelude.{◌≡◌, ◌⊎◌, ◌<◌, ◌≤◌, ◌+◌, ◌*◌, ℕ, true, Option, Some, List, [], ◌∷◌, ◌++◌, length, map, slice_set, All, None}
-use Rattle.wasmi_meter.specs.Attempt.{Request, optional_due, covers}
+use Rattle.wasmi_meter.specs.Attempt.{optional_due, covers}
 use Rattle.wasmi_meter.specs.Limiter.{Rules, optional_rules}
 use Rattle.wasmi_meter.specs.Meter.{Meter}
 use Rattle.wasmi_store.specs.Buffer.{Lent, fits_room}
@@ -84,32 +84,20 @@ NeitherIsOutOfMemory replies replies' = All IsNotOutOfMemory replies × All IsNo
 abbrev pub AreSameTurns : {S : Type 0} → Rules S → World S → World S → World S → Type 0
 AreSameTurns rules w v v' = (turns : List Turn) × Run rules w turns v × Run rules w turns v'
 
--- the memory lies in a lent region
-abbrev pub IsLent : MemoryValue → Type 0
-IsLent x = (rest : List ℕ) × (x.room ≡ Lent rest)
-
--- enough is left to pay a request, or no meter is there
-abbrev pub CanPay : {V E : Type 0} → Option Meter → Request V E → Type 0
-CanPay m request = covers m (optional_due m request.price) ≡ true
-
 -- a memory can grow by so many pages in the lent region that it lies in: its type and its region have place for them,
--- and a meter can pay them
+-- and enough is left to pay them, or no meter is there
 pub record CanGrowInRegion (m : Option Meter) (pages : ℕ) (x : MemoryValue) : Type 0 where
-  pub lent : IsLent x
+  pub lent : (rest : List ℕ) × (x.room ≡ Lent rest)
   pub inside : in_bounds x.ty (pages_of x + pages) ≡ true
   pub place : fits_room x.room (pages * page_bytes x.ty.page) ≡ true
-  pub paid : CanPay m (growth_of x pages)
+  pub paid : covers m (optional_due m (growth_of x pages).price) ≡ true
 
--- in the place of a memory is one that is so many pages longer, and each other memory is the same
-abbrev pub HasMorePages : ℕ → ℕ → MemoryValue → State → State → Type 0
-HasMorePages k pages x s s' = (x' : MemoryValue) × (s'.memories ≡ slice_set s.memories k (Live x'))
-    × (length x'.bytes ≡ length x.bytes + pages * page_bytes x.ty.page)
-
--- a memory has grown by so many pages, and the reply tells how many it had; or the reply is a refusal, and the limiter
--- has denied the growth
+-- a memory has grown by so many pages, each other memory is the same, and the reply tells how many pages it had; or the
+-- reply is a refusal, and the limiter has denied the growth
 abbrev pub IsGrownOrDenied : {S : Type 0} → Rules S → ℕ → ℕ → MemoryValue → World S → Reply → World S → Type 0
-IsGrownOrDenied rules k pages x w reply w' =
-    ((reply ≡ Number (pages_of x)) × HasMorePages k pages x w.state w'.state)
+IsGrownOrDenied rules k pages x w reply w' = ((reply ≡ Number (pages_of x))
+    × ((x' : MemoryValue) × (w'.state.memories ≡ slice_set w.state.memories k (Live x'))
+    × (length x'.bytes ≡ length x.bytes + pages * page_bytes x.ty.page)))
     ⊎ (IsRefusal reply × IsDenied rules (growth_of x pages).question w.limiter w'.limiter)
 
 -- where a turn grows a memory in a lent region that has place for it, the memory has grown, or the limiter has denied

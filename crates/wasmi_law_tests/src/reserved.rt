@@ -76,10 +76,7 @@ pub fn run_with_slots<L: ResourceLimiter>(
     let Ok(()) = machine.reserve(slots) else {
         return false;
     };
-    let Ok(()) = run_into_lending(machine, calls, limiter, replies) else {
-        return false;
-    };
-    true
+    run_into_lending(machine, calls, limiter, replies).is_ok()
 }
 
 /// Makes one call, which needs no memory but what was reserved: it doesn't run out of memory.
@@ -232,8 +229,5 @@ pub fn run_tenant_beside(
     let Ok(()) = pool.run_into(other, between, replies) else {
         return false;
     };
-    let Ok(()) = pool.run_into(index, calls, replies) else {
-        return false;
-    };
-    true
+    pool.run_into(index, calls, replies).is_ok()
 }

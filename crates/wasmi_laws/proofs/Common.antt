@@ -1,5 +1,5 @@
 -- Names that many proofs of this crate cite, passed on from one place.
-pub use Rattle.std.proofs.lemmas.Bool.Decides.{nat_tests, Decides-eqb}
+pub use Rattle.std.proofs.lemmas.Bool.Decides.{nat_tests}
 pub use Rattle.std.proofs.lemmas.List.{set_comm, length-append, append-nil, take-map, drop-map, take_at, drop_at, take-append-drop}
 pub use Rattle.std.proofs.lemmas.List.Elements.{All-head, All-tail, All-cons, All-nil, All-weaker, All-append}
 pub use Rattle.std.proofs.lemmas.Option.{none-some, same_Some}
@@ -7,11 +7,11 @@ pub use Rattle.std.specs.Option.{option_and_then, option_map, option_map_or, unw
 pub use Rattle.std.specs.Prelude.{All, slice_get, slice_set, MatchBool, is_none, nat_le, ◌&&◌, if◌then◌else◌, MatchOption, count_by, is_some, max, nat_eq, ◌≢◌}
 pub use Rattle.wasmi_machine.proofs.EffectLemmas.{both_live, on_live, on_live_too, Creation}
 pub use Rattle.wasmi_machine.proofs.MemoryEffectsLemmas.{lacks_owned, stored_count}
-pub use Rattle.wasmi_machine.proofs.RangeLemmas.{value_kept, source_writes, IsRange, KeepsMemory, KeepsTable, byte_range, source_range, range_holds, WritesBytes}
+pub use Rattle.wasmi_machine.proofs.RangeLemmas.{value_kept, source_writes, IsRange, KeepsMemory, KeepsTable, byte_range, source_range, range_holds}
 pub use Rattle.wasmi_machine.proofs.SlotsLemmas.{set_other, live_slot, set_same}
 pub use Rattle.wasmi_machine.proofs.StoreLemmas.{acts_too, asks_too, changes_too, unasked_too, acts, alters, replies, runs_joined}
 pub use Rattle.wasmi_machine.specs.Determinism.{AcceptsNotices, IsOtherFailure, IsNotOutOfMemory}
-pub use Rattle.wasmi_machine.specs.Effects.{ChangesFound, ChangesPart, DropsAt, OnLive, reply_of, ActsAt, AddsEntry, ChangesAt, ChangesItem, Creates, MeteredSlots, WritesRangeAt, AddsItem, IfNoRoom}
+pub use Rattle.wasmi_machine.specs.Effects.{ChangesFound, ChangesPart, DropsAt, OnLive, reply_of, ActsAt, AddsEntry, ChangesAt, ChangesItem, Creates, MeteredSlots, WritesRangeAt, AddsItem}
 pub use Rattle.wasmi_machine.specs.MemoryEffects.{ReadsBytes, StoresMemory, WritesMemoryAt, ByteSource, CreatesLent, byte_write_of, spare_after}
 pub use Rattle.wasmi_machine.specs.RegisterEffects.{StoresVectorAt, SetsAt, SetsRegister, vector_at}
 pub use Rattle.wasmi_machine.specs.State.{State, live_at, live_value, with_data_segments, with_globals, with_memories, with_registers, with_segments, with_tables, byte_count, Turn, World, MemoryPart, memory_part, IsRefusal, with_reserved, world, sizes, HoldsTotals, outcome_of}

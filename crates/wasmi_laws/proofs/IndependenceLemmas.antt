@@ -1,9 +1,10 @@
 -- Turns whose calls are local and independent may be exchanged. What a local call does is an edit, which puts something
 -- at one index at most: effects go by what is at indices, and edits at different indices may be exchanged.
 use Rattle.std.proofs.Common.{Err, List, None, Ok, Option, Result, Some, [], ap, refl, set, subst, sym, ℕ, ◌∙◌, ◌∷◌, ◌≡◌}
-use Rattle.wasmi_laws.proofs.Common.{changes_too, All-head, All-tail, set_comm, option_and_then, All, slice_get, slice_set, ChangesFound, ChangesPart, DropsAt, OnLive, reply_of, StoresMemory, WritesMemoryAt, StoresVectorAt, SetsAt, SetsRegister, Run, BytesRead, BytesStored, BytesWritten, Change, Changed, DataDropped, DataMade, Effect, ElementSet, GlobalMade, GlobalSet, ItemsDropped, MemoryDropped, RegisterSet, SegmentMade, Step, TableDropped, HasChange, HasEffect, Told, effect_of, State, live_at, live_value, with_data_segments, with_globals, with_memories, with_registers, with_segments, with_tables, byte_count, Turn, outcome_of, World, SetsElementAt, DropsDataAt, DropsItemsAt, SetsGlobalAt, Call, Reply, Done, NoSuch, Trap, Slot, Gone, Live, set_other, Content, DataAt, GlobalAt, IndependentTurnsSwap, IsIndependent, IsLocal, Location, MemoryAt, RegisterAt, SegmentAt, TableAt, changed_location, content_at, read_locations, Rules, RawVal, MemoryValue, size_of, TrapCode}
+use Rattle.wasmi_laws.proofs.Common.{changes_too, All-head, All-tail, set_comm, option_and_then, All, slice_get, slice_set, ChangesFound, ChangesPart, DropsAt, WritesMemoryAt, StoresVectorAt, SetsAt, SetsRegister, Run, BytesRead, BytesStored, BytesWritten, Change, Changed, DataDropped, DataMade, Effect, ElementSet, GlobalMade, GlobalSet, ItemsDropped, MemoryDropped, RegisterSet, SegmentMade, Step, TableDropped, HasChange, HasEffect, Told, effect_of, State, live_at, live_value, with_data_segments, with_globals, with_memories, with_registers, with_segments, with_tables, byte_count, Turn, outcome_of, World, SetsElementAt, DropsDataAt, DropsItemsAt, SetsGlobalAt, Call, Reply, Slot, Gone, Live, set_other, Content, DataAt, GlobalAt, IndependentTurnsSwap, IsIndependent, IsLocal, Location, MemoryAt, RegisterAt, SegmentAt, TableAt, changed_location, content_at, read_locations, Rules, RawVal, size_of, TrapCode}
+use Rattle.wasmi_machine.proofs.EffectLemmas.{on_found}
 use Rattle.wasmi_machine.specs.declared.calls.Call.TheVariants as call
-use Rattle.wasmi_laws.proofs.LocationLemmas.{changed_by, changed_in, changed_is}
+use Rattle.wasmi_laws.proofs.LocationLemmas.{Part, changed_by, changed_in, changed_is, part_at}
 
 -- what a call does to a state: nothing, or it puts something at an index
 data Edit : Type 0 where
@@ -12,12 +13,7 @@ data Edit : Type 0 where
 
 -- a state with something at an index
 abbrev put_at : (location : Location) → Content location → State → State
-put_at (MemoryAt k) x s = with_memories s (slice_set s.memories k x)
-put_at (TableAt k) x s = with_tables s (slice_set s.tables k x)
-put_at (SegmentAt k) x s = with_segments s (slice_set s.segments k x)
-put_at (DataAt k) x s = with_data_segments s (slice_set s.data_segments k x)
-put_at (GlobalAt k) x s = with_globals s (slice_set s.globals k x)
-put_at (RegisterAt k) x s = with_registers s (slice_set s.registers k x)
+put_at location x s = let p = part_at location in p.with_part s (slice_set (p.read s) p.index x)
 
 -- a state after an edit
 abbrev edited : Edit → State → State
@@ -75,10 +71,9 @@ puts_swap location other x y s apart = refl
 edits_swap : (changed changed' : Option Location) (e f : Edit) (s : State) → IsEditAt changed e → IsEditAt changed' f
     → ((location : Location) → changed ≡ Some location → changed' ≡ Some location → ⊥)
     → edited e (edited f s) ≡ edited f (edited e s)
-edits_swap changed changed' Keep f s here there apart = refl
-edits_swap changed changed' (Put location x) Keep s here there apart = refl
 edits_swap changed changed' (Put location x) (Put other y) s here there apart =
     puts_swap location other x y s (λ same. apart location here (there ∙ ap Some (sym same)))
+edits_swap changed changed' e f s here there apart = refl
 
 -- an edit leaves what is at another index
 edit_outside : (changed : Option Location) (e : Edit) (s : State) (location : Location) → IsEditAt changed e
@@ -113,45 +108,27 @@ module _ {X Y : Type 0} (k : ℕ) (look : Option Y → Option X) (back : X → Y
   abbrev Found : List Y → Reply → List Y → Type 0
   Found xs r xs' = ChangesFound (look (slice_get xs k)) (λ x. slice_set xs k (back x)) xs r xs' (Change r)
 
-  -- a change goes by what is at the index, by whether something is found there
-  found_moves_by : (items : List Y) (reply : Reply) (items' : List Y) (found : Option X)
-      → look (slice_get items k) ≡ found → OnLive found ((reply ≡ NoSuch) × (items' ≡ items))
-      (λ x. (x' : X) × Change reply x x' × (items' ≡ slice_set items k (back x'))) → ListMoves k Found items reply items'
-  found_moves_by items reply items' None is h =
-      record { put = None; after = h.1; too = λ ys same. rw (ap look same ∙ is) (h.0, refl) }
-  found_moves_by items reply items' (Some x) is h =
-      record { put = Some (back h.0); after = h.2; too = λ ys same. rw (ap look same ∙ is) (h.0, h.1, refl) }
-
   -- a change goes by what is at the index, whatever that is
   found_moves : (items : List Y) (reply : Reply) (items' : List Y) → Found items reply items'
       → ListMoves k Found items reply items'
-  found_moves items reply items' changes = found_moves_by items reply items' (look (slice_get items k)) refl changes
+  found_moves items reply items' changes = on_found (look (slice_get items k)) _ _ changes
+      (λ is h. record { put = None; after = h.1; too = λ ys same. rw (ap look same ∙ is) (h.0, refl) })
+      (λ x is h. record { put = Some (back h.0); after = h.2; too = λ ys same. rw (ap look same ∙ is) (h.0, h.1, refl) })
 
-module _ {X : Type 0} (count : X → ℕ) (k : ℕ) (slots : List (Slot X)) (reply : Reply) (slots' : List (Slot X)) where
-  -- a drop goes by what is at the index, by whether a live value is there
-  drop_moves : (found : Option X) → live_at slots k ≡ found → OnLive found ((reply ≡ NoSuch) × (slots' ≡ slots))
-      (λ x. (reply ≡ Done) × (slots' ≡ slice_set slots k (Gone (count x))))
-      → ListMoves k (DropsAt count k) slots reply slots'
-  drop_moves None is h = record {
-    put = None;
-    after = h.1;
-    too = λ ys same. rw (ap (option_and_then live_value) same ∙ is) (h.0, refl);
-  }
-  drop_moves (Some x) is h = record {
-    put = Some (Gone (count x));
-    after = h.1;
-    too = λ ys same. rw (ap (option_and_then live_value) same ∙ is) (h.0, refl);
-  }
-
--- a store to a memory, whose bytes may be missing, goes by what is at the index
-store_moves : (k a : ℕ) (slots : List (Slot MemoryValue)) (reply : Reply) (slots' : List (Slot MemoryValue))
-    (stored : Option (List ℕ)) → StoresVectorAt k a stored slots reply slots'
-    → ListMoves k (StoresVectorAt k a stored) slots reply slots'
-store_moves k a slots reply slots' None stores =
-    record { put = None; after = stores.1; too = λ ys same. (stores.0, refl) }
-store_moves k a slots reply slots' (Some stored) stores =
-    found_moves k (option_and_then live_value) Live (λ r x x'. (result : Result (Unit {0}) TrapCode) × StoresMemory x a stored result x'
-    × (r ≡ reply_of (λ _. Done) Trap result)) slots reply slots' stores
+-- a drop goes by what is at the index, by whether a live value is there
+drop_moves : {X : Type 0} (count : X → ℕ) (k : ℕ) (slots : List (Slot X)) (reply : Reply) (slots' : List (Slot X))
+    → DropsAt count k slots reply slots' → ListMoves k (DropsAt count k) slots reply slots'
+drop_moves count k slots reply slots' drops = on_found (live_at slots k) _ _ drops
+    (λ is h. record {
+      put = None;
+      after = h.1;
+      too = λ ys same. rw (ap (option_and_then live_value) same ∙ is) (h.0, refl);
+    })
+    (λ x is h. record {
+      put = Some (Gone (count x));
+      after = h.1;
+      too = λ ys same. rw (ap (option_and_then live_value) same ∙ is) (h.0, refl);
+    })
 
 module _ (dst : ℕ) (registers : List RawVal) (reply : Reply) (registers' : List RawVal) where
   -- the setting of a register goes by what is at its index, by what it is given and what it had
@@ -173,38 +150,12 @@ record Moves (changed : Option Location) (Becomes : State → State → Type 0) 
   after : s' ≡ edited edit s
   too : (t : State) → SameIn changed s t → Becomes t (edited edit t)
 
--- the list of a state in which a location is, and the index there
-record Part (location : Location) : Type 0 where
-  index : ℕ
-  read : State → List (Content location)
-  with_part : State → List (Content location) → State
-  puts : (x : Content location) (s : State) → put_at location x s ≡ with_part s (slice_set (read s) index x)
-  whole : (s : State) → with_part s (read s) ≡ s
-  found : (s t : State) → content_at location t ≡ content_at location s
-      → slice_get (read t) index ≡ slice_get (read s) index
+module _ (location : Location) (Effect : List (Content location) → Reply → List (Content location) → Type 0)
+    (s : State) (reply : Reply) (s' : State) where
+  -- the list in which the location is
+  abbrev p : Part location
+  p = part_at location
 
--- a part by its fields, in their order
-abbrev part_of : {location : Location} (index : ℕ) (read : State → List (Content location))
-    (with_part : State → List (Content location) → State)
-    → ((x : Content location) (s : State) → put_at location x s ≡ with_part s (slice_set (read s) index x))
-    → ((s : State) → with_part s (read s) ≡ s) → ((s t : State) → content_at location t ≡ content_at location s
-    → slice_get (read t) index ≡ slice_get (read s) index) → Part location
-part_of index read with_part puts whole found =
-    record { index = index; read = read; with_part = with_part; puts = puts; whole = whole; found = found }
-
--- the list of a state in which each location is
-abbrev part_at : (location : Location) → Part location
-part_at (MemoryAt k) = part_of k State.memories with_memories (λ x s. refl) (λ s. refl) (λ s t same. same)
-part_at (TableAt k) = part_of k State.tables with_tables (λ x s. refl) (λ s. refl) (λ s t same. same)
-part_at (SegmentAt k) = part_of k State.segments with_segments (λ x s. refl) (λ s. refl) (λ s t same. same)
-part_at (DataAt k) =
-    part_of k State.data_segments with_data_segments (λ x s. refl) (λ s. refl) (λ s t same. same)
-part_at (GlobalAt k) = part_of k State.globals with_globals (λ x s. refl) (λ s. refl) (λ s t same. same)
-part_at (RegisterAt k) = part_of k State.registers with_registers (λ x s. refl) (λ s. refl) (λ s t same. same)
-
-module _ (location : Location) (p : Part location)
-    (Effect : List (Content location) → Reply → List (Content location) → Type 0) (s : State) (reply : Reply)
-    (s' : State) where
   -- what a change of a part does
   abbrev PartMoves : Type 0
   PartMoves = Moves (Some location) (λ t t'. ChangesPart (p.with_part t) (Effect (p.read t)) reply t') s s'
@@ -227,11 +178,11 @@ module _ (location : Location) (p : Part location)
   part_moves_by part is (Some x) after too = record {
     edit = Put location x;
     here = refl;
-    after = is ∙ ap (p.with_part s) after ∙ sym (p.puts x s);
+    after = is ∙ ap (p.with_part s) after;
     too = λ t same. record {
       part = slice_set (p.read t) p.index x;
       effect = too (p.read t) (p.found s t (same location refl));
-      after = p.puts x t;
+      after = refl;
     };
   }
 
@@ -251,28 +202,28 @@ IsLocalChange change = Unit {0}
 change_moves : (s : State) (reply : Reply) (s' : State) (change : Change) → IsLocalChange change
     → HasChange change s reply s' → Moves (changed_by change) (λ t t'. HasChange change t reply t') s s'
 change_moves s reply s' (BytesWritten k offset bytes) local c =
-    part_moves _ (part_at (MemoryAt k)) (WritesMemoryAt k offset bytes) s reply s' c
+    part_moves (MemoryAt k) (WritesMemoryAt k offset bytes) s reply s' c
     (found_moves k (option_and_then live_value) Live _ s.memories reply c.part c.effect)
-change_moves s reply s' (BytesStored k a stored) local c =
-    part_moves _ (part_at (MemoryAt k)) (StoresVectorAt k a stored) s reply s' c
-    (store_moves k a s.memories reply c.part stored c.effect)
+change_moves s reply s' (BytesStored k a None) local c = part_moves (MemoryAt k) (StoresVectorAt k a None) s reply s' c
+    (record { put = None; after = c.effect.1; too = λ ys same. (c.effect.0, refl) })
+change_moves s reply s' (BytesStored k a (Some stored)) local c =
+    part_moves (MemoryAt k) (StoresVectorAt k a (Some stored)) s reply s' c
+    (found_moves k (option_and_then live_value) Live _ s.memories reply c.part c.effect)
 change_moves s reply s' (RegisterSet dst given) local c =
-    part_moves _ (part_at (RegisterAt dst)) (SetsRegister dst given) s reply s' c
+    part_moves (RegisterAt dst) (SetsRegister dst given) s reply s' c
     (register_moves dst s.registers reply c.part given (slice_get s.registers dst) refl c.effect)
-change_moves s reply s' (MemoryDropped k) local c =
-    part_moves _ (part_at (MemoryAt k)) (DropsAt byte_count k) s reply s' c
-    (drop_moves byte_count k s.memories reply c.part (live_at s.memories k) refl c.effect)
-change_moves s reply s' (TableDropped k) local c = part_moves _ (part_at (TableAt k)) (DropsAt size_of k) s reply s' c
-    (drop_moves size_of k s.tables reply c.part (live_at s.tables k) refl c.effect)
+change_moves s reply s' (MemoryDropped k) local c = part_moves (MemoryAt k) (DropsAt byte_count k) s reply s' c
+    (drop_moves byte_count k s.memories reply c.part c.effect)
+change_moves s reply s' (TableDropped k) local c = part_moves (TableAt k) (DropsAt size_of k) s reply s' c
+    (drop_moves size_of k s.tables reply c.part c.effect)
 change_moves s reply s' (ElementSet k index value) local c =
-    part_moves _ (part_at (TableAt k)) (SetsElementAt k index value) s reply s' c
+    part_moves (TableAt k) (SetsElementAt k index value) s reply s' c
     (found_moves k (option_and_then live_value) Live _ s.tables reply c.part c.effect)
-change_moves s reply s' (ItemsDropped k) local c = part_moves _ (part_at (SegmentAt k)) (DropsItemsAt k) s reply s' c
+change_moves s reply s' (ItemsDropped k) local c = part_moves (SegmentAt k) (DropsItemsAt k) s reply s' c
     (found_moves k (λ x. x) (λ x. x) _ s.segments reply c.part c.effect)
-change_moves s reply s' (DataDropped k) local c = part_moves _ (part_at (DataAt k)) (DropsDataAt k) s reply s' c
+change_moves s reply s' (DataDropped k) local c = part_moves (DataAt k) (DropsDataAt k) s reply s' c
     (found_moves k (λ x. x) (λ x. x) _ s.data_segments reply c.part c.effect)
-change_moves s reply s' (GlobalSet k value) local c =
-    part_moves _ (part_at (GlobalAt k)) (SetsGlobalAt k value) s reply s' c
+change_moves s reply s' (GlobalSet k value) local c = part_moves (GlobalAt k) (SetsGlobalAt k value) s reply s' c
     (found_moves k (λ x. x) (λ x. x) _ s.globals reply c.part c.effect)
 change_moves s reply s' change local c = absurd local
 

@@ -2,7 +2,7 @@
 -- and its lent region, a table its type and what is reserved. What a call may not change stays as it is, and what was
 -- made stays at its index.
 use Rattle.std.proofs.Common.{Err, List, None, Ok, Option, Result, Some, [], ap, ⊎_elim, arith, inl, inr, length, map, refl, subst, sym, ℕ, ◌*◌, ◌+◌, ◌≤◌, ◌∙◌, ◌∷◌, ◌≡◌, ◌⊎◌}
-use Rattle.wasmi_laws.proofs.Common.{All-head, All-tail, none-some, same_Some, option_and_then, option_map, slice_get, on_live, on_live_too, source_writes, OnLive, reply_of, ByteSource, CreatesLent, byte_write_of, StoresVectorAt, SetsAt, MemoryPart, State, Turn, outcome_of, World, byte_count, live_value, memory_part, BytesStored, BytesWritten, Change, Changed, DataDropped, DataMade, Effect, ElementSet, FuelSet, GlobalMade, GlobalSet, ItemsDropped, LentMemoryMade, MemoryDropped, MemoryGrown, MemoryMade, RangeWritten, RegisterSet, SegmentMade, Step, TableDropped, TableGrown, TableMade, MemoryWritten, TableWritten, HasChange, HasEffect, effect_of, OfReference, OfSegment, OfTable, Source, write_of, CreatesSegment, Call, SetFuel, Reply, Slot, Gone, Live, Content, DataAt, DropsNot, GlobalAt, HasAt, IndicesLast, IsLater, IsLaterSlot, IsLive, LeavesAlone, LiveUntilDropped, Location, MemoryAt, OthersStay, OthersStayInRuns, RegisterAt, SegmentAt, TableAt, changed_location, content_at, dropped_location, IsLent, IsLentRoom, IsReservedToMaximum, AttemptOutcome, Met, MeteredValue, answer_of, value_after, Rules, Meter, meter_set, MemoryError, TableError, RawVal, on_test, Lent, Owned, Room, room_after, Grows, Growth, metered, metered_value, GrowsMemoryCharging, MakesMemory, MemoryTypeValue, MemoryValue, MemoryWrite, WritesMemory, new_memory, page_bytes, copied, filled, GrowsTableCharging, MakesTable, SetsTable, TableValue, same_type, size_of, with_elements, TypedRawRef, overwrite, TrapCode, RefType, memory_growth, table_growth}
+use Rattle.wasmi_laws.proofs.Common.{MeteredValue, value_after, Grows, Growth, All-head, All-tail, none-some, same_Some, option_and_then, option_map, slice_get, on_live, on_live_too, source_writes, OnLive, reply_of, ByteSource, byte_write_of, SetsAt, MemoryPart, State, Turn, outcome_of, World, byte_count, live_value, with_data_segments, with_globals, with_memories, with_registers, with_segments, with_tables, BytesStored, BytesWritten, Change, Changed, DataDropped, DataMade, Effect, ElementSet, FuelSet, GlobalMade, GlobalSet, ItemsDropped, LentMemoryMade, MemoryDropped, MemoryGrown, MemoryMade, RangeWritten, RegisterSet, SegmentMade, Step, TableDropped, TableGrown, TableMade, MemoryWritten, TableWritten, HasChange, HasEffect, effect_of, OfReference, OfSegment, OfTable, Source, write_of, Call, SetFuel, Reply, Slot, Gone, Live, Content, DataAt, DropsNot, GlobalAt, HasAt, IndicesLast, IsLater, IsLaterSlot, IsLive, LeavesAlone, LiveUntilDropped, Location, MemoryAt, OthersStay, OthersStayInRuns, RegisterAt, SegmentAt, TableAt, changed_location, content_at, dropped_location, IsLent, IsLentRoom, IsReservedToMaximum, AttemptOutcome, Met, answer_of, Rules, Meter, meter_set, MemoryError, TableError, RawVal, on_test, Lent, Owned, Room, room_after, metered_value, GrowsMemoryCharging, MakesMemory, MemoryTypeValue, MemoryValue, MemoryWrite, WritesMemory, new_memory, page_bytes, copied, filled, GrowsTableCharging, MakesTable, SetsTable, TableValue, same_type, size_of, with_elements, TypedRawRef, overwrite, TrapCode, memory_growth, table_growth}
 use Rattle.wasmi_laws.proofs.ListLemmas.{EachAfter, entry_added, item_added, item_changed, put, slot_acted, slot_changed, slot_dropped, slot_made, slot_written, unchanged}
 use Rattle.wasmi_store.specs.Memory as memory
 use Rattle.wasmi_store.specs.Segment.{SegmentValue}
@@ -79,10 +79,9 @@ elements_stay x (Some elements) x' is =
 table_range_stays : (source : Source) (dst len : ℕ) → OnLive (write_of source dst len) (Unit {0})
     (λ w. (x x' : TableValue) → (w x).written ≡ Some x' → StaysTable x x')
 table_range_stays (OfReference value) dst len = λ x. elements_stay x (filled x.elements dst value.raw len)
-table_range_stays (OfTable None src) dst len = tt
 table_range_stays (OfTable (Some source) src) dst len = λ x. elements_stay x (copied x.elements dst source.elements src len)
-table_range_stays (OfSegment None src) dst len = tt
 table_range_stays (OfSegment (Some segment) src) dst len = λ x. elements_stay x (copied x.elements dst segment.items src len)
+table_range_stays source dst len = tt
 
 -- what an attempt to grow keeps of a memory or a table, if the grown one keeps it
 attempted_stays : {V E : Type 0} (Stays : V → V → Type 0) (g : Growth V E) (value : V) → Stays value value
@@ -135,12 +134,6 @@ changed_by (DataDropped k) = Some (DataAt k)
 changed_by (GlobalSet k value) = Some (GlobalAt k)
 changed_by change = None
 
--- the index at which a change drops what is there
-abbrev pub dropped_by : Change → Option Location
-dropped_by (MemoryDropped k) = Some (MemoryAt k)
-dropped_by (TableDropped k) = Some (TableAt k)
-dropped_by change = None
-
 -- the index at which an effect may change what is there
 abbrev pub changed_in : Effect → Option Location
 changed_in (Changed change) = changed_by change
@@ -152,7 +145,8 @@ changed_in effect = None
 
 -- the index at which an effect drops what is there
 abbrev pub dropped_in : Effect → Option Location
-dropped_in (Changed change) = dropped_by change
+dropped_in (Changed (MemoryDropped k)) = Some (MemoryAt k)
+dropped_in (Changed (TableDropped k)) = Some (TableAt k)
 dropped_in effect = None
 
 -- an effect makes a memory or a table that may take memory that isn't reserved
@@ -171,14 +165,35 @@ made_in (Changed (DataMade bytes)) (DataAt k) = 1
 made_in (Changed (GlobalMade global)) (GlobalAt k) = 1
 made_in effect location = 0
 
+-- the list of a state in which a location is, and the index there
+pub record Part (location : Location) : Type 0 where
+  pub index : ℕ
+  pub read : State → List (Content location)
+  pub with_part : State → List (Content location) → State
+  pub whole : (s : State) → with_part s (read s) ≡ s
+  pub found : (s t : State) → content_at location t ≡ content_at location s
+      → slice_get (read t) index ≡ slice_get (read s) index
+
+-- a part by its fields, in their order
+abbrev part_of : {location : Location} (index : ℕ) (read : State → List (Content location))
+    (with_part : State → List (Content location) → State) → ((s : State) → with_part s (read s) ≡ s)
+    → ((s t : State) → content_at location t ≡ content_at location s
+    → slice_get (read t) index ≡ slice_get (read s) index) → Part location
+part_of index read with_part whole found =
+    record { index = index; read = read; with_part = with_part; whole = whole; found = found }
+
+-- the list of a state in which each location is
+abbrev pub part_at : (location : Location) → Part location
+part_at (MemoryAt k) = part_of k State.memories with_memories (λ s. refl) (λ s t same. same)
+part_at (TableAt k) = part_of k State.tables with_tables (λ s. refl) (λ s t same. same)
+part_at (SegmentAt k) = part_of k State.segments with_segments (λ s. refl) (λ s t same. same)
+part_at (DataAt k) = part_of k State.data_segments with_data_segments (λ s. refl) (λ s t same. same)
+part_at (GlobalAt k) = part_of k State.globals with_globals (λ s. refl) (λ s t same. same)
+part_at (RegisterAt k) = part_of k State.registers with_registers (λ s. refl) (λ s t same. same)
+
 -- how many there are of the kind of an index
 abbrev pub count_at : Location → State → ℕ
-count_at (MemoryAt k) s = length s.memories
-count_at (TableAt k) s = length s.tables
-count_at (SegmentAt k) s = length s.segments
-count_at (DataAt k) s = length s.data_segments
-count_at (GlobalAt k) s = length s.globals
-count_at (RegisterAt k) s = length s.registers
+count_at location s = length ((part_at location).read s)
 
 -- what is at an index of a machine has its memory reserved, if there is something that can have it: a memory its lent
 -- region, a table what is reserved up to its maximum
@@ -244,15 +259,6 @@ at_metered : (s : State) (m : Meter) (location : Location)
 at_metered s m (MemoryAt k) = (refl, refl)
 at_metered s m location = (refl, refl)
 
--- what becomes of the memories where a store, whose bytes may be missing, is made to one
-memory_stored : (Becomes : ℕ → Option (Slot MemoryValue) → Option (Slot MemoryValue) → Type 0) (k a : ℕ)
-    (slots : List (Slot MemoryValue)) (reply : Reply) (slots' : List (Slot MemoryValue)) (stored : Option (List ℕ))
-    → ((x x' : MemoryValue) → StaysMemory x x' → Becomes k (Some (Live x)) (Some (Live x')))
-    → StoresVectorAt k a stored slots reply slots' → EachAfter 0 Becomes slots slots'
-memory_stored Becomes k a slots reply slots' None becomes stores = unchanged Becomes slots slots' 0 stores.1
-memory_stored Becomes k a slots reply slots' (Some stored) becomes stores = slot_changed Becomes k slots reply slots' _
-    (λ x x' c. becomes x x' (c.1.1, λ lent. subst IsLentRoom (sym c.1.2) lent)) stores
-
 -- what becomes of the registers where one takes what it is given
 register_set : (Becomes : ℕ → Option RawVal → Option RawVal → Type 0) (dst : ℕ) (registers : List RawVal)
     (reply : Reply) (registers' : List RawVal) (given : Option (Result RawVal TrapCode)) (old : Option RawVal)
@@ -264,27 +270,6 @@ register_set Becomes dst registers reply registers' (Some (Ok value)) (Some old)
     put Becomes registers registers' dst old value is (becomes old value) takes.1
 register_set Becomes dst registers reply registers' given old becomes is takes =
     unchanged Becomes registers registers' 0 takes.1
-
--- what becomes of the element segments where one is made
-segment_made : {Lacks : Type 0} (Becomes : ℕ → Option SegmentValue → Option SegmentValue → Type 0) (ty : RefType)
-    (items : List ℕ) (segments : List SegmentValue) (reply : Reply) (segments' : List SegmentValue)
-    → ((j : ℕ) (x : SegmentValue) → Becomes j None (Some x))
-    → CreatesSegment Lacks ty items segments reply segments' → EachAfter 1 Becomes segments segments'
-segment_made Becomes ty items segments reply segments' new (inl none) = unchanged Becomes segments segments' 1 none.1
-segment_made Becomes ty items segments reply segments' new (inr (result, is, adds)) =
-    entry_added Becomes (λ x. x) replied.Segment result segments reply segments' (λ j x is. new j x) adds
-
--- what becomes of the memories where one is made in the spare region
-lent_made : {S : Type 0} (rules : Rules S) (ty : MemoryTypeValue) (part : MemoryPart) (l : S) (reply : Reply)
-    (part' : MemoryPart) (l' : S) → CreatesLent rules ty part l reply part' l'
-    → EachAfter 1 (λ j. MayAt (LentMemoryMade ty) (MemoryAt j)) part.slots part'.slots
-lent_made rules ty part l reply part' l' creates =
-    on_live part.spare _ _ creates
-    (λ none. unchanged (λ j. MayAt (LentMemoryMade ty) (MemoryAt j)) part.slots part'.slots 1
-    (ap (λ (p : MemoryPart). p.slots) none.1))
-    (λ region found h. slot_made (λ j. MayAt (LentMemoryMade ty) (MemoryAt j)) replied.Memory
-    (MakesMemory rules (Lent region) ty) part.slots l reply part'.slots l'
-    (λ j x makes. inr (made_lent region ty makes.0 x makes.2)) h.0)
 
 -- the effect of a call may change what is at the index that the call names for that
 pub changed_is : (s : State) (call : Call) → changed_in (effect_of s call) ≡ changed_location call
@@ -303,9 +288,11 @@ module _ (s : State) (reply : Reply) (s' : State) where
   change_locations (BytesWritten k offset bytes) c (MemoryAt j) = rw c.after
       (slot_changed (λ i. MayAt (Changed (BytesWritten k offset bytes)) (MemoryAt i)) k s.memories reply c.part _
       (λ x x' h. same_memory k x x' (written_stays x x' offset bytes h.0 h.1)) c.effect j)
-  change_locations (BytesStored k a stored) c (MemoryAt j) =
-      rw c.after (memory_stored (λ i. MayAt (Changed (BytesStored k a stored)) (MemoryAt i)) k a s.memories reply c.part
-      stored (same_memory k) c.effect j)
+  change_locations (BytesStored k a None) c (MemoryAt j) = rw c.after
+      (unchanged (λ i. MayAt (Changed (BytesStored k a None)) (MemoryAt i)) s.memories c.part 0 c.effect.1 j)
+  change_locations (BytesStored k a (Some stored)) c (MemoryAt j) = rw c.after
+      (slot_changed (λ i. MayAt (Changed (BytesStored k a (Some stored))) (MemoryAt i)) k s.memories reply c.part _
+      (λ x x' h. same_memory k x x' (h.1.1, λ lent. subst IsLentRoom (sym h.1.2) lent)) c.effect j)
   change_locations (RegisterSet dst given) c (RegisterAt j) = rw c.after
       (register_set (λ i. MayAt (Changed (RegisterSet dst given)) (RegisterAt i)) dst s.registers reply c.part given
       (slice_get s.registers dst)
@@ -319,9 +306,10 @@ module _ (s : State) (reply : Reply) (s' : State) where
   change_locations (ElementSet k index value) c (TableAt j) = rw c.after
       (slot_changed (λ i. MayAt (Changed (ElementSet k index value)) (TableAt i)) k s.tables reply c.part _
       (λ x x' h. same_table k x x' (set_stays index value x h.0 x' h.1)) c.effect j)
-  change_locations (SegmentMade ty items) c (SegmentAt j) =
-      rw c.after (segment_made (λ i. MayAt (Changed (SegmentMade ty items)) (SegmentAt i)) ty items s.segments reply c.part
-      (λ i x. inr tt) c.effect j)
+  change_locations (SegmentMade ty items) c (SegmentAt j) = rw c.after (⊎_elim
+      (λ none. unchanged (λ i. MayAt (Changed (SegmentMade ty items)) (SegmentAt i)) s.segments c.part 1 none.1 j)
+      (λ made. entry_added (λ i. MayAt (Changed (SegmentMade ty items)) (SegmentAt i)) (λ x. x) replied.Segment made.0
+      s.segments reply c.part (λ i x is. inr tt) made.2 j) c.effect)
   change_locations (ItemsDropped k) c (SegmentAt j) = rw c.after
       (item_changed (λ i. MayAt (Changed (ItemsDropped k)) (SegmentAt i)) k s.segments reply c.part _
       (λ x x' h. record {
@@ -361,15 +349,17 @@ module _ {S : Type 0} (rules : Rules S) (w : World S) (turn : Turn) (w' : World 
   effect_locations (MemoryMade ty) step (MemoryAt j) = rw step.after
       (slot_made (λ i. MayAt (MemoryMade ty) (MemoryAt i)) replied.Memory (MakesMemory rules Owned ty) w.state.memories w.limiter
       turn.reply step.part step.limiter (λ i x makes. inl tt) step.effect j)
-  effect_locations (LentMemoryMade ty) step (MemoryAt j) = rw step.after
-      (lent_made rules ty (memory_part w.state) w.limiter turn.reply step.part step.limiter step.effect j)
+  effect_locations (LentMemoryMade ty) step (MemoryAt j) = rw step.after (on_live w.state.spare _ _ step.effect
+      (λ none. unchanged (λ i. MayAt (LentMemoryMade ty) (MemoryAt i)) w.state.memories step.part.slots 1
+      (ap (λ (p : MemoryPart). p.slots) none.1) j)
+      (λ region found h. slot_made (λ i. MayAt (LentMemoryMade ty) (MemoryAt i)) replied.Memory
+      (MakesMemory rules (Lent region) ty) w.state.memories w.limiter turn.reply step.part.slots step.limiter
+      (λ i x makes. inr (made_lent region ty makes.0 x makes.2)) h.0 j))
   effect_locations (MemoryGrown k pages) step (MemoryAt j) = rw step.after
       (slot_acted (λ i. MayAt (MemoryGrown k pages) (MemoryAt i)) k (reply_of replied.Number replied.Memory)
       (GrowsMemoryCharging rules pages) (metered_value w.state.memories (Some w.state.meter) w.limiter)
       (metered_value step.part (Some step.meter) step.limiter) turn.reply turn.charge
-      (λ x x' result acts. same_memory k x x' (memory_grown_stays rules pages
-      (metered_value x (Some w.state.meter) w.limiter)
-      (metered_value x' (Some step.meter) step.limiter) result turn.charge acts)) step.effect j)
+      (λ x x' result acts. same_memory k x x' (memory_grown_stays rules pages _ _ result turn.charge acts)) step.effect j)
   effect_locations (TableMade ty init) step (TableAt j) = rw step.after
       (slot_made (λ i. MayAt (TableMade ty init) (TableAt i)) replied.Table (MakesTable rules ty init) w.state.tables w.limiter
       turn.reply step.part step.limiter (λ i x makes. inl tt) step.effect j)
@@ -377,19 +367,13 @@ module _ {S : Type 0} (rules : Rules S) (w : World S) (turn : Turn) (w' : World 
       (slot_acted (λ i. MayAt (TableGrown k n init) (TableAt i)) k (reply_of replied.Number replied.Table)
       (GrowsTableCharging rules n init) (metered_value w.state.tables (Some w.state.meter) w.limiter)
       (metered_value step.part (Some step.meter) step.limiter) turn.reply turn.charge
-      (λ x x' result acts. same_table k x x' (table_grown_stays rules n init
-      (metered_value x (Some w.state.meter) w.limiter)
-      (metered_value x' (Some step.meter) step.limiter) result turn.charge acts)) step.effect j)
+      (λ x x' result acts. same_table k x x' (table_grown_stays rules n init _ _ result turn.charge acts)) step.effect j)
   effect_locations (RangeWritten (TableWritten k source dst len)) step (TableAt j) = rw step.after
       (slot_written (λ i. MayAt (RangeWritten (TableWritten k source dst len)) (TableAt i)) replied.Table StaysTable
-      table_stays k (same_table k) (write_of source dst len) (table_range_stays source dst len)
-      (metered w.state.tables (Some w.state.meter)) turn.reply turn.charge (metered step.part (Some step.meter))
-      step.effect j)
+      table_stays k (same_table k) (write_of source dst len) (table_range_stays source dst len) _ _ _ _ step.effect j)
   effect_locations (RangeWritten (MemoryWritten k source dst len)) step (MemoryAt j) = rw step.after
       (slot_written (λ i. MayAt (RangeWritten (MemoryWritten k source dst len)) (MemoryAt i)) replied.Memory StaysMemory memory_stays k
-      (same_memory k) (byte_write_of source dst len) (range_stays source dst len)
-      (metered w.state.memories (Some w.state.meter)) turn.reply turn.charge (metered step.part (Some step.meter))
-      step.effect j)
+      (same_memory k) (byte_write_of source dst len) (range_stays source dst len) _ _ _ _ step.effect j)
   effect_locations effect step location =
       (inl (ap (λ (v : World S). content_at location v.state) step.after), rw step.after (omega arith))
 

@@ -1,7 +1,7 @@
 -- A run that never ran short of fuel is the same with more fuel: what is due and paid, attempts, growths, writes over a
 -- range, changes of one part, and turns.
 use Rattle.std.proofs.Common.{◌≡◌, ◌∙◌, ◌≤◌, ℕ, Bool, true, false, Option, Some, None, Result, Ok, Err, List, [], ◌∷◌, map, refl, sym, ap, subst, arith}
-use Rattle.wasmi_laws.proofs.Common.{nat_tests, All-head, All-tail, option_map, All, MatchBool, is_none, nat_le, ◌&&◌, if◌then◌else◌, acts_too, asks_too, changes_too, unasked_too, TypedRawRef, TableError, AttemptOutcome, Met, Failed, Follows, IsFirstCause, MayEnd, MeteredValue, Request, answer_of, covers, optional_due, outcome_charge, with_value, Rules, optional_rules, Meter, meter_after, Grows, Growth, metered, metered_value, GrowsMemoryCharging, GrowsTableCharging, TableValue, same_type, EndsBy, MeteredWrite, WritesCharging, write_charge, Call, SetFuel, GetFuel, Reply, Slot, AcceptsNotices, ActsAt, OnLive, WritesRangeAt, reply_of, Run, BytesRead, BytesWritten, Change, Changed, Effect, FuelSet, MemoryGrown, RangeWritten, Step, TableGrown, MemoryWritten, TableWritten, HasChange, HasEffect, Told, effect_of, State, live_at, Turn, World, byte_write_of, write_of, both_live, on_live_too, on_test_too, grows_too, IsRange, KeepsMemory, KeepsTable, byte_range, source_range, HasFuel, MoreFuelChangesNothing, NamesNoFuel, meter_with_more, world_with_more, memory_growth, table_growth, outcome_of}
+use Rattle.wasmi_laws.proofs.Common.{nat_tests, All-head, All-tail, option_map, All, MatchBool, is_none, nat_le, ◌&&◌, if◌then◌else◌, acts_too, asks_too, changes_too, unasked_too, AttemptOutcome, Met, Failed, Follows, IsFirstCause, MayEnd, MeteredValue, Request, answer_of, covers, optional_due, outcome_charge, with_value, Rules, optional_rules, Meter, meter_after, Grows, Growth, metered, metered_value, GrowsMemoryCharging, GrowsTableCharging, same_type, EndsBy, MeteredWrite, WritesCharging, write_charge, Call, SetFuel, GetFuel, Reply, Slot, AcceptsNotices, ActsAt, OnLive, WritesRangeAt, reply_of, Run, BytesRead, BytesWritten, Change, Changed, Effect, FuelSet, MemoryGrown, RangeWritten, Step, TableGrown, MemoryWritten, TableWritten, HasChange, HasEffect, Told, effect_of, State, live_at, Turn, World, byte_write_of, write_of, both_live, on_live_too, on_test_too, grows_too, IsRange, KeepsMemory, KeepsTable, byte_range, source_range, HasFuel, MoreFuelChangesNothing, NamesNoFuel, meter_with_more, world_with_more, memory_growth, table_growth, outcome_of}
 use Rattle.wasmi_meter.specs.declared.error.TableError.TheVariants as table_error
 use Rattle.wasmi_meter.specs.declared.error.MemoryError.TheVariants as memory_error
 use Rattle.wasmi_meter.specs.declared.fuel.CustomFuelCosts.{CustomFuelCosts}
@@ -119,8 +119,7 @@ module _ (more : ℕ) where
         → MayEnd e (option_map richer m) outcome
     may_end (Some m) Met told may = (may.0, may.1, payable m e.price may.2)
     may_end (Some m) (Failed cause notice_answer) told may = (may.0, first_cause m cause told e.late may.1)
-    may_end (Some m) outcome told may = may
-    may_end None outcome told may = may
+    may_end m outcome told may = may
 
     -- an attempt is charged the same with more fuel
     same_charge : (m : Option Meter) (outcome : AttemptOutcome E) → Tells refusal e outcome → MayEnd e m outcome
@@ -150,15 +149,6 @@ module _ (more : ℕ) where
           },
         )) grows
 
-    -- a growth of a table, whose type is tested first
-    table_grows_richer : (n : ℕ) (init : TypedRawRef) (s s' : MeteredValue TableValue S)
-        (result : Result ℕ TableError) (charge : ℕ) → HasFuel (reply_of replied.Number replied.Table result)
-        → GrowsTableCharging rules n init s result charge s'
-        → GrowsTableCharging rules n init (enriched s) result charge (enriched s')
-    table_grows_richer n init s s' result charge has = on_test_too (same_type s.value.ty.element init.ty) _ _ _ _
-        (grows_richer replied.Table (table_growth n init.raw s.value) (λ n none. none) s s' result charge has)
-        (λ h. (h.0, h.1, ap enriched h.2))
-
   -- a call with a charge on what an index names is one with more fuel
   acts_richer : {X R S : Type 0} (k : ℕ) (reply_to : R → Reply)
       (Acts : MeteredValue X S → R → ℕ → MeteredValue X S → Type 0) (s s' : MeteredValue (List (Slot X)) S)
@@ -182,13 +172,6 @@ module _ (more : ℕ) where
     abbrev write_to : MeteredValue X (Unit {0})
     write_to = metered x' (Some m')
 
-    -- what becomes of the meter and the value by the charge for a write, with more fuel
-    paid_after : (value : X) (charge : ℕ) → covers (Some m) charge ≡ true
-        → write_to ≡ metered value (Some (meter_after m charge))
-        → enriched write_to ≡ metered value (Some (meter_after (richer m) charge))
-    paid_after value charge enough after =
-        ap enriched after ∙ ap (λ left. metered value (Some left)) (same_after m.left m.costs charge enough)
-
     -- a write that is paid, is paid with more fuel
     paid_richer : (value : X) (enough : Bool) → covers (Some m) (due m w.price) ≡ enough
         → MatchBool enough ((result ≡ Ok tt) × (write_to ≡ metered value (Some (meter_after m (due m w.price)))))
@@ -199,7 +182,8 @@ module _ (more : ℕ) where
     paid_richer value false short ends = absurd (unpaid (due m w.price)
         (subst (λ r. HasFuel (reply_of (λ _. replied.Done) refusal r)) ends.0 has))
     paid_richer value true enough ends =
-        let after = paid_after value (due m w.price) enough ends.1 in
+        let after = ap enriched ends.1
+        ∙ ap (λ left. metered value (Some left)) (same_after m.left m.costs (due m w.price) enough) in
         rw (payable m w.price enough)
         (ends.0, after ∙ ap (λ n. metered value (Some (meter_after (richer m) n))) (sym (due_is m w.price)))
 
@@ -299,8 +283,9 @@ module _ (more : ℕ) {S : Type 0} (rules : Rules S) (accepts : AcceptsNotices r
         (acts_richer more k (reply_of replied.Number replied.Table) (GrowsTableCharging rules n init)
         (metered_value w.state.tables (Some w.state.meter) w.limiter)
         (metered_value step.part (Some step.meter) step.limiter) turn.reply turn.charge has
-        (λ x x' result. table_grows_richer more rules accepts n init _ _ result turn.charge) step.effect) refl
-        (ap richer_world step.after)
+        (λ x x' result has. on_test_too (same_type x.ty.element init.ty) _ _ _ _
+        (grows_richer more rules accepts replied.Table (table_growth n init.raw x) (λ n none. none) _ _ result turn.charge has)
+        (λ h. (h.0, h.1, ap (enriched more) h.2))) step.effect) refl (ap richer_world step.after)
     effect_richer (RangeWritten (TableWritten k source dst len)) keeps step =
         unasked_too step step.part (richer more step.meter)
         (range_richer more replied.Table KeepsTable _ table_error.OutOfFuel (λ n none. none) k

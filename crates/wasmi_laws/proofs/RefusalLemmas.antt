@@ -2,13 +2,13 @@
 -- an attempt is one. The limiter, the meter and the spare region stay, also where a call that lets nothing grow is
 -- refused.
 use Rattle.std.proofs.Common.{◌≡◌, ◌∙◌, ℕ, Bool, Option, Some, None, Result, Ok, Err, List, [], ◌∷◌, length, map, inl, inr, refl, sym, ap, subst}
-use Rattle.wasmi_laws.proofs.Common.{lacks_owned, All-head, All-tail, none-some, if◌then◌else◌, RefType, TypedRawRef, MemoryError, TableError, Attempt, AttemptOutcome, Unasked, Denied, Met, Failed, IsFirstCause, MeteredValue, Request, alone, answer_of, covers, optional_due, with_value, Failure, MemoryFailure, TableFailure, NoticeAnswer, Rules, Meter, LacksMemory, Lent, Owned, Room, Grows, Growth, Makes, metered_value, GrowsMemoryCharging, MakesMemory, MemoryValue, new_memory, MemoryTypeValue, GrowsTableCharging, TableValue, new_table, TableTypeValue, same_type, on_test, Call, NewMemory, NewLentMemory, GrowMemory, NewTable, GrowTable, Reply, Slot, Live, IsOtherFailure, ActsAt, AddsEntry, Creates, reply_of, CreatesLent, spare_after, MemoryPart, State, live_at, memory_part, IsRefusal, Turn, World, Effect, LentMemoryMade, MemoryGrown, MemoryMade, RangeWritten, Step, TableGrown, TableMade, HasEffect, effect_of, Creation, on_live, range_holds, IsPlainRefusal, OtherRefusalsChangeNothing, PlainRefusalsChangeNothing, PlainlyRefusedRunsChangeNothing, memory_growth, table_growth, outcome_of}
+use Rattle.wasmi_laws.proofs.Common.{lacks_owned, All-head, All-tail, none-some, if◌then◌else◌, RefType, MemoryError, TableError, Attempt, AttemptOutcome, Unasked, Denied, Met, Failed, IsFirstCause, MeteredValue, Request, alone, answer_of, covers, optional_due, with_value, Failure, MemoryFailure, TableFailure, NoticeAnswer, Rules, Meter, LacksMemory, Lent, Owned, Room, Grows, Growth, Makes, metered_value, GrowsMemoryCharging, MakesMemory, MemoryValue, new_memory, MemoryTypeValue, GrowsTableCharging, TableValue, new_table, TableTypeValue, same_type, on_test, Call, NewMemory, NewLentMemory, GrowMemory, NewTable, GrowTable, Reply, Slot, Live, IsOtherFailure, ActsAt, AddsEntry, Creates, reply_of, CreatesLent, spare_after, MemoryPart, State, live_at, memory_part, IsRefusal, Turn, World, Effect, LentMemoryMade, MemoryGrown, MemoryMade, RangeWritten, Step, TableGrown, TableMade, HasEffect, effect_of, Creation, on_live, range_holds, IsPlainRefusal, OtherRefusalsChangeNothing, PlainRefusalsChangeNothing, PlainlyRefusedRunsChangeNothing, memory_growth, table_growth, outcome_of}
 use Rattle.wasmi_meter.specs.declared.error.MemoryError.TheVariants as memory_error
 use Rattle.wasmi_meter.specs.declared.error.TableError.TheVariants as table_error
 use Rattle.wasmi_store.specs.Memory as memory
 use Rattle.wasmi_store.specs.Table as table
 use Rattle.wasmi_machine.specs.declared.calls.Reply.TheVariants as replied
-use Rattle.wasmi_machine.specs.Exchange.{AsksFor, Denial, Exchange, Nothing, Notice, Nowhere, Passes, Permission, failed_reply, place_of, question_of}
+use Rattle.wasmi_machine.specs.Exchange.{AsksFor, Exchange, Nothing, Nowhere, Passes, failed_reply, place_of, question_of}
 use Rattle.wasmi_machine.specs.Laws.{Keeps, KeepsMeter, KeepsSpare}
 use Rattle.wasmi_machine.proofs.ExchangeLemmas.{growths_are_permitted, late_is}
 use Rattle.wasmi_machine.proofs.RefusalLemmas.{refusals_keep_contents}
@@ -31,6 +31,13 @@ pub record LaterCauses {V E : Type 0} (Fact : E → Type 0) (e : Request V E) : 
   pub unpaid : (n : ℕ) → Fact (e.unpaid n)
   pub refuses : e.late ≡ None → (c : E) → e.refuses c → Fact c
 
+-- the later causes by their facts, in their order
+abbrev pub causes : {V E : Type 0} {Fact : E → Type 0} {e : Request V E} → Fact e.denial → Fact e.refusal
+    → ((c : E) → e.late ≡ Some c → Fact c) → ((n : ℕ) → Fact (e.unpaid n))
+    → (e.late ≡ None → (c : E) → e.refuses c → Fact c) → LaterCauses Fact e
+causes denied refused late unpaid refuses =
+    record { denied = denied; refused = refused; late = late; unpaid = unpaid; refuses = refuses }
+
 -- the first cause after the permission has a fact that all later causes have
 pub first_has : {V E : Type 0} (Fact : E → Type 0) (e : Request V E) → LaterCauses Fact e → (m : Option Meter)
     (late : Option E) → e.late ≡ late → (cause : E) → IsFirstCause e m late cause → Fact cause
@@ -47,12 +54,6 @@ tested Fact test cause has c is = subst Fact (late_is test cause c is) has
 abbrev AllLoud : {V E : Type 0} → (E → Reply) → Request V E → Type 0
 AllLoud refusal e = LaterCauses (λ c. IsLoud (refusal c)) e
 
--- what an attempt returns where it is met, with the reply to it, which is no plain refusal
-record Success (T : Type 0) : Type 0 where
-  answer : T → Reply
-  value : T
-  loud : IsLoud (answer value)
-
 -- a plain refusal of an attempt is its early cause, and the limiter is the same
 record IsUnasked {V E S : Type 0} (refusal : E → Reply) (e : Request V E) (l l' : S) : Type 0 where
   cause : E
@@ -62,17 +63,16 @@ record IsUnasked {V E S : Type 0} (refusal : E → Reply) (e : Request V E) (l l
 
 module _ {V E : Type 0} (refusal : E → Reply) (e : Request V E) (loud : AllLoud refusal e) where
   -- a plain refusal of an attempt is its early cause
-  attempt_unasked : {S T : Type 0} (rules : Rules S) (met : Success T) (s s' : MeteredValue V S) (charge : ℕ)
-      (outcome : AttemptOutcome E) → Attempt rules e s outcome charge s'
-      → IsPlainRefusal (reply_of met.answer refusal (answer_of e met.value outcome))
-      → IsUnasked refusal e s.limiter s'.limiter
-  attempt_unasked rules met s s' charge (Unasked cause) a plain =
+  attempt_unasked : {S T : Type 0} (rules : Rules S) (answer : T → Reply) (value : T) → IsLoud (answer value)
+      → (s s' : MeteredValue V S) (charge : ℕ) (outcome : AttemptOutcome E) → Attempt rules e s outcome charge s'
+      → IsPlainRefusal (reply_of answer refusal (answer_of e value outcome)) → IsUnasked refusal e s.limiter s'.limiter
+  attempt_unasked rules answer value met s s' charge (Unasked cause) a plain =
       record { cause = cause; early = a.may_end; plain = plain; same = a.follows }
-  attempt_unasked rules met s s' charge (Denied (Ok permitted)) a plain = absurd (loud.denied plain)
-  attempt_unasked rules met s s' charge Met a plain = absurd (met.loud plain)
-  attempt_unasked rules met s s' charge (Failed cause (Ok _)) a plain =
+  attempt_unasked rules answer value met s s' charge (Denied (Ok permitted)) a plain = absurd (loud.denied plain)
+  attempt_unasked rules answer value met s s' charge Met a plain = absurd (met plain)
+  attempt_unasked rules answer value met s s' charge (Failed cause (Ok _)) a plain =
       absurd (first_has (λ c. IsLoud (refusal c)) e loud s.meter e.late refl cause a.may_end.1 plain)
-  attempt_unasked rules met s s' charge outcome a plain = absurd (loud.refused plain)
+  attempt_unasked rules answer value met s s' charge outcome a plain = absurd (loud.refused plain)
 
 -- the reply to a creation
 adds_reply : {X A E : Type 0} (entry : X → A) (refusal : E → Reply) (result : Result X E) (list : List A)
@@ -90,8 +90,8 @@ module _ {S : Type 0} (rules : Rules S) where
   makes_unasked {X} refusal e loud made slots l o result (outcome, attempt, answered) adds plain =
       let answer : X → Reply = λ x. replied.Made (length slots) in
       let told = adds_reply Live refusal result slots o.reply o.part adds ∙ ap (reply_of answer refusal) answered in
-      attempt_unasked refusal e loud rules (record { answer = answer; value = made; loud = λ p. p }) (alone l)
-      (alone o.limiter) 0 outcome attempt (subst IsPlainRefusal told plain)
+      attempt_unasked refusal e loud rules answer made (λ p. p) (alone l) (alone o.limiter) 0 outcome attempt
+      (subst IsPlainRefusal told plain)
 
   -- a plain refusal of any creation leaves the limiter
   creates_unasked : {X E : Type 0} (refusal : E → Reply) (e : Request (Unit {0}) E) → AllLoud refusal e → (made : X)
@@ -108,7 +108,7 @@ module _ {S : Type 0} (rules : Rules S) where
   grows_unasked {V} refusal g loud s s' result charge (inl none) plain =
       ap (λ (t : MeteredValue V S). t.limiter) none.same
   grows_unasked refusal g loud s s' result charge (inr some) plain = (attempt_unasked refusal g.request loud rules
-      (record { answer = replied.Number; value = g.size; loud = λ p. p }) s s' charge some.outcome some.attempt
+      replied.Number g.size (λ p. p) s s' charge some.outcome some.attempt
       (subst (λ r. IsPlainRefusal (reply_of replied.Number refusal r)) some.answered plain)).same
 
   -- a plain refusal of a growth of what an index names leaves the limiter
@@ -133,43 +133,26 @@ table_lacks_loud c lacks plain = rw lacks at plain
 
 -- no later cause of a creation of a memory is a plain refusal
 memory_made_loud : (room : Room) (ty : MemoryTypeValue) → AllLoud replied.Memory (memory.creation_of room ty)
-memory_made_loud room ty = record {
-  denied = λ p. p;
-  refused = λ p. p;
-  late = tested (λ c. IsLoud (replied.Memory c)) _ memory_error.InvalidStaticBufferSize (λ p. p);
-  unpaid = λ n p. p;
-  refuses = λ late. lacks_loud room;
-}
+memory_made_loud room ty = causes (λ p. p) (λ p. p)
+    (tested (λ c. IsLoud (replied.Memory c)) _ memory_error.InvalidStaticBufferSize (λ p. p)) (λ n p. p)
+    (λ late. lacks_loud room)
 
 -- no later cause of a growth of a memory is a plain refusal
 memory_grown_loud : (x : MemoryValue) (pages : ℕ) → AllLoud replied.Memory (memory.growth_of x pages)
-memory_grown_loud x pages = record {
-  denied = λ p. p;
-  refused = λ p. p;
-  late = tested (λ c. IsLoud (replied.Memory c)) _ memory_error.InvalidStaticBufferSize (λ p. p);
-  unpaid = λ n p. p;
-  refuses = λ late. lacks_loud x.room;
-}
+memory_grown_loud x pages = causes (λ p. p) (λ p. p)
+    (tested (λ c. IsLoud (replied.Memory c)) _ memory_error.InvalidStaticBufferSize (λ p. p)) (λ n p. p)
+    (λ late. lacks_loud x.room)
 
 -- no later cause of a creation of a table is a plain refusal
 table_made_loud : (ty : TableTypeValue) (init : RefType) → AllLoud replied.Table (table.creation_of ty init)
-table_made_loud ty init = record {
-  denied = λ p. p;
-  refused = λ p. p;
-  late = λ c is. absurd (none-some c is);
-  unpaid = λ n p. p;
-  refuses = λ late. table_lacks_loud;
-}
+table_made_loud ty init =
+    causes (λ p. p) (λ p. p) (λ c is. absurd (none-some c is)) (λ n p. p) (λ late. table_lacks_loud)
 
 -- no later cause of a growth of a table is a plain refusal
 table_grown_loud : (x : TableValue) (n reference : ℕ) → AllLoud replied.Table (table.growth_of x n reference)
-table_grown_loud x n reference = record {
-  denied = λ p. p;
-  refused = λ p. p;
-  late = tested (λ c. IsLoud (replied.Table c)) _ table_error.GrowOutOfBounds (λ p. p);
-  unpaid = λ n p. p;
-  refuses = λ late cause lacks. table_lacks_loud cause lacks.0;
-}
+table_grown_loud x n reference = causes (λ p. p) (λ p. p)
+    (tested (λ c. IsLoud (replied.Table c)) _ table_error.GrowOutOfBounds (λ p. p)) (λ n p. p)
+    (λ late cause lacks. table_lacks_loud cause lacks.0)
 
 module _ {S : Type 0} (rules : Rules S) where
   -- a memory isn't made in a region: there was no place for its slot, since its early cause is no plain refusal
@@ -192,15 +175,6 @@ module _ {S : Type 0} (rules : Rules S) where
       let same = region_unasked region ty part.slots l (record { reply = reply; part = part'.slots; limiter = l' }) h.0
       plain in (same.0, h.1 ∙ ap (λ r. spare_after r part.spare) same.1))
 
-  -- a plain refusal of a growth of a table, whose type is tested first, leaves the limiter
-  table_grows_unasked : (n : ℕ) (init : TypedRawRef) (s s' : MeteredValue TableValue S) (result : Result ℕ TableError)
-      (charge : ℕ) → GrowsTableCharging rules n init s result charge s'
-      → IsPlainRefusal (reply_of replied.Number replied.Table result) → s'.limiter ≡ s.limiter
-  table_grows_unasked n init s s' result charge grows plain = on_test (same_type s.value.ty.element init.ty) _ _ grows
-      (λ h. grows_unasked rules replied.Table (table_growth n init.raw s.value)
-      (table_grown_loud s.value n init.raw) s s' result charge h plain)
-      (λ h. ap (λ (t : MeteredValue TableValue S). t.limiter) h.2)
-
   module _ (w : World S) (turn : Turn) (w' : World S) (plain : IsPlainRefusal turn.reply) where
     -- a plain refusal leaves the limiter, by each effect
     limiter_stays : (effect : Effect) → HasEffect rules effect w (outcome_of turn) w' → w'.limiter ≡ w.limiter
@@ -221,8 +195,10 @@ module _ {S : Type 0} (rules : Rules S) where
         (record { reply = turn.reply; part = step.part; limiter = step.limiter }) step.effect plain)
     limiter_stays (TableGrown k n init) step = rw step.after
         (acts_unasked rules k replied.Table (GrowsTableCharging rules n init) _ _ turn.reply turn.charge
-        (λ x x' result. table_grows_unasked n init (metered_value x (Some w.state.meter) w.limiter)
-        (metered_value x' (Some step.meter) step.limiter) result turn.charge) step.effect plain)
+        (λ x x' result grows refused. on_test (same_type x.ty.element init.ty) _ _ grows
+        (λ h. grows_unasked rules replied.Table (table_growth n init.raw x) (table_grown_loud x n init.raw)
+        (metered_value x (Some w.state.meter) w.limiter) (metered_value x' (Some step.meter) step.limiter) result
+        turn.charge h refused) (λ h. ap (λ (t : MeteredValue TableValue S). t.limiter) h.2)) step.effect plain)
     limiter_stays (RangeWritten write) step = (range_holds w write turn w' step).unasked
     limiter_stays effect step = rw step.after refl
 
@@ -282,9 +258,7 @@ other_spare s s' call reply is keeps = keeps
 unasked_limiter : {S : Type 0} (rules : Rules S) (question : Option _) (l : S) (reply : Reply) (l' : S)
     → question ≡ None → (exchange : Exchange) → AsksFor question exchange reply → Passes rules l exchange l' → l' ≡ l
 unasked_limiter rules question l reply l' none Nothing asks passes = passes
-unasked_limiter rules question l reply l' none (Denial q answer) asks passes = absurd cc
-unasked_limiter rules question l reply l' none (Permission q) asks passes = absurd cc
-unasked_limiter rules question l reply l' none (Notice q failure notice_answer) asks passes = absurd cc
+unasked_limiter rules question l reply l' none exchange asks passes = absurd cc
 
 module _ {S : Type 0} (rules : Rules S) (w : World S) (turn : Turn) (w' : World S) where
   -- the meter stays where a growth would have to fail after its charge

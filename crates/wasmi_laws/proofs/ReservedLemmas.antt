@@ -1,7 +1,7 @@
 -- What is reserved is enough: no reply to a call that needs no other memory says out of memory, as no cause of its
 -- attempts, writes, reads and changes is lack of memory. A call takes its slot alone, and what is reserved stays so.
-use Rattle.wasmi_laws.proofs.Common.{nat_tests, append-nil, All-cons, All-head, All-nil, All-tail, All-weaker, none-some, same_Some, option_map, option_map_or, All, MatchOption, count_by, if◌then◌else◌, is_some, max, nat_eq, nat_le, slice_get, slice_set, at, overwrite, TrapCode, RefType, RawVal, TypedRawRef, AttemptOutcome, Denied, Failed, MayEnd, Met, MeteredValue, Request, Unasked, answer_of, covers, with_value, Rules, Meter, MemoryError, TableError, on_test, LacksMemory, Lent, Owned, Room, metered, metered_value, GrowsMemoryCharging, MakesMemory, MemoryTypeValue, MemoryValue, MemoryWrite, WritesMemory, new_memory, pages_of, GrowsTableCharging, SetsTable, TableValue, elements_write, is_within_maximum, same_type, size_of, with_elements_reserved, EndsBy, IsRefusedFor, MeteredWrite, copied, filled, write_due, both_live, on_live, on_live_too, WritesBytes, source_writes, IsNotOutOfMemory, AddsEntry, AddsItem, ChangesFound, Creates, IfNoRoom, MeteredSlots, OnLive, WritesRangeAt, reply_of, ByteSource, ReadsBytes, byte_write_of, SetsAt, StoresVectorAt, vector_at, State, Turn, World, live_at, with_reserved, with_tables, BytesRead, BytesStored, BytesWritten, Change, Changed, DataDropped, DataMade, Effect, ElementSet, FuelSet, GlobalMade, GlobalSet, HasChange, HasEffect, IsRunOf, ItemsDropped, LacksSlot, LentMemoryMade, MemoryDropped, MemoryGrown, MemoryMade, MemoryWritten, RangeWritten, RegisterSet, Run, SegmentMade, Step, TableDropped, TableGrown, TableMade, TableWritten, Told, effect_of, ReservesElementsAt, OfReference, OfSegment, OfTable, Source, write_of, CreatesSegment, IsSegmentOf, Call, Extract, GetElement, GetFuel, GetGlobal, GetRegister, GrowMemory, GrowTable, Load, NewData, NewGlobal, NewLentMemory, NewMemory, NewSegment, Test, Reply, Slot, Live, DataAt, GlobalAt, Location, MemoryAt, SegmentAt, TableAt, content_at, HasElements, HasElementsAt, HasSlot, HasSlots, SlotKind, Memories, Segments, DataSegments, Globals, made_of, slots_for, takes_slot, IsReservedToMaximum, IsLent, IsLentRoom, IsReservedFor, IsReservedTable, NeedsNoMemory, NeedsOnlySlot, ReservedCallsSucceed, ReservedRunsSucceed, SlotsSuffice, IsInRegion, outcome_of}
-use Rattle.std.proofs.Common.{◌++◌, Bool, Err, List, None, Ok, Option, Result, Some, [], ap, arith, cond, drop, false, inl, inr, length, map, refl, subst, sym, take, true, ℕ, ◌+◌, ◌<◌, ◌≤◌, ◌∙◌, ◌∷◌, ◌≡◌, ◌⊎◌, ⊎_elim}
+use Rattle.wasmi_laws.proofs.Common.{nat_tests, append-nil, All-cons, All-head, All-nil, All-tail, All-weaker, option_map, option_map_or, All, MatchOption, count_by, if◌then◌else◌, is_some, max, nat_eq, nat_le, slice_get, slice_set, at, overwrite, TrapCode, RefType, RawVal, TypedRawRef, AttemptOutcome, Denied, Failed, MayEnd, Met, MeteredValue, Request, Unasked, answer_of, covers, with_value, Rules, Meter, MemoryError, TableError, on_test, LacksMemory, Lent, Owned, Room, GrowsMemoryCharging, MakesMemory, MemoryTypeValue, MemoryValue, WritesMemory, new_memory, pages_of, GrowsTableCharging, SetsTable, TableValue, elements_write, is_within_maximum, same_type, size_of, with_elements_reserved, EndsBy, IsRefusedFor, MeteredWrite, copied, filled, write_due, both_live, on_live, on_live_too, source_writes, IsNotOutOfMemory, AddsEntry, AddsItem, ChangesFound, Creates, MeteredSlots, OnLive, WritesRangeAt, reply_of, ByteSource, ReadsBytes, byte_write_of, SetsAt, vector_at, State, Turn, World, live_at, with_reserved, with_tables, BytesRead, BytesStored, BytesWritten, Change, Changed, DataDropped, DataMade, Effect, ElementSet, FuelSet, GlobalMade, GlobalSet, HasChange, HasEffect, IsRunOf, ItemsDropped, LacksSlot, LentMemoryMade, MemoryDropped, MemoryGrown, MemoryMade, MemoryWritten, RangeWritten, RegisterSet, Run, SegmentMade, Step, TableDropped, TableGrown, TableMade, TableWritten, Told, effect_of, ReservesElementsAt, OfReference, OfSegment, OfTable, Source, write_of, CreatesSegment, IsSegmentOf, Call, Extract, GetElement, GetFuel, GetGlobal, GetRegister, GrowMemory, GrowTable, Load, NewData, NewGlobal, NewLentMemory, NewMemory, NewSegment, Test, Reply, Slot, Live, DataAt, GlobalAt, Location, MemoryAt, SegmentAt, TableAt, content_at, HasElements, HasElementsAt, HasSlot, HasSlots, SlotKind, Memories, Segments, DataSegments, Globals, made_of, slots_for, takes_slot, IsReservedToMaximum, IsLent, IsLentRoom, IsReservedFor, IsReservedTable, NeedsNoMemory, NeedsOnlySlot, ReservedCallsSucceed, ReservedRunsSucceed, SlotsSuffice, IsInRegion, outcome_of}
+use Rattle.std.proofs.Common.{◌++◌, Bool, Err, List, None, Ok, Option, Result, Some, [], ap, arith, cond, drop, false, inl, inr, length, map, refl, subst, sym, take, true, ℕ, ◌+◌, ◌≤◌, ◌∷◌, ◌≡◌, ◌⊎◌, ⊎_elim}
 use Rattle.std.proofs.lemmas.List.Sums.{sum_by-cons}
 use Rattle.wasmi_ops.specs.LoadStoreOps.{loaded_raw}
 use Rattle.wasmi_ops.specs.VectorOps.{tested_raw}
@@ -11,7 +11,7 @@ use Rattle.wasmi_store.specs.Segment.{SegmentValue}
 use Rattle.wasmi_store.specs.declared.table.element.SegmentError.{SegmentError}
 use Rattle.wasmi_machine.specs.declared.slots.SlotCounts.{SlotCounts}
 use Rattle.wasmi_laws.proofs.ListLemmas.{slot_changed}
-use Rattle.wasmi_laws.proofs.RefusalLemmas.{LaterCauses, first_has, tested}
+use Rattle.wasmi_laws.proofs.RefusalLemmas.{LaterCauses, causes, first_has, tested}
 use Rattle.wasmi_laws.proofs.LocationLemmas.{IsReservedIn, TakesMemory, count_at, effect_locations, made_in, stays_reserved}
 use Rattle.wasmi_machine.proofs.WritingLemmas.{early_none}
 use Rattle.wasmi_machine.specs.declared.calls.Reply.TheVariants as replied
@@ -78,11 +78,6 @@ module _ {V E : Type 0} (refusal : E → Reply) (w : MeteredWrite V E) (no : Wri
   write_told None (Some value) is ends = on_test (covers s.meter (write_due w s)) _ _ ends (λ paid. rw paid.0 tt)
       (λ unpaid. cause_told (w.unpaid (write_due w s)) (no.unpaid (write_due w s)) unpaid)
 
--- a write to a memory has no cause that is lack of memory
-memory_write_told : (len : ℕ) (write : MemoryValue → MemoryWrite) → WritesBytes len write → (x : MemoryValue)
-    → WritesWithoutWant replied.Memory (write x)
-memory_write_told len write w x = rw (w.is x) (record { early = w.told x.ty; outside = tt; unpaid = λ amount. tt })
-
 -- a write to a table has no cause that is lack of memory
 table_write_told : (x : TableValue) (typed : Bool) (written : Option (List ℕ)) (outside : TableError) (paid : Option ℕ)
     → IsOther replied.Table outside → WritesWithoutWant replied.Table (elements_write x typed written outside paid)
@@ -96,20 +91,20 @@ table_write_told x typed written outside paid other = record {
 bytes_told : (source : ByteSource) (dst len : ℕ) → OnLive (byte_write_of source dst len) (Unit {0})
     (λ w. (x : MemoryValue) → WritesWithoutWant replied.Memory (w x))
 bytes_told source dst len = on_live_too (byte_write_of source dst len) _ _ _ _ (λ missing. missing)
-    (memory_write_told len) (source_writes source dst len)
+    (λ write w x. rw (w.is x) (record { early = w.told x.ty; outside = tt; unpaid = λ amount. tt }))
+    (source_writes source dst len)
 
 -- no cause of a write over a range of a table is lack of memory, whatever its source
 elements_told : (source : Source) (dst len : ℕ) → OnLive (write_of source dst len) (Unit {0})
     (λ w. (x : TableValue) → WritesWithoutWant replied.Table (w x))
 elements_told (OfReference value) dst len = λ x. table_write_told x (same_type x.ty.element value.ty)
     (filled x.elements dst value.raw len) TableError.FillOutOfBounds (Some len) tt
-elements_told (OfTable None src) dst len = tt
 elements_told (OfTable (Some source) src) dst len = λ x. table_write_told x
     (same_type x.ty.element source.ty.element) (copied x.elements dst source.elements src len)
     TableError.CopyOutOfBounds (Some len) tt
-elements_told (OfSegment None src) dst len = tt
 elements_told (OfSegment (Some segment) src) dst len = λ x. table_write_told x (same_type x.ty.element segment.ty)
     (copied x.elements dst segment.items src len) TableError.InitOutOfBounds (if nat_eq len 0 then None else Some len) tt
+elements_told source dst len = tt
 
 -- the reply to a write over a range of the value of an index
 range_told : {X E : Type 0} (refusal : E → Reply) (k : ℕ) (write : Option (X → MeteredWrite X E))
@@ -125,13 +120,8 @@ range_told refusal k (Some w) without s reply charge s' writes = on_live (live_a
 -- no later cause of a request for a lent region is lack of memory
 lent_told : (region : List ℕ) (ty : MemoryTypeValue)
     → LaterCauses (IsOther replied.Memory) (memory.creation_of (Lent region) ty)
-lent_told region ty = record {
-  denied = tt;
-  refused = tt;
-  late = tested (IsOther replied.Memory) _ MemoryError.InvalidStaticBufferSize tt;
-  unpaid = λ amount. tt;
-  refuses = λ late cause lacks. absurd lacks;
-}
+lent_told region ty = causes tt tt (tested (IsOther replied.Memory) _ MemoryError.InvalidStaticBufferSize tt)
+    (λ amount. tt) (λ late cause lacks. absurd lacks)
 
 -- a lent room never lacks memory
 lent_lacks : (room : Room) (cause : MemoryError) → IsLentRoom room → LacksMemory room cause → ⊥
@@ -141,13 +131,8 @@ lent_lacks (Lent rest) cause lent lacks = lacks
 -- no later cause of a growth of a lent memory is lack of memory
 growth_told : (x : MemoryValue) (pages : ℕ) → IsLent x
     → LaterCauses (IsOther replied.Memory) (memory.growth_of x pages)
-growth_told x pages lent = record {
-  denied = tt;
-  refused = tt;
-  late = tested (IsOther replied.Memory) _ MemoryError.InvalidStaticBufferSize tt;
-  unpaid = λ amount. tt;
-  refuses = λ late cause lacks. absurd (lent_lacks x.room cause lent lacks);
-}
+growth_told x pages lent = causes tt tt (tested (IsOther replied.Memory) _ MemoryError.InvalidStaticBufferSize tt)
+    (λ amount. tt) (λ late cause lacks. absurd (lent_lacks x.room cause lent lacks))
 
 -- the reply to a growth of a lent memory
 grown_told : {S : Type 0} (rules : Rules S) (pages : ℕ) (s : MeteredValue MemoryValue S) → IsLent s.value
@@ -179,34 +164,19 @@ elements_there x n (inr full) within = within_reserved x.ty.maximum (size_of x +
 -- no later cause of a growth of a table for which it is reserved is lack of memory
 table_told : (x : TableValue) (n reference : ℕ) → HasElements n x
     → LaterCauses (IsOther replied.Table) (table.growth_of x n reference)
-table_told x n reference has = record {
-  denied = tt;
-  refused = tt;
-  late = tested (IsOther replied.Table) _ TableError.GrowOutOfBounds tt;
-  unpaid = λ amount. tt;
-  refuses = λ late cause lacks.
-      let there : size_of x + n ≤ x.reserved = elements_there x n has (early_none _ _ late) in
-      absurd (omega (arith, there, lacks.1));
-}
+table_told x n reference has = causes tt tt (tested (IsOther replied.Table) _ TableError.GrowOutOfBounds tt)
+    (λ amount. tt) (λ late cause lacks.
+    let there : size_of x + n ≤ x.reserved = elements_there x n has (early_none _ _ late) in
+    absurd (omega (arith, there, lacks.1)))
 
 -- ---- entries
 
 -- the reply to an entry whose error isn't lack of memory
 entry_told : {X A E : Type 0} (entry : X → A) (refusal : E → Reply) (result : Result X E) (list : List A)
-    (reply : Reply) (list' : List A) → ((error : E) → result ≡ Err error → IsOther refusal error)
+    (reply : Reply) (list' : List A) → IsNotOutOfMemory (reply_of (λ _. replied.Done) refusal result)
     → AddsEntry entry refusal result list reply list' → IsNotOutOfMemory reply
 entry_told entry refusal (Ok x) list reply list' other adds = rw adds.0 tt
-entry_told entry refusal (Err error) list reply list' other adds = rw adds.0 (other error refl)
-
--- the error of a creation in a lent region
-made_told : (region : List ℕ) (ty : MemoryTypeValue) (outcome : AttemptOutcome MemoryError)
-    → MayEnd (memory.creation_of (Lent region) ty) None outcome → (error : MemoryError)
-    → answer_of (memory.creation_of (Lent region) ty) (new_memory (Lent region) ty) outcome ≡ Err error
-    → IsOther replied.Memory error
-made_told region ty outcome may error is =
-    rw is at (attempt_told replied.Memory (memory.creation_of (Lent region) ty)
-    (tested (IsOther replied.Memory) _ MemoryError.MinimumSizeOverflow tt) (lent_told region ty) None (λ x. replied.Done)
-    (λ x. tt) (new_memory (Lent region) ty) outcome may)
+entry_told entry refusal (Err error) list reply list' other adds = rw adds.0 other
 
 -- the reply to a creation in a lent region with a slot that is reserved
 creation_told : {S : Type 0} (rules : Rules S) (region : List ℕ) (ty : MemoryTypeValue)
@@ -216,35 +186,18 @@ creation_told : {S : Type 0} (rules : Rules S) (region : List ℕ) (ty : MemoryT
 creation_told rules region ty slots l reply slots' l' room (inl none) = absurd (room none.0)
 creation_told rules region ty slots l reply slots' l' room (inr (result, (outcome, attempt, answered), adds)) =
     entry_told Live replied.Memory result slots reply slots'
-    (λ error is. made_told region ty outcome attempt.may_end error (sym answered ∙ is)) adds
-
--- no reply says that there is no room for a slot, where one is reserved
-slot_there : {A : Type 0} (reserved : ℕ) (list : List A) (reply : Reply) → length list < reserved
-    → IfNoRoom reply (LacksSlot reserved list) → reply ≡ replied.NoRoom → ⊥
-slot_there reserved list reply has room is =
-    let lacks : LacksSlot reserved list = rw is at room in omega (arith, has, lacks)
+    (rw answered (attempt_told replied.Memory (memory.creation_of (Lent region) ty)
+    (tested (IsOther replied.Memory) _ MemoryError.MinimumSizeOverflow tt) (lent_told region ty) None (λ x. replied.Done)
+    (λ x. tt) (new_memory (Lent region) ty) outcome attempt.may_end)) adds
 
 -- ---- reads
 
--- no byte is found by a read of none
-none_read : (xs : List ℕ) (test : Bool) (bytes : List ℕ)
-    → (if test then Some (take 0 xs) else None) ≡ Some bytes → length bytes ≡ 0
-none_read xs true bytes is = ap length (sym (same_Some (take 0 xs) bytes is))
-none_read xs false bytes is = absurd (none-some bytes is)
-
 -- the reply to a read of no byte
-read_told : (found : Option (List ℕ)) (reply : Reply) → ((bytes : List ℕ) → found ≡ Some bytes → length bytes ≡ 0)
-    → ReadsBytes found reply → IsNotOutOfMemory reply
-read_told None reply none reads = rw reads tt
-read_told (Some bytes) reply none (inl refused) = absurd (omega (arith, none bytes refl, refused.1))
-read_told (Some bytes) reply none (inr read) = rw read tt
-
--- the reply to a read of so many bytes, of which there are none
-bytes_read_told : (xs : List ℕ) (offset len : ℕ) (reply : Reply) → len ≡ 0 → ReadsBytes (at xs offset len) reply
+read_told : (xs : List ℕ) (test : Bool) (reply : Reply) → ReadsBytes (if test then Some (take 0 xs) else None) reply
     → IsNotOutOfMemory reply
-bytes_read_told xs offset len reply none reads =
-    read_told (at xs offset 0) reply (λ bytes. none_read (drop offset xs) (nat_le (offset + 0) (length xs)) bytes)
-    (rw none at reads)
+read_told xs false reply reads = rw reads tt
+read_told xs true reply (inl refused) = absurd (omega (arith, refused.1))
+read_told xs true reply (inr read) = rw read tt
 
 -- ---- changes of one part
 
@@ -254,13 +207,12 @@ added_told : {Lacks X : Type 0} (x : X) (items : List X) (reply : Reply) (items'
 added_told x items reply items' has (inl none) = absurd (has none.2)
 added_told x items reply items' has (inr made) = rw made.0 tt
 
--- the error of a segment of no item
-segment_error_told : (ty : RefType) (items : List ℕ) (result : Result SegmentValue SegmentError) (error : SegmentError)
-    → items ≡ [] → IsSegmentOf ty items result → result ≡ Err error → IsOther replied.Segment error
-segment_error_told ty items (Ok segment) error none fits is = absurd cc
-segment_error_told ty items (Err SegmentError.TooManyItems) error none fits is =
-    subst (λ (r : Result SegmentValue SegmentError). IsNotOutOfMemory (reply_of (λ x. replied.Done) replied.Segment r)) is tt
-segment_error_told ty items (Err SegmentError.OutOfSystemMemory) error none fits is =
+-- the error of a segment of no item isn't lack of memory
+segment_error_told : (ty : RefType) (items : List ℕ) (result : Result SegmentValue SegmentError) → items ≡ []
+    → IsSegmentOf ty items result → IsNotOutOfMemory (reply_of (λ _. replied.Done) replied.Segment result)
+segment_error_told ty items (Ok segment) none fits = tt
+segment_error_told ty items (Err SegmentError.TooManyItems) none fits = tt
+segment_error_told ty items (Err SegmentError.OutOfSystemMemory) none fits =
     absurd (omega (arith, ap length none, fits))
 
 -- the reply to a creation of a segment of no item
@@ -270,7 +222,7 @@ segment_told : {Lacks : Type 0} (ty : RefType) (items : List ℕ) (segments : Li
 segment_told ty items segments reply segments' none has (inl lacks) = absurd (has lacks.2)
 segment_told ty items segments reply segments' none has (inr (result, fits, adds)) =
     entry_told (λ x. x) replied.Segment result segments reply segments'
-    (λ error is. segment_error_told ty items result error none fits is) adds
+    (segment_error_told ty items result none fits) adds
 
 -- the reply to a change of what was found
 found_told : {X A : Type 0} (found : Option X) (put : X → A) (part : A) (reply : Reply) (part' : A)
@@ -285,14 +237,6 @@ write_error_told : (x : MemoryValue) (offset : ℕ) (source : List ℕ) (result 
     → IsNotOutOfMemory (reply_of (λ _. replied.Done) replied.Memory result)
 write_error_told x offset source (Ok done) x' writes = tt
 write_error_told x offset source (Err error) x' writes = rw writes.0 tt
-
--- the reply to a store, whose bytes may be missing
-store_told : (k a : ℕ) (stored : Option (List ℕ)) (slots : List (Slot MemoryValue)) (reply : Reply)
-    (slots' : List (Slot MemoryValue)) → StoresVectorAt k a stored slots reply slots' → IsNotOutOfMemory reply
-store_told k a None slots reply slots' stores = rw stores.0 tt
-store_told k a (Some stored) slots reply slots' stores =
-    found_told (live_at slots k) (λ x. slice_set slots k (Live x)) slots reply slots' _ (λ x x' h.
-    rw h.2 (result_told h.0 (λ _. replied.Done) replied.Trap (λ done. tt) (λ trap is. tt))) stores
 
 -- the reply to a call that sets a register
 takes_told : (given : Option (Result RawVal TrapCode)) (old : Option RawVal) (dst : ℕ) (registers : List RawVal)
@@ -322,7 +266,10 @@ change_told : (s : State) (reply : Reply) (s' : State) (change : Change) → Cha
 change_told s reply s' (BytesWritten k offset bytes) has c =
     found_told (live_at s.memories k) (λ x. slice_set s.memories k (Live x)) s.memories reply c.part _
     (λ x x' h. rw h.2 (write_error_told x offset bytes h.0 x' h.1)) c.effect
-change_told s reply s' (BytesStored k a stored) has c = store_told k a stored s.memories reply c.part c.effect
+change_told s reply s' (BytesStored k a None) has c = rw c.effect.0 tt
+change_told s reply s' (BytesStored k a (Some stored)) has c =
+    found_told (live_at s.memories k) (λ x. slice_set s.memories k (Live x)) s.memories reply c.part _
+    (λ x x' h. rw h.2 (result_told h.0 (λ _. replied.Done) replied.Trap (λ done. tt) (λ trap is. tt))) c.effect
 change_told s reply s' (RegisterSet dst given) has c =
     takes_told given (slice_get s.registers dst) dst s.registers reply c.part c.effect
 change_told s reply s' (MemoryDropped k) has c = on_live (live_at s.memories k) _ _ c.effect
@@ -411,30 +358,23 @@ module _ {S : Type 0} (rules : Rules S) (w : World S) (turn : Turn) (w' : World 
       → IsNotOutOfMemory turn.reply
   effect_told (Told reply) has step = rw step.effect has
   effect_told (BytesRead k offset len) has step = on_live (live_at w.state.memories k) _ _ step.effect
-      (λ missing. rw missing tt) (λ x found h. bytes_read_told x.bytes offset len turn.reply has h)
+      (λ missing. rw missing tt) (λ x found h. read_told (drop offset x.bytes) _ turn.reply (rw has at h))
   effect_told (FuelSet fuel) has step = set_fuel_told (is_some w.state.meter.left) step.effect.0
   effect_told (Changed change) has step = change_told w.state turn.reply step.machine change has step.effect
   effect_told (LentMemoryMade ty) has step = on_live w.state.spare _ _ step.effect (λ none. rw none.0 tt)
       (λ region found h. creation_told rules region ty w.state.memories w.limiter turn.reply step.part.slots step.limiter
-      (slot_there w.state.reserved.memories w.state.memories turn.reply has step.room) h.0)
+      (λ is. let lacks : LacksSlot w.state.reserved.memories w.state.memories = rw is at step.room in
+      omega (arith, has, lacks)) h.0)
   effect_told (MemoryGrown k pages) has step =
       on_live (live_at w.state.memories k) _ _ (both_live (live_at w.state.memories k) _ _ _ _ has step.effect)
-      (λ missing. rw missing.1.0 tt) (λ x found h. rw h.1.3 (grown_told rules pages
-      (metered_value x (Some w.state.meter) w.limiter) h.0 h.1.0 turn.charge
-      (metered_value h.1.1 (Some step.meter) step.limiter) h.1.2))
+      (λ missing. rw missing.1.0 tt) (λ x found h. rw h.1.3 (grown_told rules pages _ h.0 _ _ _ h.1.2))
   effect_told (TableGrown k n init) has step = on_live (live_at w.state.tables k) _ _
       (both_live (live_at w.state.tables k) _ _ _ _ (none_or_live (HasElements n) (live_at w.state.tables k) has) step.effect)
-      (λ missing. rw missing.1.0 tt) (λ x found h. rw h.1.3 (table_growth_told n init
-      (metered_value x (Some w.state.meter) w.limiter)
-      (metered_value h.1.1 (Some step.meter) step.limiter) h.0 h.1.0 turn.charge h.1.2))
+      (λ missing. rw missing.1.0 tt) (λ x found h. rw h.1.3 (table_growth_told n init _ _ h.0 _ _ h.1.2))
   effect_told (RangeWritten (TableWritten k source dst len)) has step =
-      range_told replied.Table k (write_of source dst len) (elements_told source dst len)
-      (metered w.state.tables (Some w.state.meter)) turn.reply turn.charge (metered step.part (Some step.meter))
-      step.effect
+      range_told replied.Table k (write_of source dst len) (elements_told source dst len) _ _ _ _ step.effect
   effect_told (RangeWritten (MemoryWritten k source dst len)) has step =
-      range_told replied.Memory k (byte_write_of source dst len) (bytes_told source dst len)
-      (metered w.state.memories (Some w.state.meter)) turn.reply turn.charge (metered step.part (Some step.meter))
-      step.effect
+      range_told replied.Memory k (byte_write_of source dst len) (bytes_told source dst len) _ _ _ _ step.effect
   effect_told effect has step = absurd has
 
 -- the reply to a call that needs no memory doesn't say out of memory
@@ -627,12 +567,8 @@ slots_suffice s more calls fits = with_more_slots s more calls fits.needs (λ ki
 -- a table for which so many elements are reserved stays reserved up to its maximum
 more_elements : (n : ℕ) (x x' : TableValue) → x' ≡ with_elements_reserved x n → IsReservedToMaximum x
     → IsReservedToMaximum x'
-more_elements n x x' is full = rw is (up x.ty.maximum full)
-  where
-    up : (most : Option ℕ) → MatchOption most ⊥ (λ m. m ≤ x.reserved)
-        → MatchOption most ⊥ (λ m. m ≤ max x.reserved n)
-    up None full = full
-    up (Some m) full = grind (arith, full)
+more_elements n x x' is full =
+    rw is (on_live_too x.ty.maximum _ _ _ _ (λ none. none) (λ m most. omega (arith, most)) full)
 
 -- where elements of a table are reserved, what was reserved is so
 pub elements_stay_reserved : (s : State) (table elements : ℕ) (reply : Reply) (s' : State) (calls : List Call)

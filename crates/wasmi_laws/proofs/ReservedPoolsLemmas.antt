@@ -1,9 +1,8 @@
 -- What a tenant of a pool has reserved stays reserved for its calls, whatever else is done with the pool, and no reply
 -- to them says out of memory.
-use Rattle.std.proofs.Common.{◌≡◌, ◌++◌, ◌∷◌, ◌∙◌, Bool, List, None, Some, [], ap, false, refl, subst, sym, true, ℕ}
-use Rattle.wasmi_laws.proofs.Common.{Decides-eqb, All-append, All-nil, none-some, same_Some, All, if◌then◌else◌, nat_eq, slice_set, optional_rules, IsNotOutOfMemory, State, world, Call, IsReservedFor}
-use Rattle.std.proofs.lemmas.Bool.{false≢true}
-use Rattle.std.specs.Bool.{Decides}
+use Rattle.std.proofs.Common.{◌≡◌, ◌∷◌, ◌∙◌, List, None, Some, [], ap, inl, inr, subst, sym, ℕ}
+use Rattle.wasmi_laws.proofs.Common.{All-append, All-nil, none-some, same_Some, All, slice_set, optional_rules, IsNotOutOfMemory, State, world, Call, IsReservedFor}
+use Rattle.std.proofs.lemmas.Bool.{cases_eq, eq-eqb, ne_eqb}
 use Rattle.wasmi_laws.proofs.ReservedLemmas.{elements_stay_reserved, front_told, more_reserved, slots_suffice}
 use Rattle.wasmi_laws.specs.ReservedPools.{ReservedTenantsSucceed, SlotsSufficeForTenants, calls_of, replies_of}
 use Rattle.wasmi_budget.proofs.IsolationLemmas.{kept_added, kept_set, set_at}
@@ -17,14 +16,12 @@ module _ (index : ℕ) where
       → PoolRun pool turns pool' → All IsNotOutOfMemory (replies_of index turns)
   none_told pool vacant [] pool' ran = All-nil IsNotOutOfMemory
   none_told pool vacant (Ran i calls replies ∷ turns) pool' (next, runs, ran) =
-      by (none_told next (vacant_stays pool index vacant (Ran i calls replies) next runs) turns pool' ran)
-      (nat_eq i index) (Decides-eqb i index)
-    where
-      by : All IsNotOutOfMemory (replies_of index turns) → (same : Bool) → Decides same (i ≡ index)
-          → All IsNotOutOfMemory (if same then replies ++ replies_of index turns else replies_of index turns)
-      by rest true decides = absurd
-          (none-some runs.machine (sym vacant.vacant ∙ ap (machine_of pool) (sym (decides.0 refl)) ∙ runs.found))
-      by rest false decides = rest
+      elim (cases_eq i index) [
+        | inl is ↦ absurd
+            (none-some runs.machine (sym vacant.vacant ∙ ap (machine_of pool) (sym is) ∙ runs.found))
+        | inr other ↦ rw (ne_eqb i index other)
+            (none_told next (vacant_stays pool index vacant (Ran i calls replies) next runs) turns pool' ran)
+      ]
   none_told pool vacant (turn ∷ turns) pool' (next, step, ran) =
       none_told next (vacant_stays pool index vacant turn next step) turns pool' ran
 
@@ -42,18 +39,18 @@ module _ (index : ℕ) where
     -- where a machine has become another, that is another tenant's, or has reserved as much
     becomes_ready : (i : ℕ) (s s' : State) → machine_of pool i ≡ Some s
         → next ≡ record pool { machines = slice_set pool.machines i (Some s') }
-        → (IsReservedFor s calls → IsReservedFor s' calls) → (same : Bool) → Decides same (i ≡ index)
-        → IsReady next calls
-    becomes_ready i s s' found after keeps true decides =
-        let is = decides.0 refl in
-        let own = same_Some it.machine s (sym it.found ∙ ap (machine_of pool) (sym is) ∙ found) in
-        record {
-          machine = s';
-          found = rw (after, ← is) (set_at pool.machines i s s' found);
-          ready = keeps (rw own at it.ready);
-        }
-    becomes_ready i s s' found after keeps false decides = stays_at (rw after
-        (kept_set pool.machines index i it.machine (Some s') (λ same. false≢true (decides.1 (sym same))) it.found))
+        → (IsReservedFor s calls → IsReservedFor s' calls) → IsReady next calls
+    becomes_ready i s s' found after keeps = elim (cases_eq i index) [
+      | inl is ↦
+          let own = same_Some it.machine s (sym it.found ∙ ap (machine_of pool) (sym is) ∙ found) in
+          record {
+            machine = s';
+            found = rw (after, ← is) (set_at pool.machines i s s' found);
+            ready = keeps (rw own at it.ready);
+          }
+      | inr other ↦ stays_at (rw after
+          (kept_set pool.machines index i it.machine (Some s') (λ same. other (sym same)) it.found))
+    ]
 
   -- no reply to the calls of a tenant whose machine has reserved what they need says out of memory
   ready_told : (pool : PoolValue) (turns : List PoolTurn) → IsReady pool (calls_of index turns) → (pool' : PoolValue)
@@ -65,50 +62,41 @@ module _ (index : ℕ) where
   ready_told pool (Reserved i more ∷ turns) it pool' (next, (caps, reserves), ran) =
       ready_told next turns (becomes_ready pool (calls_of index turns) it next i reserves.machine reserves.machine'
       reserves.found (λ k. record { caps = caps k; machines = reserves.after k })
-      (λ r. rw reserves.becomes (more_reserved reserves.machine more (calls_of index turns) r)) (nat_eq i index) (Decides-eqb i index)) pool' ran
+      (λ r. rw reserves.becomes (more_reserved reserves.machine more (calls_of index turns) r))) pool' ran
   ready_told pool (ReservedElements i table elements reply ∷ turns) it pool' (next, (caps, reserves), ran) =
       ready_told next turns (becomes_ready pool (calls_of index turns) it next i reserves.machine reserves.machine'
       reserves.found (λ k. record { caps = caps k; machines = reserves.after k })
       (elements_stay_reserved reserves.machine table elements reply reserves.machine' (calls_of index turns)
-      reserves.becomes.0 reserves.becomes.1) (nat_eq i index) (Decides-eqb i index)) pool' ran
+      reserves.becomes.0 reserves.becomes.1)) pool' ran
   ready_told pool (Refused ∷ turns) it pool' (next, same, ran) =
       ready_told next turns (stays_at pool (calls_of index turns) it next (rw same it.found)) pool' ran
   ready_told pool (Removed i s ∷ turns) it pool' (next, removes, ran) =
-      by (λ ready. ready_told next turns ready pool' ran) (nat_eq i index) (Decides-eqb i index)
-    where
-      by : (IsReady next (calls_of index turns) → All IsNotOutOfMemory (replies_of index turns)) → (same : Bool)
-          → Decides same (i ≡ index) → All IsNotOutOfMemory (replies_of index turns)
-      by rest true decides =
-          none_told next (subst (IsVacant next) (decides.0 refl) (removal_vacates pool i s next removes)) turns pool' ran
-      by rest false decides =
-          rest (stays_at pool (calls_of index turns) it next (rw removes.removed
-          (kept_set pool.machines index i it.machine None (λ same. false≢true (decides.1 (sym same))) it.found)))
+      elim (cases_eq i index) [
+        | inl is ↦ none_told next (subst (IsVacant next) is (removal_vacates pool i s next removes)) turns pool' ran
+        | inr other ↦ ready_told next turns (stays_at pool (calls_of index turns) it next (rw removes.removed
+            (kept_set pool.machines index i it.machine None (λ same. other (sym same)) it.found))) pool' ran
+      ]
   ready_told pool (Ran i calls replies ∷ turns) it pool' (next, runs, ran) =
-      by (λ ready. ready_told next turns ready pool' ran) (nat_eq i index) (Decides-eqb i index) it.ready
-    where
-      by : (IsReady next (calls_of index turns) → All IsNotOutOfMemory (replies_of index turns)) → (same : Bool)
-          → Decides same (i ≡ index)
-          → IsReservedFor it.machine (if same then calls ++ calls_of index turns else calls_of index turns)
-          → All IsNotOutOfMemory (if same then replies ++ replies_of index turns else replies_of index turns)
-      by rest true decides ready =
-          let is = decides.0 refl in
-          let own = same_Some it.machine runs.machine (sym it.found ∙ ap (machine_of pool) (sym is) ∙ runs.found) in
-          let w = world runs.machine (Some (tenant_at pool i runs.machine)) in
-          let w' = world runs.machine' (Some runs.tenant') in
-          let front = front_told (optional_rules tenant_rules) (calls_of index turns) calls w replies w'
-          (rw own at ready) runs.ran in
-          All-append IsNotOutOfMemory replies (replies_of index turns) front.0
-          (rest (record {
-            machine = runs.machine';
-            found = rw (runs.after, ← is) (set_at pool.machines i runs.machine runs.machine' runs.found);
-            ready = front.1;
-          }))
-      by rest false decides ready = rest (record {
-        machine = it.machine;
-        found = rw runs.after (kept_set pool.machines index i it.machine (Some runs.machine')
-            (λ same. false≢true (decides.1 (sym same))) it.found);
-        ready = ready;
-      })
+      elim (cases_eq i index) [
+        | inl is ↦
+            let own = same_Some it.machine runs.machine (sym it.found ∙ ap (machine_of pool) (sym is) ∙ runs.found) in
+            let w = world runs.machine (Some (tenant_at pool i runs.machine)) in
+            let w' = world runs.machine' (Some runs.tenant') in
+            let front = front_told (optional_rules tenant_rules) (calls_of index turns) calls w replies w'
+            (rw (eq-eqb i index is, own) at it.ready) runs.ran in
+            rw (eq-eqb i index is) (All-append IsNotOutOfMemory replies (replies_of index turns) front.0
+            (ready_told next turns (record {
+              machine = runs.machine';
+              found = rw (runs.after, ← is) (set_at pool.machines i runs.machine runs.machine' runs.found);
+              ready = front.1;
+            }) pool' ran))
+        | inr other ↦ rw (ne_eqb i index other) (ready_told next turns (record {
+          machine = it.machine;
+          found = rw runs.after
+              (kept_set pool.machines index i it.machine (Some runs.machine') (λ same. other (sym same)) it.found);
+          ready = rw (ne_eqb i index other) at it.ready;
+        }) pool' ran)
+      ]
 
 -- no reply to the calls of a tenant that has reserved what they need says out of memory
 pub reserved_tenants_succeed : ReservedTenantsSucceed

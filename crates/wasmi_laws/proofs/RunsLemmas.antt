@@ -14,16 +14,6 @@ use Rattle.wasmi_laws.proofs.ListLemmas.{EachAfter, appended, put, unchanged}
 use Rattle.wasmi_machine.specs.Account.{ChangesMeter, SetsNoFuel}
 use Rattle.wasmi_machine.proofs.AccountLemmas.{costs_kept, step_meter}
 
--- where two lists are made of one that is cut, the first is made of as many items as it has
-made_first : {X Y : Type 0} (f : X → Y) (xs : List X) (ys zs : List Y) → map f xs ≡ ys ++ zs
-    → map f (take (length ys) xs) ≡ ys
-made_first f xs ys zs made = rw (← (take-map f (length ys) xs), made) (take_at ys zs (length ys) refl)
-
--- where two lists are made of one that is cut, the second is made of the items that follow
-made_rest : {X Y : Type 0} (f : X → Y) (xs : List X) (ys zs : List Y) → map f xs ≡ ys ++ zs
-    → map f (drop (length ys) xs) ≡ zs
-made_rest f xs ys zs made = rw (← (drop-map f (length ys) xs), made) (drop_at ys zs (length ys) refl)
-
 module _ {S : Type 0} (rules : Rules S) where
   -- a run of turns is cut at each place
   pub run_is_cut : (u : World S) (turns turns' : List Turn) (w : World S) → Run rules u (turns ++ turns') w
@@ -42,13 +32,13 @@ module _ {S : Type 0} (rules : Rules S) where
         between = cut.0;
         first_run = (
           take n turns,
-          made_first Turn.call turns calls calls' made,
+          sym (take-map Turn.call n turns) ∙ ap (take n) made ∙ take_at calls calls' n refl,
           sym (take-map Turn.reply n turns) ∙ ap (take n) told,
           cut.1,
         );
         rest_run = (
           drop n turns,
-          made_rest Turn.call turns calls calls' made,
+          sym (drop-map Turn.call n turns) ∙ ap (drop n) made ∙ drop_at calls calls' n refl,
           sym (drop-map Turn.reply n turns) ∙ ap (drop n) told,
           cut.2,
         );

@@ -194,10 +194,7 @@ IsLiveSlot (Gone size) = ⊥
 abbrev pub IsLive : (location : Location) → Content location → Type 0
 IsLive (MemoryAt k) x = IsLiveSlot x
 IsLive (TableAt k) x = IsLiveSlot x
-IsLive (SegmentAt k) x = Unit {0}
-IsLive (DataAt k) x = Unit {0}
-IsLive (GlobalAt k) x = Unit {0}
-IsLive (RegisterAt k) x = Unit {0}
+IsLive location x = Unit {0}
 
 -- something is at an index, and this holds of it
 abbrev pub HasAt : (location : Location) → State → (Content location → Type 0) → Type 0
@@ -294,10 +291,6 @@ module _ {S : Type 0} (rules : Rules S) where
 abbrev pub with_memory_at : State → ℕ → MemoryValue → State
 with_memory_at s k x = with_memories s (slice_set s.memories k (Live x))
 
--- the state with this table at an index
-abbrev pub with_table_at : State → ℕ → TableValue → State
-with_table_at s k x = with_tables s (slice_set s.tables k (Live x))
-
 -- the state with another meter, as a growth of what is at an index leaves it
 abbrev pub with_meter : State → Meter → State
 with_meter s m = record s { meter = m }
@@ -320,7 +313,7 @@ module _ {S : Type 0} (rules : Rules S) where
       (l' : S) → live_at w.state.tables k ≡ Some x
       → GrowsTable rules n init (metered_value x (Some w.state.meter) w.limiter) result (metered_value x' (Some m') l')
       → RepliesWith rules (GrowTable k n init) w (reply_of Number Table result)
-      (world (with_meter (with_table_at w.state k x') m') l')
+      (world (with_meter (with_tables w.state (slice_set w.state.tables k (Live x'))) m') l')
 
   -- bytes that are read of a memory by itself are those that the machine answers, and a read past its end is refused
   abbrev pub MemoriesReadAlike : Type 0

@@ -7,7 +7,7 @@ use Rattle.wasmi_machine.specs.Determinism.{IsNotOutOfMemory}
 use Rattle.wasmi_machine.specs.State.{State}
 use Rattle.wasmi_machine.specs.declared.slots.SlotCounts.{SlotCounts}
 use Rattle.wasmi_laws.specs.Reserved.{FitsSlots, IsReservedFor}
-use Rattle.wasmi_budget.specs.Laws.{PoolTurn, Added, Ran, Reserved, ReservedElements, Removed, Refused, PoolRun}
+use Rattle.wasmi_budget.specs.Laws.{PoolTurn, Ran, Reserved, PoolRun}
 use Rattle.wasmi_budget.specs.Pool.{PoolValue, machine_of}
 
 -- what a list is of each run of the tenant of an index, one after another
@@ -15,11 +15,7 @@ abbrev pub of_runs : {A : Type 0} → (List Call → List Reply → List A) → 
 of_runs list index [] = []
 of_runs list index (Ran i calls replies ∷ turns) =
     if nat_eq i index then list calls replies ++ of_runs list index turns else of_runs list index turns
-of_runs list index (Added s ∷ turns) = of_runs list index turns
-of_runs list index (Reserved i more ∷ turns) = of_runs list index turns
-of_runs list index (ReservedElements i table elements reply ∷ turns) = of_runs list index turns
-of_runs list index (Removed i s ∷ turns) = of_runs list index turns
-of_runs list index (Refused ∷ turns) = of_runs list index turns
+of_runs list index (turn ∷ turns) = of_runs list index turns
 
 -- the calls of all runs of the tenant of an index, one after another
 abbrev pub calls_of : ℕ → List PoolTurn → List Call

@@ -1,7 +1,7 @@
 -- What each turn takes of the meter, also by a growth or a write over a range, and that the account of a run balances.
 use Rattle.std.proofs.Common.{Bool, List, None, Option, Result, Some, [], arith, false, inl, inr, refl, true, ℕ, ◌+◌, ◌-◌, ◌∷◌, ◌≡◌, ◌≤◌}
 use Rattle.std.proofs.Math.Dec.{leb-zero}
-use Rattle.wasmi_machine.proofs.Common.{and_parts, nat_tests, same_Some, option_map, if◌then◌else◌, is_none, nat_le, ◌&&◌, Account, Balances, ChangesMeter, account_after, charged_by, opened, ActsAt, reply_of, Run, Changed, Effect, FuelSet, MemoryGrown, HasRangeWrite, RangeWrite, RangeWritten, Step, TableGrown, HasEffect, effect_of, State, live_at, Turn, outcome_of, World, Grows, Growth, Call, SetFuel, Reply, Slot, Attempt, Request, Failed, AttemptOutcome, Met, MeteredValue, optional_due, covers, with_value, Rules, Meter, amount_left, meter_after, meter_set, PaysCharge, TableError, on_test, GrowsMemoryCharging, GrowsTableCharging, TableValue, same_type, TypedRawRef, memory_growth, table_growth}
+use Rattle.wasmi_machine.proofs.Common.{and_parts, nat_tests, same_Some, option_map, if◌then◌else◌, is_none, nat_le, ◌&&◌, Account, Balances, ChangesMeter, account_after, charged_by, opened, ActsAt, reply_of, Run, Changed, Effect, FuelSet, MemoryGrown, RangeWritten, Step, TableGrown, HasEffect, effect_of, State, live_at, Turn, outcome_of, World, Grows, Growth, Call, SetFuel, Reply, Slot, Attempt, Request, Failed, AttemptOutcome, Met, MeteredValue, optional_due, covers, with_value, Rules, Meter, amount_left, meter_after, meter_set, PaysCharge, on_test, GrowsMemoryCharging, GrowsTableCharging, same_type, memory_growth, table_growth}
 use Rattle.wasmi_machine.proofs.EffectLemmas.{on_live}
 use Rattle.wasmi_machine.proofs.RangeLemmas.{range_facts}
 use Rattle.wasmi_machine.proofs.StepsLemmas.{change_facts}
@@ -66,15 +66,6 @@ grows_takes rules g s s' result charge (inl none) = takes_nothing s s' charge no
 grows_takes rules g s s' result charge (inr some) =
     (attempt_paid rules g.request s s' charge some.outcome some.attempt, some.attempt.meter)
 
--- a growth of a table, whose type is tested first, takes its charge from the meter
-table_grows_takes : {S : Type 0} (rules : Rules S) (n : ℕ) (init : TypedRawRef) (s s' : MeteredValue TableValue S)
-    (result : Result ℕ TableError) (charge : ℕ) → GrowsTableCharging rules n init s result charge s'
-    → Takes s.meter charge s'.meter
-table_grows_takes rules n init s s' result charge grows =
-    on_test (same_type s.value.ty.element init.ty) _ _ grows
-    (grows_takes rules (table_growth n init.raw s.value) s s' result charge)
-    (λ h. takes_nothing s s' charge h.1 h.2)
-
 -- a call on what an index names takes its charge from the meter
 acts_takes : {X R S : Type 0} (k : ℕ) (reply_to : R → Reply)
     (Acts : MeteredValue X S → R → ℕ → MeteredValue X S → Type 0)
@@ -84,14 +75,6 @@ acts_takes : {X R S : Type 0} (k : ℕ) (reply_to : R → Reply)
 acts_takes k reply_to Acts takes s s' reply charge acts = on_live (live_at s.value k) _ _ acts
     (λ missing. takes_nothing s s' charge missing.1 missing.2)
     (λ x found act. takes (with_value s x) (with_value s' act.1) act.0 charge act.2)
-
--- a write over a range takes its charge from the meter
-range_takes : {S : Type 0} (w : World S) (write : RangeWrite) (turn : Turn) (w' : World S)
-    → HasRangeWrite write w (outcome_of turn) w' → PaysCharge w.state.meter turn.charge w'.state.meter
-range_takes w write turn w' step = elim (range_facts w write turn w' step) [
-  | inl idle ↦ pays_nothing w.state.meter w'.state.meter turn.charge idle.uncharged (rw idle.same)
-  | inr paid ↦ (paid.enough, paid.meter)
-]
 
 -- what an effect with a charge makes of the meter
 abbrev ChangesMeterBy : Effect → Meter → ℕ → Meter → Type 0
@@ -104,18 +87,17 @@ changed_meter : (s : State) (call : Call) (m : Meter) (charge : ℕ) (m' : Meter
 changed_meter s (SetFuel fuel) m charge m' changes = changes
 changed_meter s call m charge m' changes = changes
 
-module _ {S : Type 0} (w : World S) (turn : Turn) (w' : World S) where
+module _ {S : Type 0} (rules : Rules S) (w : World S) (turn : Turn) (w' : World S) where
   -- a turn without a charge ends in a world with the same meter
   free_in : {v : World S} → w' ≡ v → turn.charge ≡ 0 → v.state.meter ≡ w.state.meter
       → PaysCharge w.state.meter turn.charge w'.state.meter
   free_in {v} is free same = rw is (pays_nothing w.state.meter v.state.meter turn.charge free same)
 
-module _ {S : Type 0} (rules : Rules S) (w : World S) (turn : Turn) (w' : World S) where
   -- an effect makes of the meter what its kind says
   effect_meter : (effect : Effect) → HasEffect rules effect w (outcome_of turn) w'
       → ChangesMeterBy effect w.state.meter turn.charge w'.state.meter
   effect_meter (FuelSet fuel) step = rw (step.after, step.effect.1)
-  effect_meter (Changed change) step = free_in w turn w' step.after step.free.0
+  effect_meter (Changed change) step = free_in step.after step.free.0
       ((change_facts w.state change).meter turn.reply step.machine step.effect)
   effect_meter (MemoryGrown k pages) step = rw step.after (pays w.state.meter step.meter turn.charge
       (acts_takes k (reply_of replied.Number replied.Memory) (GrowsMemoryCharging rules pages)
@@ -123,9 +105,14 @@ module _ {S : Type 0} (rules : Rules S) (w : World S) (turn : Turn) (w' : World 
       _ _ turn.reply turn.charge step.effect))
   effect_meter (TableGrown k n init) step = rw step.after (pays w.state.meter step.meter turn.charge
       (acts_takes k (reply_of replied.Number replied.Table) (GrowsTableCharging rules n init)
-      (table_grows_takes rules n init) _ _ turn.reply turn.charge step.effect))
-  effect_meter (RangeWritten write) step = range_takes w write turn w' step
-  effect_meter effect step = free_in w turn w' step.after step.free.0 refl
+      (λ s s' result charge grows. on_test (same_type s.value.ty.element init.ty) _ _ grows
+      (grows_takes rules (table_growth n init.raw s.value) s s' result charge)
+      (λ h. takes_nothing s s' charge h.1 h.2)) _ _ turn.reply turn.charge step.effect))
+  effect_meter (RangeWritten write) step = elim (range_facts w write turn w' step) [
+    | inl idle ↦ pays_nothing w.state.meter w'.state.meter turn.charge idle.uncharged (rw idle.same)
+    | inr paid ↦ (paid.enough, paid.meter)
+  ]
+  effect_meter effect step = free_in step.after step.free.0 refl
 
   -- a step changes the meter as its call says
   pub step_meter : Step rules w turn w' → ChangesMeter turn.call w.state.meter turn.charge w'.state.meter

@@ -7,7 +7,7 @@ pub use Rattle.std.proofs.lemmas.List.Elements.{All-get_or, All-push, All-set, A
 pub use Rattle.std.proofs.lemmas.List.Sums.{sum_by-cons, sum_by-set, sum_by_push}
 pub use Rattle.std.proofs.lemmas.Option.{same_Some, none-some, get_or_from_slice_get, slice_get_within, slice_get-map, cond_some}
 pub use Rattle.std.specs.Option.{option_map, unwrap_or, option_and_then, option_map_or}
-pub use Rattle.std.specs.Prelude.{if◌then◌else◌, is_none, nat_le, ◌&&◌, MatchBool, All, slice_get, slice_set, nat_eq, MatchOption, is_some, Vec, cond, nat_lt, sum_by}
+pub use Rattle.std.specs.Prelude.{if◌then◌else◌, is_none, nat_le, ◌&&◌, MatchBool, All, slice_get, slice_set, nat_eq, is_some, Vec, cond, nat_lt, sum_by}
 pub use Rattle.wasmi_meter.specs.Attempt.{Attempt, Denied, Request, Failed, AttemptOutcome, Met, MeteredValue, Unasked, optional_due, covers, with_value, Follows, IsFirstCause, MayEnd, alone, answer_of, outcome_charge, value_after, error_of_answer, error_of_failure}
 pub use Rattle.wasmi_meter.specs.Capped.{Capped, capped_rules, capped_quota, quota_rules, HoldsTheSame, Reserves, GivesBack, with_more, SameCaps, IsWithinCaps}
 pub use Rattle.wasmi_meter.specs.Limiter.{Rules, Answer, AskedIf, NoticedIf, IsDenial, MemoryFailure, TableFailure, optional_rules, unlimited_rules, Failure, NoticeAnswer, Question, kind_of, lent_limiter, KeepsLoan}
@@ -32,8 +32,8 @@ pub use Rattle.wasmi_machine.specs.Account.{Account, Balances, ChangesMeter, acc
 pub use Rattle.wasmi_machine.specs.Determinism.{IsNotOutOfMemory, AreNotOutOfMemory, IsDeterministic, IsOtherFailure, never_out_of_memory, RelatesByKind, RepliesKeepKind, RunsKeepKind, RunsOfCallsKeepKind, permitting, TellsNoDenial, AcceptsNotices, StaysAccepting, IsIn}
 pub use Rattle.wasmi_machine.specs.Effects.{ActsAt, reply_of, ActsMetered, ActsMeteredUnasked, Asks, Changes, Creates, OnlyReplies, AddsEntry, AddsItem, ChangesAt, ChangesFound, DropsAt, DropsContents, IfNoRoom, OnLive, IsNoSuch, MeteredSlots, WritesAt, WritesRangeAt, WritesFrom, item_bytes, ChangesPart, reply_or_no_such}
 pub use Rattle.wasmi_machine.specs.Exchange.{AsksFor, At, Denial, Exchange, Exchanges, GrowsAsAsked, GrowsBy, New, Nothing, NothingGrows, Notice, Nowhere, Passes, Permission, Place, RepliesTo, charge_at, writing_price, failed_charge, failed_reply, growth_charge, growth_due, growth_question, place_of, question_in, question_of, table_growth_question, writing_charge}
-pub use Rattle.wasmi_machine.specs.Laws.{RunsGrowAsPermitted, Keeps, KeepsMeter, KeepsSpare, RefusalsInRunsKeepContents, SameContents}
-pub use Rattle.wasmi_machine.specs.MemoryEffects.{CreatesLent, spare_after, byte_write_of, ByteSource, OfBytes, StoresMemoryAt, WritesMemoryAt, bytes_appended, bytes_in, load_reply, ReadsBytes, ReadsMemoryAt, StoresMemory, OfByte, WritesMemoryFrom, memory_copy_of}
+pub use Rattle.wasmi_machine.specs.Laws.{RunsGrowAsPermitted, Keeps, KeepsMeter, KeepsSpare, SameContents}
+pub use Rattle.wasmi_machine.specs.MemoryEffects.{CreatesLent, spare_after, byte_write_of, ByteSource, OfBytes, WritesMemoryAt, bytes_appended, bytes_in, load_reply, ReadsBytes, StoresMemory, OfByte, WritesMemoryFrom, memory_copy_of}
 pub use Rattle.wasmi_machine.specs.RegisterEffects.{StoresVectorAt, lane_loaded, vector_at, vector_loaded, SetsAt}
 pub use Rattle.wasmi_machine.specs.State.{State, live_at, Turn, TurnOutcome, outcome_of, World, MemoryPart, memory_part, slot_count, IsValidSlot, byte_count, sizes, world, HoldsTotals, live_value, IsValid, with_memories, with_tables, with_data_segments, with_globals, with_registers, with_segments, IsValidSegment, IsValidCall}
 pub use Rattle.wasmi_machine.specs.Steps.{Run, Changed, Effect, FuelSet, MemoryGrown, HasRangeWrite, RangeWrite, RangeWritten, Step, TableGrown, HasEffect, effect_of, BytesRead, LentMemoryMade, MemoryMade, TableMade, MemoryWritten, TableWritten, Told, Change, IsRunOf, BytesStored, BytesWritten, LacksSlot, MemoryDropped, RegisterSet, HasChange, RepliesWith, DataDropped, DataMade, ElementSet, GlobalMade, GlobalSet, ItemsDropped, SegmentMade, TableDropped, RepliesWithoutLimiter, SomeCopy, Sequence, is_charged}

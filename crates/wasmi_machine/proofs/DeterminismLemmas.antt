@@ -1,8 +1,8 @@
 -- Where the limiter is deterministic and there is enough memory, two attempts, effects, turns or runs of the same calls
 -- are one; and which limiters are deterministic.
 use Rattle.std.proofs.Common.{Bool, List, None, Ok, Option, Result, Some, [], ap, arith, false, inl, inr, map, refl, sym, true, ℕ, ◌∙◌, ◌∷◌, ◌≡◌}
-use Rattle.wasmi_machine.proofs.Common.{All-head, All-tail, none-some, same_Some, option_map, MatchBool, memory_growth, table_growth, IsNotOutOfMemory, AreNotOutOfMemory, IsDeterministic, IsOtherFailure, never_out_of_memory, CreatesLent, spare_after, byte_write_of, ActsMetered, ActsMeteredUnasked, Asks, Changes, Creates, OnlyReplies, reply_of, Run, BytesRead, Changed, Effect, FuelSet, LentMemoryMade, MemoryGrown, MemoryMade, RangeWritten, TableGrown, TableMade, MemoryWritten, TableWritten, HasEffect, Told, effect_of, MemoryPart, State, memory_part, Turn, World, write_of, Call, Reply, Slot, Attempt, Denied, Request, Failed, AttemptOutcome, Follows, IsFirstCause, MayEnd, Met, MeteredValue, Unasked, alone, optional_due, answer_of, covers, outcome_charge, value_after, Capped, capped_rules, capped_quota, quota_rules, Answer, AskedIf, NoticedIf, IsDenial, MemoryFailure, Rules, TableFailure, optional_rules, unlimited_rules, Meter, meter_after, MemoryError, TableError, LacksMemory, Lent, Owned, Room, Grows, Growth, Makes, metered_value, metered, GrowsMemoryCharging, MakesMemory, MemoryValue, new_memory, MemoryTypeValue, GrowsTableCharging, MakesTable, TableValue, new_table, same_type, TypedRawRef, TurnOutcome, outcome_of}
-use Rattle.wasmi_machine.proofs.MemoryEffectsLemmas.{lacks_owned, reads_same}
+use Rattle.wasmi_machine.proofs.Common.{All-head, All-tail, none-some, same_Some, option_map, MatchBool, memory_growth, table_growth, IsNotOutOfMemory, AreNotOutOfMemory, IsDeterministic, IsOtherFailure, never_out_of_memory, spare_after, byte_write_of, ActsMetered, ActsMeteredUnasked, Asks, Changes, Creates, OnlyReplies, reply_of, Run, BytesRead, Changed, Effect, FuelSet, LentMemoryMade, MemoryGrown, MemoryMade, RangeWritten, TableGrown, TableMade, MemoryWritten, TableWritten, HasEffect, Told, effect_of, State, live_at, Turn, World, write_of, Reply, Slot, Attempt, Denied, Request, Failed, AttemptOutcome, Follows, IsFirstCause, MayEnd, Met, MeteredValue, Unasked, alone, optional_due, answer_of, covers, outcome_charge, value_after, Capped, capped_rules, capped_quota, quota_rules, Answer, AskedIf, NoticedIf, IsDenial, MemoryFailure, Rules, TableFailure, optional_rules, unlimited_rules, Meter, meter_after, MemoryError, TableError, LacksMemory, Lent, Owned, Room, Grows, Growth, Makes, metered_value, metered, GrowsMemoryCharging, MakesMemory, MemoryValue, new_memory, MemoryTypeValue, GrowsTableCharging, MakesTable, new_table, same_type, TurnOutcome, outcome_of, at}
+use Rattle.wasmi_machine.proofs.MemoryEffectsLemmas.{lacks_owned, read_same}
 use Rattle.wasmi_machine.proofs.EffectLemmas.{Acted, HasOneEnding, HasOneOutcome, acts_same, creates_same, on_both}
 use Rattle.wasmi_machine.proofs.StepsLemmas.{change_facts}
 use Rattle.wasmi_machine.proofs.RangeLemmas.{range_once}
@@ -17,7 +17,7 @@ on_both_tests : {C : Type 0} (test : Bool) (Holds Holds' Fails Fails' : Type 0) 
 on_both_tests true Holds Holds' Fails Fails' h h' holds fails = holds h h'
 on_both_tests false Holds Holds' Fails Fails' h h' holds fails = fails h h'
 
--- the last cause of a request is lack of memory
+-- what makes two attempts of a request one: the last cause is told to the limiter as lack of memory
 record Wants {V E : Type 0} (e : Request V E) : Type 0 where
   wants : (cause : E) → e.refuses cause → IsOtherFailure (e.notice cause) → ⊥
 
@@ -125,17 +125,6 @@ memory_same {rules = rules} once room ty slots l =
     creates_same replied.Memory (MakesMemory (never_out_of_memory rules) room ty)
     (makes_same once (memory.creation_of room ty) (record { wants = memory_wants room }) (new_memory room ty)) slots l
 
--- under a deterministic limiter, two creations of a memory in the spare region end in one way
-lent_same : {S : Type 0} {rules : Rules S} → IsDeterministic rules → (ty : MemoryTypeValue) (part : MemoryPart) (l : S)
-    → HasOneOutcome (CreatesLent (never_out_of_memory rules) ty part l)
-lent_same once ty part l o o' has has' a b =
-    on_both part.spare _ _ _ _ a b (λ h h'. (h.0 ∙ sym h'.0, h.1 ∙ sym h'.1, h.2 ∙ sym h'.2)) (λ region h h'.
-    let same = memory_same once (Lent region) ty part.slots l
-    (record { reply = o.reply; part = o.part.slots; limiter = o.limiter })
-    (record { reply = o'.reply; part = o'.part.slots; limiter = o'.limiter }) has has' h.0 h'.0 in
-    let spare = h.1 ∙ ap (λ r. spare_after r part.spare) same.0 ∙ sym h'.1 in
-    (same.0, λ i. record { slots = same.1 i; spare = spare i }, same.2))
-
 -- what a turn on one part of the state ends in
 abbrev acted : {A S : Type 0} → TurnOutcome → A → Meter → S → Acted A S
 acted t part meter limiter = record {
@@ -216,18 +205,6 @@ module _ {S : Type 0} (w : World S) (t t' : TurnOutcome) (v v' : World S) where
                 ∙ sym step'.after,
           )
 
--- under a deterministic limiter, two growths of a table are one
-table_growth_same : {S : Type 0} {rules : Rules S} → IsDeterministic rules
-    → (n : ℕ) (init : TypedRawRef) (s : MeteredValue TableValue S) (result result' : Result ℕ TableError)
-    (charge charge' : ℕ) (s' s'' : MeteredValue TableValue S)
-    → GrowsTableCharging (never_out_of_memory rules) n init s result charge s'
-    → GrowsTableCharging (never_out_of_memory rules) n init s result' charge' s''
-    → (result ≡ result') × (charge ≡ charge') × (s' ≡ s'')
-table_growth_same {rules = rules} once n init s result result' charge charge' s' s'' a b =
-    on_both_tests (same_type s.value.ty.element init.ty) _ _ _ _ a b
-    (grows_same once (table_growth n init.raw s.value) (record { wants = λ cause lacks. table_wants cause lacks.0 }) s
-    result result' charge charge' s' s'') (λ h h'. (h.0 ∙ sym h'.0, h.1 ∙ sym h'.1, h.2 ∙ sym h'.2))
-
 module _ {S : Type 0} (rules : Rules S) (once : IsDeterministic rules) (w : World S) (t t' : TurnOutcome)
     (v v' : World S) (room : IsNotOutOfMemory t.reply) (room' : IsNotOutOfMemory t'.reply) where
   -- two turns in which one effect takes place from one world are one
@@ -235,15 +212,21 @@ module _ {S : Type 0} (rules : Rules S) (once : IsDeterministic rules) (w : Worl
       → HasEffect (never_out_of_memory rules) effect w t' v' → Same w t t' v v'
   effect_same (Told reply) step step' = told_unique w t t' v v' step step' (λ is is'. is ∙ sym is')
   effect_same (BytesRead k offset len) step step' =
-      told_unique w t t' v v' step step' (reads_same k offset len w.state.memories t.reply t'.reply room room')
+      told_unique w t t' v v' step step' (λ a b. on_both (live_at w.state.memories k) _ _ _ _ a b (λ h h'. h ∙ sym h')
+      (λ x h h'. read_same (at x.bytes offset len) t.reply t'.reply room room' h h'))
   effect_same (FuelSet fuel) step step' =
       changed_unique w t t' v v' step step' (λ s s' is is'. (is.0 ∙ sym is'.0, is.1 ∙ sym is'.1))
   effect_same (Changed change) step step' = changed_unique w t t' v v' step step'
       (λ s s'. (change_facts w.state change).same t.reply t'.reply s s' room room')
   effect_same (MemoryMade ty) step step' =
       made_unique w t t' v v' step step' room room' (memory_same once Owned ty w.state.memories w.limiter)
-  effect_same (LentMemoryMade ty) step step' =
-      made_unique w t t' v v' step step' room room' (lent_same once ty (memory_part w.state) w.limiter)
+  effect_same (LentMemoryMade ty) step step' = made_unique w t t' v v' step step' room room' (λ o o' has has' a b.
+      on_both w.state.spare _ _ _ _ a b (λ h h'. (h.0 ∙ sym h'.0, h.1 ∙ sym h'.1, h.2 ∙ sym h'.2)) (λ region h h'.
+      let same = memory_same once (Lent region) ty w.state.memories w.limiter
+      (record { reply = o.reply; part = o.part.slots; limiter = o.limiter })
+      (record { reply = o'.reply; part = o'.part.slots; limiter = o'.limiter }) has has' h.0 h'.0 in
+      let spare = h.1 ∙ ap (λ r. spare_after r w.state.spare) same.0 ∙ sym h'.1 in
+      (same.0, λ i. record { slots = same.1 i; spare = spare i }, same.2)))
   effect_same (MemoryGrown k pages) step step' =
       paid_unique w t t' v v' step step' (acts_same (GrowsMemoryCharging (never_out_of_memory rules) pages)
       (λ s. grows_same once (memory_growth pages s.value)
@@ -254,7 +237,10 @@ module _ {S : Type 0} (rules : Rules S) (once : IsDeterministic rules) (w : Worl
       w.state.tables w.limiter)
   effect_same (TableGrown k n init) step step' =
       paid_unique w t t' v v' step step' (acts_same (GrowsTableCharging (never_out_of_memory rules) n init)
-      (table_growth_same once n init) k (reply_of replied.Number replied.Table) _)
+      (λ s result result' charge charge' s' s'' a b. on_both_tests (same_type s.value.ty.element init.ty) _ _ _ _ a b
+      (grows_same once (table_growth n init.raw s.value) (record { wants = λ cause lacks. table_wants cause lacks.0 }) s
+      result result' charge charge' s' s'') (λ h h'. (h.0 ∙ sym h'.0, h.1 ∙ sym h'.1, h.2 ∙ sym h'.2)))
+      k (reply_of replied.Number replied.Table) _)
   effect_same (RangeWritten (TableWritten k source dst len)) step step' =
       unasked_unique w t t' v v' step step' (range_once replied.Table k (write_of source dst len) _)
   effect_same (RangeWritten (MemoryWritten k source dst len)) step step' =
@@ -270,7 +256,7 @@ module _ {S : Type 0} (rules : Rules S) (once : IsDeterministic rules) where
   runs_are_one w [] (t' ∷ turns') v v' calls rooms rooms' ran ran' = absurd cc
   runs_are_one w (t ∷ turns) [] v v' calls rooms rooms' ran ran' = absurd cc
   runs_are_one w (t ∷ turns) (t' ∷ turns') v v' calls rooms rooms' (u, step, ran) (u', step', ran') =
-      let call = first_same t.call t'.call (map Turn.call turns) (map Turn.call turns') calls in
+      let call : (t.call ≡ t'.call) × (map Turn.call turns ≡ map Turn.call turns') = (cc, cc) in
       let room = All-head IsNotOutOfMemory t.reply (map Turn.reply turns) rooms in
       let room' = All-head IsNotOutOfMemory t'.reply (map Turn.reply turns') rooms' in
       let one = effect_same rules once w (outcome_of t) (outcome_of t') u u' room room' (effect_of w.state t.call) step
@@ -280,9 +266,6 @@ module _ {S : Type 0} (rules : Rules S) (once : IsDeterministic rules) where
       (All-tail IsNotOutOfMemory t'.reply (map Turn.reply turns') rooms') ran (rw one.3 ran') in
       let turn : t ≡ t' = λ i. record { call = call.0 i; reply = one.0 i; charge = one.1 i; written = one.2 i } in
       (λ i. turn i ∷ rest.0 i, rest.1)
-    where
-      first_same : (c c' : Call) (cs cs' : List Call) → (c ∷ cs) ≡ (c' ∷ cs') → (c ≡ c') × (cs ≡ cs')
-      first_same c c' cs cs' same = (cc, cc)
 
 -- what a limiter that may be absent answers to a question or a notice is one, where the limiter's own answer is one,
 -- where none has a known answer, and where it neither comes nor goes

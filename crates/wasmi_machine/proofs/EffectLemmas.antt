@@ -210,11 +210,6 @@ changes_kept count k slots reply slots' Change same changes = on_live (live_at s
     (λ x found h. rw h.2 (counts_kept count slots k x (Live h.0) found (same x h.0 h.1)))
 
 module _ {X : Type 0} (Valid : X → Type 0) where
-  -- an item that is read of a list of valid ones
-  read_valid : (items : List X) (k : ℕ) (x : X) → slice_get items k ≡ Some x → All Valid items → Valid x
-  read_valid items k x found valid = subst Valid (get_or_from_slice_get items k x x found)
-      (All-get_or Valid items k x (slice_get_within items k x found) valid)
-
   -- valid items stay so with a valid new entry at the end
   pub appended_valid : {E : Type 0} (refusal : E → Reply) (result : Result X E) (list : List X) (reply : Reply)
       (list' : List X) → ((x : X) → result ≡ Ok x → Valid x) → AddsEntry (λ x. x) refusal result list reply list'
@@ -223,7 +218,6 @@ module _ {X : Type 0} (Valid : X → Type 0) where
       rw appends.1 (All-push Valid list x valid (made x refl))
   appended_valid refusal (Err error) list reply list' made appends valid = rw appends.1 valid
 
-module _ {X : Type 0} (Valid : X → Type 0) where
   -- what is in the slots is valid
   abbrev pub AllValid : List (Slot X) → Type 0
   AllValid slots = All (IsValidSlot Valid) slots
@@ -231,21 +225,15 @@ module _ {X : Type 0} (Valid : X → Type 0) where
   -- the live value that an index names is valid
   pub live_valid : (slots : List (Slot X)) (k : ℕ) (x : X) → live_at slots k ≡ Some x → AllValid slots → Valid x
   live_valid slots k x found valid =
-      read_valid (IsValidSlot Valid) slots k (Live x) (live_slot (slice_get slots k) x found) valid
+      let slot = live_slot (slice_get slots k) x found in
+      subst (IsValidSlot Valid) (get_or_from_slice_get slots k (Live x) (Live x) slot)
+      (All-get_or (IsValidSlot Valid) slots k (Live x) (slice_get_within slots k (Live x) slot) valid)
 
   -- valid slots stay so where one is set to a valid one
   pub put_valid : (slots slots' : List (Slot X)) (k : ℕ) (slot : Slot X) → slots' ≡ slice_set slots k slot
       → IsValidSlot Valid slot → AllValid slots → AllValid slots'
   put_valid slots slots' k slot is one valid =
       rw is (All-set (IsValidSlot Valid) slots k slot one valid)
-
-  -- valid slots stay so by a change of a live value that keeps it valid
-  pub changes_valid : (k : ℕ) (slots : List (Slot X)) (reply : Reply) (slots' : List (Slot X))
-      (Change : X → X → Type 0) → ((x x' : X) → Valid x → Change x x' → Valid x')
-      → ChangesAt k slots reply slots' Change → AllValid slots → AllValid slots'
-  changes_valid k slots reply slots' Change keeps changes valid = on_live (live_at slots k) _ _ changes
-      (λ missing. rw missing.1 valid)
-      (λ x found h. put_valid slots slots' k (Live h.0) h.2 (keeps x h.0 (live_valid slots k x found valid) h.1) valid)
 
   -- valid slots stay so by a call with a charge that keeps a live value valid
   pub acts_valid : {R S : Type 0} (k : ℕ) (reply_to : R → Reply)

@@ -1,15 +1,15 @@
 -- What passes between a machine and its limiter in each turn, what has grown by it, and what was charged for it: of an
 -- attempt, a creation, a growth, and each effect.
-use Rattle.std.proofs.Common.{Bool, Err, List, None, Ok, Option, Result, Some, ap, arith, false, inl, inr, length, map, refl, sym, true, ℕ, ◌*◌, ◌+◌, ◌-◌, ◌<◌, ◌∙◌, ◌≡◌, ◌≢◌, ◌≤◌, ◌⊎◌}
-use Rattle.wasmi_machine.proofs.Common.{nat_tests, length-append, length-replicate, map-set, map_push, none-some, same_Some, option_and_then, MatchBool, if◌then◌else◌, is_none, nat_eq, slice_set, ◌&&◌, CustomFuelCosts, IsOtherFailure, AsksFor, At, Denial, Exchange, Exchanges, GrowsAsAsked, GrowsBy, New, Nothing, NothingGrows, Notice, Nowhere, Passes, Permission, Place, RepliesTo, charge_at, writing_price, failed_charge, failed_reply, growth_charge, growth_due, growth_question, place_of, question_in, question_of, table_growth_question, writing_charge, RunsGrowAsPermitted, CreatesLent, ActsAt, AddsEntry, Creates, reply_of, MemoryPart, live_at, memory_part, byte_count, sizes, slot_count, Turn, outcome_of, World, Changed, Effect, FuelSet, LentMemoryMade, MemoryGrown, MemoryMade, RangeWritten, Step, TableGrown, TableMade, HasEffect, effect_of, Grows, Growth, Makes, metered_value, Call, GrowMemory, GrowTable, NewLentMemory, NewMemory, NewTable, Reply, Slot, Live, AttemptOutcome, Denied, Failed, Follows, IsFirstCause, MayEnd, Met, MeteredValue, Request, Unasked, answer_of, covers, error_of_answer, error_of_failure, optional_due, outcome_charge, value_after, copy_cost, Meter, due, Failure, MemoryFailure, NoticeAnswer, Question, Rules, TableFailure, kind_of, MemoryError, TableError, Kind, Bytes, Elements, Lent, Owned, Room, fits_room, GrowsMemoryCharging, MakesMemory, MemoryValue, new_memory, MemoryTypeValue, minimum_bytes, page_bytes, GrowsTableCharging, MakesTable, TableValue, new_table, size_of, TableTypeValue, is_within_maximum, same_type, TypedRawRef, memory_growth, table_growth}
+use Rattle.std.proofs.Common.{Bool, List, None, Option, Result, Some, ap, arith, false, inl, inr, length, map, refl, sym, true, ℕ, ◌*◌, ◌+◌, ◌-◌, ◌∙◌, ◌≡◌, ◌≢◌, ◌≤◌, ◌⊎◌}
+use Rattle.wasmi_machine.proofs.Common.{nat_tests, length-append, length-replicate, map-set, map_push, none-some, same_Some, option_and_then, MatchBool, if◌then◌else◌, is_none, nat_eq, slice_set, ◌&&◌, CustomFuelCosts, IsOtherFailure, AsksFor, At, Denial, Exchange, Exchanges, GrowsAsAsked, GrowsBy, New, Nothing, NothingGrows, Notice, Nowhere, Passes, Permission, Place, RepliesTo, charge_at, writing_price, failed_charge, failed_reply, growth_charge, growth_due, growth_question, place_of, question_in, question_of, table_growth_question, writing_charge, RunsGrowAsPermitted, CreatesLent, ActsAt, AddsEntry, Creates, reply_of, MemoryPart, live_at, memory_part, byte_count, sizes, slot_count, Turn, outcome_of, World, Changed, Effect, FuelSet, LentMemoryMade, MemoryGrown, MemoryMade, RangeWritten, Step, TableGrown, TableMade, HasEffect, effect_of, Grows, Growth, Makes, metered_value, Call, GrowMemory, GrowTable, NewLentMemory, NewMemory, NewTable, Reply, Slot, Live, AttemptOutcome, Denied, Failed, Follows, IsFirstCause, MayEnd, Met, MeteredValue, Request, Unasked, answer_of, covers, error_of_answer, error_of_failure, optional_due, outcome_charge, value_after, copy_cost, Meter, due, Failure, MemoryFailure, NoticeAnswer, Question, Rules, TableFailure, kind_of, Kind, Bytes, Elements, Lent, Owned, Room, fits_room, GrowsMemoryCharging, MakesMemory, MemoryValue, new_memory, MemoryTypeValue, minimum_bytes, page_bytes, GrowsTableCharging, MakesTable, TableValue, new_table, size_of, TableTypeValue, is_within_maximum, same_type, TypedRawRef, memory_growth, table_growth}
 use Rattle.wasmi_machine.proofs.EffectLemmas.{on_found}
 use Rattle.wasmi_machine.proofs.MemoryEffectsLemmas.{lacks_owned}
 use Rattle.wasmi_machine.proofs.AccountLemmas.{step_meter}
 use Rattle.wasmi_machine.proofs.RangeLemmas.{range_holds, range_price}
 use Rattle.wasmi_machine.proofs.StepsLemmas.{change_facts}
 use Rattle.wasmi_machine.proofs.TotalLemmas.{count_at, counts_kept, each_kind, of_each}
-use Rattle.wasmi_machine.proofs.StoreLemmas.{each_turn}
 use Rattle.wasmi_machine.specs.State.{IsRefusal}
+use Rattle.wasmi_machine.proofs.StoreLemmas.{each_turn}
 use Rattle.wasmi_store.specs.Memory as memory
 use Rattle.wasmi_store.specs.Table as table
 use Rattle.wasmi_machine.specs.declared.calls.Reply.TheVariants as replied
@@ -22,24 +22,10 @@ on_tested : {C : Type 0} (test : Bool) (Holds Fails : Type 0) → MatchBool test
 on_tested true Holds Fails h holds fails = holds refl h
 on_tested false Holds Fails h holds fails = fails refl h
 
--- what is asked, where no cause is found before the question
-question_unrefused : {V E : Type 0} (e : Request V E) (early : Option E) → e.early ≡ early
-    → question_in e ≡ (if is_none early then Some e.question else None)
-question_unrefused e early is = rw is
-
--- a growth by some asks what its request does
-growth_question_by_request : {V E : Type 0} (amount : ℕ) (e : Request V E) → 0 < amount
-    → growth_question amount e ≡ question_in e
-growth_question_by_request amount e some =
-    let none : nat_eq amount 0 ≡ false = grind (arith, nat_tests, some) in rw none
-
--- what a limiter is told of is lack of memory, and then a price is charged, or it isn't, and then nothing is
-abbrev pub IsOutOfMemoryOrFree : Failure → Type 0
-IsOutOfMemoryOrFree failure = ((IsOtherFailure failure → ⊥) × ((price : ℕ) → failed_charge failure price ≡ price))
-    ⊎ ((price : ℕ) → failed_charge failure price ≡ 0)
-
 -- a failure is lack of memory, and its price is charged, or nothing is charged for it
-pub out_of_memory_or_free : (failure : Failure) → IsOutOfMemoryOrFree failure
+pub out_of_memory_or_free : (failure : Failure)
+    → ((IsOtherFailure failure → ⊥) × ((price : ℕ) → failed_charge failure price ≡ price))
+    ⊎ ((price : ℕ) → failed_charge failure price ≡ 0)
 out_of_memory_or_free (MemoryFailure memory_error.OutOfSystemMemory) = inl (λ no. no, λ price. refl)
 out_of_memory_or_free (TableFailure table_error.OutOfSystemMemory) = inl (λ no. no, λ price. refl)
 out_of_memory_or_free failure = inr (λ price. refl)
@@ -100,13 +86,6 @@ module _ {V E : Type 0} (e : Request V E) (m : Meter) (charge : ℕ) (priced : I
       failed_charged cause e.late refl (covers (Some m) (optional_due (Some m) e.price)) refl may.1 charged
   charged_by_outcome outcome may charged = charged
 
--- an attempt that may end so asks what the call does, and what came of it is the reply
-record IsAttemptOf {S V E : Type 0} (t : Meeting S) (e : Request V E) (meter : Option Meter)
-    (outcome : AttemptOutcome E) : Type 0 where
-  may_end : MayEnd e meter outcome
-  asks : t.question ≡ question_in e
-  replies : RepliesTo (exchange_of e outcome) t.reply
-
 -- the reply to a growth, by its outcome
 growth_replies : {V E : Type 0} (g : Growth V E) (refusal : E → Reply) → IsToldBy g.request refusal → (reply : Reply)
     (outcome : AttemptOutcome E) → reply ≡ reply_of replied.Number refusal (answer_of g.request g.size outcome)
@@ -146,32 +125,33 @@ module _ {S : Type 0} (rules : Rules S) (t : Meeting S) (place : Place) where
     still own = of_each (λ kind. t.after kind ≡ t.before kind) e.question.kind own others
 
     -- the exchange
-    attempt_passes : (meter : Option Meter) (outcome : AttemptOutcome E) → IsAttemptOf t e meter outcome
+    attempt_passes : (meter : Option Meter) (outcome : AttemptOutcome E) → MayEnd e meter outcome
+        → t.question ≡ question_in e → RepliesTo (exchange_of e outcome) t.reply
         → Follows e rules t.first outcome t.last → GrowsByOutcome outcome
         → t.charge ≡ charge_at place (exchange_of e outcome) t.meter t.writing → Passed
-    attempt_passes meter (Unasked cause) is follows own charged =
-        nothing_passes (inl (is.asks ∙ question_unrefused e (Some cause) is.may_end)) follows (still own) charged
-    attempt_passes meter (Denied answer) is follows own charged = record {
+    attempt_passes meter (Unasked cause) may asks replies follows own charged =
+        nothing_passes (inl (rw (asks, may))) follows (still own) charged
+    attempt_passes meter (Denied answer) may asks replies follows own charged = record {
       exchange = Denial e.question answer;
-      asks = is.asks ∙ question_unrefused e None is.may_end.0;
-      passes = (is.may_end.1, follows);
-      replies = is.replies;
+      asks = rw (asks, may.0);
+      passes = (may.1, follows);
+      replies = replies;
       grows = still own;
       charged = charged;
     }
-    attempt_passes meter Met is follows own charged = record {
+    attempt_passes meter Met may asks replies follows own charged = record {
       exchange = Permission e.question;
-      asks = is.asks ∙ question_unrefused e None is.may_end.0;
+      asks = rw (asks, may.0);
       passes = follows;
-      replies = is.replies;
+      replies = replies;
       grows = (own, others);
       charged = charged;
     }
-    attempt_passes meter (Failed cause notice_answer) is follows own charged = record {
+    attempt_passes meter (Failed cause notice_answer) may asks replies follows own charged = record {
       exchange = Notice e.question (e.notice cause) notice_answer;
-      asks = is.asks ∙ question_unrefused e None is.may_end.0;
+      asks = rw (asks, may.0);
       passes = (tells cause, follows.0, follows.1, follows.2);
-      replies = is.replies;
+      replies = replies;
       grows = still own;
       charged = charged;
     }
@@ -204,12 +184,6 @@ record IsGrowthOf {X E : Type 0} (count : X → ℕ) (x : X) (m : Meter) (g : Gr
   priced : IsPricedAsAsked g.request m
   refusal : E → Reply
   told : IsToldBy g.request refusal
-
--- a growth asks what the call does, and its result is the reply
-record IsReplied {S X E : Type 0} (v : Watch S X) (g : Growth X E) (refusal : E → Reply) (result : Result ℕ E)
-    : Type 0 where
-  asks : v.meeting.question ≡ growth_question g.amount g.request
-  replies : v.meeting.reply ≡ reply_of replied.Number refusal result
 
 -- the live value of an index has become another one
 record Replaced {S X : Type 0} (v : Watch S X) (k : ℕ) (x x' : X) : Type 0 where
@@ -263,9 +237,8 @@ module _ {S X : Type 0} (rules : Rules S) (v : Watch S X) where
     creates_passes refusal told is free (inr (result, (outcome, attempt, answered), appends)) =
         let adds : AddsEntry Live refusal (answer_of e made outcome) v.slots v.meeting.reply v.later =
         rw answered at appends in
-        attempt_passes rules v.meeting New e new.tells watched.others None outcome
-        (record { may_end = attempt.may_end; asks = is; replies = made_replies refusal told outcome adds })
-        attempt.follows (made_sizes refusal outcome v.meeting.reply adds) free
+        attempt_passes rules v.meeting New e new.tells watched.others None outcome attempt.may_end is
+        (made_replies refusal told outcome adds) attempt.follows (made_sizes refusal outcome v.meeting.reply adds) free
 
   -- something grows
   module _ {E : Type 0} (g : Growth X E) (watched : IsWatched v g.request.question.kind) (k : ℕ) (x x' : X)
@@ -285,21 +258,20 @@ module _ {S X : Type 0} (rules : Rules S) (v : Watch S X) where
     grown_sizes outcome same = unchanged same
 
     -- the exchange of a growth
-    grows_passes : (m' : Meter) (result : Result ℕ E) → IsReplied v g growth.refusal result
+    grows_passes : (m' : Meter) (result : Result ℕ E) → v.meeting.question ≡ growth_question g.amount g.request
+        → v.meeting.reply ≡ reply_of replied.Number growth.refusal result
         → Grows rules g (metered_value x (Some v.meeting.meter) v.meeting.first) result
         v.meeting.charge (metered_value x' (Some m') v.meeting.last) → Passed rules v.meeting (At k)
-    grows_passes m' result is (inl none) = kept_passes g.request.question.kind watched (At k)
-        (inl (rw none.none at is.asks))
+    grows_passes m' result asks replies (inl none) = kept_passes g.request.question.kind watched (At k)
+        (inl (rw none.none at asks))
         (ap (λ (s : MeteredValue X S). s.limiter) none.same)
         (same_count k x x' replaced (ap (λ (s : MeteredValue X S). v.count s.value) none.same)) none.uncharged
-    grows_passes m' result is (inr some) =
+    grows_passes m' result asks replies (inr some) =
+        let by_some : nat_eq g.amount 0 ≡ false = grind (arith, nat_tests, some.some) in
         attempt_passes rules v.meeting (At k) g.request growth.tells watched.others (Some v.meeting.meter) some.outcome
-        (record {
-          may_end = some.attempt.may_end;
-          asks = is.asks ∙ growth_question_by_request g.amount g.request some.some;
-          replies = growth_replies g growth.refusal growth.told v.meeting.reply some.outcome
-              (is.replies ∙ ap (reply_of replied.Number growth.refusal) some.answered);
-        }) some.attempt.follows (grown_sizes some.outcome some.attempt.value)
+        some.attempt.may_end (rw by_some at asks) (growth_replies g growth.refusal growth.told v.meeting.reply
+        some.outcome (replies ∙ ap (reply_of replied.Number growth.refusal) some.answered)) some.attempt.follows
+        (grown_sizes some.outcome some.attempt.value)
         (charged_by_outcome g.request v.meeting.meter v.meeting.charge growth.priced some.outcome some.attempt.may_end
         some.attempt.charged)
 
@@ -325,84 +297,44 @@ due_again : (m : Meter) (bytes old added : ℕ)
 due_again m bytes old added =
     ap (λ n. due m (λ costs. copy_cost costs n bytes)) (let same : added ≡ old + added - old = omega arith in same)
 
--- the reply to a failed creation or growth of a memory, by the answer to the notice
-memory_fails : (cause : MemoryError) (notice_answer : NoticeAnswer)
-    → replied.Memory (error_of_failure memory_error.ResourceLimiterDeniedAllocation cause notice_answer)
-    ≡ failed_reply (MemoryFailure cause) notice_answer
-memory_fails cause (Ok done) = refl
-memory_fails cause (Err error) = refl
-
--- the reply to a failed creation or growth of a table, by the answer to the notice
-table_fails : (cause : TableError) (notice_answer : NoticeAnswer)
-    → replied.Table (error_of_failure table_error.ResourceLimiterDeniedAllocation cause notice_answer)
-    ≡ failed_reply (TableFailure cause) notice_answer
-table_fails cause (Ok done) = refl
-table_fails cause (Err error) = refl
-
--- a new memory is what a creation of a memory asks for
-new_memory_is : (room : Room) (ty : MemoryTypeValue)
-    → IsCreationOf byte_count (new_memory room ty) (memory.creation_of room ty)
-new_memory_is room ty = record {
-  tells = λ cause. refl;
-  fresh = refl;
-  full = length-replicate {A = ℕ} (minimum_bytes ty) 0;
-}
-
--- a new table is what a creation of a table asks for
-new_table_is : (ty : TableTypeValue) (init : TypedRawRef)
-    → IsCreationOf size_of (new_table ty init.raw) (table.creation_of ty init.ty)
-new_table_is ty init = record {
-  tells = λ cause. refl;
-  fresh = refl;
-  full = length-replicate {A = ℕ} ty.minimum init.raw;
-}
-
 -- a cause after the question that a test decides
 pub late_is : {E : Type 0} (fits : Bool) (late cause : E) → (if fits then None else Some late) ≡ Some cause
     → late ≡ cause
 late_is true late cause is = absurd (none-some cause is)
 late_is false late cause is = same_Some late cause is
 
--- the price of a growth of a memory is due for what it asks for
-memory_priced : (pages : ℕ) (x : MemoryValue) (m : Meter) → IsPricedAsAsked (memory.growth_of x pages) m
-memory_priced pages x m = record {
-  price = due_again m 1 (length x.bytes) (pages * page_bytes x.ty.page);
-  late = λ cause is price. rw (← late_is (fits_room x.room (pages * page_bytes x.ty.page)) _ cause is);
-  unpaid = λ due price. refl;
-  refuses = λ cause wants price. rw (lacks_owned x.room cause wants);
-}
-
--- the growth of a memory is one of its bytes
-memory_growth_is : (pages : ℕ) (x : MemoryValue) (m : Meter) → IsGrowthOf byte_count x m (memory_growth pages x)
+-- the growth of a memory is one of its bytes, whose price is due for what it asks for
+abbrev memory_growth_is : (pages : ℕ) (x : MemoryValue) (m : Meter) → IsGrowthOf byte_count x m (memory_growth pages x)
 memory_growth_is pages x m = record {
   tells = λ cause. refl;
   now = refl;
   full = rw (length-append, length-replicate {A = ℕ});
   up = omega arith;
-  priced = memory_priced pages x m;
+  priced = record {
+    price = due_again m 1 (length x.bytes) (pages * page_bytes x.ty.page);
+    late = λ cause is price. rw (← late_is (fits_room x.room (pages * page_bytes x.ty.page)) _ cause is);
+    unpaid = λ due price. refl;
+    refuses = λ cause wants price. rw (lacks_owned x.room cause wants);
+  };
   refusal = replied.Memory;
-  told = record { refuses = λ error. tt; fails = memory_fails };
+  told = record { refuses = λ error. tt; fails = λ cause answer. refl };
 }
 
--- the price of a growth of a table is due for what it asks for
-table_priced : (n reference : ℕ) (x : TableValue) (m : Meter) → IsPricedAsAsked (table.growth_of x n reference) m
-table_priced n reference x m = record {
-  price = due_again m 4 (size_of x) n;
-  late = λ cause is price. rw (← late_is (is_within_maximum x.ty (size_of x + n)) _ cause is);
-  unpaid = λ due price. refl;
-  refuses = λ cause wants price. rw wants.0;
-}
-
--- the growth of a table is one of its elements
-table_growth_is : (n reference : ℕ) (x : TableValue) (m : Meter) → IsGrowthOf size_of x m (table_growth n reference x)
+-- the growth of a table is one of its elements, whose price is due for what it asks for
+abbrev table_growth_is : (n reference : ℕ) (x : TableValue) (m : Meter) → IsGrowthOf size_of x m (table_growth n reference x)
 table_growth_is n reference x m = record {
   tells = λ cause. refl;
   now = refl;
   full = rw (length-append, length-replicate {A = ℕ});
   up = omega arith;
-  priced = table_priced n reference x m;
+  priced = record {
+    price = due_again m 4 (size_of x) n;
+    late = λ cause is price. rw (← late_is (is_within_maximum x.ty (size_of x + n)) _ cause is);
+    unpaid = λ due price. refl;
+    refuses = λ cause wants price. rw wants.0;
+  };
   refusal = replied.Table;
-  told = record { refuses = λ error. tt; fails = table_fails };
+  told = record { refuses = λ error. tt; fails = λ cause answer. refl };
 }
 
 -- a turn, as an exchange is between its limiters, with what its call asks and the price of what it writes over a range
@@ -468,8 +400,10 @@ module _ {S : Type 0} (rules : Rules S) (w : World S) (turn : Turn) (w' : World 
         → Creates replied.Memory (MakesMemory rules room ty) w.state.memories w.limiter turn.reply w'.state.memories
         w'.limiter → Passed rules meeting_by New
     memory_made same free room ty is creates =
-        creates_passes rules memories_watch (memory.creation_of room ty) (new_memory room ty) (new_memory_is room ty)
-        (memories_watched same) replied.Memory (record { refuses = λ error. tt; fails = memory_fails }) is free creates
+        creates_passes rules memories_watch (memory.creation_of room ty) (new_memory room ty)
+        (record { tells = λ cause. refl; fresh = refl; full = length-replicate {A = ℕ} (minimum_bytes ty) 0 })
+        (memories_watched same) replied.Memory (record { refuses = λ error. tt; fails = λ cause answer. refl }) is free
+        creates
 
   -- a memory is made in the spare region, if there is one
   lent_made : w'.state.tables ≡ w.state.tables → turn.charge ≡ 0 → (ty : MemoryTypeValue)
@@ -491,8 +425,9 @@ module _ {S : Type 0} (rules : Rules S) (w : World S) (turn : Turn) (w' : World 
   table_made same free ty init creates =
       let call = NewTable ty init in
       creates_passes rules (tables_watch call) (table.creation_of ty init.ty) (new_table ty init.raw)
-      (new_table_is ty init) (tables_watched call same) replied.Table
-      (record { refuses = λ error. tt; fails = table_fails }) refl free creates
+      (record { tells = λ cause. refl; fresh = refl; full = length-replicate {A = ℕ} ty.minimum init.raw })
+      (tables_watched call same) replied.Table (record { refuses = λ error. tt; fails = λ cause answer. refl }) refl
+      free creates
 
   -- a memory grows
   memory_grows : w'.state.tables ≡ w.state.tables → (k pages : ℕ) (m' : Meter)
@@ -500,15 +435,13 @@ module _ {S : Type 0} (rules : Rules S) (w : World S) (turn : Turn) (w' : World 
       (metered_value w.state.memories (Some w.state.meter) w.limiter) turn.reply turn.charge
       (metered_value w'.state.memories (Some m') w'.limiter)
       → Passed rules (meeting_by (GrowMemory k pages)) (At k)
-  unfolding memory_growth_is
   memory_grows same k pages m' acts =
       let call = GrowMemory k pages in
       acts_pass rules (memories_watch call) Bytes (memories_watched call same) k
       (λ x. growth_question pages (memory.growth_of x pages)) refl (reply_of replied.Number replied.Memory)
       (GrowsMemoryCharging rules pages) m'
-      (λ x x' result replaced asks replies grows. grows_passes rules (memories_watch call)
-      (memory_growth pages x) (memories_watched call same) k x x' (memory_growth_is pages x w.state.meter) replaced
-      m' result (record { asks = asks; replies = replies }) grows) acts
+      (λ x x' result replaced. grows_passes rules (memories_watch call) (memory_growth pages x)
+      (memories_watched call same) k x x' (memory_growth_is pages x w.state.meter) replaced m' result) acts
 
   -- a table grows, if what it is filled with has its type
   table_grows : w'.state.memories ≡ w.state.memories → (k n : ℕ) (init : TypedRawRef) (m' : Meter)
@@ -516,7 +449,6 @@ module _ {S : Type 0} (rules : Rules S) (w : World S) (turn : Turn) (w' : World 
       (metered_value w.state.tables (Some w.state.meter) w.limiter) turn.reply turn.charge
       (metered_value w'.state.tables (Some m') w'.limiter)
       → Passed rules (meeting_by (GrowTable k n init)) (At k)
-  unfolding table_growth_is
   table_grows same k n init m' acts =
       let watch = tables_watch (GrowTable k n init) in
       let watched = tables_watched (GrowTable k n init) same in
@@ -524,8 +456,7 @@ module _ {S : Type 0} (rules : Rules S) (w : World S) (turn : Turn) (w' : World 
       (reply_of replied.Number replied.Table) (GrowsTableCharging rules n init) m'
       (λ x x' result replaced asks replies grows. on_tested (same_type x.ty.element init.ty) _ _ grows
       (λ typed h. grows_passes rules watch (table_growth n init.raw x) watched k x x'
-      (table_growth_is n init.raw x w.state.meter) replaced m' result
-      (record { asks = rw typed at asks; replies = replies }) h)
+      (table_growth_is n init.raw x w.state.meter) replaced m' result (rw typed at asks) replies h)
       (λ untyped h. kept_passes rules watch Elements watched (At k) (inl (rw untyped at asks))
       (ap (λ (s : MeteredValue TableValue S). s.limiter) h.2) (same_count rules watch k x x' replaced
       (ap (λ (s : MeteredValue TableValue S). size_of s.value) h.2)) h.1)) acts

@@ -9,7 +9,7 @@ use Rattle.wasmi_meter.specs.declared.quota.Quota.{Quota}
 use Rattle.wasmi_meter.specs.Capped.{IsWithin}
 use Rattle.wasmi_meter.proofs.CappedLemmas.{denial_keeps, given_back, KeepsCaps, caps_kept, others_kept, asked_is_within, noticed_is_within, quota_keeps}
 
--- the sum after a growth
+-- the sum of the sizes that a limiter holds, after one has grown as a question asks
 grown_sum : (place : Place) (q : Question) (xs ys : List ℕ) → GrowsAsAsked place q xs ys
     → sum ys ≡ sum xs + (q.desired - q.current)
 grown_sum Nowhere q xs ys grows = absurd grows
@@ -56,27 +56,18 @@ module _ {L : Type 0} (rules : Rules L) (holdings : L → Holdings) (keeps : Kee
       → GrowsBy place exchange (sizes s) (sizes s') → Holds limiter s'
   exchange_holds s s' l limiter place Nothing held passes grows =
       (l, passes, still_held s s' (holdings l) (holdings l) held (record { bytes = refl; elements = refl }) grows)
-  exchange_holds s s' l (Some l') place (Denial q answer) held (denial, asks) grows = (
-    l',
-    refl,
-    still_held s s' (holdings l) (holdings l') held
-        (denial_keeps q answer (holdings l) (holdings l') denial (keeps.reserves l l' q answer asks)) grows,
-  )
+  exchange_holds s s' l (Some l') place (Denial q answer) held (denial, asks) grows =
+      (l', refl, still_held s s' _ _ held (denial_keeps q answer _ _ denial (keeps.reserves l l' q answer asks)) grows)
   exchange_holds s s' l None place (Denial q answer) held (denial, asks) grows = absurd asks
-  exchange_holds s s' l (Some l') place (Permission q) held asks (grows, others) = (
-    l',
-    refl,
-    more_held s s' q.kind (q.desired - q.current) (holdings l) (holdings l') held
-        (keeps.reserves l l' q (Ok true) asks) (grown_sum place q (sizes s q.kind) (sizes s' q.kind) grows) others,
-  )
+  exchange_holds s s' l (Some l') place (Permission q) held asks (grows, others) =
+      let kept = keeps.reserves l l' q (Ok true) asks in
+      let grown = grown_sum place q (sizes s q.kind) (sizes s' q.kind) grows in
+      (l', refl, more_held s s' q.kind (q.desired - q.current) _ _ held kept grown others)
   exchange_holds s s' l None place (Permission q) held asks grows = absurd asks
-  exchange_holds s s' l (Some l') place (Notice q failure notice_answer) held (kind, Some p, asks, notices) grows = (
-    l',
-    refl,
-    still_held s s' (holdings l) (holdings l') held
-        (given_back q.kind (q.desired - q.current) (holdings l) (holdings p) (holdings l')
-        (keeps.reserves l p q (Ok true) asks) (rw kind at (keeps.gives_back p l' failure notice_answer notices))) grows,
-  )
+  exchange_holds s s' l (Some l') place (Notice q failure notice_answer) held (kind, Some p, asks, notices) grows =
+      let kept = keeps.reserves l p q (Ok true) asks in
+      let back = rw kind at (keeps.gives_back p l' failure notice_answer notices) in
+      (l', refl, still_held s s' _ _ held (given_back q.kind (q.desired - q.current) _ _ _ kept back) grows)
   exchange_holds s s' l None place (Notice q failure notice_answer) held (kind, Some p, asks, notices) grows =
       absurd notices
   exchange_holds s s' l limiter place (Notice q failure notice_answer) held (kind, None, asks, notices) grows =

@@ -1,6 +1,6 @@
 -- What holds of memories in lent regions as of memories of their own: creations, growths, writes, effects and runs.
 use Rattle.std.proofs.Common.{Err, List, None, Ok, Option, Result, Some, [], ap, arith, inl, inr, length, map, refl, subst, sym, true, ℕ, ◌*◌, ◌+◌, ◌∙◌, ◌∷◌, ◌≡◌, ◌≤◌, ◌⊎◌}
-use Rattle.wasmi_machine.proofs.Common.{nat_tests, length-map, map-set, map_push, none-some, same_Some, slice_get-map, option_and_then, option_map, MatchOption, slice_get, slice_set, ByteSource, OfBytes, StoresMemoryAt, WritesMemoryAt, byte_write_of, bytes_appended, bytes_in, load_reply, StoresVectorAt, lane_loaded, vector_at, vector_loaded, ActsAt, AddsEntry, ChangesAt, Creates, DropsAt, IfNoRoom, IsNoSuch, MeteredSlots, OnLive, WritesAt, WritesRangeAt, reply_of, Run, BytesRead, BytesStored, BytesWritten, Change, Changed, Effect, FuelSet, LacksSlot, LentMemoryMade, MemoryDropped, MemoryGrown, MemoryMade, RangeWritten, RegisterSet, Step, TableGrown, MemoryWritten, TableWritten, TableMade, HasChange, HasEffect, Told, effect_of, State, live_at, live_value, byte_count, Turn, World, Call, CopyMemory, Load, LoadLane, NewLentMemory, NewMemory, VectorLoad, Reply, Slot, Gone, Live, AttemptOutcome, Met, MeteredValue, optional_due, answer_of, covers, with_value, Rules, Meter, MemoryError, on_test_too, grows_too, memory_growth, IsDenied, metered, metered_value, LacksMemory, Lent, Owned, Room, fits_room, GrowsMemory, GrowsMemoryCharging, MakesMemory, MemoryValue, MemoryWrite, WritesMemory, bytes_write, new_memory, pages_of, MemoryTypeValue, in_bounds, minimum_bytes, page_bytes, outcome_of}
+use Rattle.wasmi_machine.proofs.Common.{nat_tests, length-map, map-set, map_push, none-some, slice_get-map, option_and_then, option_map, slice_get, slice_set, ByteSource, OfBytes, WritesMemoryAt, byte_write_of, bytes_appended, bytes_in, load_reply, StoresVectorAt, lane_loaded, vector_at, vector_loaded, AddsEntry, ChangesAt, Creates, IfNoRoom, IsNoSuch, MeteredSlots, OnLive, WritesAt, WritesRangeAt, Run, BytesRead, BytesStored, BytesWritten, Change, Changed, Effect, FuelSet, LacksSlot, LentMemoryMade, MemoryDropped, MemoryGrown, MemoryMade, RangeWritten, RegisterSet, Step, TableGrown, MemoryWritten, TableWritten, TableMade, HasChange, HasEffect, Told, effect_of, State, live_at, live_value, byte_count, Turn, World, Call, CopyMemory, Load, LoadLane, NewLentMemory, NewMemory, VectorLoad, Reply, Slot, Gone, Live, AttemptOutcome, Met, MeteredValue, optional_due, answer_of, covers, with_value, Rules, Meter, MemoryError, on_test_too, grows_too, memory_growth, IsDenied, metered, metered_value, LacksMemory, Lent, Owned, Room, fits_room, GrowsMemory, GrowsMemoryCharging, MakesMemory, MemoryValue, MemoryWrite, WritesMemory, bytes_write, new_memory, pages_of, MemoryTypeValue, in_bounds, minimum_bytes, page_bytes, outcome_of}
 use Rattle.std.specs.Result.{result_map_both}
 use Rattle.wasmi_machine.proofs.EffectLemmas.{both_live, no_room_too, on_live_too}
 use Rattle.wasmi_machine.proofs.MemoryEffectsLemmas.{lacks_owned}
@@ -11,20 +11,6 @@ use Rattle.wasmi_store.proofs.DenialLemmas.{answers, attempts, met_or_denied}
 use Rattle.wasmi_store.specs.Write.{Writes, item_price, write_charge}
 use Rattle.wasmi_store.specs.Memory as memory
 use Rattle.wasmi_machine.specs.declared.calls.Reply.TheVariants as replied
-
--- a memory that is made where its room has place for it is made as one of its own
-makes_owned : {S : Type 0} (rules : Rules S) (room : Room) (ty : MemoryTypeValue) (l : S)
-    (result : Result MemoryValue MemoryError) (l' : S) → fits_room room (minimum_bytes ty) ≡ true
-    → MakesMemory rules room ty l result l'
-    → MakesMemory rules Owned ty l (result_map_both owned_memory (λ error. error) result) l'
-makes_owned rules room ty l result l' fits (outcome, attempt, answered) =
-    let e = memory.creation_of room ty in (
-      outcome,
-      attempts e None (LacksMemory Owned) (lacks_owned room) (λ none. none) rules _ _ outcome 0
-          (λ early. rw fits) attempt,
-      ap (result_map_both owned_memory (λ error. error)) answered
-          ∙ answers e None (LacksMemory Owned) (lacks_owned room) (λ none. none) owned_memory (new_memory room ty) outcome,
-    )
 
 -- a growth that its room has place for has no cause of refusal after the question
 fits_easy : (pages : ℕ) (x : MemoryValue) → FitsRoom pages x → (memory.growth_of x pages).early ≡ None
@@ -95,12 +81,6 @@ module _ (slots : List (Slot MemoryValue)) (k : ℕ) where
         (λ missing. (missing.0, ap (map owned_slot) missing.1))
         (λ x h. (owned_memory h.0, change x h.0 h.1, put_owned slots' (Live h.0) h.2))
 
-    -- a drop of a memory is one of an owned memory
-    drops_owned : DropsAt byte_count k slots reply slots'
-        → DropsAt byte_count k (map owned_slot slots) reply (map owned_slot slots')
-    drops_owned drops = on_owned _ _ _ _ drops (λ missing. (missing.0, ap (map owned_slot) missing.1))
-        (λ x h. (h.0, put_owned slots' (Gone (byte_count x)) h.1))
-
     -- a write to a memory is one to an owned memory
     writes_owned : (offset : ℕ) (source : List ℕ) → WritesMemoryAt k offset source slots reply slots'
         → WritesMemoryAt k offset source (map owned_slot slots) reply (map owned_slot slots')
@@ -111,16 +91,11 @@ module _ (slots : List (Slot MemoryValue)) (k : ℕ) where
         written x x' (Ok _) h = (h.0, h.1, refl)
         written x x' (Err error) h = (h.0, h.1, ap owned_memory h.2)
 
-    -- a store to a memory is one to an owned memory
-    stores_owned : (a : ℕ) (stored : List ℕ) → StoresMemoryAt k a stored slots reply slots'
-        → StoresMemoryAt k a stored (map owned_slot slots) reply (map owned_slot slots')
-    stores_owned a stored stores = changes_owned _ (λ x x' c. (c.0, (c.1.0, c.1.1, refl), c.2)) stores
-
     -- a store of bytes that may be missing is one to an owned memory
     vector_stores_owned : (a : ℕ) (stored : Option (List ℕ)) → StoresVectorAt k a stored slots reply slots'
         → StoresVectorAt k a stored (map owned_slot slots) reply (map owned_slot slots')
     vector_stores_owned a None stores = (stores.0, ap (map owned_slot) stores.1)
-    vector_stores_owned a (Some stored) stores = stores_owned a stored stores
+    vector_stores_owned a (Some stored) stores = changes_owned _ (λ x x' c. (c.0, (c.1.0, c.1.1, refl), c.2)) stores
 
   -- what is made of the live memory of an index, or of none, whatever its room is
   made_owned : {A : Type 0} (made : Option MemoryValue → A)
@@ -131,23 +106,6 @@ module _ (slots : List (Slot MemoryValue)) (k : ℕ) where
       by_value : (o : Option MemoryValue) → made o ≡ made (option_map owned_memory o)
       by_value None = refl
       by_value (Some x) = same x
-
--- a growth of the memory of an index within its room is one of an owned memory
-growth_owned : {S : Type 0} (rules : Rules S) (k pages : ℕ) (s s' : MeteredValue (List (Slot MemoryValue)) S)
-    (reply : Reply) (charge : ℕ) → OnLive (live_at s.value k) (Unit {0}) (FitsRoom pages)
-    → ActsAt k (reply_of replied.Number replied.Memory) (GrowsMemoryCharging rules pages) s reply charge s'
-    → ActsAt k (reply_of replied.Number replied.Memory) (GrowsMemoryCharging rules pages)
-    (with_value s (map owned_slot s.value)) reply charge (with_value s' (map owned_slot s'.value))
-growth_owned rules k pages s s' reply charge fits acts =
-    on_owned s.value k _ _ _ _ (both_live (live_at s.value k) _ _ _ _ fits acts)
-    (λ missing. (missing.1.0, missing.1.1, rw missing.1.2))
-    (λ x h. (
-      h.1.0,
-      owned_memory h.1.1,
-      grows_owned rules pages (with_value s x) h.1.0 charge (with_value s' h.1.1) h.0 h.1.2,
-      h.1.3,
-      put_owned s.value k s'.value (Live h.1.1) h.1.4,
-    ))
 
 -- a write over the bytes of a memory is one over those of an owned memory
 bytes_owned : (x : MemoryValue) (m : Option Meter) (result : Result (Unit {0}) MemoryError) (x' : MemoryValue)
@@ -164,20 +122,12 @@ bytes_owned x m result x' m' paid early written writes = (
   ap (λ (s : MeteredValue MemoryValue (Unit {0})). metered (owned_memory s.value) s.meter) writes.1,
 )
 
-module _ (len : ℕ) (write : MemoryValue → MemoryWrite) (w : WritesBytes len write) (x : MemoryValue) (m : Option Meter)
-    (result : Result (Unit {0}) MemoryError) where
-  -- a write has the same charge over an owned memory
-  charge_owned : (result : Result (Unit {0}) MemoryError) → write_charge (write x) (metered x m) result
-      ≡ write_charge (write (owned_memory x)) (metered (owned_memory x) m) result
-  charge_owned (Ok done) = rw (w.is x, w.is (owned_memory x))
-  charge_owned (Err error) = refl
-
-  -- a write does the same to an owned memory
-  writing_owned : (x' : MemoryValue) (m' : Option Meter) → Writes (write x) (metered x m) result (metered x' m')
-      → Writes (write (owned_memory x)) (metered (owned_memory x) m) result (metered (owned_memory x') m')
-  writing_owned x' m' writes =
-      rw (w.is (owned_memory x))
-      (bytes_owned x m result x' m' len (w.early x.ty) (w.written x.bytes) (rw (w.is x) at writes))
+-- a write has the same charge over an owned memory
+charge_owned : (len : ℕ) (write : MemoryValue → MemoryWrite) (w : WritesBytes len write) (x : MemoryValue)
+    (m : Option Meter) (result : Result (Unit {0}) MemoryError) → write_charge (write x) (metered x m) result
+    ≡ write_charge (write (owned_memory x)) (metered (owned_memory x) m) result
+charge_owned len write w x m (Ok done) = rw (w.is x, w.is (owned_memory x))
+charge_owned len write w x m (Err error) = refl
 
 -- a write over a range of the memory of an index is one over that of an owned memory
 memory_write_owned : (source : ByteSource) (k dst len : ℕ) (s s' : MeteredSlots MemoryValue) (reply : Reply)
@@ -202,8 +152,9 @@ memory_write_owned source k dst len s s' reply charge writes =
       h.0,
       owned_memory h.1,
       record {
-        writes = writing_owned len write w x s.meter h.0 h.1 s'.meter h.2.writes;
-        charged = h.2.charged ∙ charge_owned len write w x s.meter h.0 h.0;
+        writes = rw (w.is (owned_memory x)) (bytes_owned x s.meter h.0 h.1 s'.meter len (w.early x.ty)
+            (w.written x.bytes) (rw (w.is x) at h.2.writes));
+        charged = h.2.charged ∙ charge_owned len write w x s.meter h.0;
       },
       h.3,
       put_owned s.value k s'.value (Live h.1) h.4,
@@ -227,11 +178,19 @@ creates_owned : {S : Type 0} (rules : Rules S) (room : Room) (ty : MemoryTypeVal
     → Creates replied.Memory (MakesMemory rules room ty) slots l reply slots' l'
     → Creates replied.Memory (MakesMemory rules Owned ty) (map owned_slot slots) l reply (map owned_slot slots') l'
 creates_owned rules room ty slots l reply slots' l' fits (inl none) = inl (none.0, ap (map owned_slot) none.1, none.2)
-creates_owned rules room ty slots l reply slots' l' fits (inr (result, makes, appends)) = inr (
-  result_map_both owned_memory (λ error. error) result,
-  makes_owned rules room ty l result l' fits makes,
-  appends_owned result slots reply slots' appends,
-)
+creates_owned rules room ty slots l reply slots' l' fits (inr (result, (outcome, attempt, answered), appends)) =
+    let e = memory.creation_of room ty in
+    inr (
+      result_map_both owned_memory (λ error. error) result,
+      (
+        outcome,
+        attempts e None (LacksMemory Owned) (lacks_owned room) (λ none. none) rules _ _ outcome 0
+            (λ early. rw fits) attempt,
+        ap (result_map_both owned_memory (λ error. error)) answered
+            ∙ answers e None (LacksMemory Owned) (lacks_owned room) (λ none. none) owned_memory (new_memory room ty) outcome,
+      ),
+      appends_owned result slots reply slots' appends,
+    )
 
 -- an effect that fits the regions, as its call does
 abbrev EffectFits : State → Effect → Type 0
@@ -270,7 +229,8 @@ change_owned s reply s' (BytesStored k a stored) c = record {
 }
 change_owned s reply s' (MemoryDropped k) c = record {
   part = map owned_slot c.part;
-  effect = drops_owned s.memories k reply c.part c.effect;
+  effect = on_owned s.memories k _ _ _ _ c.effect (λ missing. (missing.0, ap (map owned_slot) missing.1))
+      (λ x h. (h.0, put_owned s.memories k c.part (Gone (byte_count x)) h.1));
   after = ap owned c.after;
 }
 change_owned s reply s' change c = record { part = c.part; effect = c.effect; after = ap owned c.after }
@@ -301,9 +261,20 @@ module _ {S : Type 0} (rules : Rules S) (w : World S) (turn : Turn) (w' : World 
       (slots_used w.state turn.reply step.room) (ap owned_world step.after)
   effect_owned (LentMemoryMade ty) fits step = absurd fits
   effect_owned (MemoryGrown k pages) fits step = acts_too step (map owned_slot step.part) step.meter step.limiter
-      (growth_owned rules k pages (metered_value w.state.memories (Some w.state.meter) w.limiter)
-      (metered_value step.part (Some step.meter) step.limiter) turn.reply turn.charge fits
-      step.effect) (made_owned w.state.memories k (λ o. bytes_appended o pages turn.reply) (λ x. refl))
+      (on_owned w.state.memories k _ _ _ _ (both_live (live_at w.state.memories k) _ _ _ _ fits step.effect)
+      (λ missing. (
+        missing.1.0,
+        missing.1.1,
+        ap (λ (s : MeteredValue (List (Slot MemoryValue)) S). with_value s (map owned_slot s.value)) missing.1.2,
+      ))
+      (λ x h. (
+        h.1.0,
+        owned_memory h.1.1,
+        grows_owned rules pages (metered_value x (Some w.state.meter) w.limiter) h.1.0 turn.charge
+            (metered_value h.1.1 (Some step.meter) step.limiter) h.0 h.1.2,
+        h.1.3,
+        put_owned w.state.memories k step.part (Live h.1.1) h.1.4,
+      ))) (made_owned w.state.memories k (λ o. bytes_appended o pages turn.reply) (λ x. refl))
       (ap owned_world step.after)
   effect_owned (TableMade ty init) fits step =
       asks_too step step.part step.limiter step.effect step.room (ap owned_world step.after)
@@ -324,12 +295,6 @@ run_is_owned rules w (turn ∷ turns) w' (v, (fits, step), ran) =
     let taken = effect_owned rules w turn v (effect_of w.state turn.call) (effect_fits w.state turn.call fits) step in
     (owned_world v, rw (effect_kept w.state turn.call) at taken, run_is_owned rules v turns w' ran)
 
--- a fact of the spare region, where there is one
-on_spare : (Fact : List ℕ → Type 0) (Missing : Type 0) (spare : Option (List ℕ)) (region : List ℕ)
-    → spare ≡ Some region → MatchOption spare Missing Fact → Fact region
-on_spare Fact Missing None region is h = absurd (none-some region is)
-on_spare Fact Missing (Some r) region is h = rw (same_Some r region is) at h
-
 -- a creation in the spare region is one of a memory of its own
 pub creation_is_owned : {S : Type 0} (rules : Rules S) (w : World S) (turn : Turn) (w' : World S)
     (ty : MemoryTypeValue) (region : List ℕ) → turn.call ≡ NewLentMemory ty → w.state.spare ≡ Some region
@@ -338,7 +303,7 @@ pub creation_is_owned : {S : Type 0} (rules : Rules S) (w : World S) (turn : Tur
 creation_is_owned rules w turn w' ty region called spare fits step =
     let lent : HasEffect rules (LentMemoryMade ty) w (outcome_of turn) w' = subst
     (λ c. HasEffect rules (effect_of w.state c) w (outcome_of turn) w') called step in
-    let creates = on_spare _ _ w.state.spare region spare lent.effect in
+    let creates = simp spare at lent.effect in
     record {
       free = lent.free;
       part = map owned_slot lent.part.slots;

@@ -1,8 +1,7 @@
--- What holds of each effect on memories: creations in the spare region, reads, writes and stores.
+-- What holds of each effect on memories: errors for lack of memory, reads, writes and stores.
 use Rattle.std.proofs.Common.{Err, List, None, Ok, Option, Result, Some, ap, inl, inr, length, refl, sym, ℕ, ◌∙◌, ◌≡◌}
-use Rattle.wasmi_machine.proofs.Common.{IsNotOutOfMemory, CreatesLent, ReadsBytes, ReadsMemoryAt, StoresMemory, WritesMemoryAt, spare_after, StoresVectorAt, MemoryPart, live_at, byte_count, Reply, Slot, Rules, MemoryError, LacksMemory, Lent, Owned, Room, IsValidMemory, MakesMemory, MemoryValue, WritesMemory, MemoryTypeValue, at, overwrite}
-use Rattle.wasmi_machine.proofs.EffectLemmas.{PutsOr, SlotFacts, creates_back, on_both, on_found, on_live, setting_facts, settled_facts}
-use Rattle.wasmi_machine.specs.Laws.{IsRefusal}
+use Rattle.wasmi_machine.proofs.Common.{IsNotOutOfMemory, ReadsBytes, StoresMemory, WritesMemoryAt, StoresVectorAt, byte_count, Reply, MemoryError, LacksMemory, Lent, Owned, Room, IsValidMemory, MemoryValue, WritesMemory, overwrite}
+use Rattle.wasmi_machine.proofs.EffectLemmas.{PutsOr, SlotFacts, setting_facts, settled_facts}
 use Rattle.wasmi_meter.specs.declared.error.MemoryError.TheVariants.{OutOfBoundsAccess}
 use Rattle.wasmi_access.specs.LoadStore.{accessed}
 use Rattle.wasmi_types.specs.declared.trap.TrapCode.{TrapCode}
@@ -10,41 +9,18 @@ use Rattle.wasmi_types.specs.declared.trap.TrapCode.TheVariants.{MemoryOutOfBoun
 use Rattle.wasmi_machine.specs.declared.calls.Reply.TheVariants as replied
 use Rattle.wasmi_machine.proofs.SlotsLemmas.{overwrite_length, accessed_length}
 
--- a refused creation in the spare region leaves the slots
-pub lent_back : {S : Type 0} (rules : Rules S) (ty : MemoryTypeValue) (part : MemoryPart) (l : S) (reply : Reply)
-    (part' : MemoryPart) (l' : S) → IsRefusal reply → CreatesLent rules ty part l reply part' l'
-    → part'.slots ≡ part.slots
-lent_back rules ty part l reply part' l' refused creates = on_live part.spare _ _ creates
-    (λ none. rw none.1)
-    (λ region found h. creates_back replied.Memory (MakesMemory rules (Lent region) ty) part.slots l reply part'.slots
-    l' refused h.0)
-
--- the spare region after a creation in it
-pub lent_spare : {S : Type 0} (rules : Rules S) (ty : MemoryTypeValue) (part : MemoryPart) (l : S) (reply : Reply)
-    (part' : MemoryPart) (l' : S) → CreatesLent rules ty part l reply part' l'
-    → part'.spare ≡ spare_after reply part.spare
-lent_spare rules ty part l reply part' l' creates = on_found part.spare _ _ creates
-    (λ missing none. rw (none.1, missing, none.0)) (λ region found made. made.1)
-
 -- an error of an effect on memories for lack of memory, in any room, is one for a memory of its own
 pub lacks_owned : (room : Room) (cause : MemoryError) → LacksMemory room cause → LacksMemory Owned cause
 lacks_owned Owned cause lacks = lacks
 lacks_owned (Lent rest) cause lacks = absurd lacks
 
 -- two reads of bytes have one reply, where there is enough memory
-read_same : (found : Option (List ℕ)) (reply reply' : Reply) → IsNotOutOfMemory reply → IsNotOutOfMemory reply'
+pub read_same : (found : Option (List ℕ)) (reply reply' : Reply) → IsNotOutOfMemory reply → IsNotOutOfMemory reply'
     → ReadsBytes found reply → ReadsBytes found reply' → reply ≡ reply'
 read_same None reply reply' room room' a b = a ∙ sym b
 read_same (Some bytes) reply reply' room room' (inl none) b = absurd (rw none.0 at room)
 read_same (Some bytes) reply reply' room room' (inr a) (inl none) = absurd (rw none.0 at room')
 read_same (Some bytes) reply reply' room room' (inr a) (inr b) = a ∙ sym b
-
--- two reads of the memory of an index have one reply, where there is enough memory
-pub reads_same : (k offset len : ℕ) (slots : List (Slot MemoryValue)) (reply reply' : Reply) → IsNotOutOfMemory reply
-    → IsNotOutOfMemory reply' → ReadsMemoryAt k offset len slots reply → ReadsMemoryAt k offset len slots reply'
-    → reply ≡ reply'
-reads_same k offset len slots reply reply' room room' a b = on_both (live_at slots k) _ _ _ _ a b (λ h h'. h ∙ sym h')
-    (λ x h h'. read_same (at x.bytes offset len) reply reply' room room' h h')
 
 -- a memory of another one's type with as many bytes is valid
 pub memory_as_long : (x x' : MemoryValue) → x'.ty ≡ x.ty → byte_count x' ≡ byte_count x → IsValidMemory x → IsValidMemory x'

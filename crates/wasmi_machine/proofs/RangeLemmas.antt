@@ -357,58 +357,49 @@ source_writes (OfBytes (Some source) src) dst len = record {
   long = part_long dst (at source src len);
 }
 
--- what a write over bytes of a memory keeps and costs
-range_of_writing : (len : ℕ) (write : MemoryValue → MemoryWrite) → WritesBytes len write
-    → IsRange KeepsMemory (Some (item_price 1 len)) memory_error.OutOfFuel write
-range_of_writing len write w = record {
-  keeps = λ x x' is. items_kept byte_count with_bytes KeepsMemory
-      (λ y bytes long. (refl, long)) x (w.written x.bytes) x' (w.long x.bytes)
-      (rw (w.is x) at is);
-  priced = λ x. rw (w.is x);
-  unpaid_is = λ x. rw (w.is x);
-}
-
 -- what a write over a range of a memory with what a source has keeps and costs
 pub byte_range : (source : ByteSource) (dst len : ℕ) → OnLive (byte_write_of source dst len) (Unit {0})
     (IsRange KeepsMemory (Some (item_price 1 len)) memory_error.OutOfFuel)
 byte_range source dst len = on_live_too (byte_write_of source dst len) _ _ _ _ (λ missing. missing)
-    (range_of_writing len) (source_writes source dst len)
+    (λ write w. record {
+      keeps = λ x x' is. items_kept byte_count with_bytes KeepsMemory
+          (λ y bytes long. (refl, long)) x (w.written x.bytes) x' (w.long x.bytes)
+          (rw (w.is x) at is);
+      priced = λ x. rw (w.is x);
+      unpaid_is = λ x. rw (w.is x);
+    }) (source_writes source dst len)
 
 -- what a write over a range costs, if it costs anything
 abbrev pub range_price : RangeWrite → Option (CustomFuelCosts → ℕ)
 range_price (TableWritten k source dst len) = option_map element_price (paid_from source len)
 range_price (MemoryWritten k source dst len) = Some (item_price 1 len)
 
-module _ {S : Type 0} (w : World S) (write : RangeWrite) (turn : Turn) (w' : World S) where
-  -- a write over a range is refused, or it is paid for
-  pub range_facts : HasRangeWrite write w (outcome_of turn) w'
-      → IsIdleTurn w turn w' ⊎ IsPaidTurn (range_price write) w turn w'
-  range_facts = by_kind write
-    where
-      by_kind : (write : RangeWrite) → HasRangeWrite write w (outcome_of turn) w'
-          → IsIdleTurn w turn w' ⊎ IsPaidTurn (range_price write) w turn w'
-      by_kind (TableWritten k source dst len) step =
-          range_ends w (table_range w.state) (option_map element_price (paid_from source len)) 4 len
-          (source_pays source len) turn w' k (write_of source dst len) (source_range source dst len) step
-      by_kind (MemoryWritten k source dst len) step =
-          range_ends w (memory_range w.state) (Some (item_price 1 len)) 1 len (inl refl) turn w' k
-          (byte_write_of source dst len) (byte_range source dst len) step
+-- a write over a range is refused, or it is paid for
+pub range_facts : {S : Type 0} (w : World S) (write : RangeWrite) (turn : Turn) (w' : World S)
+    → HasRangeWrite write w (outcome_of turn) w' → IsIdleTurn w turn w' ⊎ IsPaidTurn (range_price write) w turn w'
+range_facts w (TableWritten k source dst len) turn w' step =
+    range_ends w (table_range w.state) (option_map element_price (paid_from source len)) 4 len
+    (source_pays source len) turn w' k (write_of source dst len) (source_range source dst len) step
+range_facts w (MemoryWritten k source dst len) turn w' step =
+    range_ends w (memory_range w.state) (Some (item_price 1 len)) 1 len (inl refl) turn w' k
+    (byte_write_of source dst len) (byte_range source dst len) step
 
-  -- what holds of a write over a range holds of this one
-  pub range_holds : HasRangeWrite write w (outcome_of turn) w' → RangeFacts (range_price write) w turn w'
-  range_holds step = elim (range_facts step) [
-    | inl idle ↦ record {
-      back = λ refused. idle.same;
-      charged = idle.uncharged ∙ sym (refused_writing w.state.meter (range_price write) turn.reply idle.refused);
-      unasked = rw idle.same;
-      still = λ kind. rw idle.same;
-      valid = λ valid. rw idle.same valid;
-    }
-    | inr paid ↦ record {
-      back = λ refused. absurd (rw paid.done at refused);
-      charged = paid.charged ∙ ap (writing_charge w.state.meter (range_price write)) (sym paid.done);
-      unasked = paid.limiter;
-      still = paid.still;
-      valid = paid.valid;
-    }
-  ]
+-- what holds of a write over a range holds of this one
+pub range_holds : {S : Type 0} (w : World S) (write : RangeWrite) (turn : Turn) (w' : World S)
+    → HasRangeWrite write w (outcome_of turn) w' → RangeFacts (range_price write) w turn w'
+range_holds w write turn w' step = elim (range_facts w write turn w' step) [
+  | inl idle ↦ record {
+    back = λ refused. idle.same;
+    charged = idle.uncharged ∙ sym (refused_writing w.state.meter (range_price write) turn.reply idle.refused);
+    unasked = rw idle.same;
+    still = λ kind. rw idle.same;
+    valid = λ valid. rw idle.same valid;
+  }
+  | inr paid ↦ record {
+    back = λ refused. absurd (rw paid.done at refused);
+    charged = paid.charged ∙ ap (writing_charge w.state.meter (range_price write)) (sym paid.done);
+    unasked = paid.limiter;
+    still = paid.still;
+    valid = paid.valid;
+  }
+]

@@ -1,12 +1,10 @@
 -- What a refused turn, and a run of refused turns, keeps: the contents, the spare region and the meter.
 use Rattle.std.proofs.Common.{List, None, Option, Some, [], ap, inl, inr, map, refl, sym, ℕ, ◌∙◌, ◌∷◌, ◌≡◌}
-use Rattle.wasmi_machine.proofs.Common.{All-head, All-tail, same_Some, All, if◌then◌else◌, is_some, memory_growth, table_growth, ChangesMeter, AsksFor, At, Exchange, Exchanges, New, Notice, Nowhere, Passes, Permission, Place, RepliesTo, charge_at, writing_price, growth_charge, growth_due, place_of, question_of, writing_charge, Keeps, KeepsMeter, KeepsSpare, RefusalsInRunsKeepContents, SameContents, reply_of, spare_after, Run, Changed, Effect, FuelSet, LentMemoryMade, MemoryGrown, MemoryMade, RangeWritten, Step, TableGrown, TableMade, HasEffect, effect_of, State, memory_part, with_memories, with_tables, Turn, outcome_of, World, Call, NewLentMemory, SetFuel, Reply, Rules, Meter, meter_after, meter_set, PaysCharge, CustomFuelCosts, on_test, Owned, GrowsMemoryCharging, MakesMemory, GrowsTableCharging, MakesTable, same_type, metered_value}
-use Rattle.wasmi_machine.proofs.MemoryEffectsLemmas.{lent_back, lent_spare}
-use Rattle.wasmi_machine.proofs.EffectLemmas.{acts_back, creates_back, grows_back}
+use Rattle.wasmi_machine.proofs.Common.{All-head, All-tail, same_Some, All, if◌then◌else◌, is_some, memory_growth, table_growth, ChangesMeter, AsksFor, At, Exchange, Exchanges, New, Notice, Nowhere, Passes, Permission, Place, RepliesTo, charge_at, writing_price, growth_charge, growth_due, place_of, question_of, writing_charge, Keeps, KeepsMeter, KeepsSpare, SameContents, reply_of, spare_after, Run, Changed, Effect, FuelSet, LentMemoryMade, MemoryGrown, MemoryMade, RangeWritten, Step, TableGrown, TableMade, HasEffect, effect_of, State, with_memories, with_tables, Turn, outcome_of, World, Call, NewLentMemory, SetFuel, Reply, Rules, Meter, meter_after, meter_set, PaysCharge, CustomFuelCosts, on_test, Lent, Owned, GrowsMemoryCharging, MakesMemory, GrowsTableCharging, MakesTable, same_type, metered_value}
+use Rattle.wasmi_machine.proofs.EffectLemmas.{acts_back, creates_back, grows_back, on_found}
 use Rattle.wasmi_machine.proofs.ExchangeLemmas.{growths_are_permitted, out_of_memory_or_free}
 use Rattle.wasmi_machine.proofs.StepsLemmas.{change_facts}
 use Rattle.wasmi_machine.proofs.RangeLemmas.{range_holds, refused_writing}
-use Rattle.wasmi_machine.proofs.StoreLemmas.{each_turn}
 use Rattle.wasmi_machine.specs.State.{IsRefusal}
 use Rattle.wasmi_meter.proofs.AttemptLemmas.{meter_after_nothing}
 use Rattle.wasmi_meter.specs.declared.fuel.FuelError.TheVariants.{FuelMeteringDisabled}
@@ -28,16 +26,7 @@ module _ {S : Type 0} (w w' : World S) where
   -- with another meter and spare region, the contents are the same
   but_spare : (m : Meter) (spare : Option (List ℕ)) → {v : World S} → w' ≡ v
       → v.state ≡ record w.state { meter = m; spare = spare } → SameContents w.state w'.state
-  but_spare m spare is same =
-      rw (is, same) (record {
-        memories = refl;
-        tables = refl;
-        segments = refl;
-        data_segments = refl;
-        globals = refl;
-        registers = refl;
-        reserved = refl;
-      })
+  but_spare m spare is same = rw (is, same) assumption
 
   -- with another meter, the contents and the spare region are the same
   paid : (m : Meter) → {v : World S} → w' ≡ v → v.state ≡ record w.state { meter = m }
@@ -47,6 +36,14 @@ module _ {S : Type 0} (w w' : World S) where
   -- with the same state, the contents and the spare region are the same
   kept : {v : World S} → w' ≡ v → v.state ≡ w.state → SameContents w.state w'.state × (w'.state.spare ≡ w.state.spare)
   kept = paid w.state.meter
+
+-- a meter that is off isn't set
+unset : (left : Option ℕ) (costs : CustomFuelCosts) (fuel : ℕ) (reply : Reply) → IsRefusal reply
+    → reply ≡ (if is_some left then replied.Done else replied.Fuel FuelMeteringDisabled)
+    → meter_set (record { left = left; costs = costs })
+    fuel ≡ (let m : Meter = record { left = left; costs = costs } in m)
+unset None costs fuel reply refused is = refl
+unset (Some n) costs fuel reply refused is = absurd (rw is at refused)
 
 module _ {S : Type 0} (rules : Rules S) (w : World S) (turn : Turn) (w' : World S)
     (refused : IsRefusal turn.reply) where
@@ -59,11 +56,14 @@ module _ {S : Type 0} (rules : Rules S) (w : World S) (turn : Turn) (w' : World 
   effect_back (MemoryMade ty) step = kept w w' step.after
       (ap (with_memories w.state) (creates_back replied.Memory (MakesMemory rules Owned ty) w.state.memories w.limiter
       turn.reply step.part step.limiter refused step.effect))
-  effect_back (LentMemoryMade ty) step = (
-    but_spare w w' w.state.meter step.part.spare step.after
-        (rw (lent_back rules ty (memory_part w.state) w.limiter turn.reply step.part step.limiter refused step.effect)),
-    rw step.after (lent_spare rules ty (memory_part w.state) w.limiter turn.reply step.part step.limiter step.effect),
-  )
+  effect_back (LentMemoryMade ty) step =
+      let same : step.part.slots ≡ w.state.memories = on_found w.state.spare _ _ step.effect (λ missing none. rw none.1)
+      (λ region found made. creates_back replied.Memory (MakesMemory rules (Lent region) ty) w.state.memories w.limiter
+      turn.reply step.part.slots step.limiter refused made.0) in (
+        but_spare w w' w.state.meter step.part.spare step.after (rw same),
+        rw step.after (on_found w.state.spare _ _ step.effect (λ missing none. rw (none.1, missing, none.0))
+            (λ region found made. made.1)),
+      )
   effect_back (MemoryGrown k pages) step = paid w w' step.meter step.after
       (rw (acts_back k (reply_of replied.Number replied.Memory) (GrowsMemoryCharging rules pages)
       (λ s s'. grows_back replied.Memory rules (memory_growth pages s.value) s s')
@@ -82,24 +82,10 @@ module _ {S : Type 0} (rules : Rules S) (w : World S) (turn : Turn) (w' : World 
   effect_back (RangeWritten write) step = kept w w' ((range_holds w write turn w' step).back refused) refl
   effect_back effect step = kept w w' step.after refl
 
--- a meter of which nothing was taken
-free_meter : (m m' : Meter) (charge : ℕ) → charge ≡ 0 → PaysCharge m charge m' → m' ≡ m
-free_meter m m' charge free takes =
-    takes.1 ∙ ap (meter_after m) free ∙ sym (same_Some m (meter_after m 0) (meter_after_nothing (Some m)))
-
--- a meter that is off isn't set
-unset : (left : Option ℕ) (costs : CustomFuelCosts) (fuel : ℕ) (reply : Reply) → IsRefusal reply
-    → reply ≡ (if is_some left then replied.Done else replied.Fuel FuelMeteringDisabled)
-    → meter_set (record { left = left; costs = costs })
-    fuel ≡ (let m : Meter = record { left = left; costs = costs } in m)
-unset None costs fuel reply refused is = refl
-unset (Some n) costs fuel reply refused is = absurd (rw is at refused)
-
-module _ {S : Type 0} (rules : Rules S) (w : World S) (turn : Turn) (w' : World S)
-    (refused : IsRefusal turn.reply) where
   -- the meter stays, where nothing was charged
   stays : PaysCharge w.state.meter turn.charge w'.state.meter → turn.charge ≡ 0 → KeepsMeter rules w turn w'
-  stays takes free = inl (free_meter w.state.meter w'.state.meter turn.charge free takes)
+  stays takes free = inl (takes.1 ∙ ap (meter_after w.state.meter) free
+      ∙ sym (same_Some w.state.meter (meter_after w.state.meter 0) (meter_after_nothing (Some w.state.meter))))
 
   -- a refused growth keeps the meter, except the price where there wasn't enough memory
   growth_meter : (k : ℕ) × (place_of turn.call ≡ At k) → (exchange : Exchange)
@@ -135,17 +121,13 @@ module _ {S : Type 0} (rules : Rules S) (w : World S) (turn : Turn) (w' : World 
     place_meter New at charged = stays takes charged
     place_meter (At k) at charged = growth_meter (k, at) x.exchange x.asks x.passes x.replies charged takes
 
-  -- where the fuel was to be set, metering is off
-  set_meter : (fuel : ℕ) → turn.call ≡ SetFuel fuel → Step rules w turn w' → w'.state.meter ≡ w.state.meter
-  set_meter fuel is step =
-      let sets : HasEffect rules (FuelSet fuel) w (outcome_of turn) w' = rw is at step in
-      rw (sets.after, sets.effect.1)
-      (unset w.state.meter.left w.state.meter.costs fuel turn.reply refused sets.effect.0)
-
   -- a refused call keeps the meter
   call_meter : Exchanges rules w turn w' → Step rules w turn w' → (call : Call) → turn.call ≡ call
       → ChangesMeter call w.state.meter turn.charge w'.state.meter → KeepsMeter rules w turn w'
-  call_meter x step (SetFuel fuel) is changes = inl (set_meter fuel is step)
+  call_meter x step (SetFuel fuel) is changes =
+      let sets : HasEffect rules (FuelSet fuel) w (outcome_of turn) w' = rw is at step in
+      inl (rw (sets.after, sets.effect.1)
+      (unset w.state.meter.left w.state.meter.costs fuel turn.reply refused sets.effect.0))
   call_meter x step call is changes = place_meter x changes (place_of turn.call) refl x.charged
 
 -- a refused step keeps what a refused turn keeps
@@ -161,22 +143,6 @@ refusals_keep_contents rules w turn w' step refused =
       meter = call_meter rules w turn w' refused exchanged step turn.call refl exchanged.meter;
     }
 
--- every refused turn of a run keeps what a refused turn keeps
-pub run_refusals_keep_contents : {S : Type 0} (rules : Rules S) → RefusalsInRunsKeepContents rules
-run_refusals_keep_contents rules = each_turn rules _ (refusals_keep_contents rules)
-
--- contents that are the same twice
-same_twice : (s t u : State) → SameContents s t → SameContents t u → SameContents s u
-same_twice s t u first second = record {
-  memories = second.memories ∙ first.memories;
-  tables = second.tables ∙ first.tables;
-  segments = second.segments ∙ first.segments;
-  data_segments = second.data_segments ∙ first.data_segments;
-  globals = second.globals ∙ first.globals;
-  registers = second.registers ∙ first.registers;
-  reserved = second.reserved ∙ first.reserved;
-}
-
 -- a run in which each turn is refused keeps the contents
 pub refused_run_keeps_contents : {S : Type 0} (rules : Rules S) (w : World S) (turns : List Turn) (w' : World S)
     → Run rules w turns w' → All IsRefusal (map Turn.reply turns) → SameContents w.state w'.state
@@ -184,5 +150,14 @@ refused_run_keeps_contents rules w [] w' ran refused = (kept w w' ran refl).0
 refused_run_keeps_contents rules w (turn ∷ turns) w' (v, step, ran) refused =
     let first = (refusals_keep_contents rules w turn v step
     (All-head IsRefusal turn.reply (map Turn.reply turns) refused)).contents in
-    same_twice w.state v.state w'.state first
-    (refused_run_keeps_contents rules v turns w' ran (All-tail IsRefusal turn.reply (map Turn.reply turns) refused))
+    let rest = refused_run_keeps_contents rules v turns w' ran
+    (All-tail IsRefusal turn.reply (map Turn.reply turns) refused) in
+    record {
+      memories = rest.memories ∙ first.memories;
+      tables = rest.tables ∙ first.tables;
+      segments = rest.segments ∙ first.segments;
+      data_segments = rest.data_segments ∙ first.data_segments;
+      globals = rest.globals ∙ first.globals;
+      registers = rest.registers ∙ first.registers;
+      reserved = rest.reserved ∙ first.reserved;
+    }

@@ -1,8 +1,8 @@
 -- What the replies of a run reveal of its limiter: a run is one under another limiter too, where its replies show it and
 -- the limiter is in states of which this holds.
 use Rattle.std.proofs.Common.{Err, List, Result, Some, [], ap, inl, inr, map, refl, sym, true, ℕ, ◌∙◌, ◌∷◌, ◌≡◌, Ok}
-use Rattle.wasmi_machine.proofs.Common.{All-head, All-tail, All, on_test_too, grows_too, ActsAt, Creates, reply_of, Run, BytesRead, Effect, LentMemoryMade, MemoryGrown, MemoryMade, MemoryWritten, RangeWritten, TableGrown, TableMade, TableWritten, HasEffect, Told, effect_of, Step, live_at, Turn, World, Reply, Slot, Attempt, Denied, Request, Failed, AttemptOutcome, Follows, Met, MeteredValue, Unasked, alone, answer_of, error_of_answer, error_of_failure, with_value, Rules, TableError, Lent, Owned, Room, Grows, Growth, Makes, metered_value, GrowsMemoryCharging, MemoryValue, new_memory, MemoryTypeValue, GrowsTableCharging, TableValue, new_table, TableTypeValue, same_type, TypedRawRef, RefType, permitting, TellsNoDenial, memory_growth, table_growth, outcome_of}
-use Rattle.wasmi_machine.proofs.EffectLemmas.{Creation, on_live_too}
+use Rattle.wasmi_machine.proofs.Common.{All-head, All-tail, All, on_test_too, grows_too, ActsAt, Creates, reply_of, Run, Changed, Effect, FuelSet, LentMemoryMade, MemoryGrown, MemoryMade, MemoryWritten, RangeWritten, TableGrown, TableMade, TableWritten, HasEffect, effect_of, Step, live_at, Turn, World, Reply, Slot, Attempt, Denied, Request, Failed, AttemptOutcome, Follows, Met, MeteredValue, Unasked, alone, answer_of, error_of_answer, error_of_failure, with_value, Rules, Lent, Owned, Room, Grows, Growth, Makes, metered_value, GrowsMemoryCharging, MemoryValue, new_memory, MemoryTypeValue, GrowsTableCharging, TableValue, new_table, TableTypeValue, same_type, RefType, permitting, TellsNoDenial, memory_growth, table_growth, outcome_of}
+use Rattle.wasmi_machine.proofs.EffectLemmas.{on_live_too}
 use Rattle.wasmi_machine.proofs.HoldingLemmas.{Carries, step_stays, run_stays}
 use Rattle.wasmi_machine.proofs.StoreLemmas.{acts_too, asks_too, changes_too, unasked_too}
 use Rattle.wasmi_store.specs.Memory as memory
@@ -63,28 +63,25 @@ module _ {S T : Type 0} (n : Narrowing S T) where
       → (s s' : MeteredValue V S) (outcome : AttemptOutcome E) (charge : ℕ) → n.within s.limiter
       → ((c : E) → IsErrorOf e outcome c → n.shown (refusal c)) → Attempt n.rules e s outcome charge s'
       → Attempt n.narrower e (moved s) outcome charge (moved s')
-  attempt_revealed refusal e reveals s s' outcome charge within shown a = record {
-    may_end = a.may_end;
-    follows = reveals outcome s.limiter s'.limiter within shown a.follows;
-    charged = a.charged;
-    meter = a.meter;
-    value = a.value;
-  }
+  attempt_revealed refusal e reveals s s' outcome charge within shown a =
+      assumption (reveals outcome s.limiter s'.limiter within shown a.follows)
 
   -- a creation
   creates_revealed : {X E : Type 0} (refusal : E → Reply) (e : Request (Unit {0}) E) → Reveals refusal e
-      → (made : X) (slots : List (Slot X)) (l : S) (o : Creation (List (Slot X)) S) → n.within l → n.shown o.reply
-      → Creates refusal (Makes n.rules e made) slots l o.reply o.part o.limiter
-      → Creates refusal (Makes n.narrower e made) slots (n.image l) o.reply o.part (n.image o.limiter)
-  creates_revealed refusal e reveals made slots l o within shows (inl none) = inl (none.0, none.1, ap n.image none.2)
-  creates_revealed refusal e reveals made slots l o within shows (inr (result, (outcome, attempt, answered), appends)) =
+      → (made : X) (slots : List (Slot X)) (l : S) (reply : Reply) (slots' : List (Slot X)) (l' : S) → n.within l
+      → n.shown reply → Creates refusal (Makes n.rules e made) slots l reply slots' l'
+      → Creates refusal (Makes n.narrower e made) slots (n.image l) reply slots' (n.image l')
+  creates_revealed refusal e reveals made slots l reply slots' l' within shows (inl none) =
+      inl (none.0, none.1, ap n.image none.2)
+  creates_revealed refusal e reveals made slots l reply slots' l' within shows
+      (inr (result, (outcome, attempt, answered), appends)) =
       let shown : (c : _) → IsErrorOf e outcome c → n.shown (refusal c) =
       λ c is. rw (rw (answered ∙ answered_error e made outcome c is) at appends).0 at shows in
       inr (
         result,
         (
           outcome,
-          attempt_revealed refusal e reveals (alone l) (alone o.limiter) outcome 0 within shown attempt,
+          attempt_revealed refusal e reveals (alone l) (alone l') outcome 0 within shown attempt,
           answered,
         ),
         appends,
@@ -110,17 +107,6 @@ module _ {S T : Type 0} (n : Narrowing S T) where
     pub table_grown : (x : TableValue) (n reference : ℕ) → Reveals replied.Table (table.growth_of x n reference)
 
   module _ (each : EachReveals) where
-    -- a growth of a table, whose type is tested first
-    table_growth_revealed : (delta : ℕ) (init : TypedRawRef) (s s' : MeteredValue TableValue S)
-        (result : Result ℕ TableError)
-        (charge : ℕ) → n.within s.limiter → n.shown (reply_of replied.Number replied.Table result)
-        → GrowsTableCharging n.rules delta init s result charge s'
-        → GrowsTableCharging n.narrower delta init (moved s) result charge (moved s')
-    table_growth_revealed delta init s s' result charge within shows grows =
-        on_test_too (same_type s.value.ty.element init.ty) _ _ _ _ (grows_revealed (table_growth delta init.raw s.value)
-        replied.Table (each.table_grown s.value delta init.raw) s s' result charge within shows)
-        (λ mismatch. (mismatch.0, mismatch.1, ap moved mismatch.2)) grows
-
     -- an effect of any call
     module _ (w : World S) (turn : Turn) (w' : World S) (within : n.within w.limiter) (shows : n.shown turn.reply) where
       -- where its reply shows it, an effect under the one rules is one under the others
@@ -128,15 +114,14 @@ module _ {S T : Type 0} (n : Narrowing S T) where
           → HasEffect n.narrower effect (carried w) (outcome_of turn) (carried w')
       effect_revealed (MemoryMade ty) step = asks_too step step.part (n.image step.limiter)
           (creates_revealed replied.Memory (memory.creation_of Owned ty) (each.memory_made Owned ty)
-          (new_memory Owned ty) w.state.memories w.limiter
-          (record { reply = turn.reply; part = step.part; limiter = step.limiter }) within shows step.effect) step.room
-          (ap carried step.after)
+          (new_memory Owned ty) w.state.memories w.limiter turn.reply step.part step.limiter within shows step.effect)
+          step.room (ap carried step.after)
       effect_revealed (LentMemoryMade ty) step = asks_too step step.part (n.image step.limiter)
           (on_live_too w.state.spare _ _ _ _
           (λ none. (none.0, none.1, ap n.image none.2)) (λ region h. (
             creates_revealed replied.Memory (memory.creation_of (Lent region) ty)
                 (each.memory_made (Lent region) ty) (new_memory (Lent region) ty) w.state.memories w.limiter
-                (record { reply = turn.reply; part = step.part.slots; limiter = step.limiter }) within shows h.0,
+                turn.reply step.part.slots step.limiter within shows h.0,
             h.1,
           )) step.effect) step.room (ap carried step.after)
       effect_revealed (MemoryGrown k pages) step = acts_too step step.part step.meter (n.image step.limiter)
@@ -148,24 +133,23 @@ module _ {S T : Type 0} (n : Narrowing S T) where
           (rw is at shows)) step.effect) refl (ap carried step.after)
       effect_revealed (TableMade ty init) step = asks_too step step.part (n.image step.limiter)
           (creates_revealed replied.Table (table.creation_of ty init.ty) (each.table_made ty init.ty)
-          (new_table ty init.raw) w.state.tables w.limiter
-          (record { reply = turn.reply; part = step.part; limiter = step.limiter }) within shows step.effect) step.room
-          (ap carried step.after)
+          (new_table ty init.raw) w.state.tables w.limiter turn.reply step.part step.limiter within shows step.effect)
+          step.room (ap carried step.after)
       effect_revealed (TableGrown k delta init) step = acts_too step step.part step.meter (n.image step.limiter)
           (acts_revealed k (reply_of replied.Number replied.Table) (GrowsTableCharging n.rules delta init)
           (GrowsTableCharging n.narrower delta init) _ _ turn.reply turn.charge
-          (λ x x' result is. table_growth_revealed delta init (metered_value x (Some w.state.meter) w.limiter)
-          (metered_value x' (Some step.meter) step.limiter) result turn.charge within
-          (rw is at shows)) step.effect) refl (ap carried step.after)
+          (λ x x' result is. on_test_too (same_type x.ty.element init.ty) _ _ _ _
+          (grows_revealed (table_growth delta init.raw x) replied.Table (each.table_grown x delta init.raw)
+          (metered_value x (Some w.state.meter) w.limiter) (metered_value x' (Some step.meter) step.limiter) result
+          turn.charge within (rw is at shows))
+          (λ mismatch. (mismatch.0, mismatch.1, ap moved mismatch.2))) step.effect) refl (ap carried step.after)
       effect_revealed (RangeWritten (TableWritten k source dst len)) step =
           unasked_too step step.part step.meter step.effect (ap carried step.after)
       effect_revealed (RangeWritten (MemoryWritten k source dst len)) step =
           unasked_too step step.part step.meter step.effect (ap carried step.after)
-      effect_revealed (Told told) step =
-          record { free = step.free; effect = step.effect; after = ap carried step.after }
-      effect_revealed (BytesRead k offset len) step =
-          record { free = step.free; effect = step.effect; after = ap carried step.after }
-      effect_revealed effect step = changes_too step step.machine step.effect (ap carried step.after)
+      effect_revealed (FuelSet fuel) step = changes_too step step.machine step.effect (ap carried step.after)
+      effect_revealed (Changed change) step = changes_too step step.machine step.effect (ap carried step.after)
+      effect_revealed effect step = record { free = step.free; effect = step.effect; after = ap carried step.after }
 
     -- a run whose turns keep the limiter in such states
     pub run_revealed : ((w : World S) (turn : Turn) (w' : World S) → n.within w.limiter → Step n.rules w turn w'

@@ -91,11 +91,11 @@ module _ (s : State) where
   }
 
   -- a part that is neither the memories, the tables nor the meter
-  unsized : {A : Type 0} (with_part : A → State) (old : A) (Keeps : A → Type 0) → with_part old ≡ s
+  unsized : {A : Type 0} {with_part : A → State} {old : A} {Keeps : A → Type 0} → with_part old ≡ s
       → ((part : A) → ((with_part part).memories ≡ s.memories) × ((with_part part).tables ≡ s.tables)
       × ((with_part part).meter ≡ s.meter))
       → ((part : A) → Keeps part → IsValid s → IsValid (with_part part)) → PartOf s with_part old Keeps
-  unsized with_part old Keeps whole same valid = record {
+  unsized {with_part = with_part} whole same valid = record {
     whole = whole;
     meter = λ part. (same part).2;
     still = λ part keeps. each_kind (λ kind. sizes (with_part part) kind ≡ sizes s kind)
@@ -105,24 +105,22 @@ module _ (s : State) where
 
   -- the element segments
   the_segments : PartOf s (with_segments s) s.segments (KeepsSegments s)
-  the_segments = unsized (with_segments s) s.segments (KeepsSegments s) refl (λ part. (refl, refl, refl))
-      (λ part keeps. valid_by s (with_segments s part) (λ v. v) (λ v. v) keeps (λ v. v))
+  the_segments = unsized refl (λ part. (refl, refl, refl)) (λ part keeps. valid_by s _ (λ v. v) (λ v. v) keeps (λ v. v))
 
   -- the data segments
   the_data_segments : PartOf s (with_data_segments s) s.data_segments (λ segments. Unit {0})
-  the_data_segments = unsized (with_data_segments s) s.data_segments (λ segments. Unit {0}) refl
-      (λ part. (refl, refl, refl))
-      (λ part keeps. valid_by s (with_data_segments s part) (λ v. v) (λ v. v) (λ v. v) (λ v. v))
+  the_data_segments =
+      unsized refl (λ part. (refl, refl, refl)) (λ part keeps. valid_by s _ (λ v. v) (λ v. v) (λ v. v) (λ v. v))
 
   -- the globals
   the_globals : PartOf s (with_globals s) s.globals (λ globals. Unit {0})
-  the_globals = unsized (with_globals s) s.globals (λ globals. Unit {0}) refl (λ part. (refl, refl, refl))
-      (λ part keeps. valid_by s (with_globals s part) (λ v. v) (λ v. v) (λ v. v) (λ v. v))
+  the_globals =
+      unsized refl (λ part. (refl, refl, refl)) (λ part keeps. valid_by s _ (λ v. v) (λ v. v) (λ v. v) (λ v. v))
 
   -- the registers
   the_registers : PartOf s (with_registers s) s.registers (KeepsRegisters s)
-  the_registers = unsized (with_registers s) s.registers (KeepsRegisters s) refl (λ part. (refl, refl, refl))
-      (λ part keeps. valid_by s (with_registers s part) (λ v. v) (λ v. v) (λ v. v) (λ v. keeps ∙ v))
+  the_registers =
+      unsized refl (λ part. (refl, refl, refl)) (λ part keeps. valid_by s _ (λ v. v) (λ v. v) (λ v. v) (λ v. keeps ∙ v))
 
 -- the facts of an addition of an item that is valid whatever it is
 addition_facts : {X : Type 0} (Lacks : Type 0) (x : X) (items : List X)

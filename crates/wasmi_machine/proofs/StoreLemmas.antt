@@ -15,14 +15,10 @@ IsAnswered reply Takes =
     (charge : ℕ) × (written : ℕ) × Takes (record { reply = reply; charge = charge; written = written })
 
 module _ {S : Type 0} {w : World S} {reply : Reply} where
-  -- a turn of a call that only replies
-  pub only_replies : {Relation : Reply → Type 0} → Relation reply → OnlyReplies w (free_outcome reply) w Relation
-  only_replies effect = record { free = (refl, refl); effect = effect; after = refl }
-
   -- a call that only replies is answered
   pub replies : {Relation : Reply → Type 0} → Relation reply
       → IsAnswered reply (λ outcome. OnlyReplies w outcome w Relation)
-  replies effect = (0, 0, only_replies effect)
+  replies effect = (0, 0, record { free = (refl, refl); effect = effect; after = refl })
 
   -- a call that changes the state is answered
   pub changes : {Relation : Reply → State → Type 0} {s : State} → Relation reply s

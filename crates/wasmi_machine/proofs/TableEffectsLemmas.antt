@@ -1,7 +1,7 @@
 -- What holds of each effect on tables, and of memory that is reserved for their elements.
 use Rattle.std.proofs.Common.{Bool, List, None, Option, Result, [], false, refl, true, ℕ, ◌∷◌, ◌≡◌, ⊎_elim}
-use Rattle.wasmi_machine.proofs.EffectLemmas.{AllValid, PutsOr, SlotFacts, changes_valid, setting_facts}
-use Rattle.wasmi_machine.proofs.Common.{ReservesElementsAt, SetsElementAt, Reply, Slot, MatchBool, if◌then◌else◌, TableError, IsValidTable, SetsTable, SetsTableRaw, TableValue, size_of, same_type, with_elements, TypedRawRef, overwrite}
+use Rattle.wasmi_machine.proofs.EffectLemmas.{AllValid, PutsOr, SlotFacts, live_valid, on_live, put_valid, setting_facts}
+use Rattle.wasmi_machine.proofs.Common.{ReservesElementsAt, SetsElementAt, live_at, Reply, Slot, Live, MatchBool, if◌then◌else◌, TableError, IsValidTable, SetsTable, SetsTableRaw, TableValue, size_of, same_type, with_elements, TypedRawRef, overwrite}
 use Rattle.std.specs.Prelude.{Err}
 use Rattle.wasmi_meter.specs.declared.error.TableError.TheVariants.{ElementTypeMismatch, SetOutOfBounds}
 use Rattle.wasmi_machine.specs.declared.calls.Reply.TheVariants as replied
@@ -40,6 +40,7 @@ set_facts k index value = setting_facts size_of IsValidTable replied.Table
 -- tables stay valid where memory is reserved for elements of one
 pub reserves_valid : (k n : ℕ) (slots : List (Slot TableValue)) (reply : Reply) (slots' : List (Slot TableValue))
     → ReservesElementsAt k n slots reply slots' → AllValid IsValidTable slots → AllValid IsValidTable slots'
-reserves_valid k n slots reply slots' reserves valid = changes_valid IsValidTable k slots reply slots' _
-    (λ x x' h change. ⊎_elim
-    (λ done. table_as_long x x' (rw done.1) (rw done.1) h) (λ refused. rw refused.2 h) change) reserves valid
+reserves_valid k n slots reply slots' reserves valid = on_live (live_at slots k) _ _ reserves
+    (λ missing. rw missing.1 valid) (λ x found h. let own = live_valid IsValidTable slots k x found valid in
+    put_valid IsValidTable slots slots' k (Live h.0) h.2 (⊎_elim
+    (λ done. table_as_long x h.0 (rw done.1) (rw done.1) own) (λ refused. rw refused.2 own) h.1) valid)

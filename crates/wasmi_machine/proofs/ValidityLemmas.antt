@@ -1,9 +1,9 @@
 -- A valid state stays valid by each effect, turn and run.
-use Rattle.std.proofs.Common.{List, Option, [], ap, map, ℕ, ◌∙◌, ◌∷◌, ◌≡◌}
-use Rattle.wasmi_machine.proofs.Common.{All-head, All-tail, All, reply_of, Run, RepliesWith, Changed, Effect, FuelSet, LentMemoryMade, MemoryGrown, MemoryMade, RangeWritten, TableGrown, TableMade, HasEffect, effect_of, State, IsValid, IsValidCall, Turn, outcome_of, World, Call, NewMemory, Reply, Slot, Rules, Meter, Lent, Owned, GrowsMemoryCharging, IsValidMemory, MakesMemory, MemoryValue, GrowsTableCharging, IsValidTable, MakesTable, TableValue}
-use Rattle.wasmi_machine.proofs.EffectLemmas.{AllValid, acts_valid, creates_valid, on_live}
+use Rattle.std.proofs.Common.{List, [], map, ◌∷◌}
+use Rattle.wasmi_machine.proofs.Common.{All-head, All-tail, All, reply_of, Run, RepliesWith, Changed, Effect, FuelSet, LentMemoryMade, MemoryGrown, MemoryMade, RangeWritten, TableGrown, TableMade, HasEffect, effect_of, State, IsValid, IsValidCall, Turn, outcome_of, World, Call, NewMemory, Reply, Rules, Lent, Owned, GrowsMemoryCharging, IsValidMemory, MakesMemory, GrowsTableCharging, IsValidTable, MakesTable}
+use Rattle.wasmi_machine.proofs.EffectLemmas.{acts_valid, creates_valid, on_live}
 use Rattle.wasmi_machine.proofs.RangeLemmas.{range_holds}
-use Rattle.wasmi_machine.proofs.StepsLemmas.{change_facts}
+use Rattle.wasmi_machine.proofs.StepsLemmas.{change_facts, valid_by}
 use Rattle.wasmi_store.specs.Memory as memory_type
 use Rattle.wasmi_machine.specs.declared.calls.Reply.TheVariants as replied
 use Rattle.wasmi_store.proofs.ValidityLemmas as store
@@ -21,60 +21,38 @@ names_valid : (s : State) (call : Call) → IsValidCall call → IsValidEffect (
 names_valid s (NewMemory ty) valid = valid
 names_valid s call valid = valid
 
--- the state with other memories or tables, and another meter
-module _ (s : State) (valid : IsValid s) (meter : Meter) where
-  -- with other memories that are valid, a state is valid
-  memories_valid : (memories : List (Slot MemoryValue)) (spare : Option (List ℕ)) → AllValid IsValidMemory memories
-      → (s' : State) → s' ≡ record s { memories = memories; meter = meter; spare = spare } → IsValid s'
-  memories_valid memories spare h s' is =
-      rw is (record { memories = h; tables = valid.tables; segments = valid.segments; registers = valid.registers })
-
-  -- with other tables that are valid, a state is valid
-  tables_valid : (tables : List (Slot TableValue)) → AllValid IsValidTable tables → (s' : State)
-      → s' ≡ record s { tables = tables; meter = meter } → IsValid s'
-  tables_valid tables h s' is =
-      rw is (record { memories = valid.memories; tables = h; segments = valid.segments; registers = valid.registers })
-
 module _ {S : Type 0} (rules : Rules S) (w : World S) (turn : Turn) (w' : World S) (valid : IsValid w.state) where
-  -- the meter before the turn
-  abbrev m : Meter
-  m = w.state.meter
-
-  -- the state of a world
-  abbrev now : World S → State
-  now v = v.state
-
   -- an effect leads to a valid state, where the type that it names is valid
   effect_valid : (effect : Effect) → IsValidEffect effect → HasEffect rules effect w (outcome_of turn) w'
       → IsValid w'.state
   effect_valid (FuelSet fuel) typed step =
-      tables_valid w.state valid _ w.state.tables valid.tables w'.state (ap now step.after ∙ step.effect.1)
+      rw (step.after, step.effect.1) (valid_by w.state _ (λ v. v) (λ v. v) (λ v. v) (λ v. v) valid)
   effect_valid (Changed change) typed step =
-      rw (ap now step.after) ((change_facts w.state change).valid turn.reply step.machine valid step.effect)
-  effect_valid (MemoryMade ty) typed step = memories_valid w.state valid m step.part w.state.spare
+      rw step.after ((change_facts w.state change).valid turn.reply step.machine valid step.effect)
+  effect_valid (MemoryMade ty) typed step = rw step.after (valid_by w.state _
       (creates_valid IsValidMemory replied.Memory (MakesMemory rules Owned ty)
       (λ l l' x makes. store.made_memory_is_valid rules Owned ty l x l' typed makes) w.state.memories w.limiter
-      turn.reply step.part step.limiter step.effect valid.memories) w'.state (ap now step.after)
-  effect_valid (LentMemoryMade ty) typed step = memories_valid w.state valid m step.part.slots step.part.spare
+      turn.reply step.part step.limiter step.effect) (λ v. v) (λ v. v) (λ v. v) valid)
+  effect_valid (LentMemoryMade ty) typed step = rw step.after (valid_by w.state _
       (on_live w.state.spare _ _ step.effect
-      (λ none. rw none.1 valid.memories)
+      (λ none. rw none.1 (λ v. v))
       (λ region found h. creates_valid IsValidMemory replied.Memory (MakesMemory rules (Lent region) ty)
       (λ l l' x makes. store.made_memory_is_valid rules (Lent region) ty l x l' typed makes) w.state.memories
-      w.limiter turn.reply step.part.slots step.limiter h.0 valid.memories)) w'.state (ap now step.after)
-  effect_valid (MemoryGrown k pages) typed step = memories_valid w.state valid step.meter step.part w.state.spare
+      w.limiter turn.reply step.part.slots step.limiter h.0)) (λ v. v) (λ v. v) (λ v. v) valid)
+  effect_valid (MemoryGrown k pages) typed step = rw step.after (valid_by w.state _
       (acts_valid IsValidMemory k (reply_of replied.Number replied.Memory) (GrowsMemoryCharging rules pages)
       (λ s s' result charge h grows. store.grown_memory_is_valid rules pages s result charge s' h grows)
-      _ _ turn.reply turn.charge step.effect valid.memories) w'.state (ap now step.after)
-  effect_valid (TableMade ty init) typed step = tables_valid w.state valid m step.part
+      _ _ turn.reply turn.charge step.effect) (λ v. v) (λ v. v) (λ v. v) valid)
+  effect_valid (TableMade ty init) typed step = rw step.after (valid_by w.state _ (λ v. v)
       (creates_valid IsValidTable replied.Table (MakesTable rules ty init)
       (λ l l' x makes. store.made_table_is_valid rules ty init l x l' typed makes) w.state.tables w.limiter turn.reply
-      step.part step.limiter step.effect valid.tables) w'.state (ap now step.after)
-  effect_valid (TableGrown k n init) typed step = tables_valid w.state valid step.meter step.part
+      step.part step.limiter step.effect) (λ v. v) (λ v. v) valid)
+  effect_valid (TableGrown k n init) typed step = rw step.after (valid_by w.state _ (λ v. v)
       (acts_valid IsValidTable k (reply_of replied.Number replied.Table) (GrowsTableCharging rules n init)
       (λ s s' result charge h grows. store.grown_table_is_valid rules n init s result charge s' h grows)
-      _ _ turn.reply turn.charge step.effect valid.tables) w'.state (ap now step.after)
+      _ _ turn.reply turn.charge step.effect) (λ v. v) (λ v. v) valid)
   effect_valid (RangeWritten write) typed step = (range_holds w write turn w' step).valid valid
-  effect_valid effect typed step = rw (ap now step.after) valid
+  effect_valid effect typed step = rw step.after valid
 
 -- a call that is answered leads from a valid state to a valid one, where the type that it names is valid
 pub answer_is_valid : {S : Type 0} (rules : Rules S) (call : Call) (w : World S) (reply : Reply) (w' : World S)

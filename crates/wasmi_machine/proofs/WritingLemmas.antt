@@ -2,10 +2,10 @@
 use Rattle.std.proofs.Common.{Bool, Err, List, None, Ok, Option, Result, Some, [], ap, arith, false, inl, inr, map, refl, subst, true, ℕ, ◌*◌, ◌+◌, ◌-◌, ◌/◌, ◌<◌, ◌^◌, ◌∙◌, ◌∷◌, ◌≡◌, ◌≤◌}
 use Rattle.std.proofs.lemmas.List.Sums.{sum_by-le-sum_by}
 use Rattle.std.proofs.Math.Nat.{add-mul, lt-div-mul-add, mul-add, mul-le-mul_left, mul_comm}
-use Rattle.wasmi_machine.proofs.Common.{All, All-head, All-tail, Account, ChangesMeter, IsSpent, SetsNoFuel, account_after, and_parts, charged_by, charges, opened, nat_tests, sum_by-cons, option_map_or, cond, if◌then◌else◌, nat_eq, nat_le, nat_lt, ◌&&◌, bytes_appended, IsBounded, amount_set, amounts_set, bytes_written, charges_for_writing, has_written, is_accepted, writing_turns, ActsAt, reply_of, Run, Effect, MemoryGrown, HasRangeWrite, RangeWrite, RangeWritten, TableGrown, HasEffect, effect_of, is_charged, State, live_at, Turn, World, element_bytes, Grows, Growth, Call, SetFuel, Reply, Slot, AttemptOutcome, MayEnd, Met, optional_due, answer_of, outcome_charge, copy_cost, cut_product, Meter, Rules, MemoryError, TableError, CustomFuelCosts, on_test, GrowsMemoryCharging, MemoryValue, pages_of, greatest_pages, in_bounds, page_bytes, GrowsTableCharging, TableValue, same_type, TypedRawRef, memory_growth, table_growth, outcome_of, MeteredValue, with_value}
+use Rattle.wasmi_machine.proofs.Common.{All, All-head, All-tail, Account, ChangesMeter, IsSpent, SetsNoFuel, account_after, and_parts, charged_by, charges, opened, nat_tests, sum_by-cons, option_map_or, cond, if◌then◌else◌, nat_eq, nat_le, nat_lt, ◌&&◌, bytes_appended, IsBounded, amount_set, amounts_set, bytes_written, charges_for_writing, has_written, is_accepted, writing_turns, ActsAt, reply_of, Run, Effect, MemoryGrown, RangeWritten, TableGrown, HasEffect, effect_of, is_charged, State, live_at, Turn, World, element_bytes, Grows, Growth, Call, SetFuel, Reply, Slot, AttemptOutcome, MayEnd, Met, optional_due, answer_of, outcome_charge, copy_cost, cut_product, Meter, Rules, MemoryError, TableError, on_test, GrowsMemoryCharging, MemoryValue, pages_of, greatest_pages, in_bounds, page_bytes, GrowsTableCharging, TableValue, same_type, TypedRawRef, memory_growth, table_growth, outcome_of, MeteredValue, with_value}
 use Rattle.wasmi_machine.proofs.AccountLemmas.{fuel_balances, rest_left, costs_kept, step_meter}
-use Rattle.wasmi_machine.proofs.EffectLemmas.{on_live}
-use Rattle.wasmi_machine.proofs.RangeLemmas.{IsPriced, range_facts, range_price}
+use Rattle.wasmi_machine.proofs.EffectLemmas.{on_found, on_live}
+use Rattle.wasmi_machine.proofs.RangeLemmas.{range_facts}
 use Rattle.wasmi_machine.specs.declared.calls.Reply.TheVariants as replied
 
 -- the bytes that a fuel pays for
@@ -122,19 +122,13 @@ module _ {S : Type 0} (rules : Rules S) (pages : ℕ) (s s' : MeteredValue Memor
       (λ none. rw none (omega arith)) memory_bound size grows
   memory_result (Err error) grows = unwritten s.meter charge 0 false refl
 
--- nothing is appended where there is no memory
-nothing_appended : (o : Option MemoryValue) (pages : ℕ) → bytes_appended o pages replied.NoSuch ≡ 0
-nothing_appended None pages = refl
-nothing_appended (Some x) pages = refl
-
 -- the charge of a growth of the memory of an index pays for what it has written
 memory_growth_writes : {S : Type 0} (rules : Rules S) (k pages : ℕ)
     (s s' : MeteredValue (List (Slot MemoryValue)) S) (reply : Reply) (charge : ℕ)
     → ActsAt k (reply_of replied.Number replied.Memory) (GrowsMemoryCharging rules pages) s reply charge s'
     → PaysFor s.meter charge (bytes_appended (live_at s.value k) pages reply) (is_accepted reply)
-memory_growth_writes rules k pages s s' reply charge acts = on_live (live_at s.value k) _ _ acts
-    (λ missing. rw missing.0 (unwritten s.meter charge (bytes_appended (live_at s.value k) pages replied.NoSuch)
-    false (nothing_appended (live_at s.value k) pages)))
+memory_growth_writes rules k pages s s' reply charge acts = on_found (live_at s.value k) _ _ acts
+    (λ none missing. rw (none, missing.0) (unwritten s.meter charge 0 false refl))
     (λ x found a. rw (found, a.3) (memory_result rules pages (with_value s x) (with_value s' a.1) charge a.0 a.2))
 
 -- a growth of a table
@@ -158,24 +152,6 @@ table_growth_writes rules k n init s s' reply charge acts = on_live (live_at s.v
     (table_result rules n init.raw (with_value s x) (with_value s' a.1) charge a.0)
     (λ h. rw h.0 (unwritten s.meter charge 0 false refl))))
 
--- what is due for what was written pays for it
-range_pays : (m : Meter) (price : Option (CustomFuelCosts → ℕ)) (charge written : ℕ) → IsPriced price written
-    → charge ≡ optional_due (Some m) price → PaysFor (Some m) charge written true
-range_pays m price charge written priced charged = elim priced [
-  | inl none ↦ unwritten (Some m) charge written true none
-  | inr (n, size, is, wrote) ↦ rw wrote (due_pays (Some m) n size charge (charged ∙ ap (optional_due (Some m)) is))
-]
-
--- the charge of a write over a range pays for what it has written
-range_writes : {S : Type 0} (w : World S) (write : RangeWrite) (turn : Turn) (w' : World S)
-    → HasRangeWrite write w (outcome_of turn) w'
-    → PaysFor (Some w.state.meter) turn.charge turn.written (is_accepted turn.reply)
-range_writes w write turn w' step = elim (range_facts w write turn w' step) [
-  | inl idle ↦ unwritten (Some w.state.meter) turn.charge turn.written (is_accepted turn.reply) idle.unwritten
-  | inr paid ↦ rw paid.done
-      (range_pays w.state.meter (range_price write) turn.charge turn.written paid.priced paid.charged)
-]
-
 -- whether an effect is charged for what it writes
 abbrev is_charged_effect : Effect → Bool
 is_charged_effect (MemoryGrown k pages) = true
@@ -196,7 +172,14 @@ module _ {S : Type 0} (rules : Rules S) (w : World S) (turn : Turn) (w' : World 
       rw step.wrote (memory_growth_writes rules k pages _ _ turn.reply turn.charge step.effect)
   effect_writes (TableGrown k n init) step =
       rw step.wrote (table_growth_writes rules k n init _ _ turn.reply turn.charge step.effect)
-  effect_writes (RangeWritten write) step = range_writes w write turn w' step
+  effect_writes (RangeWritten write) step = elim (range_facts w write turn w' step) [
+    | inl idle ↦ unwritten (Some w.state.meter) turn.charge turn.written (is_accepted turn.reply) idle.unwritten
+    | inr paid ↦ rw paid.done (elim paid.priced [
+      | inl none ↦ unwritten (Some w.state.meter) turn.charge turn.written true none
+      | inr (n, size, is, wrote) ↦ rw wrote (due_pays (Some w.state.meter) n size turn.charge
+          (paid.charged ∙ ap (optional_due (Some w.state.meter)) is))
+    ])
+  ]
   effect_writes effect step = unwritten (Some w.state.meter) turn.charge turn.written false step.free.1
 
 -- a run, by what is left at its start

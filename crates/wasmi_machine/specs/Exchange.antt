@@ -1,6 +1,6 @@
 -- Exchanges: what passes between a machine and its limiter in one turn, the question of each call, the size that grows
 -- by it, and what growths and writes over a range are charged.
-use Rattle.std.specs.Prelude.{◌≡◌, ◌≢◌, ◌≤◌, ◌-◌, ◌⊎◌, ◌++◌, ℕ, Option, Some, None, Ok, Err, true, nat_eq, is_none, if◌then◌else◌, List, [], ◌∷◌, slice_get, slice_set}
+use Rattle.std.specs.Prelude.{◌≡◌, ◌≢◌, ◌≤◌, ◌-◌, ◌⊎◌, ◌++◌, ℕ, Option, Some, None, Ok, true, nat_eq, is_none, if◌then◌else◌, List, [], ◌∷◌, slice_get, slice_set}
 use Rattle.std.specs.Option.{option_map, option_and_then}
 use Rattle.wasmi_meter.specs.declared.limiter.Kind.{Kind}
 use Rattle.wasmi_meter.specs.declared.limiter.Kind.TheVariants.{Bytes, Elements}
@@ -9,7 +9,7 @@ use Rattle.wasmi_meter.specs.declared.error.TableError.TheVariants as table_erro
 use Rattle.wasmi_meter.specs.Limiter.{Question, Answer, IsDenial, Failure, MemoryFailure, TableFailure, kind_of, NoticeAnswer, Rules}
 use Rattle.wasmi_meter.specs.declared.fuel.CustomFuelCosts.{CustomFuelCosts}
 use Rattle.wasmi_meter.specs.Meter.{copy_cost, Meter, due}
-use Rattle.wasmi_meter.specs.Attempt.{Request, optional_due}
+use Rattle.wasmi_meter.specs.Attempt.{Request, error_of_failure, optional_due}
 use Rattle.wasmi_store.specs.Buffer.{Owned, Lent}
 use Rattle.wasmi_typed.specs.declared.typed_ref.TypedRawRef.{TypedRawRef}
 use Rattle.wasmi_store.specs.Write.{item_price}
@@ -72,10 +72,10 @@ AsksFor question (Notice asked failure notice_answer) reply = question ≡ Some 
 
 -- the reply where what was permitted failed, by the answer to the notice
 abbrev pub failed_reply : Failure → NoticeAnswer → Reply
-failed_reply (MemoryFailure error) (Ok _) = Memory error
-failed_reply (MemoryFailure error) (Err _) = Memory memory_error.ResourceLimiterDeniedAllocation
-failed_reply (TableFailure error) (Ok _) = Table error
-failed_reply (TableFailure error) (Err _) = Table table_error.ResourceLimiterDeniedAllocation
+failed_reply (MemoryFailure error) answer =
+    Memory (error_of_failure memory_error.ResourceLimiterDeniedAllocation error answer)
+failed_reply (TableFailure error) answer =
+    Table (error_of_failure table_error.ResourceLimiterDeniedAllocation error answer)
 
 -- the reply to an exchange: a denial is a refusal, a permission that stands is none, and a failure is told
 abbrev pub RepliesTo : Exchange → Reply → Type 0
@@ -116,12 +116,10 @@ NothingGrows sizes sizes' = (kind : Kind) → sizes' kind ≡ sizes kind
 
 -- what has grown by an exchange: after a permission that stands, the size in the place, as was asked; else nothing
 abbrev pub GrowsBy : Place → Exchange → (Kind → List ℕ) → (Kind → List ℕ) → Type 0
-GrowsBy place Nothing sizes sizes' = NothingGrows sizes sizes'
-GrowsBy place (Denial question answer) sizes sizes' = NothingGrows sizes sizes'
 GrowsBy place (Permission question) sizes sizes' =
     GrowsAsAsked place question (sizes question.kind) (sizes' question.kind)
     × ((kind : Kind) → kind ≢ question.kind → sizes' kind ≡ sizes kind)
-GrowsBy place (Notice question failure notice_answer) sizes sizes' = NothingGrows sizes sizes'
+GrowsBy place exchange sizes sizes' = NothingGrows sizes sizes'
 
 -- the bytes of one of a kind, as they are paid for
 abbrev pub bytes_of_one : Kind → ℕ
@@ -141,10 +139,9 @@ failed_charge failure price = 0
 
 -- what a growth is charged by its exchange: nothing before a permission, and its price where it stands
 abbrev pub growth_charge : Exchange → Meter → ℕ
-growth_charge Nothing m = 0
-growth_charge (Denial question answer) m = 0
 growth_charge (Permission question) m = growth_due m question
 growth_charge (Notice question failure notice_answer) m = failed_charge failure (growth_due m question)
+growth_charge exchange m = 0
 
 -- What tools/generate writes begins.
 -- how many elements a call pays for that writes over a range of a table: an initialization by no item pays for none

@@ -135,7 +135,6 @@ module _ {S : Type 0} (rules : Rules S) where
       (calls calls' : List Call) (u v w : World S) (replies replies' : List Reply) → IsRunOf rules calls u replies v
       → IsRunOf rules calls' v replies' w → IsRunOf rules (calls ++ calls') u (replies ++ replies') w
 
-module _ {S : Type 0} (rules : Rules S) where
   -- a run that makes no memory in a region and grows none past its own is a run of the same machine with memories of
   -- their own
   abbrev pub LentRunsAreOwned : Type 0

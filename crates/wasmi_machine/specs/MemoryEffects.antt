@@ -1,5 +1,5 @@
--- The calls on memories: their replies, what each does to the slots and to the spare region, and what a store or a
--- write over a range writes.
+-- The calls on memories: their replies, what each does to the slots and to the spare region, and what a growth, a store
+-- or a write over a range writes.
 use Rattle.std.specs.Prelude.{◌≡◌, ◌⊎◌, ◌*◌, ◌<◌, ℕ, Option, Some, None, Result, List, length, MatchOption}
 use Rattle.std.specs.Option.{option_map, option_map_or}
 use Rattle.wasmi_types.specs.Access.{at}
@@ -22,7 +22,7 @@ use Rattle.wasmi_machine.specs.State.{MemoryPart, live_at}
 use Rattle.wasmi_machine.specs.Effects.{reply_of, OnLive, Creates, ChangesAt, MeteredSlots, WritesAt, WritesFrom}
 use Rattle.wasmi_machine.specs.declared.memories.Stored.TheVariants as stored
 
--- the bytes that a growth by so many pages has appended, by its reply
+-- how many bytes a growth of a memory by so many pages has appended, by its reply
 abbrev pub bytes_appended : Option MemoryValue → ℕ → Reply → ℕ
 bytes_appended None pages reply = 0
 bytes_appended (Some x) pages (Number size) = pages * page_bytes x.ty.page

@@ -103,10 +103,6 @@ pub record MemoryPart : Type 0 where
 abbrev pub memory_part : State → MemoryPart
 memory_part s = record { slots = s.memories; spare = s.spare }
 
--- the state with other memories and another spare region
-abbrev pub with_memory_part : State → MemoryPart → State
-with_memory_part s part = record s { memories = part.slots; spare = part.spare }
-
 -- the state with other tables
 abbrev pub with_tables : State → List (Slot TableValue) → State
 with_tables s tables = record s { tables = tables }

@@ -19,7 +19,7 @@ use Rattle.wasmi_store.specs.Memory.{MemoryTypeValue, MakesMemory, GrowsMemoryCh
 use Rattle.wasmi_store.specs.Table.{TableTypeValue, size_of, MakesTable, GrowsTableCharging}
 use Rattle.wasmi_machine.specs.declared.calls.Call.{Call}
 use Rattle.wasmi_machine.specs.declared.calls.Reply.{Reply}
-use Rattle.wasmi_machine.specs.State.{World, Turn, TurnOutcome, outcome_of, world, State, live_at, with_memories, memory_part, with_memory_part, with_tables, with_segments, with_data_segments, with_globals, with_registers, byte_count}
+use Rattle.wasmi_machine.specs.State.{World, Turn, TurnOutcome, outcome_of, world, State, live_at, with_memories, memory_part, with_tables, with_segments, with_data_segments, with_globals, with_registers, byte_count}
 use Rattle.wasmi_machine.specs.Effects.{reply_of, AddsItem, Creates, DropsAt, ActsAt, ChangesPart, OnlyReplies, Changes, Asks, ActsMetered, ActsMeteredUnasked, WritesRangeAt, item_bytes}
 use Rattle.wasmi_ops.specs.LoadStoreOps.{stored_bytes}
 use Rattle.wasmi_machine.specs.ValueEffects.{SetsFuel, get_fuel_reply, CreatesSegment, DropsItemsAt, DropsDataAt, SetsGlobalAt, global_reply}
@@ -255,8 +255,8 @@ HasEffect rules (MemoryMade ty) w outcome w' =
     Asks w outcome w' (LacksSlot w.state.reserved.memories w.state.memories) (with_memories w.state)
     (Creates reply.Memory (MakesMemory rules Owned ty) w.state.memories)
 HasEffect rules (LentMemoryMade ty) w outcome w' =
-    Asks w outcome w' (LacksSlot w.state.reserved.memories w.state.memories) (with_memory_part w.state)
-    (CreatesLent rules ty (memory_part w.state))
+    Asks w outcome w' (LacksSlot w.state.reserved.memories w.state.memories)
+    (λ part. record w.state { memories = part.slots; spare = part.spare }) (CreatesLent rules ty (memory_part w.state))
 HasEffect rules (MemoryGrown k pages) w outcome w' = ActsMetered w outcome w' w.state.memories (with_memories w.state)
     (ActsAt k (reply_of reply.Number reply.Memory) (GrowsMemoryCharging rules pages))
     (bytes_appended (live_at w.state.memories k) pages)

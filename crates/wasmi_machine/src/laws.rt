@@ -39,6 +39,7 @@ pub fn refusals_keep_contents<L: ResourceLimiter>()
 /// of a memory or a table is charged the bytes or elements that it writes. Nothing else is charged.
 /// The charge was left in the meter, and is taken from it. Without a limiter each question is
 /// permitted.
+#[tactic(auto, using(crate::proofs::ExchangeLemmas::growths_are_permitted, crate::proofs::ExchangeLemmas::run_growths_are_permitted))]
 pub fn growths_are_permitted<L: ResourceLimiter>()
     ensures turn { GrowsAsPermitted (optional_rules L.rules) }
     ensures run { RunsGrowAsPermitted (optional_rules L.rules) }
@@ -88,6 +89,7 @@ pub fn quotas_stay_within()
 
 /// A run under a limiter whose kind was chosen while the program ran is one by the rules of its
 /// kind, and the kind stays. So are a run of calls with its replies, and a reply to one call.
+#[tactic(auto, using(crate::proofs::LimiterKindsLemmas::runs_keep_kind, crate::proofs::LimiterKindsLemmas::runs_of_calls_keep_kind, crate::proofs::LimiterKindsLemmas::replies_keep_kind))]
 pub fn kinds_stay()
     ensures turns { RunsKeepKind }
     ensures calls { RunsOfCallsKeepKind }
@@ -116,6 +118,7 @@ pub fn lent_runs_are_owned<L: ResourceLimiter>()
 
 /// A memory that is made in a spare region of at least its minimum is made as one with memory of
 /// its own, except for its room and the spare region.
+#[tactic(auto, using(crate::proofs::LentMemoryLemmas::creation_is_owned))]
 pub fn lent_creations_are_owned<L: ResourceLimiter>()
     ensures { LentCreationsAreOwned (optional_rules L.rules) }
 {}

@@ -33,13 +33,8 @@ module _ {V E S : Type 0} (rules : Rules S) (e : Request V E) (s : MeteredValue 
   -- a denial: nothing is charged, and the limiter alone is another
   pub attempt_denied : e.early ≡ None → (answer : Answer) (l : S) → IsDenial answer
       → rules.asked s.limiter e.question answer l → Attempt rules e s (Denied answer) 0 (record s { limiter = l })
-  attempt_denied early answer l denial asks = record {
-    may_end = (early, denial);
-    follows = asks;
-    charged = refl;
-    meter = meter_after_nothing s.meter;
-    value = refl;
-  }
+  attempt_denied early answer l denial asks = record
+      { may_end = (early, denial); follows = asks; charged = refl; meter = meter_after_nothing _; value = refl }
 
   module _ (p : S) where
     -- the cause that stands between the permission and the charge

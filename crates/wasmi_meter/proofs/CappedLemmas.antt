@@ -108,18 +108,12 @@ less_left Bytes h n Bytes = omega arith
 less_left Elements h n Elements = omega arith
 less_left back h n kind = omega arith
 
--- no more of a kind is held once it was tried to give some of one up
-released_less : (back : Kind) (h h' : Holdings) (n : ℕ) (released : Bool) → Releases h back n released h'
-    → (kind : Kind) → amount_held h' kind ≤ amount_held h kind
-released_less back h h' n released releases kind =
-    elim (cases_lt (amount_held h back) n) [
-      | inl short ↦ rw (releases.short short).1 (omega arith)
-      | inr fits ↦ rw (releases.held fits).1 (less_left back h n kind)
-    ]
-
 -- what is given up leaves a quota within its caps
 pub released_within : (quota quota' : Quota) (kind : Kind) (n : ℕ) (released : Bool)
     → Releases (holdings quota) kind n released (holdings quota') → quota'.caps ≡ quota.caps
     → IsWithinCaps quota → IsWithinCaps quota'
 released_within quota quota' kind n released releases caps within k =
-    rw caps (omega (arith, released_less kind (holdings quota) (holdings quota') n released releases k, within k))
+    elim (cases_lt (amount_held (holdings quota) kind) n) [
+      | inl short ↦ rw (caps, (releases.short short).1) (within k)
+      | inr fits ↦ rw (caps, (releases.held fits).1) (omega (arith, less_left kind (holdings quota) n k, within k))
+    ]

@@ -252,10 +252,6 @@ impl Fuel {
     }
 
     /// Sets the fuel that is left.
-    ///
-    /// # Errors
-    ///
-    /// `FuelMeteringDisabled` if the meter is off.
     pub fn set_fuel(&mut self, fuel: u64) -> Result<(), FuelError>
         ensures on { IsSome self.old.left
             → (result ≡ Ok tt) × (self.new ≡ meter_set self.old fuel) }
@@ -268,10 +264,6 @@ impl Fuel {
     }
 
     /// Returns the fuel that is left.
-    ///
-    /// # Errors
-    ///
-    /// `FuelMeteringDisabled` if the meter is off.
     pub fn get_fuel(&self) -> Result<u64, FuelError>
         ensures on { IsSome self.now.left → result ≡ Ok (amount_left self.now) }
         ensures off { self.now.left ≡ None → result ≡ Err FuelError.FuelMeteringDisabled }

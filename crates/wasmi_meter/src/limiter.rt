@@ -46,10 +46,6 @@ pub trait ResourceLimiter {
 
     /// May a memory grow from `current` to `desired` bytes? `maximum`, in bytes, is the most that
     /// its type allows. `Ok(true)` permits; `Ok(false)` and `Err` deny.
-    ///
-    /// # Errors
-    ///
-    /// An implementation's own. The call then returns `ResourceLimiterDeniedAllocation`.
     fn memory_growing(
         &mut self,
         current: usize,
@@ -63,10 +59,6 @@ pub trait ResourceLimiter {
 
     /// May a table grow from `current` to `desired` elements? `maximum` is the most that its type
     /// allows. `Ok(true)` permits; `Ok(false)` and `Err` deny.
-    ///
-    /// # Errors
-    ///
-    /// An implementation's own. The call then returns `ResourceLimiterDeniedAllocation`.
     fn table_growing(
         &mut self,
         current: usize,
@@ -80,19 +72,11 @@ pub trait ResourceLimiter {
 
     /// A memory was permitted to grow and did not, because of this error. After `Ok(())` the call
     /// returns this error.
-    ///
-    /// # Errors
-    ///
-    /// An implementation's own. The call then returns `ResourceLimiterDeniedAllocation`.
     fn memory_grow_failed(&mut self, error: &MemoryError) -> Result<(), LimiterError>
         ensures { rules.noticed self.old (MemoryFailure error.now) result self.new };
 
     /// A table was permitted to grow and did not, because of this error. After `Ok(())` the call
     /// returns this error.
-    ///
-    /// # Errors
-    ///
-    /// An implementation's own. The call then returns `ResourceLimiterDeniedAllocation`.
     fn table_grow_failed(&mut self, error: &TableError) -> Result<(), LimiterError>
         ensures { rules.noticed self.old (TableFailure error.now) result self.new };
 
@@ -179,10 +163,6 @@ pub trait LimiterByKind {
     /// May something of this kind grow from `current` to `desired`, in bytes or elements? The
     /// answers have the meaning that they have for a [`ResourceLimiter`]: `Ok(true)` permits, and
     /// nothing else does.
-    ///
-    /// # Errors
-    ///
-    /// An implementation's own. The call then returns `ResourceLimiterDeniedAllocation`.
     fn growing(&mut self, kind: Kind, current: usize, desired: usize) -> Result<bool, LimiterError>
         requires grows { current ≤ desired }
         ensures asked { (maximum : Option ℕ) → kind_rules.asked self.old
@@ -191,10 +171,6 @@ pub trait LimiterByKind {
 
     /// Something of this kind was permitted to grow and did not. After `Ok(())` the call returns
     /// its error.
-    ///
-    /// # Errors
-    ///
-    /// An implementation's own. The call then returns `ResourceLimiterDeniedAllocation`.
     fn grow_failed(&mut self, kind: Kind) -> Result<(), LimiterError>
         ensures { (failure : Failure) → kind_of failure ≡ kind
             → kind_rules.noticed self.old failure result self.new };
@@ -379,10 +355,6 @@ impl<R> LimiterRef<R> {
 
 impl<'a, L: ResourceLimiter> LimiterRef<&'a mut L> {
     /// Asks the limiter whether a memory may grow from `current` to `desired` bytes.
-    ///
-    /// # Errors
-    ///
-    /// The limiter's. Without a limiter there is none.
     pub fn memory_growing(
         &mut self,
         current: usize,
@@ -402,10 +374,6 @@ impl<'a, L: ResourceLimiter> LimiterRef<&'a mut L> {
     }
 
     /// Asks the limiter whether a table may grow from `current` to `desired` elements.
-    ///
-    /// # Errors
-    ///
-    /// The limiter's. Without a limiter there is none.
     pub fn table_growing(
         &mut self,
         current: usize,
@@ -425,10 +393,6 @@ impl<'a, L: ResourceLimiter> LimiterRef<&'a mut L> {
     }
 
     /// Notifies the limiter that a memory which it permitted to grow did not.
-    ///
-    /// # Errors
-    ///
-    /// The limiter's. Without a limiter there is none.
     pub fn memory_grow_failed(&mut self, error: &MemoryError) -> Result<(), LimiterError>
         ensures loan { KeepsLoan self.old self.new }
         ensures noticed { (optional_rules L.rules).noticed (lent_limiter self.old)
@@ -441,10 +405,6 @@ impl<'a, L: ResourceLimiter> LimiterRef<&'a mut L> {
     }
 
     /// Notifies the limiter that a table which it permitted to grow did not.
-    ///
-    /// # Errors
-    ///
-    /// The limiter's. Without a limiter there is none.
     pub fn table_grow_failed(&mut self, error: &TableError) -> Result<(), LimiterError>
         ensures loan { KeepsLoan self.old self.new }
         ensures noticed { (optional_rules L.rules).noticed (lent_limiter self.old)

@@ -1,6 +1,6 @@
 -- Names of any enum or kind: a word names one variant, a list has each under its name and tells what the names mean,
 -- and two words name one reference, or one instruction on a lane or none.
-use Rattle.std.proofs.Common.{ℕ, ◌≡◌, ◌∙◌, List, [], ◌∷◌, inl, inr, Option, None, Some, Result, Err, Bool, true, false, bytes_eq, cond, ok_or, refl, sym, ap, subst, rules, tests, option_and_then, option_map}
+use Rattle.std.proofs.Common.{ℕ, ◌≡◌, ◌∙◌, List, [], ◌∷◌, inl, inr, Option, None, Some, Result, Err, Bool, true, false, bytes_eq, cond, ok_or, refl, sym, ap, subst, rules, tests, option_and_then, option_map, ◌&&◌}
 use denote.Struct.Field.{Field}
 use denote.Enum.Bare.{Bare, sameb, same_true}
 use denote.Enum.Declared.{Record, Choice, declared}
@@ -11,11 +11,12 @@ use Rattle.wasmi_operands.specs.declared.error.LineError.TheVariants.{BadCommand
 use Rattle.wasmi_operands.specs.LineWords.{Accepts, WritesNumber, decimal_value}
 use Rattle.wasmi_operands.specs.Names.{NameEntry, entry_of, IsNamed, IsName, NamesLane, WritesReference, reference_word}
 use Rattle.wasmi_operands.proofs.LineWordsLemmas.{accepts_same, refused_through}
+use Rattle.std.proofs.lemmas.Bool.{and_parts}
 
 -- whether each variant of an enum without fields passes a test
 abbrev all_pass : (parts : List (List Field)) → Bare parts → (Choice parts → Bool) → Bool
 all_pass [] bare test = true
-all_pass ([] ∷ parts) bare test = cond (test (inl tt)) (all_pass parts bare (λ c. test (inr c))) false
+all_pass ([] ∷ parts) bare test = test (inl tt) && all_pass parts bare (λ c. test (inr c))
 all_pass ((field ∷ fields) ∷ parts) bare test = absurd bare
 
 -- a list of names, each with its op, tells what its names mean: what it accepts by a name is the op of this name
@@ -34,21 +35,15 @@ entries_of ((field ∷ fields) ∷ parts) bare make name_of = absurd bare
 -- whether each entry of a list has the name of its op
 abbrev pub entries_named : {A : Type 0} → (A → List ℕ) → List (NameEntry A) → Bool
 entries_named name_of [] = true
-entries_named name_of (entry ∷ entries) =
-    cond (bytes_eq entry.0 (name_of entry.1)) (entries_named name_of entries) false
-
--- both of two tests hold where one that asks for both does
-both : (a b : Bool) → cond a b false ≡ true → (a ≡ true) × (b ≡ true)
-both true b e = (refl, e)
-both false b e = absurd cc
+entries_named name_of (entry ∷ entries) = bytes_eq entry.0 (name_of entry.1) && entries_named name_of entries
 
 -- what all variants pass, each of them passes
 one_passes : (parts : List (List Field)) (bare : Bare parts) (test : Choice parts → Bool)
     → all_pass parts bare test ≡ true → (c : Choice parts) → test c ≡ true
 one_passes [] bare test all c = absurd c
-one_passes ([] ∷ parts) bare test all (inl x) = (both (test (inl tt)) (all_pass parts bare (λ c. test (inr c))) all).0
-one_passes ([] ∷ parts) bare test all (inr c) = one_passes parts bare (λ c. test (inr c))
-    (both (test (inl tt)) (all_pass parts bare (λ c. test (inr c))) all).1 c
+one_passes ([] ∷ parts) bare test all (inl x) = (and_parts (test (inl tt)) _ all).0
+one_passes ([] ∷ parts) bare test all (inr c) =
+    one_passes parts bare (λ c. test (inr c)) (and_parts (test (inl tt)) _ all).1 c
 one_passes ((field ∷ fields) ∷ parts) bare test all c = absurd bare
 
 -- a word and a name whose bytes are equal are one text
@@ -61,7 +56,7 @@ module _ {A : Type 0} (name_of : A → List ℕ) where
       → entry_of names name ≡ Some op → name ≡ name_of op
   found_named [] name op right found = cc
   found_named (entry ∷ entries) name op right found =
-      let named = both (bytes_eq entry.0 (name_of entry.1)) (entries_named name_of entries) right in
+      let named = and_parts (bytes_eq entry.0 (name_of entry.1)) (entries_named name_of entries) right in
       elim (bytes_eq entry.0 name) as
       (λ b. bytes_eq entry.0 name ≡ b → cond b (Some entry.1) (entry_of entries name) ≡ Some op → name ≡ name_of op) [
         | true ↦ λ here is. let a = same_text entry.0 (name_of entry.1) named.0 in let b =

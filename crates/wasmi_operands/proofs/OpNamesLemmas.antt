@@ -33,15 +33,15 @@ tells : (N : Record) (bare : Bare N.parts) (name_of : N.D → List ℕ) (list : 
     → has_each N bare name_of (map (λ entry. (entry.0.now, entry.1)) list) ≡ true → Tells list name_of
 tells N bare name_of list = tells_names N bare name_of (map (λ entry. (entry.0.now, entry.1)) list)
 
--- the lists of names of loads and stores of numbers tell what the names mean
-pub access_names : Tells LOADS load_name × Tells STORES store_name
-access_names = (tells load.enum tt load_name LOADS refl refl, tells store.enum tt store_name STORES refl refl)
-
--- the lists of names of vector instructions on whole vectors tell what the names mean
-pub vector_names : Tells MAKES make_name × Tells UNARIES unary_name × Tells BINARIES binary_name
-    × Tells TERNARIES ternary_name × Tells SHIFTS shift_name × Tells TESTS test_name
-    × Tells VECTOR_LOADS vector_load_name
-vector_names = (
+-- the lists of names of loads and stores, and of vector instructions on whole vectors and on one lane, tell what the
+-- names mean
+pub op_names : Tells LOADS load_name × Tells STORES store_name × Tells MAKES make_name × Tells UNARIES unary_name
+    × Tells BINARIES binary_name × Tells TERNARIES ternary_name × Tells SHIFTS shift_name × Tells TESTS test_name
+    × Tells VECTOR_LOADS vector_load_name × Tells EXTRACTIONS extract_name × Tells REPLACEMENTS replace_name
+    × Tells LANE_LOADS load_lane_name × Tells LANE_STORES store_lane_name
+op_names = (
+  tells load.enum tt load_name LOADS refl refl,
+  tells store.enum tt store_name STORES refl refl,
   tells make.enum tt make_name MAKES refl refl,
   tells unary.enum tt unary_name UNARIES refl refl,
   tells binary.enum tt binary_name BINARIES refl refl,
@@ -49,19 +49,11 @@ vector_names = (
   tells shift.enum tt shift_name SHIFTS refl refl,
   tells test.enum tt test_name TESTS refl refl,
   tells vector_load.enum tt vector_load_name VECTOR_LOADS refl refl,
-)
-
--- the lists of names of vector instructions on one lane tell what the names mean
-pub lane_names : Tells EXTRACTIONS extract_name × Tells REPLACEMENTS replace_name × Tells LANE_LOADS load_lane_name
-    × Tells LANE_STORES store_lane_name
-lane_names = (
   tells extraction.enum tt extract_name EXTRACTIONS refl refl,
   tells replacement.enum tt replace_name REPLACEMENTS refl refl,
   tells lane_load.enum tt load_lane_name LANE_LOADS refl refl,
   tells lane_store.enum tt store_lane_name LANE_STORES refl refl,
 )
-
-pub ruleset op_names = (access_names, vector_names, lane_names)
 
 -- a name and an index that are read name the instruction on the lane
 pub on_lanes : NamesOnLane extract_name extract_op × NamesOnLane replace_name replace_op

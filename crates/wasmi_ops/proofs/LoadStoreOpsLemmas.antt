@@ -40,13 +40,11 @@ loaded_past n value memory a past = grind (arith, common_steps, past)
 -- a load from an address is one from the front of the bytes there
 pub raw_front : (op : LoadOp) (memory : List ℕ) (a : ℕ) → a ≤ length memory → a < 2 ^ 64
     → loaded_raw op (drop a memory) 0 ≡ loaded_raw op memory a
-raw_front op memory a within fits =
-    each_load (λ load. load (drop a memory) 0 ≡ load memory a)
+raw_front op memory a within fits = each_load (λ load. load (drop a memory) 0 ≡ load memory a)
     (λ V n value raw. ap (as_raw raw) (loaded_front n value memory a within fits)) op
 
 -- a load from past the end traps
 pub raw_past : (op : LoadOp) (memory : List ℕ) (a : ℕ) → length memory < a
     → loaded_raw op memory a ≡ Err MemoryOutOfBounds
-raw_past op memory a past =
-    each_load (λ load. load memory a ≡ Err MemoryOutOfBounds)
+raw_past op memory a past = each_load (λ load. load memory a ≡ Err MemoryOutOfBounds)
     (λ V n value raw. ap (as_raw raw) (loaded_past n value memory a past)) op

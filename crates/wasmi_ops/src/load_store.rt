@@ -42,10 +42,6 @@ pub const LOADS: [(&str, LoadOp); 12] = loads!(names! LoadOp);
 
 impl LoadOp {
     /// Loads from `ptr + offset`.
-    ///
-    /// # Errors
-    ///
-    /// `MemoryOutOfBounds` if the bytes end past the memory.
     #[inline(always)]
     pub fn load(self, memory: &[u8], ptr: u64, offset: u64) -> Result<RawVal, TrapCode>
         ensures { result ≡ loaded_raw self memory.now (ptr + offset) }
@@ -92,10 +88,6 @@ pub const STORES: [(&str, StoreOp); 7] = stores!(names! StoreOp);
 
 impl StoreOp {
     /// Stores a value at `ptr + offset`.
-    ///
-    /// # Errors
-    ///
-    /// `MemoryOutOfBounds` if the bytes end past the memory; then nothing is written.
     #[inline(always)]
     pub fn store(
         self,

@@ -538,10 +538,6 @@ pub const VECTOR_LOADS: [(&str, VectorLoadOp); 13] = vector_loads!(names! Vector
 
 impl VectorLoadOp {
     /// Loads from `ptr + offset`.
-    ///
-    /// # Errors
-    ///
-    /// `MemoryOutOfBounds` if the bytes end past the memory.
     pub fn load(self, memory: &[u8], ptr: u64, offset: u64) -> Result<V128, TrapCode>
         ensures { result ≡ loaded_vector self memory.now (ptr + offset) }
     {
@@ -567,10 +563,6 @@ macro_rules! lane_loads {
 
 impl LoadLaneOp {
     /// The vector with the lane loaded from `ptr + offset`.
-    ///
-    /// # Errors
-    ///
-    /// `MemoryOutOfBounds` if the bytes end past the memory.
     pub fn load(self, memory: &[u8], ptr: u64, offset: u64, vector: V128) -> Result<V128, TrapCode>
         ensures { result ≡ loaded_lane self vector memory.now (ptr + offset) }
     {
@@ -617,10 +609,6 @@ macro_rules! lane_stores {
 
 impl StoreLaneOp {
     /// Stores the lane at `ptr + offset`.
-    ///
-    /// # Errors
-    ///
-    /// `MemoryOutOfBounds` if the bytes end past the memory; then nothing is written.
     pub fn store(
         self,
         memory: &mut [u8],

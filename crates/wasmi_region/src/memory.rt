@@ -252,13 +252,6 @@ pub fn init(
     ensures { BulkWrites (copied bytes.old dst segment.now src len) len
         (metered bytes.old (Some fuel.old)) result (metered bytes.new (Some fuel.new)) }
 {
-    copy_items(
-        bytes,
-        dst,
-        segment,
-        u64::from(src),
-        u64::from(len),
-        OUTSIDE,
-        fuel,
-    )
+    let (src, len) = (u64::from(src), u64::from(len));
+    copy_items(bytes, dst, segment, src, len, OUTSIDE, fuel)
 }

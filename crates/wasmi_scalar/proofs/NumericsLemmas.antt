@@ -1,10 +1,11 @@
 -- Shifts and rotations by an amount modulo the width, numbers in two words, and results that may be traps.
-use Rattle.std.proofs.Common.{◌≡◌, sym, arith, ℕ, zero, suc, ◌+◌, ◌-◌, ◌*◌, ◌/◌, ◌%◌, ◌^◌, ◌<◌, ◌≤◌, refl, ap, mul-one, add-zero, zero-add, div-one, mod-eq_of_lt, Result, Ok, Err, ℤ, pos, negsuc, ◌+ℤ◌, ◌*ℤ◌, bit_or, unsigned_abs}
+use Rattle.std.proofs.Common.{◌≡◌, sym, arith, ℕ, zero, suc, ◌+◌, ◌-◌, ◌*◌, ◌/◌, ◌%◌, ◌^◌, ◌<◌, refl, ap, mul-one, add-zero, zero-add, div-one, mod-eq_of_lt, Result, Ok, Err, ℤ, pos, negsuc, ◌+ℤ◌, ◌*ℤ◌, bit_or, unsigned_abs}
 use Rattle.wasmi_types.specs.declared.trap.TrapCode.{TrapCode}
+use Rattle.wasmi_types.proofs.NumbersLemmas.{half_below}
 use Rattle.wasmi_scalar.specs.Numerics.{GivesNumber, amount_modulo, ishl, rotated_left, irotl, irotr, unsigned_of, signed_of}
 use Rattle.std.specs.Int.{w64, w128, cast_unsigned, Width, cast_signed, int_wrap, int_shl, int_rem_euclid, rotate_left, rotate_right}
 use Rattle.std.proofs.lemmas.Int.{ints, to_z-of_z, int_rem_euclid_is, wrapping_add_is, wrapping_sub_is}
-use mir.Val.{SFits, bits, hbits}
+use mir.Val.{SFits, bits}
 use mir.ValLaws.{of_z_fits}
 use Rattle.std.proofs.lemmas.Nat.{mod_below, or_shifted, or_comm, mod-pow-add, shl-shr, shr_below, pow_pos}
 use Rattle.std.proofs.Math.Nat.{mul-mod_left, sub-zero, sub_self, mod_self, div-eq_of_lt}
@@ -28,15 +29,15 @@ product_moved : (a p n b : ℕ) → b + suc a ≡ n → (negsuc a *ℤ pos p) +�
 product_moved a p n b e = omega (arith, ints, ap (λ m. m * p) e)
 
 -- the product by p of the unsigned image, cut to the width and read signed, is that of the number, wrapped
-shl_is : (w : Width) (z : ℤ) (p : ℕ) → 2 ^ hbits w ≤ 2 ^ bits w → SFits w z
+shl_is : (w : Width) (z : ℤ) (p : ℕ) → SFits w z
     → cast_signed w (cast_unsigned w z * p % 2 ^ bits w) ≡ int_wrap w (z *ℤ pos p)
 unfolding int_wrap
-shl_is w (pos n) p le f = refl
-shl_is w (negsuc n) p le f =
+shl_is w (pos n) p f = refl
+shl_is w (negsuc n) p f =
     let rest : int_rem_euclid (negsuc n *ℤ pos p) (pos (2 ^ bits w)) ≡ pos ((2 ^ bits w - suc n) * p % 2 ^ bits w) =
     int_rem_euclid_is (negsuc n *ℤ pos p) (pos (2 ^ bits w)) (2 ^ bits w) p ((2 ^ bits w - suc n) * p)
     (pow_pos (bits w)) refl
-    (product_moved n p (2 ^ bits w) (2 ^ bits w - suc n) (omega (arith, le, f.sfits))) in
+    (product_moved n p (2 ^ bits w) (2 ^ bits w - suc n) (omega (arith, half_below w, f.sfits))) in
     sym (ap (λ z. cast_signed w (unsigned_abs z)) rest)
 
 -- ---- rotations: the two parts share no bit
@@ -81,15 +82,13 @@ amount_is w y k f e = rw (e, to_z-of_z w y f)
 -- an amount that was taken modulo the width before is the one of the table too
 pub cut_amount_is : (w : Width) (y : ℤ) (k : ℕ) → 0 < bits w → SFits w y
     → k ≡ amount_modulo w (cast_signed w (cast_unsigned w y)) → k % bits w ≡ amount_modulo w y
-cut_amount_is w y k p f e =
-    rw (e, to_z-of_z w y f) (mod-eq_of_lt (mod_below (cast_unsigned w y) (bits w) p))
+cut_amount_is w y k p f e = rw (e, to_z-of_z w y f) (mod-eq_of_lt (mod_below (cast_unsigned w y) (bits w) p))
 
 -- a shift to the left by the amount is the one of the table
-pub shifted : (w : Width) (z y r : ℤ) (k : ℕ) → 2 ^ hbits w ≤ 2 ^ bits w → SFits w z → SFits w r
-    → k % bits w ≡ amount_modulo w y
+pub shifted : (w : Width) (z y r : ℤ) (k : ℕ) → SFits w z → SFits w r → k % bits w ≡ amount_modulo w y
     → r ≡ int_shl w (cast_signed w (cast_unsigned w z)) (k % bits w) → cast_signed w (cast_unsigned w r) ≡ ishl w z y
-shifted w z y r k le fz fr amount e =
-    rw (to_z-of_z w r fr, e, to_z-of_z w z fz, amount) (shl_is w z (2 ^ amount_modulo w y) le fz)
+shifted w z y r k fz fr amount e =
+    rw (to_z-of_z w r fr, e, to_z-of_z w z fz, amount) (shl_is w z (2 ^ amount_modulo w y) fz)
 
 -- std's rotation by k, where it is one to the left by `places` of k modulo the width, is that of the amount
 rotated : (w : Width) (z y r : ℤ) (k : ℕ) → SFits w z → SFits w r → k % bits w ≡ amount_modulo w y
@@ -98,23 +97,20 @@ rotated : (w : Width) (z y r : ℤ) (k : ℕ) → SFits w z → SFits w r → k 
     → rotate (cast_unsigned w z) k ≡ rotated_left (bits w) (cast_unsigned w z) (places (k % bits w))
     → cast_signed w (cast_unsigned w r)
     ≡ cast_signed w (rotated_left (bits w) (cast_unsigned w z) (places (amount_modulo w y)))
-rotated w z y r k fz fr amount rotate places e same =
-    rw (to_z-of_z w r fr, e, to_z-of_z w z fz, same, amount)
+rotated w z y r k fz fr amount rotate places e same = rw (to_z-of_z w r fr, e, to_z-of_z w z fz, same, amount)
 
 module _ (w : Width) (z y r : ℤ) (k : ℕ) (p : 0 < bits w) (fz : SFits w z)
     (fr : SFits w r) (amount : k % bits w ≡ amount_modulo w y) where
   -- a rotation to the left by the amount is the one of the table
   pub rotated_to_left : r ≡ cast_signed w (rotate_left w (cast_unsigned w (cast_signed w (cast_unsigned w z))) k)
       → cast_signed w (cast_unsigned w r) ≡ irotl w z y
-  rotated_to_left e =
-      rotated w z y r k fz fr amount (rotate_left w) (λ j. j) e
+  rotated_to_left e = rotated w z y r k fz fr amount (rotate_left w) (λ j. j) e
       (left_by (bits w) (cast_unsigned w z) (k % bits w) (of_z_fits w z fz).fits (mod_below k (bits w) p))
 
   -- a rotation to the right by the amount is the one of the table
   pub rotated_to_right : r ≡ cast_signed w (rotate_right w (cast_unsigned w (cast_signed w (cast_unsigned w z))) k)
       → cast_signed w (cast_unsigned w r) ≡ irotr w z y
-  rotated_to_right e =
-      rotated w z y r k fz fr amount (rotate_right w) (λ j. bits w - j) e
+  rotated_to_right e = rotated w z y r k fz fr amount (rotate_right w) (λ j. bits w - j) e
       (right_by (bits w) (cast_unsigned w z) (k % bits w) (of_z_fits w z fz).fits (mod_below k (bits w) p))
 
 -- for the instructions of `wasm`

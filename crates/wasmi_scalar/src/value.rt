@@ -61,9 +61,8 @@ pub trait Integer: Unsigned + Number {
 
     /// Shifts to the right by `rhs` modulo the width, filling with zeros.
     fn shr_u(lhs: Self::Uint, rhs: Self::Uint) -> Self::Uint
-        ensures { unsigned_abs (Self.Uint.number result)
-            ≡ ishr_u Self.width (unsigned_abs (Self.Uint.number lhs))
-            (unsigned_abs (Self.Uint.number rhs)) };
+        ensures { unsigned_abs (Self.Uint.number result) ≡ ishr_u Self.width
+            (unsigned_abs (Self.Uint.number lhs)) (unsigned_abs (Self.Uint.number rhs)) };
 
     /// Rotates to the left by `rhs` modulo the width: the bits that leave at the top come in at the
     /// bottom.

@@ -149,11 +149,6 @@ pub const SCALAR_BINARIES: [(&str, ScalarBinaryOp); 54] = scalar_binaries!(names
 impl ScalarBinaryOp {
     /// The result for two operands in raw values. A Boolean is 0 or 1; the operands of 128 bits,
     /// and results of them, are the two words of a raw value.
-    ///
-    /// # Errors
-    ///
-    /// Divisions and remainders alone can trap: by zero with `IntegerDivisionByZero`, and a signed
-    /// division of the least number by -1 with `IntegerOverflow`.
     pub fn apply(self, lhs: RawVal, rhs: RawVal) -> Result<RawVal, TrapCode>
         ensures { result ≡ binary_raw self lhs rhs }
     {

@@ -15,7 +15,7 @@ pub use Rattle.wasmi_machine.specs.declared.calls.Call.{Call}
 pub use Rattle.wasmi_machine.specs.declared.calls.Reply.{Reply}
 pub use Rattle.wasmi_meter.specs.AnswerList.{answer_list_rules, new_answers, notice_answer_by}
 pub use Rattle.wasmi_script.specs.Outcomes.{replies_text, held_text, tenant_line, tenants_text, IsReadError, script_limit, IsOutcomeOfReader}
-pub use Rattle.wasmi_script.specs.Printing.{line, AppendsFront, AddsText, Flushes, Prints, PrintsFront, PrintsText, PrintsOut, Sends, SendsFront, AddsToFront, FillsFront, HasFront}
+pub use Rattle.wasmi_script.specs.Printing.{line, AppendsFront, AddsText, Flushes, Prints, PrintsFront, PrintsText, SendsFront, AddsToFront, FillsFront, HasFront}
 pub use Rattle.wasmi_script.specs.ScriptRuns.{IsNewQuota, IsReplayBy, AnswersParts, new_pool}
 pub use Rattle.wasmi_script.specs.Texts.{kind_text, reply_text, error_text, head_text, bytes_in, bytes_text}
 pub use Rattle.wasmi_script.specs.declared.error.ReplayError.TheVariants.{Parse, TooLong, ReadFault}

@@ -11,7 +11,7 @@ use Rattle.wasmi_meter.specs.Limiter.{Rules, unlimited_rules, optional_rules}
 use Rattle.wasmi_meter.specs.Capped.{holdings, quota_rules}
 use Rattle.wasmi_machine.specs.declared.calls.Call.TheVariants.{Write, NewData, NewSegment}
 use Rattle.wasmi_machine.specs.declared.calls.Reply.TheVariants.{Made}
-use Rattle.wasmi_machine.specs.Steps.{effect_of, Step, Run, IsRunOf}
+use Rattle.wasmi_machine.specs.Steps.{effect_of, Run, IsRunOf}
 use Rattle.wasmi_machine.specs.Determinism.{IsDeterministic, IsNotOutOfMemory}
 use Rattle.wasmi_machine.proofs.DeterminismLemmas.{unlimited_unique, quota_unique}
 use Rattle.wasmi_machine.proofs.ToldLemmas.{accepted_replies_are_one, replies_are_one, unlimited_accepts, quota_accepts}
@@ -128,12 +128,6 @@ module _ {S : Type 0} (rules : Rules S) where
   abbrev by_call : Turn → Call → Turn
   by_call turn other = record turn { call = other }
 
-  -- a step by a call is one by another call that says the same
-  retold_step : (w : World S) (turn : Turn) (w' : World S) (other : Call) → call_meaning other ≡ call_meaning turn.call
-      → Step rules w turn w' → Step rules w (by_call turn other) w'
-  retold_step w turn w' other same step =
-      rw (same_effect w.state other turn.call (rw same (says turn.call))) at step
-
   -- turns that are a run are one by other calls that say the same, with the same replies
   retold_run : (turns : List Turn) (calls : List Call) (w w' : World S)
       → map call_meaning calls ≡ map call_meaning (map Turn.call turns) → Run rules w turns w'
@@ -147,7 +141,7 @@ module _ {S : Type 0} (rules : Rules S) where
         by_call turn call ∷ rest.0,
         ap (λ cs. call ∷ cs) rest.1,
         ap (λ rs. turn.reply ∷ rs) rest.2,
-        (v, retold_step w turn v call here step, rest.3),
+        (v, rw (same_effect w.state call turn.call (rw here (says turn.call))) at step, rest.3),
       )
   retold_run turns calls w w' same ran = absurd cc
 
@@ -185,10 +179,9 @@ again rules script script' limiter limiter' replies after same alike run =
 new_quotas : (asked : _) (quota quota' : quotas.Quota) → IsNewQuota asked quota → IsNewQuota asked quota'
     → quota ≡ quota'
 new_quotas asked quota quota' new new' =
-    let held : holdings quota ≡ holdings quota' = new.nothing ∙ sym new'.nothing in
     λ i. record {
       caps = record { bytes = (new.bytes ∙ sym new'.bytes) i; elements = (new.elements ∙ sym new'.elements) i };
-      holdings = held i;
+      holdings = (new.nothing ∙ sym new'.nothing) i;
     }
 
 -- two replays have the same replies, and what is held then has the same text
@@ -276,9 +269,8 @@ module _ (once : IsDeterministic tenant_rules) where
   by_unique (Some (Quota asked)) (Some (Quota asked')) script script' ran ran' quiet said same
       (quota, new, end, after, run, totals, is) (quota', new', end', after', run', totals', is') has =
       let line : asked ≡ asked' = cc in
-      let begins = new_quotas asked quota quota' new (rw line new') in
       let retold_run = again (optional_rules quota_rules) script script' (Some quota) (Some quota') _ _ same
-      (ap (λ q. Some q) begins) run' in
+      (ap (λ q. Some q) (new_quotas asked quota quota' new (rw line new'))) run' in
       let one = replies_are_one quota_rules quota_accepts quota_unique (calls_of script) _
       (record { replies = ran.replies.items; after = _; has = has.0; ran = run })
       (record { replies = ran'.replies.items; after = _; has = has.1; ran = retold_run }) in

@@ -41,58 +41,31 @@ reference_short : (ty : RefType) → length (reference_word ty) ≤ 6
 reference_short Func = lit≤ tt
 reference_short Extern = lit≤ tt
 
--- a number after a text makes it at most 64 bytes longer
-numbered : (text : List ℕ) (n : ℕ) → length (text ++ decimal n) ≤ length text + 64
-numbered text n = omega (arith, length-append text (decimal n), decimal_short n)
-
--- a number after a text in two parts makes it at most 64 bytes longer
-one_number : (text text' : List ℕ) (n : ℕ) → length (text ++ (text' ++ decimal n)) ≤ length text + length text' + 64
-one_number text text' n = omega (arith, length-append text (text' ++ decimal n), numbered text' n)
-
--- two numbers after a text make it at most 129 bytes longer
-two_numbers : (text : List ℕ) (m n : ℕ) → length (text ++ (decimal m ++ (codes " " ++ decimal n))) ≤ length text + 129
-two_numbers text m n =
-    omega (
-      arith,
-      length-append text (decimal m ++ (codes " " ++ decimal n)),
-      one_number (decimal m) (codes " ") n,
-      decimal_short m,
-    )
-
 -- the text of what a tenant holds is short
 pub tenant_short : (tenant bytes elements : ℕ) → length (codes "held "
     ++ (decimal tenant ++ (codes " " ++ (decimal bytes ++ (codes " " ++ decimal elements))))) < 256
 tenant_short tenant bytes elements =
-    omega (
-      arith,
-      length-append (codes "held ") (decimal tenant ++ (codes " " ++ (decimal bytes ++ (codes " " ++ decimal elements)))),
-      length-append (decimal tenant) (codes " " ++ (decimal bytes ++ (codes " " ++ decimal elements))),
-      two_numbers (codes " ") bytes elements,
-      decimal_short tenant,
-    )
+    simp length-append (omega (arith, decimal_short tenant, decimal_short bytes, decimal_short elements))
 
 -- the text of what is held is short
 pub held_short : (bytes elements : ℕ)
     → length (codes "held " ++ (decimal bytes ++ (codes " " ++ decimal elements))) < 256
-held_short bytes elements = omega (arith, two_numbers (codes "held ") bytes elements)
+held_short bytes elements = simp length-append (omega (arith, decimal_short bytes, decimal_short elements))
 
 -- the number of a byte is short
 pub byte_short : (byte : ℕ) → length (codes " " ++ decimal byte) < 256
-byte_short byte = omega (arith, numbered (codes " ") byte)
+byte_short byte = omega (arith, decimal_short byte)
 
 -- a reply without the numbers of its bytes is short
 pub head_short : (call : Call) (reply : Reply) → length (head_text call reply) < 256
-head_short call (reply.Made index) = omega (arith, one_number (kind_text call) (codes " ") index, kind_short call)
-head_short call (reply.Value value) = omega (arith, two_numbers (codes "raw ") value.lo value.hi)
-head_short call (reply.Number number) = omega (arith, numbered (codes "value ") number)
+head_short call (reply.Made index) = simp length-append (omega (arith, kind_short call, decimal_short index))
+head_short call (reply.Value value) = simp length-append (omega (arith, decimal_short value.lo, decimal_short value.hi))
+head_short call (reply.Number number) = omega (arith, decimal_short number)
 head_short call (reply.Reference (Some reference)) =
-    omega (arith, one_number (reference_word reference.ty) (codes " ") reference.raw, reference_short reference.ty)
-head_short call (reply.Memory (memory.OutOfFuel required)) =
-    omega (arith, one_number (codes "error ") (codes "not enough fuel. required=") required)
-head_short call (reply.Table (table.OutOfFuel required)) =
-    omega (arith, one_number (codes "error ") (codes "not enough fuel: required=") required)
-head_short call (reply.Fuel (fuel.OutOfFuel required)) =
-    omega (arith, one_number (codes "error ") (codes "ouf of fuel. required=") required)
+    simp length-append (omega (arith, reference_short reference.ty, decimal_short reference.raw))
+head_short call (reply.Memory (memory.OutOfFuel required)) = omega (arith, decimal_short required)
+head_short call (reply.Table (table.OutOfFuel required)) = omega (arith, decimal_short required)
+head_short call (reply.Fuel (fuel.OutOfFuel required)) = omega (arith, decimal_short required)
 head_short call (reply.Global ImmutableWrite) = lit< tt
 head_short call (reply.Segment segment.TooManyItems) = lit< tt
 head_short call (reply.Trap trap.OutOfFuel) = lit< tt
@@ -100,11 +73,5 @@ head_short call reply = lit< tt
 
 -- the text of an error is short
 pub error_short : (error : ReplayError) → length (error_text error) < 256
-error_short (Parse (BadCommand number)) =
-    omega (
-      arith,
-      length-append (codes "line ") (decimal number ++ codes ": bad command"),
-      length-append (decimal number) (codes ": bad command"),
-      decimal_short number,
-    )
+error_short (Parse (BadCommand number)) = simp length-append (omega (arith, decimal_short number))
 error_short error = lit< tt

@@ -1,7 +1,7 @@
 -- Texts that a printer prints one after the other, whole or in part, and texts that are written one after the other to
 -- the front of bytes.
 use Rattle.std.proofs.Common.{◌≡◌, ◌∙◌, ◌+◌, ◌<◌, ℕ, zero, suc, List, [], ◌∷◌, ◌++◌, length, take, drop, get_or, map, add-one, take-append-drop, drop-cons, None, Some, Result, Ok, Err, IfSome, OnOk, OnErr, refl, sym, ap, append_assoc, append-nil, ◌-◌, ◌%◌, ◌^◌, min, arith, length-append, length-take, length-drop}
-use Rattle.wasmi_script.proofs.Common.{WritesText, decimal, on_ok_weaker, on_err_weaker, flat_map_more, take_more, drop-drop, drop_at, drop_min, take_all, take_at, take_min, Appends-nil, Appends-trans, AppendsFront, AddsText, Flushes, Prints, PrintsFront, PrintsText, PrintsOut, Sends, SendsFront, AddsToFront, FillsFront, HasFront}
+use Rattle.wasmi_script.proofs.Common.{WritesText, decimal, on_ok_weaker, on_err_weaker, flat_map_more, take_more, drop-drop, drop_at, drop_min, take_all, take_at, take_min, Appends-nil, Appends-trans, AppendsFront, AddsText, Flushes, Prints, PrintsFront, PrintsText, SendsFront, AddsToFront, FillsFront, HasFront}
 use Rattle.std.proofs.lemmas.Fmt.{contents_after_writes, decimal_digit}
 use Rattle.std.specs.List.{flat_map}
 use Rattle.std.proofs.lemmas.List.Concat.{flat_map-append}
@@ -88,40 +88,15 @@ module _ {W : Type 0} (contents : W → Option (List ℕ)) where
     on_err_weaker result (prints_front p q r s t [] text (is ∙ ap (λ l. s ++ l) (sym (append-nil t))) first) prints.1,
   )
 
-  -- a text that is printed, and then what waits
-  prints_out : (p q r : Printer W) (text : List ℕ) → Prints contents p q text → Sends contents q r
-      → PrintsOut contents p r text
-  prints_out p q r text printed sent =
-      let (front, split, gone) = printed.passed in
-      record {
-        writer = sent.writer ∙ printed.writer;
-        sent = rw split (Appends-trans _ _ _ front _ gone sent.sent);
-      }
-
-  -- a text that is printed, and then a front of what waits
-  prints_out_front : (p q r : Printer W) (text : List ℕ) → Prints contents p q text → SendsFront contents q r
-      → PrintsFront contents p r text
-  prints_out_front p q r text printed sent =
-      let (front, split, gone) = printed.passed in
-      let (front', rest, split', gone') = sent.sent in
-      record {
-        writer = sent.writer ∙ printed.writer;
-        sent = (
-          front ++ front',
-          rest,
-          rw (split, split', append_assoc front front' rest),
-          Appends-trans _ _ _ front front' gone gone',
-        );
-      }
-
-  -- a text that is printed or not, and then what waits if it is
+  -- a text is printed in part where it or what waits is sent in part
   pub flushed : {E : Type 0} (printed result : Result (Unit {0}) E) (p q r : Printer W) (text : List ℕ)
       → PrintsText contents text p printed q → Flushes contents printed q result r
-      → OnOk result (PrintsOut contents p r text) × OnErr result (PrintsFront contents p r text)
-  flushed (Ok x) (Ok y) p q r text prints sent = (prints_out p q r text prints.0 sent, tt)
-  flushed (Ok x) (Err e) p q r text prints sent = (tt, prints_out_front p q r text prints.0 sent)
-  flushed (Err e) (Ok y) p q r text prints sent = absurd sent
-  flushed (Err e) (Err e') p q r text prints same = (tt, rw same prints.1)
+      → OnErr result (PrintsFront contents p r text)
+  flushed printed (Ok y) p q r text prints sent = tt
+  flushed (Ok x) (Err e) p q r text prints sent =
+      prints_front p q r text [] [] text (sym (append-nil text)) prints.0
+      (record { writer = sent.writer; sent = rw append-nil sent.sent })
+  flushed (Err e) (Err e') p q r text prints same = rw same prints.1
 
   -- a text waits beside what waited
   waits : (p q : Printer W) (text : List ℕ) → q.writer ≡ p.writer → q.chunk.bytes ≡ p.chunk.bytes ++ text

@@ -51,19 +51,11 @@ IsReadError left failed ReadFault = failed
 abbrev pub replies_text : List Call → List Reply → List ℕ
 replies_text calls replies = flat_map (λ turn. line (reply_text turn.0 turn.1)) (zip calls replies)
 
--- what a quota holds
-abbrev pub amounts_text : ℕ → ℕ → List ℕ
-amounts_text bytes elements = codes "held " ++ (decimal bytes ++ (codes " " ++ decimal elements))
-
--- what the tenant of an index holds
-abbrev pub tenant_text : ℕ → State → List ℕ
-tenant_text index machine =
-    codes "held " ++
-    (decimal index ++ (codes " " ++ (decimal (total machine Bytes) ++ (codes " " ++ decimal (total machine Elements)))))
-
 -- the line of a tenant; none where it was removed
 abbrev pub tenant_line : ℕ → Option State → List ℕ
-tenant_line index (Some machine) = line (tenant_text index machine)
+tenant_line index (Some machine) =
+    line (codes "held " ++ (decimal index
+    ++ (codes " " ++ (decimal (total machine Bytes) ++ (codes " " ++ decimal (total machine Elements))))))
 tenant_line index None = []
 
 -- a line for each tenant
@@ -73,7 +65,7 @@ tenants_text machines = flat_map (λ tenant. tenant_line tenant.0 tenant.1) (enu
 -- what is held after a run
 abbrev pub held_text : Held → List ℕ
 held_text Nothing = []
-held_text (Quota held) = line (amounts_text held.bytes held.elements)
+held_text (Quota held) = line (codes "held " ++ (decimal held.bytes ++ (codes " " ++ decimal held.elements)))
 held_text (Tenants pool) = tenants_text pool.machines
 
 -- a script with its replies, or why it isn't run

@@ -39,11 +39,6 @@ abbrev pub PrintsText : {W E : Type 0} → (W → Option (List ℕ)) → List �
 PrintsText contents text old result new =
     OnOk result (Prints contents old new text) × OnErr result (PrintsFront contents old new text)
 
--- a text is out: the writer gets what waits and the text
-pub record PrintsOut {W : Type 0} (contents : W → Option (List ℕ)) (old new : Printer W) (text : List ℕ) : Type 0 where
-  pub writer : new.writer.ghost_name ≡ old.writer.ghost_name
-  pub sent : Appends (contents old.writer.now) (contents new.writer.now) (old.chunk.bytes ++ text)
-
 -- what waits is out
 pub record Sends {W : Type 0} (contents : W → Option (List ℕ)) (old new : Printer W) : Type 0 where
   pub writer : new.writer.ghost_name ≡ old.writer.ghost_name

@@ -5,7 +5,6 @@ use Rattle.wasmi_meter.specs.Limiter.{optional_rules, unlimited_rules}
 use Rattle.wasmi_meter.specs.declared.limiter.NoLimits.{NoLimits}
 use Rattle.wasmi_meter.specs.declared.quota.Quota.{Quota}
 use Rattle.wasmi_meter.specs.declared.limiter.Kind.TheVariants.{Bytes, Elements}
-use Rattle.wasmi_meter.specs.declared.quota.Holdings.{Holdings}
 use Rattle.wasmi_meter.specs.declared.quota.Amounts.{Amounts}
 use Rattle.wasmi_meter.specs.Capped.{nothing, quota_rules, cap_of, holdings}
 use Rattle.wasmi_machine.specs.declared.calls.Call.{Call}
@@ -28,15 +27,11 @@ use Rattle.wasmi_meter.specs.declared.answer_list.LimiterAnswer.{LimiterAnswer}
 use Rattle.wasmi_meter.specs.AnswerList.{AnswersAhead, answer_list_rules, new_answers}
 use Rattle.wasmi_grammar.specs.Headers.{start_of, tenant_start}
 
--- what a limiter holds that has permitted nothing yet
-abbrev pub nothing_held : Holdings
-nothing_held = record { held = nothing; last = None }
-
 -- a quota of these caps that holds nothing yet
 pub record IsNewQuota (caps : Amounts) (quota : Quota) : Type 0 where
   pub bytes : cap_of quota Bytes ≡ caps.bytes
   pub elements : cap_of quota Elements ≡ caps.elements
-  pub nothing : holdings quota ≡ nothing_held
+  pub nothing : holdings quota ≡ record { held = nothing; last = None }
 
 -- The replies, with what is held, are those of a run of the calls from a machine, under a limiter that has these
 -- answers.
@@ -45,24 +40,21 @@ IsListedReplay answers start calls replies held = (held ≡ Nothing) × (after :
     × IsRunOf (optional_rules answer_list_rules) calls
     (record { state = start; limiter = Some (new_answers answers) }) replies after
 
--- The replies are those of a run of the calls from a machine, without a limiter or under the one that a line asks for.
--- What is held is what a quota then holds, which is all that the machine has.
-abbrev pub IsReplayUnder : Option LimiterLine → State → List Call → List Reply → Held → Type 0
-IsReplayUnder None start calls replies held = (held ≡ Nothing) × (after : World (Option NoLimits))
-    × IsRunOf (optional_rules unlimited_rules) calls (record { state = start; limiter = None }) replies after
-IsReplayUnder (Some (Lines.Quota caps)) start calls replies held =
-    (quota : Quota) × IsNewQuota caps quota × (end : State) × (after : Quota)
-    × IsRunOf (optional_rules quota_rules) calls (record { state = start; limiter = Some quota }) replies
-    (record { state = end; limiter = Some after })
-    × HoldsTotals (holdings after) end × (held ≡ Holding.Quota (holdings after).held)
-IsReplayUnder (Some (Lines.Answers answers)) start calls replies held =
-    IsListedReplay answers.items start calls replies held
-IsReplayUnder (Some (Lines.Tenants line)) start calls replies held = ⊥
-
--- the replies are those of a run of the calls on a new machine with the meter, the reserved slots and the region of these
--- header lines
+-- The replies are those of a run of the calls on a new machine with the meter, the reserved slots and the region of
+-- these header lines, without a limiter or under the one that a line asks for. What is held is what a quota then holds,
+-- which is all that the machine has.
 abbrev pub IsReplayOnOne : Option LimiterLine → Header → List Call → Ran → Type 0
-IsReplayOnOne limiter header calls ran = IsReplayUnder limiter (start_of header) calls ran.replies.items ran.held
+IsReplayOnOne None header calls ran = (ran.held ≡ Nothing) × (after : World (Option NoLimits))
+    × IsRunOf (optional_rules unlimited_rules) calls (record { state = start_of header; limiter = None })
+    ran.replies.items after
+IsReplayOnOne (Some (Lines.Quota caps)) header calls ran =
+    (quota : Quota) × IsNewQuota caps quota × (end : State) × (after : Quota)
+    × IsRunOf (optional_rules quota_rules) calls (record { state = start_of header; limiter = Some quota })
+    ran.replies.items (record { state = end; limiter = Some after })
+    × HoldsTotals (holdings after) end × (ran.held ≡ Holding.Quota (holdings after).held)
+IsReplayOnOne (Some (Lines.Answers answers)) header calls ran =
+    IsListedReplay answers.items (start_of header) calls ran.replies.items ran.held
+IsReplayOnOne (Some (Lines.Tenants line)) header calls ran = ⊥
 
 -- a pool of new machines, as many as a line says, under its caps
 abbrev pub new_pool : TenantsLine → State → PoolValue

@@ -169,10 +169,7 @@ fn print_tenant<W: io::Write>(
     ensures { PrintsText W.contents (tenant_line index (machine_of pool.now index)) printer.old
         result printer.new }
 {
-    let Some(bytes) = pool.held_bytes(index) else {
-        return Ok(());
-    };
-    let Some(elements) = pool.held_elements(index) else {
+    let (Some(bytes), Some(elements)) = (pool.held_bytes(index), pool.held_elements(index)) else {
         return Ok(());
     };
     printer.print_line(format_args!("held {index} {bytes} {elements}"))

@@ -1,12 +1,21 @@
 -- The even and the odd lanes of a vector, as std::simd takes each out of a lane of twice the width, their sums, and the
 -- sums of their products.
-use Rattle.std.proofs.Common.{ℕ, ℤ, pos, negsuc, suc, ◌+◌, ◌-◌, ◌*◌, ◌/◌, ◌%◌, ◌^◌, ◌<◌, ◌≡◌, List, length, get_or, map, replicate, ◌∙◌, ap, ap₂, arith, suc-mul, add-mul, mul_assoc, le_refl, inl, inr, Bool, true, false, ltb, bit_and, ◌+ℤ◌, ◌*ℤ◌, mod-eq_of_lt}
-use Rattle.wasmi_simd.proofs.Common.{cases_lt, pow_pos, and_mask, mod-pow-add, shr-shr, div-mul-add, mod-mul-add, pow-add, mul-le, shr_below, shl_below, cast_unsigned, cast_signed, digits_l, number_l, zip2, Width, bits, signed, wrap, lane, unsigned, lane_below, lanes_make_vector, IsWidening, hbits, sel, pairwise_unary, pairwise_binary}
+use Rattle.std.proofs.Common.{ℕ, ℤ, pos, negsuc, suc, ◌+◌, ◌-◌, ◌*◌, ◌/◌, ◌%◌, ◌^◌, ◌<◌, ◌≡◌, List, length, get_or, map, replicate, ◌∙◌, ap, ap₂, arith, suc-mul, add-mul, mul_assoc, le_refl, inl, inr, Bool, true, false, ltb, bit_and, ◌+ℤ◌, ◌*ℤ◌, mod-eq_of_lt, sym, mul_comm}
+use Rattle.wasmi_simd.proofs.Common.{cases_lt, pow_pos, and_mask, div-mul-add, mod-mul-add, pow-add, mul-le, shr_below, shl_below, cast_unsigned, cast_signed, digits_l, number_l, zip2, Width, bits, signed, wrap, lane, unsigned, lane_below, lanes_make_vector, IsWidening, hbits, sel, pairwise_unary, pairwise_binary}
 use Rattle.std.specs.Int.Signed.{shr_z}
 use Rattle.wasmi_lanewise.proofs.OrderLemmas.{same_less}
 use Rattle.wasmi_lanes.proofs.ItemLemmas.{AreItems, repeated, zipped}
 use Rattle.wasmi_simd.proofs.HalfLemmas.{lane_bits_are, reread}
 use Rattle.wasmi_simd.proofs.WideningLemmas.{extended_fits, product_fits, sum_below, sum_of_bits, dot_of_bits}
+use Rattle.std.proofs.lemmas.Nat.{shr-shr, mod-pow-add}
+
+-- a lane is made of its two halves
+joined_halves : (b v k : ℕ)
+    → v / 2 ^ (b * (2 * k)) % 2 ^ b + 2 ^ b * (v / 2 ^ (b * (2 * k + 1)) % 2 ^ b) ≡ v / 2 ^ ((b + b) * k) % 2 ^ (b + b)
+joined_halves b v k =
+    let first : b * (2 * k) ≡ (b + b) * k = omega arith in
+    let second : b * (2 * k + 1) ≡ (b + b) * k + b = omega arith in
+    rw (first, second, ← shr-shr v ((b + b) * k) b, mod-pow-add (v / 2 ^ ((b + b) * k)) b b) (omega arith)
 
 -- ---- a width that is twice another
 
@@ -69,11 +78,8 @@ module _ {narrow wide : Width} {n : ℕ} (widens : IsWidening narrow wide n) (v 
   -- a lane of twice the width is an even lane and, above it, the odd one
   pub pair_is : (i : ℕ) → lane wide v i ≡ odd i * 2 ^ bits narrow + even i
   pair_is i =
-      let b = bits narrow in
-      let from : bits wide * i ≡ b * (2 * i) = ap (λ k. k * i) widens.twice ∙ grind arith in
-      ap₂ (λ k m. v / 2 ^ k % 2 ^ m) from widens.twice
-      ∙ mod-pow-add (v / 2 ^ (b * (2 * i))) b b
-      ∙ ap (λ m. m % 2 ^ b * 2 ^ b + even i) (shr-shr v (b * (2 * i)) b ∙ ap (λ k. v / 2 ^ k) (grind arith))
+      ap (λ k. v / 2 ^ (k * i) % 2 ^ k) widens.twice ∙ sym (joined_halves (bits narrow) v i)
+      ∙ omega (arith, mul_comm (odd i) (2 ^ bits narrow))
 
   module _ (xs : List ℕ) (long : length xs ≡ n) (is : (i : ℕ) → i < n → get_or xs i 0 ≡ lane wide v i) where
     -- xs is the wide lanes
@@ -94,7 +100,8 @@ module _ {narrow wide : Width} {n : ℕ} (widens : IsWidening narrow wide n) (v 
         shifted.are i inside ∙ ap (λ m. m / 2 ^ bits narrow) (pair_is i)
         ∙ div-mul-add (odd i) (2 ^ bits narrow) (even i) (lane_below narrow v (2 * i))
 
-  module _ (xs : List ℤ) (of_v : AreItems n (pos 0) (λ i. cast_signed wide (lane wide v i)) xs) where
+  module _ (xs : List ℤ) (long : length xs ≡ n)
+      (is : (i : ℕ) → i < n → get_or xs i (pos 0) ≡ cast_signed wide (lane wide v i)) where
     abbrev words : List ℕ
     words = map (cast_unsigned wide) xs
 
@@ -107,7 +114,7 @@ module _ {narrow wide : Width} {n : ℕ} (widens : IsWidening narrow wide n) (v 
     -- the bits of the wide lanes are those of their two narrow lanes, the odd one the upper
     words_are : AreItems n 0 (λ i. odd i * 2 ^ bits narrow + even i) words
     words_are =
-        let of_lanes = lane_bits_are wide n v xs of_v in
+        let of_lanes = lane_bits_are wide n v xs (record { long = long; are = is }) in
         record { long = of_lanes.long; are = λ i inside. of_lanes.are i inside ∙ pair_is i }
 
     -- lane i, shifted to the right by the narrow width, is the odd narrow lane, extended with its sign

@@ -1,6 +1,6 @@
 -- Bitmasks: the highest bits of the lanes of a word, as digits of a number, brought together by a product or a shift.
-use Rattle.std.proofs.Common.{◌≡◌, ℕ, zero, suc, ◌+◌, ◌*◌, ◌/◌, ◌%◌, ◌^◌, ◌<◌, ◌≤◌, refl, sym, ap, ap₂, ◌∙◌, arith, inl, inr, Bool, leb, add-mul, zero-mul, suc-mul, mul_comm, mod-lt, mod-eq_of_lt, bit_and, pow-suc, if◌then◌else◌, replicate}
-use Rattle.wasmi_simd.proofs.Common.{div-eq_of_lt, pow_pos, and_le_l, and_mask, shr_below, div-add-mod', and_pow, cases_lt, le-leb, lt-leb, number_l, field, field_and, field_lt, first_lane, next_lane, repeated_lane, first_bits}
+use Rattle.std.proofs.Common.{◌≡◌, ℕ, zero, suc, ◌+◌, ◌*◌, ◌/◌, ◌%◌, ◌^◌, ◌<◌, ◌≤◌, refl, sym, ap, ap₂, ◌∙◌, arith, inl, inr, Bool, leb, zero-mul, suc-mul, mul_comm, mod-eq_of_lt, bit_and, pow-suc, if◌then◌else◌, replicate, ◌-◌}
+use Rattle.wasmi_simd.proofs.Common.{div-eq_of_lt, pow_pos, and_le_l, and_mask, shr_below, div-add-mod', and_pow, cases_lt, le-leb, lt-leb, number_l, field, field_and, field_lt, first_lane, next_lane, repeated_lane, first_bits, div-mul-add}
 use Rattle.wasmi_simd.proofs.ReductionLemmas.{bit_at_most}
 
 -- the number whose n digits in base p are g 0, g 1 ..
@@ -28,8 +28,6 @@ word_spelled w (suc n) v fits =
 -- ---- the highest bits of lanes, as digits
 
 -- a bit of a bitmask, as a digit of a number: 1 where a test of a lane holds, else 0
--- a test as a digit of the number that is gathered
--- a test as a digit of the number that is gathered
 abbrev one_if : Bool → ℕ
 one_if t = if t then 1 else 0
 
@@ -44,15 +42,11 @@ highest_bit : (h x : ℕ) → x < 2 ^ suc h → x / 2 ^ h ≡ one_if (leb (2 ^ h
 highest_bit h x fits =
     elim (cases_lt x (2 ^ h)) [
       | inl below ↦ rw (lt-leb (2 ^ h) x below) (div-eq_of_lt below)
-      | inr above ↦ rw (le-leb (2 ^ h) x above)
-          (one_time (x / 2 ^ h) (x % 2 ^ h) (2 ^ h) (div-add-mod' x (2 ^ h)) (mod-lt x (pow_pos h)) above
-          (omega (arith, pow-suc 2 h)))
+      | inr above ↦
+          let parts : x ≡ 1 * 2 ^ h + (x - 2 ^ h) = omega arith in
+          rw (le-leb (2 ^ h) x above)
+          (ap (λ n. n / 2 ^ h) parts ∙ div-mul-add 1 (2 ^ h) (x - 2 ^ h) (omega (arith, pow-suc 2 h)))
     ]
-  where
-    one_time : {x : ℕ} (q r p : ℕ) → q * p + r ≡ x → r < p → p ≤ x → x < p + p → q ≡ 1
-    one_time zero r p is low above below = absurd (omega (arith))
-    one_time (suc zero) r p is low above below = refl
-    one_time (suc (suc q)) r p is low above below = absurd (omega (arith, add-mul 2 q p))
 
 -- the highest bit of a number of h + 1 bits, in its place
 highest_alone : (h x : ℕ) → x < 2 ^ suc h → bit_and x (2 ^ h) ≡ one_if (leb (2 ^ h) x) * 2 ^ h

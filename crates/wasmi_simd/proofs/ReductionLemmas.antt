@@ -1,11 +1,12 @@
 -- Tests of all lanes of a vector or of all numbers below n, and the bits that they give, also by the vector's two
 -- words; whether a lane of a word is 0, by a subtraction that borrows.
-use Rattle.std.proofs.Common.{◌≡◌, ℕ, zero, suc, ◌+◌, ◌-◌, ◌*◌, ◌/◌, ◌%◌, ◌^◌, ◌<◌, ◌≤◌, refl, inl, inr, sym, ap, ap₂, ◌∙◌, arith, Bool, true, false, not, eqb, nat_eq, ◌&&◌, if◌then◌else◌, bit_and, bit_or, true≢false, zero-mul, mul-suc, mul-zero, mul_comm, mul-add, mul_assoc, one-mul, add-mul, le_refl, lit<, mod-eq_of_lt, pow-suc, suc-add, zero-add, add-zero, add-suc, ◌↔◌}
-use Rattle.wasmi_simd.proofs.Common.{div-eq_of_lt, mod-one, add-mod_right, div-mul-add, mod-pow-add, pow_pos, pow-add, mul-le, and_le_l, and_le_r, or_shifted, or_comm, and_pow, and_from, and_parts, eqb-true, eq-eqb, cases_eq, pow_mono, Width, bits, lane, unsigned, field, lanes_in_word, in_each_lane, field_lt, field_and, field_not, field_wrapping_sub, field_of_zero, lane_ends, same_words, lanes_of_width, AreWords, low_lane, high_lane, filled, some_bits, lane_of_each, top_in_range, holds_below, first_bits, every_lane, lane_bits, bit_at, lane_count, bit_at_lowest, bit_at-suc}
+use Rattle.std.proofs.Common.{◌≡◌, ℕ, zero, suc, ◌+◌, ◌-◌, ◌*◌, ◌/◌, ◌%◌, ◌^◌, ◌<◌, ◌≤◌, refl, inl, inr, sym, ap, ap₂, ◌∙◌, arith, Bool, true, false, not, eqb, nat_eq, ◌&&◌, if◌then◌else◌, bit_and, bit_or, zero-mul, mul-suc, mul-zero, mul_comm, mul-add, mul_assoc, one-mul, add-mul, le_refl, lit<, mod-eq_of_lt, pow-suc, suc-add, zero-add, add-zero, add-suc, ◌↔◌}
+use Rattle.wasmi_simd.proofs.Common.{div-eq_of_lt, mod-one, add-mod_right, div-mul-add, mod-pow-add, pow_pos, pow-add, mul-le, and_le_l, and_le_r, or_shifted, or_comm, and_pow, and_from, and_parts, eqb-true, eq-eqb, cases_eq, pow_mono, Width, bits, lane, unsigned, field, lanes_in_word, in_each_lane, field_lt, field_and, field_not, field_wrapping_sub, field_of_zero, lane_ends, same_words, lanes_of_width, AreWords, low_lane, high_lane, filled, some_bits, lane_of_each, top_in_range, holds_below, first_bits, every_lane, lane_bits, bit_at, bit_at_lowest, bit_at-suc}
 use mathlib.Core.Bool.{and-true, and_assoc}
 use Rattle.std.proofs.Math.Dec.{eqb-suc-zero}
 use Rattle.std.specs.Int.Bits.{and_self}
 use Rattle.std.specs.Cmp.{both_ways}
+use Rattle.std.proofs.lemmas.Bool.Decides.{eqb_tells}
 
 -- ---- tests that hold of all numbers below n
 
@@ -102,89 +103,92 @@ top_of_borrow h (suc x) fits =
     let less : (suc x + (m - 1)) % m ≡ x = ap (λ n. n % m) moved ∙ add-mod_right x m ∙ mod-eq_of_lt (omega arith) in
     rw (less, eqb-suc-zero x) (low_top h (bit_and x rest) (omega (arith, and_le_l x rest, and_le_r x rest)))
 
--- v has n lanes of h + 1 bits, in each of which `ones` has a 1, and `tops` the highest bit alone
-record IsZeroTest (h n v ones tops : ℕ) : Type 0 where
-  whole : n * suc h ≡ 64
+-- that bit of a number of b bits
+top_of_lane_borrow : (b x : ℕ) → 0 < b → x < 2 ^ b
+    → bit_and (bit_and ((x + (2 ^ b - 1)) % 2 ^ b) (2 ^ b - 1 - x)) (2 ^ (b - 1))
+    ≡ (if nat_eq x 0 then 2 ^ (b - 1) else 0)
+top_of_lane_borrow zero x some fits = absurd (omega arith)
+top_of_lane_borrow (suc h) x some fits = let back : suc h - 1 ≡ h = omega arith in rw back (top_of_borrow h x fits)
+
+-- v has n lanes of b bits, in each of which `ones` has a 1, and `tops` the highest bit alone
+record IsZeroTest (b n v ones tops : ℕ) : Type 0 where
+  some : 0 < b
+  whole : n * b ≡ 64
   fits : v < 2 ^ 64
   fits_ones : ones < 2 ^ 64
-  each_one : (i : ℕ) → i < n → field (suc h * i) (suc h) ones ≡ 1
-  each_top : (i : ℕ) → i < n → field (suc h * i) (suc h) tops ≡ 2 ^ h
+  each_one : (i : ℕ) → i < n → field (b * i) b ones ≡ 1
+  each_top : (i : ℕ) → i < n → field (b * i) b tops ≡ 2 ^ (b - 1)
 
 -- a mark stands in the lowest lane that is 0, and none where no lane is 0: nothing is borrowed from a lane below which
 -- there is no 0
-module _ (h n v ones tops : ℕ) (given : IsZeroTest h n v ones tops) where
+module _ (b n v ones tops : ℕ) (given : IsZeroTest b n v ones tops) where
   abbrev is_some : ℕ → Bool
-  is_some i = not (nat_eq (field (suc h * i) (suc h) v) 0)
+  is_some i = not (nat_eq (field (b * i) b v) 0)
 
   abbrev marks : ℕ
   marks = bit_and (bit_and ((v + (2 ^ 64 - ones)) % 2 ^ 64) (2 ^ 64 - 1 - v)) tops
 
   -- a lane ends within the word
-  lane_inside : (i : ℕ) → i < n → suc h * i + suc h ≤ 64
-  lane_inside i inside = omega (arith, given.whole, lane_ends (suc h) n i inside)
+  lane_inside : (i : ℕ) → i < n → b * i + b ≤ 64
+  lane_inside i inside = omega (arith, given.whole, lane_ends b n i inside)
 
   -- a number that isn't 0 is at least 1
   some_there : (t : ℕ) → not (nat_eq t 0) ≡ true → 1 ≤ t
-  some_there zero is = absurd (true≢false (sym is))
-  some_there (suc t) is = omega arith
+  some_there t is = grind (arith, eqb_tells)
 
   -- below a lane under which no lane is 0, v is at least the ones, so nothing is borrowed
-  enough_below : (i : ℕ) → i < n → ((j : ℕ) → j < i → is_some j ≡ true) → ones % 2 ^ (suc h * i) ≤ v % 2 ^ (suc h * i)
+  enough_below : (i : ℕ) → i < n → ((j : ℕ) → j < i → is_some j ≡ true) → ones % 2 ^ (b * i) ≤ v % 2 ^ (b * i)
   unfolding field
   enough_below zero inside some =
-      rw (mul-zero (suc h)) (omega (arith, mod-one ones))
+      rw (mul-zero b) (omega (arith, mod-one ones))
   enough_below (suc i) inside some =
-      let b : ℕ = suc h * i in
-      let p : ℕ = 2 ^ b in
-      let x : ℕ = v / p % 2 ^ suc h in
-      let next : suc h * suc i ≡ suc h + b = omega (arith, mul-suc (suc h) i) in
+      let k : ℕ = b * i in
+      let p : ℕ = 2 ^ k in
+      let x : ℕ = v / p % 2 ^ b in
+      let next : b * suc i ≡ b + k = omega (arith, mul-suc b i) in
       let low : ones % p ≤ v % p = enough_below i (omega arith) (λ j below. some j (omega arith)) in
       let here : 1 ≤ x = some_there x (some i (omega arith)) in
       let rows : 1 * p ≤ x * p = mul-le 1 p x p here (le_refl p) in
-      rw (next, mod-pow-add ones (suc h) b, given.each_one i (omega arith)) (omega (arith, mod-pow-add v (suc h) b))
+      rw (next, mod-pow-add ones b k, given.each_one i (omega arith)) (omega (arith, mod-pow-add v b k))
 
   -- a lane under which no lane is 0 has a mark where it is 0 itself
   mark_is : (i : ℕ) → i < n → ((j : ℕ) → j < i → is_some j ≡ true)
-      → field (suc h * i) (suc h) marks ≡ (if nat_eq (field (suc h * i) (suc h) v) 0 then 2 ^ h else 0)
+      → field (b * i) b marks ≡ (if nat_eq (field (b * i) b v) 0 then 2 ^ (b - 1) else 0)
   mark_is i inside some =
-      let k : ℕ = suc h * i in
-      let w : ℕ = suc h in
+      let k : ℕ = b * i in
       let less : ℕ = (v + (2 ^ 64 - ones)) % 2 ^ 64 in
       let rest : ℕ = 2 ^ 64 - 1 - v in
-      let borrowed : field k w less ≡ (field k w v + (2 ^ w - 1)) % 2 ^ w =
-      field_wrapping_sub k w 64 v ones (lane_inside i inside) given.fits_ones (enough_below i inside some)
-      ∙ ap (λ m. (field k w v + (2 ^ w - m)) % 2 ^ w) (given.each_one i inside) in
+      let borrowed : field k b less ≡ (field k b v + (2 ^ b - 1)) % 2 ^ b =
+      field_wrapping_sub k b 64 v ones (lane_inside i inside) given.fits_ones (enough_below i inside some)
+      ∙ ap (λ m. (field k b v + (2 ^ b - m)) % 2 ^ b) (given.each_one i inside) in
       rw (
-        field_and k w (bit_and less rest) tops,
-        field_and k w less rest,
+        field_and k b (bit_and less rest) tops,
+        field_and k b less rest,
         borrowed,
-        field_not k w 64 v (lane_inside i inside) given.fits,
+        field_not k b 64 v (lane_inside i inside) given.fits,
         given.each_top i inside,
       )
-      (top_of_borrow h (field k w v) (field_lt k w v))
+      (top_of_lane_borrow b (field k b v) given.some (field_lt k b v))
 
   -- a lane without mark isn't 0
-  no_mark : (t : ℕ) → (if nat_eq t 0 then 2 ^ h else 0) ≡ 0 → not (nat_eq t 0) ≡ true
-  no_mark zero is = absurd (omega (arith, pow_pos h))
-  no_mark (suc t) is = rw (eqb-suc-zero t)
+  no_mark : (t : ℕ) → (if nat_eq t 0 then 2 ^ (b - 1) else 0) ≡ 0 → not (nat_eq t 0) ≡ true
+  no_mark t is = grind (arith, eqb_tells, pow_pos (b - 1))
 
   -- where there is no mark, no lane is 0
   some_below : marks ≡ 0 → (i : ℕ) → i ≤ n → (j : ℕ) → j < i → is_some j ≡ true
   some_below none zero le j below = absurd (omega arith)
   some_below none (suc i) le j below = elim (cases_eq j i) [
     | inl last ↦
-        let clear : field (suc h * i) (suc h) marks ≡ 0 =
-        ap (field (suc h * i) (suc h)) none ∙ field_of_zero (suc h * i) (suc h) in
+        let clear : field (b * i) b marks ≡ 0 = ap (field (b * i) b) none ∙ field_of_zero (b * i) b in
         ap is_some last
-        ∙ no_mark (field (suc h * i) (suc h) v)
+        ∙ no_mark (field (b * i) b v)
         (sym (mark_is i (omega arith) (some_below none i (omega arith))) ∙ clear)
     | inr other ↦ some_below none i (omega arith) j (omega arith)
   ]
 
   -- a lane that isn't 0 has no mark
-  no_zero_marked : (t : ℕ) → not (nat_eq t 0) ≡ true → (if nat_eq t 0 then 2 ^ h else 0) ≡ 0
-  no_zero_marked zero is = absurd (true≢false (sym is))
-  no_zero_marked (suc t) is = ap (λ b. if b then 2 ^ h else 0) (eqb-suc-zero t)
+  no_zero_marked : (t : ℕ) → not (nat_eq t 0) ≡ true → (if nat_eq t 0 then 2 ^ (b - 1) else 0) ≡ 0
+  no_zero_marked t is = grind (arith, eqb_tells)
 
   -- there is no mark where no lane is 0, and only there
   no_mark_is : tops < 2 ^ 64 → eqb marks 0 ≡ holds_below n is_some
@@ -194,29 +198,11 @@ module _ (h n v ones tops : ℕ) (given : IsZeroTest h n v ones tops) where
       both_ways (eqb marks 0) (holds_below n is_some)
       (λ e. holds_of_each n is_some (λ i inside. some_below (eqb-true marks 0 e) n (le_refl n) i inside))
       (λ all. eq-eqb marks 0
-      (same_words (suc h) n marks 0 (rw given.whole below) (pow_pos (n * suc h))
+      (same_words b n marks 0 (rw given.whole below) (pow_pos (n * b))
       (λ i inside.
       mark_is i inside (λ j less. each_holds n is_some all j (omega arith))
-      ∙ no_zero_marked (field (suc h * i) (suc h) v) (each_holds n is_some all i inside)
-      ∙ sym (field_of_zero (suc h * i) (suc h)))))
-
--- of lanes of b bits, there is no mark where none is 0, and only there
-no_mark_at : (b n v ones tops : ℕ) → 0 < b → n * b ≡ 64 → v < 2 ^ 64 → ones < 2 ^ 64 → tops < 2 ^ 64
-    → ((i : ℕ) → i < n → field (b * i) b ones ≡ 1) → ((i : ℕ) → i < n → field (b * i) b tops ≡ 2 ^ (b - 1))
-    → eqb (bit_and (bit_and ((v + (2 ^ 64 - ones)) % 2 ^ 64) (2 ^ 64 - 1 - v)) tops) 0
-    ≡ holds_below n (λ i. not (nat_eq (field (b * i) b v) 0))
-no_mark_at zero n v ones tops pos whole fits fits_ones fits_tops each_one each_top = absurd (omega arith)
-no_mark_at (suc h) n v ones tops pos whole fits fits_ones fits_tops each_one each_top =
-    let back : suc h - 1 ≡ h = omega arith in
-    no_mark_is h n v ones tops
-    (record {
-      whole = whole;
-      fits = fits;
-      fits_ones = fits_ones;
-      each_one = each_one;
-      each_top = λ i inside. each_top i inside ∙ ap (λ k. 2 ^ k) back;
-    })
-    fits_tops
+      ∙ no_zero_marked (field (b * i) b v) (each_holds n is_some all i inside)
+      ∙ sym (field_of_zero (b * i) b))))
 
 -- no lane of w bits of v is 0
 pub no_mark_in_word : (w : Width) (v ones tops : ℕ) → lanes_in_word w * bits w ≡ 64 → v < 2 ^ 64 → ones < 2 ^ 64
@@ -225,9 +211,16 @@ pub no_mark_in_word : (w : Width) (v ones tops : ℕ) → lanes_in_word w * bits
     → eqb (bit_and (bit_and ((v + (2 ^ 64 - ones)) % 2 ^ 64) (2 ^ 64 - 1 - v)) tops) 0
     ≡ holds_below (lanes_in_word w) (λ i. not (nat_eq (field (bits w * i) (bits w) v) 0))
 no_mark_in_word w v ones tops whole fits fits_ones fits_tops is_ones is_tops =
-    no_mark_at (bits w) (lanes_in_word w) v ones tops (some_bits w) whole fits fits_ones fits_tops
-    (lane_of_each w 1 ones (pow_mono {i = 1} {j = bits w} (some_bits w)) is_ones)
-    (lane_of_each w (2 ^ (bits w - 1)) tops (top_in_range (bits w) (some_bits w)) is_tops)
+    no_mark_is (bits w) (lanes_in_word w) v ones tops
+    (record {
+      some = some_bits w;
+      whole = whole;
+      fits = fits;
+      fits_ones = fits_ones;
+      each_one = lane_of_each w 1 ones (pow_mono {i = 1} {j = bits w} (some_bits w)) is_ones;
+      each_top = lane_of_each w (2 ^ (bits w - 1)) tops (top_in_range (bits w) (some_bits w)) is_tops;
+    })
+    fits_tops
 
 module _ (w : Width) (whole : lanes_in_word w * bits w ≡ 64) (v low high : ℕ) (words : AreWords v low high) where
   -- a test of a lane of the low word is that of the same lane of the vector
@@ -292,28 +285,6 @@ bit_of_first (suc n) test (suc i) inside =
     let rest : ℕ = first_bits n (λ i. test (suc i)) in
     let half : (low + 2 * rest) / 2 ≡ rest = omega (arith, bit_at_most (test 0)) in
     bit_at-suc (low + 2 * rest) i ∙ ap (λ k. bit_at k i) half ∙ bit_of_first n (λ i. test (suc i)) i (omega arith)
-
-module _ {A : Type 0} (w : Width) (read : ℕ → A) (test : A → Bool) (v : ℕ) where
-  -- bit i of the bits of a test of all lanes is 1 where the test holds of lane i, else 0
-  pub bit_of_lane : (i : ℕ) → i < lane_count w
-      → bit_at (lane_bits w read test v) i ≡ (if test (read (lane w v i)) then 1 else 0)
-  unfolding lane_bits
-  bit_of_lane i inside = bit_of_first (lane_count w) (λ k. test (read (lane w v k))) i inside
-
-  -- the bits of a test of all lanes are a number of as many bits as there are lanes
-  pub bits_of_lanes_below : lane_bits w read test v < 2 ^ lane_count w
-  unfolding lane_bits
-  bits_of_lanes_below = bits_below (lane_count w) (λ k. test (read (lane w v k)))
-
-  -- a test that holds of each lane holds of every lane at once
-  pub test_of_each : ((i : ℕ) → i < lane_count w → test (read (lane w v i)) ≡ true) → every_lane w read test v ≡ true
-  unfolding every_lane
-  test_of_each each = holds_of_each (lane_count w) (λ k. test (read (lane w v k))) each
-
-  -- a test that holds of every lane at once holds of each lane
-  pub each_of_test : every_lane w read test v ≡ true → (i : ℕ) → i < lane_count w → test (read (lane w v i)) ≡ true
-  unfolding every_lane
-  each_of_test all = each_holds (lane_count w) (λ k. test (read (lane w v k))) all
 
 -- a test of the numbers below n at once holds exactly where it holds of each
 pub test_of_numbers : (n : ℕ) (test : ℕ → Bool)

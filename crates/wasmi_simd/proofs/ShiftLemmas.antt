@@ -1,25 +1,20 @@
 -- Shifts of lanes of 64 bits, each a whole word, and shifts of lanes of 8 bits with the sign, by a table.
-use Rattle.std.proofs.Common.{◌≡◌, ℕ, zero, suc, ◌+◌, ◌-◌, ◌*◌, ◌/◌, ◌%◌, ◌^◌, ◌<◌, ◌≤◌, refl, inl, inr, sym, ap, ◌∙◌, arith, add-mul, one-mul, mod-lt, mod-eq_of_lt, List, map, replicate, get_or}
-use Rattle.wasmi_simd.proofs.Common.{cases_lt, lt-ltb, le-ltb, int_shr, number_l, pow_pos, pow-add, div-add-mod', div-mul-add, shr_below, shr_le, pow_mono, w8, w64, signed, wrap, lane, unsigned, unary_of_lanes, field, first_lane, repeated_lane}
+use Rattle.std.proofs.Common.{◌≡◌, ℕ, suc, ◌+◌, ◌-◌, ◌*◌, ◌/◌, ◌%◌, ◌^◌, ◌<◌, ◌≤◌, refl, inl, inr, sym, ap, ◌∙◌, arith, add-mul, one-mul, mod-lt, List, map, replicate, get_or}
+use Rattle.wasmi_simd.proofs.Common.{cases_lt, lt-ltb, le-ltb, int_shr, number_l, pow_pos, pow-add, div-add-mod', div-mul-add, shr_below, shr_le, pow_mono, w8, w64, signed, wrap, lane, unsigned, unary_of_lanes, field, repeated_lane, binary_of_lanes}
 use Rattle.std.specs.List.{range_with_len}
 use Rattle.std.proofs.lemmas.List.FromFn.{get_or-map-range_with_len}
 use Rattle.wasmi_raw.specs.RawVal.{vector_of}
-use Rattle.wasmi_lanewise.proofs.ShiftLemmas.{words_shifted}
-
--- a word is one lane of 64 bits
-lane_of_word : (f : ℕ → ℕ) (x y : ℕ) → x < 2 ^ 64 → y < 2 ^ 64 → y ≡ f x → (i : ℕ) → i < 1
-    → field (64 * i) 64 y ≡ f (field (64 * i) 64 x)
-lane_of_word f x y fits_x fits_y is zero inside =
-    first_lane 64 y ∙ mod-eq_of_lt fits_y ∙ is ∙ ap f (sym (first_lane 64 x ∙ mod-eq_of_lt fits_x))
-lane_of_word f x y fits_x fits_y is (suc i) inside = absurd (omega arith)
+use Rattle.wasmi_lanewise.proofs.WordLemmas.{lanes_are_words}
 
 -- words of one lane, each shifted whole
 pub whole_words_shifted : (v amount s : ℕ) {r : ℕ} → v < 2 ^ 128 → s ≡ amount % 64 → (row : ℕ → ℕ → ℕ)
     → ((x : ℕ) → x < 2 ^ 64 → row s x < 2 ^ 64)
     → r ≡ vector_of (row s (v % 2 ^ 64)) (row s (v / 2 ^ 64)) → r ≡ unary_of_lanes w64 unsigned (row (amount % 64)) v
-whole_words_shifted v amount s fits is_s row fits_row is =
-    words_shifted w64 refl v amount s fits is_s (row s) row fits_row
-    (λ x below. lane_of_word (row s) x (row s x) below (fits_row x below) refl) is
+unfolding unary_of_lanes binary_of_lanes
+whole_words_shifted v amount s {r} fits is_s row fits_row is =
+    rw (← is_s) (lanes_are_words (λ x _. row s x) v v _ _ r fits fits
+    (record { fits = fits_row (v % 2 ^ 64) (omega arith); is = refl })
+    (record { fits = fits_row (v / 2 ^ 64) (omega arith); is = refl }) is)
 
 -- ---- shifts with the sign
 

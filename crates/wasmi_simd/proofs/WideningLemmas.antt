@@ -1,14 +1,13 @@
 -- Lanes of vectors that are made of narrower lanes, of wider ones or of one number, and signed numbers at twice their
 -- width: their wrapped sums and products, and what fits.
-use Rattle.std.proofs.Common.{ℕ, zero, suc, ◌+◌, ◌-◌, ◌*◌, ◌%◌, ◌^◌, ◌<◌, ◌≤◌, ◌≡◌, sym, ◌∙◌, ap, ap₂, arith, inl, inr, ℤ, pos, negsuc, unsigned_abs, leb, nat_lt, if◌then◌else◌, ◌==◌, div-one, mul-zero, mul-suc, refl, le_refl, pow-suc, ◌+ℤ◌, ◌*ℤ◌, FitsSigned, Bool, mod-eq_of_lt, mod-lt, T}
-use Rattle.wasmi_simd.proofs.Common.{pow_pos, mul-le, shl_below, cast_unsigned, int_wrap, div-eq_of_lt, zero-div, pow_mono, cases_lt, lt-ltb, le-ltb, le-leb, Width, w8, w16, w32, w64, bits, wrap, signed, lane, lane_count, signed_fits, unsigned, with_lane, lane_below, lanes_make_vector, lane_of_from, some_bits, IsWidening, hbits, half_unary, half_binary, pairwise_unary, pairwise_binary, from_low_high}
+use Rattle.std.proofs.Common.{ℕ, suc, ◌+◌, ◌-◌, ◌*◌, ◌%◌, ◌^◌, ◌<◌, ◌≤◌, ◌≡◌, sym, ◌∙◌, ap, ap₂, arith, inl, inr, ℤ, leb, nat_lt, if◌then◌else◌, refl, le_refl, pow-suc, ◌+ℤ◌, ◌*ℤ◌, FitsSigned, Bool, mod-eq_of_lt, mod-lt, T, pos, negsuc, unsigned_abs, zero-add}
+use Rattle.wasmi_simd.proofs.Common.{pow_pos, mul-le, shl_below, cast_unsigned, int_wrap, pow_mono, cases_lt, lt-ltb, le-ltb, le-leb, Width, w8, w16, w32, w64, bits, wrap, signed, lane, lane_count, signed_fits, unsigned, lane_below, lane_of_from, some_bits, IsWidening, hbits, half_unary, half_binary, pairwise_unary, pairwise_binary, from_low_high}
 use Rattle.std.proofs.lemmas.Int.{of_z-to_z, wrapping_add_is, wrapping_mul_is, fits_signed_mul, to_z-of_z}
 use Rattle.std.proofs.Math.Facts.{sfits_widen}
-use Rattle.std.proofs.Math.Dec.{eqb-suc-zero}
 use Rattle.wasmi_types.proofs.NumbersLemmas.{wrap_below, wrap_signed}
 use Rattle.std.proofs.lemmas.Float.{T_from_true}
 use mir.Syntax.{w128}
-use Rattle.wasmi_simd.proofs.ReductionLemmas.{bits_below, bit_of_first, bit_of_lane, bits_of_lanes_below, test_of_each, each_of_test, test_of_numbers}
+use Rattle.wasmi_simd.proofs.ReductionLemmas.{bits_below, bit_of_first, test_of_numbers}
 
 -- lanes made of the wide lanes of two vectors: numbers that are `low` below n and `high` from n on
 pub by_halves : (n i : ℕ) (f low high : ℕ → ℕ) → ((k : ℕ) → k < n → f k ≡ low k)
@@ -85,20 +84,6 @@ module _ {narrow wide : Width} {n : ℕ} (widens : IsWidening narrow wide n) {x 
       let more : suc b ≤ bits wide = omega (arith, widens.twice, some_bits narrow) in
       omega (arith, pow-suc 2 b, pow_mono {i = suc b} {j = bits wide} more)
 
--- a number of w bits is a vector that has it in lane 0, and 0 in the others
-pub low_zero_is : (w : Width) (n number : ℕ) → n * bits w ≡ 128 → number < 2 ^ bits w → number < 2 ^ 128
-    → number ≡ with_lane w 0 0 number
-unfolding with_lane
-low_zero_is w n number filled below small = lanes_make_vector w n number _ filled small (λ i _. lane_is i)
-  where
-    lane_is : (i : ℕ) → lane w number i ≡ (if i == 0 then number else lane w 0 i)
-    lane_is zero =
-        rw (mul-zero (bits w), div-one number) (mod-eq_of_lt below)
-    lane_is (suc i) =
-        let wider : bits w ≤ bits w * suc i = omega (arith, mul-suc (bits w) i) in
-        let out : number < 2 ^ (bits w * suc i) = omega (arith, pow_mono wider) in
-        rw (div-eq_of_lt out, eqb-suc-zero i, zero-div (2 ^ (bits w * suc i)))
-
 -- ---- lanes made of narrower ones
 
 module _ {A : Type 0} (narrow wide : Width) (read : ℕ → A) (i : ℕ) (inside : i < lane_count wide) where
@@ -106,23 +91,21 @@ module _ {A : Type 0} (narrow wide : Width) (read : ℕ → A) (i : ℕ) (inside
   pub lane_of_half : (first : ℕ) (row : A → ℕ) (v : ℕ)
       → lane wide (half_unary narrow wide first read row v) i ≡ row (read (lane narrow v (first + i))) % 2 ^ bits wide
   unfolding half_unary
-  lane_of_half first row v = lane_of_from wide i inside (λ k. row (read (lane narrow v (first + k))))
+  lane_of_half first row v = lane_of_from wide i inside _
 
   -- lane i of a row of half of each operand is the row of their narrow lanes first + i, at the wide width
   pub lane_of_halves : (first : ℕ) (row : A → A → ℕ) (a b : ℕ)
       → lane wide (half_binary narrow wide first read row a b) i
       ≡ row (read (lane narrow a (first + i))) (read (lane narrow b (first + i))) % 2 ^ bits wide
   unfolding half_binary
-  lane_of_halves first row a b =
-      lane_of_from wide i inside (λ k. row (read (lane narrow a (first + k))) (read (lane narrow b (first + k))))
+  lane_of_halves first row a b = lane_of_from wide i inside _
 
   -- lane i of a row of pairs is the row of the narrow lanes 2 * i and 2 * i + 1, at the wide width
   pub lane_of_pair : (row : A → A → ℕ) (v : ℕ)
       → lane wide (pairwise_unary narrow wide read row v) i
       ≡ row (read (lane narrow v (2 * i))) (read (lane narrow v (2 * i + 1))) % 2 ^ bits wide
   unfolding pairwise_unary
-  lane_of_pair row v =
-      lane_of_from wide i inside (λ k. row (read (lane narrow v (2 * k))) (read (lane narrow v (2 * k + 1))))
+  lane_of_pair row v = lane_of_from wide i inside _
 
   -- lane i of a row of two operands' pairs is the row of their narrow lanes 2 * i and 2 * i + 1, at the wide width
   pub lane_of_pairs : (row : A → A → A → A → ℕ) (a b : ℕ)
@@ -130,10 +113,7 @@ module _ {A : Type 0} (narrow wide : Width) (read : ℕ → A) (i : ℕ) (inside
       ≡ row (read (lane narrow a (2 * i))) (read (lane narrow a (2 * i + 1))) (read (lane narrow b (2 * i)))
       (read (lane narrow b (2 * i + 1))) % 2 ^ bits wide
   unfolding pairwise_binary
-  lane_of_pairs row a b =
-      lane_of_from wide i inside
-      (λ k. row (read (lane narrow a (2 * k))) (read (lane narrow a (2 * k + 1))) (read (lane narrow b (2 * k)))
-      (read (lane narrow b (2 * k + 1))))
+  lane_of_pairs row a b = lane_of_from wide i inside _
 
 -- ---- extended lanes
 
@@ -150,26 +130,21 @@ wider_half narrow wide wider =
     one_less : (w : Width) → bits w ≡ hbits w + 1
     one_less = elim [ w8 ↦ refl | w16 ↦ refl | w32 ↦ refl | w64 ↦ refl | w128 ↦ refl ]
 
-module _ (narrow wide : Width) (first v i at : ℕ) (wider : bits narrow ≤ bits wide) (inside : i < lane_count wide)
-    (place : at ≡ first + i) where
+module _ (narrow wide : Width) (first v i : ℕ) (wider : bits narrow ≤ bits wide) (inside : i < lane_count wide) where
   -- lane i of a half that is extended with its signs is, read signed, the narrow lane read signed
   pub signed_of_extended : signed wide (lane wide (half_unary narrow wide first (signed narrow) (wrap wide) v) i)
-      ≡ signed narrow (lane narrow v at)
+      ≡ signed narrow (lane narrow v (first + i))
   signed_of_extended =
       let z : ℤ = signed narrow (lane narrow v (first + i)) in
-      rw (
-        place,
-        lane_of_half narrow wide (signed narrow) i inside first (wrap wide) v,
-        mod-eq_of_lt (wrap_below wide z),
-      )
+      rw (lane_of_half narrow wide (signed narrow) i inside first (wrap wide) v, mod-eq_of_lt (wrap_below wide z))
       (signed_of_wrapped wide z (extended_fits narrow wide v (first + i) (wider_half narrow wide wider)))
 
   -- lane i of a half that is extended without signs is the narrow lane
-  pub lane_of_extended : lane wide (half_unary narrow wide first unsigned (λ x. x) v) i ≡ lane narrow v at
+  pub lane_of_extended : lane wide (half_unary narrow wide first unsigned (λ x. x) v) i ≡ lane narrow v (first + i)
   lane_of_extended =
       let more : 2 ^ bits narrow ≤ 2 ^ bits wide = pow_mono wider in
       let below : lane narrow v (first + i) < 2 ^ bits narrow = lane_below narrow v (first + i) in
-      rw place (lane_of_half narrow wide unsigned i inside first (λ x. x) v ∙ mod-eq_of_lt (omega arith))
+      lane_of_half narrow wide unsigned i inside first (λ x. x) v ∙ mod-eq_of_lt (omega arith)
 
 -- ---- lanes made of wider ones
 
@@ -183,10 +158,7 @@ module _ {A : Type 0} (wide narrow : Width) (read : ℕ → A) (row : A → ℕ)
   lane_chosen : (k : ℕ) → k < lane_count narrow
       → lane narrow (from_low_high wide narrow read row low high) k ≡ chosen k (nat_lt k (lane_count wide))
   unfolding from_low_high chosen
-  lane_chosen k inside =
-      lane_of_from narrow k inside
-      (λ j. if nat_lt j (lane_count wide) then row (read (lane wide low j)) else row
-      (read (lane wide high (j - lane_count wide))))
+  lane_chosen k inside = lane_of_from narrow k inside _
 
   -- lane i is the row of the wide lane i of `low`, where that is one of its lanes
   pub lane_of_low : i < lane_count wide → i < lane_count narrow
@@ -210,15 +182,14 @@ pub ruleset laws = (
   lane_of_halves,
   lane_of_pair,
   lane_of_pairs,
+  signed_of_extended,
+  lane_of_extended,
+  zero-add,
   signed_of_wrapped,
   wrap_below,
   lane_of_low,
   lane_of_high,
   bit_of_first,
   bits_below,
-  bit_of_lane,
-  bits_of_lanes_below,
-  test_of_each,
-  each_of_test,
   test_of_numbers,
 )

@@ -76,6 +76,7 @@ pub fn lanes_of_wide_lanes<A>()
 
 /// Bit i of the number that is made of a test of each lane tells whether the test holds of lane i,
 /// and no other bit is 1. `A` is the integer as which a lane is read.
+#[tactic(auto, using(crate::proofs::WideningLemmas::laws), unfolding(crate::specs::WideningTable::lane_bits))]
 pub fn bits_of_lanes<A>()
     ensures bit { (w : Width) (read : ℕ → A) (test : A → Bool) (v i : ℕ) → i < lane_count w
         → bit_at (lane_bits w read test v) i ≡ (if test (read (lane w v i)) then 1 else 0) }
@@ -88,6 +89,7 @@ pub fn bits_of_lanes<A>()
 
 /// A test of every lane holds exactly where it holds of each. `A` is the integer as which a lane is
 /// read.
+#[tactic(auto, using(crate::proofs::WideningLemmas::laws), unfolding(crate::specs::WideningTable::every_lane))]
 pub fn tests_of_lanes<A>()
     ensures lanes { (w : Width) (read : ℕ → A) (test : A → Bool) (v : ℕ)
         → IsTrue (every_lane w read test v)

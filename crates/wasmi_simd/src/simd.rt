@@ -171,7 +171,6 @@ pub fn v128_low64_zero(number: u64) -> V128
     u32::vector_of(items.shuffle(u32x4::splat(0), [0, 1, 4, 5]))
 }
 
-// The instructions `extend_low_*_s`, for each lane type.
 #[inline(always)]
 fn extended_low_s<T: ExtendedLane>(v: V128) -> V128
     ensures { result ≡ vector.extend_low_s T.width T.Wide.width v }
@@ -179,7 +178,6 @@ fn extended_low_s<T: ExtendedLane>(v: V128) -> V128
     T::Wide::vector_of(T::low_signed(v))
 }
 
-// The instructions `extend_low_*_u`, for each lane type.
 #[inline(always)]
 fn extended_low_u<T: ExtendedLane>(v: V128) -> V128
     ensures { result ≡ vector.extend_low_u T.width T.Wide.width v }
@@ -187,7 +185,6 @@ fn extended_low_u<T: ExtendedLane>(v: V128) -> V128
     T::Wide::vector_of(T::low(v))
 }
 
-// The instructions `extend_high_*_s`, for each lane type.
 #[inline(always)]
 fn extended_high_s<T: ExtendedLane>(v: V128) -> V128
     ensures { result ≡ vector.extend_high_s T.width T.Wide.width v }
@@ -195,7 +192,6 @@ fn extended_high_s<T: ExtendedLane>(v: V128) -> V128
     T::Wide::vector_of(T::high_signed(v))
 }
 
-// The instructions `extend_high_*_u`, for each lane type.
 #[inline(always)]
 fn extended_high_u<T: ExtendedLane>(v: V128) -> V128
     ensures { result ≡ vector.extend_high_u T.width T.Wide.width v }
@@ -377,7 +373,6 @@ pub fn i16x8_relaxed_dot_i8x16_i7x16_s(lhs: V128, rhs: V128) -> V128
     dots::<u8>(lhs, rhs)
 }
 
-// The instructions `extmul_low_*_s`, for each lane type.
 #[inline(always)]
 fn products_low_s<T: ExtendedLane>(lhs: V128, rhs: V128) -> V128
     ensures { result ≡ vector.extmul_low_s T.width T.Wide.width lhs rhs }
@@ -385,7 +380,6 @@ fn products_low_s<T: ExtendedLane>(lhs: V128, rhs: V128) -> V128
     T::Wide::vector_of(T::products(T::low_signed(lhs), T::low_signed(rhs)))
 }
 
-// The instructions `extmul_low_*_u`, for each lane type.
 #[inline(always)]
 fn products_low_u<T: ExtendedLane>(lhs: V128, rhs: V128) -> V128
     ensures { result ≡ vector.extmul_low_u T.width T.Wide.width lhs rhs }
@@ -393,7 +387,6 @@ fn products_low_u<T: ExtendedLane>(lhs: V128, rhs: V128) -> V128
     T::Wide::vector_of(T::products(T::low(lhs), T::low(rhs)))
 }
 
-// The instructions `extmul_high_*_s`, for each lane type.
 #[inline(always)]
 fn products_high_s<T: ExtendedLane>(lhs: V128, rhs: V128) -> V128
     ensures { result ≡ vector.extmul_high_s T.width T.Wide.width lhs rhs }
@@ -401,7 +394,6 @@ fn products_high_s<T: ExtendedLane>(lhs: V128, rhs: V128) -> V128
     T::Wide::vector_of(T::products(T::high_signed(lhs), T::high_signed(rhs)))
 }
 
-// The instructions `extmul_high_*_u`, for each lane type.
 #[inline(always)]
 fn products_high_u<T: ExtendedLane>(lhs: V128, rhs: V128) -> V128
     ensures { result ≡ vector.extmul_high_u T.width T.Wide.width lhs rhs }
@@ -409,7 +401,6 @@ fn products_high_u<T: ExtendedLane>(lhs: V128, rhs: V128) -> V128
     T::Wide::vector_of(T::products(T::high(lhs), T::high(rhs)))
 }
 
-// The instructions `extadd_pairwise_*_s`, for each lane type.
 #[inline(always)]
 fn neighbours_s<T: PairedLane>(v: V128) -> V128
     ensures { result ≡ vector.extadd_pairwise_s T.width T.Wide.width v }
@@ -417,7 +408,6 @@ fn neighbours_s<T: PairedLane>(v: V128) -> V128
     T::Wide::vector_of(T::sums(T::even_signed(v), T::odd_signed(v)))
 }
 
-// The instructions `extadd_pairwise_*_u`, for each lane type.
 #[inline(always)]
 fn neighbours_u<T: PairedLane>(v: V128) -> V128
     ensures { result ≡ vector.extadd_pairwise_u T.width T.Wide.width v }
@@ -425,7 +415,6 @@ fn neighbours_u<T: PairedLane>(v: V128) -> V128
     T::Wide::vector_of(T::sums(T::even(v), T::odd(v)))
 }
 
-// The instructions `dot_*_s`, for each lane type.
 #[inline(always)]
 fn dots<T: PairedLane>(lhs: V128, rhs: V128) -> V128
     ensures { result ≡ vector.dot_s T.width T.Wide.width lhs rhs }
@@ -613,7 +602,6 @@ pub fn i64x2_bitmask(v: V128) -> u32
     (low >> 63) as u32 | (((high >> 63) as u32) << 1)
 }
 
-// The instructions `all_true`, for each lane type.
 #[inline(always)]
 fn no_zero<T: WordLane>(v: V128) -> bool
     ensures { result ≡ vector.all_true T.width v }

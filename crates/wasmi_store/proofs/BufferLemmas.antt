@@ -12,22 +12,15 @@ padded xs n = xs ++ replicate n 0
 length-padded : (xs : List ℕ) (n : ℕ) → length (padded xs n) ≡ length xs + n
 length-padded xs n = simp (length-append, length-replicate)
 
--- the front of a buffer's lent region, written over by as many bytes, and what was left
-front_written : (xs ws : List ℕ) (n : ℕ) → n ≤ length xs → length ws ≡ n → refilled_front xs n ws ≡ ws ++ drop n xs
-front_written xs ws n within long =
-    let front : length (take n xs) ≡ n = length-take-le n xs within in
-    ap (λ (l : List ℕ). l ++ drop n xs) (take_at ws (drop (length ws) (take n xs)) (length (take n xs)) (omega arith))
-
 module _ {Region : Type 0} (bytes : Region → List ℕ) (len n : ℕ) where
   -- memory of its own that was padded up to n bytes holds the buffer with zeros after its bytes
   pub owned_grows : (v w : Vec ℕ Global) → EndsWithin bytes (Owned v) len → length (take len v.items) ≤ n
       → w.items ≡ padded (take n v.items) (n - v.len)
       → view_of bytes (Owned w) n ≡ with_zeros (view_of bytes (Owned v) len) (n - length (take len v.items))
   owned_grows v w ends le grown =
-      let count : v.len ≡ length v.items = v.ok.0 in
       let whole : take len v.items ≡ v.items = take_all len v.items (omega arith) in
       let short : length v.items ≤ n = rw (sym whole) le in
-      let added : w.items ≡ padded v.items (n - length v.items) = rw (grown, count, take_all n v.items short) refl in
+      let added : w.items ≡ padded v.items (n - length v.items) = rw (grown, v.ok.0, take_all n v.items short) refl in
       let full : length w.items ≡ n = rw added (length-padded v.items (n - length v.items) ∙ omega arith) in
       rw (take_all n w.items (omega arith), added, whole) refl
 
@@ -47,7 +40,8 @@ module _ {Region : Type 0} (bytes : Region → List ℕ) (len n : ℕ) where
       let zeroed : ws ≡ padded (take len xs) (n - length (take len xs)) =
       rw (zeros, kept, drop_all n (take n xs) (omega arith), used) (append-nil (padded (take len xs) (n - len))) in
       let long : length ws ≡ n = rw zeroed (length-padded (take len xs) (n - length (take len xs)) ∙ omega arith) in
-      let written : bytes region' ≡ ws ++ drop n xs = after ∙ front_written xs ws n within long in
+      let written : bytes region' ≡ ws ++ drop n xs = after ∙ ap (λ (l : List ℕ). l ++ drop n xs)
+      (take_at ws (drop (length ws) (take n xs)) (length (take n xs)) (omega arith)) in
       let rest : drop (n - length (take len xs)) (drop len xs) ≡ drop n xs =
       drop-drop (n - length (take len xs)) len xs ∙ ap (λ (k : ℕ). drop k xs) (omega arith) in
       rw (written, take_at ws (drop n xs) n long, drop_at ws (drop n xs) n long, rest, zeroed) refl

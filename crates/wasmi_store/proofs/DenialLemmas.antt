@@ -43,36 +43,21 @@ module _ {V E : Type 0} (e : Request V E) (late : Option E) (refuses : E → Typ
   abbrev pub HasLate : Type 0
   HasLate = e.early ≡ None → e.late ≡ late
 
-  module _ (m : Option Meter) where
-    -- a first cause is one of the wider request
-    first_cause : (cause : E) (l : Option E) → IsFirstCause e m l cause → IsFirstCause widened m l cause
-    first_cause cause (Some last) first = first
-    first_cause cause None first =
-        on_test_too (covers m (optional_due m e.price)) _ _ _ _ (wider cause) (λ unpaid. unpaid) first
+  -- a first cause is one of the wider request
+  first_cause : (m : Option Meter) (cause : E) (l : Option E) → IsFirstCause e m l cause → IsFirstCause widened m l cause
+  first_cause m cause (Some last) first = first
+  first_cause m cause None first =
+      on_test_too (covers m (optional_due m e.price)) _ _ _ _ (wider cause) (λ unpaid. unpaid) first
 
-    -- an end is one of the wider request
-    ends : HasLate → (outcome : AttemptOutcome E) → MayEnd e m outcome → MayEnd widened m outcome
-    ends has Met (early, none, paid) = (early, sym (has early) ∙ none, paid)
-    ends has (Failed cause notice_answer) (early, first) =
-        (early, first_cause cause late (rw (has early) at first))
-    ends has outcome may = may
-
-    -- the charge is that of the wider request
-    charges : HasLate → (outcome : AttemptOutcome E) → MayEnd e m outcome
-        → outcome_charge e m outcome ≡ outcome_charge widened m outcome
-    charges has (Failed cause notice_answer) may = rw (has may.0) refl
-    charges has outcome may = refl
-
-  -- the limiter sees the same
-  follows : {S : Type 0} (rules : Rules S) (l l' : S) (outcome : AttemptOutcome E) → Follows e rules l outcome l'
-      → Follows widened rules l outcome l'
-  follows rules l l' Met h = h
-  follows rules l l' outcome h = h
-
-  -- what it leaves
-  values : (x : V) (outcome : AttemptOutcome E) → seen (value_after e x outcome) ≡ value_after widened (seen x) outcome
-  values x Met = refl
-  values x outcome = refl
+  -- an end is one of the wider request, with the same charge; the limiter sees the same, and the same is left
+  too : {S : Type 0} (rules : Rules S) (m : Option Meter) (x : V) (l l' : S) → HasLate → (outcome : AttemptOutcome E)
+      → MayEnd e m outcome → Follows e rules l outcome l'
+      → MayEnd widened m outcome × (outcome_charge e m outcome ≡ outcome_charge widened m outcome)
+      × Follows widened rules l outcome l' × (seen (value_after e x outcome) ≡ value_after widened (seen x) outcome)
+  too rules m x l l' has Met (early, none, paid) h = ((early, sym (has early) ∙ none, paid), refl, h, refl)
+  too rules m x l l' has (Failed cause notice_answer) (early, first) h =
+      ((early, first_cause m cause late (rw (has early) at first)), rw (has early) refl, h, refl)
+  too rules m x l l' has outcome may h = (may, refl, h, refl)
 
   -- what it answers
   pub answers : {T U : Type 0} (f : T → U) (made : T) (outcome : AttemptOutcome E)
@@ -84,10 +69,11 @@ module _ {V E : Type 0} (e : Request V E) (late : Option E) (refuses : E → Typ
   pub attempts : {S : Type 0} (rules : Rules S) (s s' : MeteredValue V S) (outcome : AttemptOutcome E) (charge : ℕ)
       → HasLate → Attempt rules e s outcome charge s'
       → Attempt rules widened (with_value s (seen s.value)) outcome charge (with_value s' (seen s'.value))
-  attempts rules s s' outcome charge has a = record {
-    may_end = ends s.meter has outcome a.may_end;
-    follows = follows rules s.limiter s'.limiter outcome a.follows;
-    charged = a.charged ∙ charges s.meter has outcome a.may_end;
-    meter = a.meter;
-    value = ap seen a.value ∙ values s.value outcome;
-  }
+  attempts rules s s' outcome charge has a =
+      let t = too rules s.meter s.value s.limiter s'.limiter has outcome a.may_end a.follows in record {
+        may_end = t.0;
+        follows = t.2;
+        charged = a.charged ∙ t.1;
+        meter = a.meter;
+        value = ap seen a.value ∙ t.3;
+      }

@@ -18,6 +18,12 @@ pub on_test_too : (test : Bool) (Holds Holds' Fails Fails' : Type 0) → (Holds 
 on_test_too true Holds Holds' Fails Fails' holds fails h = holds h
 on_test_too false Holds Holds' Fails Fails' holds fails h = fails h
 
+-- two facts by one test, taken apart at once
+pub on_both_tests : {C : Type 0} (test : Bool) (Holds Holds' Fails Fails' : Type 0) → MatchBool test Holds Fails
+    → MatchBool test Holds' Fails' → (Holds → Holds' → C) → (Fails → Fails' → C) → C
+on_both_tests true Holds Holds' Fails Fails' h h' holds fails = holds h h'
+on_both_tests false Holds Holds' Fails Fails' h h' holds fails = fails h h'
+
 -- a growth is one of another request or under other rules too, where nothing changes if nothing has changed, and its
 -- attempt is one there with the same answer
 pub grows_too : {V E S T : Type 0} {rules : Rules S} {rules' : Rules T} (g : Growth V E) (e : Request V E)
@@ -216,8 +222,3 @@ module _ {V E S : Type 0} (rules : Rules S) (amount size : ℕ) (e : Request V E
         answered,
         record { may_end = a.may_end; follows = a.follows; charged = a.charged; meter = refl; value = a.value },
       )) grows
-
-  -- a growth that has a price and some charge, with a meter that is off, is one without a meter
-  pub charged_unmetered : {result : Result ℕ E} → (charge : ℕ) × Grows rules priced off result charge s'
-      → (charge : ℕ) × Grows rules priced (metered_value x None l) result charge (metered_value s'.value None s'.limiter)
-  charged_unmetered (charge, grows) = (charge, grows_unmetered grows)

@@ -56,26 +56,18 @@ module _ {S : Type 0} (rules : Rules S) (ty : MemoryTypeValue) (l : S) where
   minimum_overflows over room = any.makes_unasked rules (creation_of room ty) (new_memory room ty) l MinimumSizeOverflow
       (cond-false _ _ _ (untested (nat_lt (minimum_bytes ty) (2 ^ 64)) (minimum_bytes ty) over))
 
-  module _ (size : ℕ)
-      (fits : Some size ≡ (if nat_lt (minimum_bytes ty) (2 ^ 64) then Some (minimum_bytes ty) else None))
-      (maximum : Option ℕ) (cut : maximum ≡ maximum_bytes ty) where
-    -- the test of the minimum holds
-    below : nat_lt (minimum_bytes ty) (2 ^ 64) ≡ true
-    below = (cond_some _ _ _ (sym fits)).0
-
-    -- the size is the minimum in bytes
-    sized : size ≡ minimum_bytes ty
-    sized = sym (cond_some _ _ _ (sym fits)).1
-
-    -- where the limiter doesn't permit the minimum, the error of its answer is answered
-    pub minimum_denied : (answer : Answer) (l' : S)
-        → rules.asked l (record { kind = Bytes; current = 0; desired = size; maximum = maximum }) answer l'
-        → (error : MemoryError)
-        → Permits ResourceLimiterDeniedAllocation ResourceLimiterDeniedAllocation answer (Err error)
-        → PermitsMinimum rules ty l (Err error) l'
-    minimum_denied answer l' asks error denies room =
-        any.makes_denied rules (creation_of room ty) (new_memory room ty) l _
-        (record { early = cond-true _ _ _ below; question_is = rw (sized, cut) refl }) answer l' asks error denies
+  -- where the limiter doesn't permit the minimum, the error of its answer is answered
+  pub minimum_denied : (size : ℕ)
+      → Some size ≡ (if nat_lt (minimum_bytes ty) (2 ^ 64) then Some (minimum_bytes ty) else None)
+      → (maximum : Option ℕ) → maximum ≡ maximum_bytes ty → (answer : Answer) (l' : S)
+      → rules.asked l (record { kind = Bytes; current = 0; desired = size; maximum = maximum }) answer l'
+      → (error : MemoryError)
+      → Permits ResourceLimiterDeniedAllocation ResourceLimiterDeniedAllocation answer (Err error)
+      → PermitsMinimum rules ty l (Err error) l'
+  minimum_denied size fits maximum cut answer l' asks error denies room =
+      let both = cond_some _ _ _ (sym fits) in
+      any.makes_denied rules (creation_of room ty) (new_memory room ty) l _
+      (record { early = cond-true _ _ _ both.0; question_is = rw (← both.1, cut) refl }) answer l' asks error denies
 
 module _ {S : Type 0} (rules : Rules S) (room : Room) (ty : MemoryTypeValue) (l p : S) (size : ℕ)
     (permitted : PermitsMinimum rules ty l (Ok size) p) where

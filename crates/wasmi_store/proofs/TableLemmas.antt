@@ -1,6 +1,6 @@
 -- The making and the growth of a table, by what was tested on the way, and the sizes and types of tables.
-use Rattle.std.proofs.Common.{◌≡◌, ℕ, ◌+◌, true, false, Option, Some, None, Result, Ok, Err, List, ◌++◌, length, replicate, refl, ap, arith, length-append}
-use Rattle.wasmi_store.proofs.Common.{cond-true, cond-false, length-replicate, CustomFuelCosts, TableError, GrowOutOfBounds, ElementTypeMismatch, Question, Answer, Rules, Meter, due, TableTypeValue, is_indexable, is_within_maximum, same_type, TableValue, size_of, new_table, element_price, MakesTable, GrowsTableCharging, IsAsked, Growth, metered_value}
+use Rattle.std.proofs.Common.{◌≡◌, ℕ, ◌+◌, true, Option, Some, None, Result, Ok, List, ◌++◌, length, replicate, refl, ap, arith, length-append}
+use Rattle.wasmi_store.proofs.Common.{cond-true, length-replicate, CustomFuelCosts, TableError, GrowOutOfBounds, Question, Answer, Rules, Meter, due, TableTypeValue, is_indexable, is_within_maximum, same_type, TableValue, size_of, element_price, GrowsTableCharging, IsAsked, Growth, metered_value}
 use Rattle.wasmi_types.specs.declared.value.RefType.{RefType}
 use Rattle.wasmi_types.specs.declared.value.RefType.TheVariants.{Func, Extern}
 use Rattle.wasmi_typed.specs.declared.typed_ref.TypedRawRef.{TypedRawRef}
@@ -27,12 +27,6 @@ sized_grown ty xs ys n desired reference sized found within grown =
       within = rw found.1 at within;
     })
 
--- a table of another type than its elements is refused, and the limiter isn't asked
-pub makes_mismatched : {S : Type 0} (rules : Rules S) (ty : TableTypeValue) (init : TypedRawRef) (l : S)
-    → same_type ty.element init.ty ≡ false → MakesTable rules ty init l (Err ElementTypeMismatch) l
-makes_mismatched rules ty init l other =
-    any.makes_unasked rules (creation_of ty init.ty) (new_table ty init.raw) l ElementTypeMismatch (cond-false _ _ _ other)
-
 -- the making of a table of the type of its elements asks for its sizes, whatever may refuse it
 pub making_asked : (ty : TableTypeValue) (init : RefType) {refuses : TableError → Type 0}
     → same_type ty.element init ≡ true → (size : ℕ) → size ≡ ty.minimum → (maximum : Option ℕ) → maximum ≡ ty.maximum
@@ -49,12 +43,10 @@ table_growth n reference x = record { amount = n; size = size_of x; request = gr
 
 module _ (x : TableValue) (n reference : ℕ) {size desired : ℕ} {maximum : Option ℕ} (sized : size ≡ size_of x)
     (found : (is_indexable x.ty (size + n) ≡ true) × (desired ≡ size + n)) (most : maximum ≡ x.ty.maximum) where
-  abbrev question : Question
-  question = record { kind = Elements; current = size; desired = desired; maximum = maximum }
-
   -- a growth up to what can be indexed asks for its sizes, whatever may refuse it
   pub growth_asked : {refuses : TableError → Type 0}
-      → IsAsked (record (growth_of x n reference) { refuses = refuses }) question
+      → IsAsked (record (growth_of x n reference) { refuses = refuses })
+      (record { kind = Elements; current = size; desired = desired; maximum = maximum })
   growth_asked =
       record { early = cond-true _ _ _ (rw sized at found.0); question_is = rw (rw sized at found.1, sized, most) refl }
 

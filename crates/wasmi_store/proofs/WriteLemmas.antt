@@ -4,16 +4,12 @@ use Rattle.std.proofs.Common.{subst, ◌≡◌, ℕ, ◌⊎◌, inl, inr, Bool, 
 use Rattle.wasmi_store.proofs.Common.{MatchBool, refill, take_at, MemoryError, TableError, CustomFuelCosts, OutOfFuel, MeteredValue, covers, optional_due, Meter, meter_after, meter_after_nothing, metered, WithCharge, MeteredWrite, EndsBy, IsRefusedFor, Writes, WritesCharging, write_charge, write_due, items_write, WritesItems, BulkWrites, item_price, MemoryValue, bytes_write, elements_write, element_price, with_elements, TableValue, TableTypeValue, TableWrite, with_items_is}
 use Rattle.std.specs.Prelude.{Result}
 use Rattle.std.specs.Option.{option_map}
-use Rattle.wasmi_store.proofs.GrowthLemmas.{on_test_too}
+use Rattle.wasmi_store.proofs.GrowthLemmas.{on_both_tests, on_test_too}
 use Rattle.wasmi_meter.specs.declared.error.MemoryError.TheVariants as memory
 use Rattle.std.specs.Vec.{with_items}
 
 module _ {A V E : Type 0} (put : List A → V) (outside : E) (price : Option (CustomFuelCosts → ℕ)) (unpaid : ℕ → E)
     (xs : List A) (m : Option Meter) (result : Result (Unit {0}) E) (xs' : List A) (m' : Option Meter) where
-  -- items that are the same are in the same value
-  same_put : metered xs' m' ≡ metered xs m → metered (put xs') m' ≡ metered (put xs) m
-  same_put same = ap (λ s. metered (put s.value) s.meter) same
-
   -- a write over items is one over the value that has them
   pub writes_put : (written : Option (List A))
       → WritesItems unpaid written outside price (metered xs m) result (metered xs' m')
@@ -24,9 +20,10 @@ module _ {A V E : Type 0} (put : List A → V) (outside : E) (price : Option (Cu
         price = price;
         unpaid = unpaid;
       }) (metered (put xs) m) result (metered (put xs') m')
-  writes_put None (is, same) = (is, same_put same)
+  writes_put None (is, same) = (is, ap (λ s. metered (put s.value) s.meter) same)
   writes_put (Some items) writes = on_test_too (covers m (optional_due m price)) _ _ _ _
-      (λ h. (h.0, ap (λ s. metered (put s.value) s.meter) h.1)) (λ h. (h.0, same_put h.1)) writes
+      (λ h. (h.0, ap (λ s. metered (put s.value) s.meter) h.1))
+      (λ h. (h.0, ap (λ s. metered (put s.value) s.meter) h.1)) writes
 
 -- a write takes place with its charge
 pub charging : {V E : Type 0} (write : V → MeteredWrite V E) {s s' : MeteredValue V (Unit {0})}
@@ -79,21 +76,14 @@ memory_writes x written paid ws {m} {m'} {result} same long writes = rw (refille
 abbrev off : CustomFuelCosts → Meter
 off costs = record { left = None; costs = costs }
 
-module _ {V E : Type 0} (x x' : V) (costs : CustomFuelCosts) (m' : Option Meter) (result : Result (Unit {0}) E)
-    (outside : E) (unpaid : ℕ → E) where
-  -- the write of these parts
-  abbrev write_of : Option E → Option V → Option (CustomFuelCosts → ℕ) → MeteredWrite V E
-  write_of early written price =
-      record { early = early; written = written; outside = outside; price = price; unpaid = unpaid }
-
-  -- how a write ends with a meter that is off, it ends without a meter
-  ends_unmetered : (early : Option E) (written : Option V) (price : Option (CustomFuelCosts → ℕ))
-      → Writes (write_of early written price) (metered x (Some (off costs))) result (metered x' m')
-      → Writes (write_of early written price) (metered x None) result (metered x' None)
-  ends_unmetered (Some cause) written price ends = (ends.0, ap (λ s. metered s.value None) ends.1)
-  ends_unmetered None None price ends = (ends.0, ap (λ s. metered s.value None) ends.1)
-  ends_unmetered None (Some value) None ends = (ends.0, ap (λ s. metered s.value None) ends.1)
-  ends_unmetered None (Some value) (Some price) ends = (ends.0, ap (λ s. metered s.value None) ends.1)
+-- how a write at some price ends with a meter that is off, it ends without a meter
+ends_unmetered : {V E : Type 0} (w : MeteredWrite V E) (x x' : V) (costs : CustomFuelCosts) (m' : Option Meter)
+    (result : Result (Unit {0}) E) (early : Option E) (written : Option V) (price : Option (CustomFuelCosts → ℕ))
+    → EndsBy (record w { price = price }) (metered x (Some (off costs))) result (metered x' m') early written
+    → EndsBy (record w { price = price }) (metered x None) result (metered x' None) early written
+ends_unmetered w x x' costs m' result None (Some value) (Some price) ends =
+    (ends.0, ap (λ s. metered s.value None) ends.1)
+ends_unmetered w x x' costs m' result early written price ends = (ends.0, ap (λ s. metered s.value None) ends.1)
 
 -- a write with a meter that is off is one without a meter
 pub writes_unmetered : {V E : Type 0} (write : V → MeteredWrite V E) (x x' : V) (costs : CustomFuelCosts)
@@ -101,8 +91,7 @@ pub writes_unmetered : {V E : Type 0} (write : V → MeteredWrite V E) (x x' : V
     → WithCharge (WritesCharging write) (metered x (Some (off costs))) result (metered x' m')
     → WithCharge (WritesCharging write) (metered x None) result (metered x' None)
 writes_unmetered write x x' costs m' result (charge, writing) = charging write
-    (ends_unmetered x x' costs m' result (write x).outside (write x).unpaid (write x).early (write x).written
-    (write x).price writing.writes)
+    (ends_unmetered (write x) x x' costs m' result (write x).early (write x).written (write x).price writing.writes)
 
 -- a write that is refused for a cause: nothing is written or taken
 pub record RefusedWrite {V E : Type 0} (s : MeteredValue V (Unit {0})) (result : Result (Unit {0}) E) (charge : ℕ)
@@ -185,24 +174,12 @@ items_taken unpaid written outside price s s' result writes =
 
 module _ {V E : Type 0} (w : MeteredWrite V E) (s : MeteredValue V (Unit {0})) (result result' : Result (Unit {0}) E)
     (s' s'' : MeteredValue V (Unit {0})) where
-  -- two writes in their ranges end in one way
-  paid_once : (value : V) (enough : Bool)
-      → MatchBool enough
-      ((result ≡ Ok tt) × (s' ≡ metered value (option_map (λ m. meter_after m (write_due w s)) s.meter)))
-      (IsRefusedFor w s result s' (w.unpaid (write_due w s)))
-      → MatchBool enough
-      ((result' ≡ Ok tt) × (s'' ≡ metered value (option_map (λ m. meter_after m (write_due w s)) s.meter)))
-      (IsRefusedFor w s result' s'' (w.unpaid (write_due w s)))
-      → (result ≡ result') × (s' ≡ s'')
-  paid_once value true a b = (a.0 ∙ sym b.0, a.1 ∙ sym b.1)
-  paid_once value false a b = (a.0 ∙ sym b.0, a.1 ∙ sym b.1)
-
   -- two writes end in one way, by what is tested on the way
   ends_once : (early : Option E) (written : Option V) → EndsBy w s result s' early written
       → EndsBy w s result' s'' early written → (result ≡ result') × (s' ≡ s'')
-  ends_once (Some cause) written a b = (a.0 ∙ sym b.0, a.1 ∙ sym b.1)
-  ends_once None None a b = (a.0 ∙ sym b.0, a.1 ∙ sym b.1)
-  ends_once None (Some value) a b = paid_once value (covers s.meter (write_due w s)) a b
+  ends_once None (Some value) a b = on_both_tests (covers s.meter (write_due w s)) _ _ _ _ a b
+      (λ h h'. (h.0 ∙ sym h'.0, h.1 ∙ sym h'.1)) (λ h h'. (h.0 ∙ sym h'.0, h.1 ∙ sym h'.1))
+  ends_once early written a b = (a.0 ∙ sym b.0, a.1 ∙ sym b.1)
 
 -- two writes over a value are one
 pub writes_once : {V E : Type 0} (write : V → MeteredWrite V E) (s : MeteredValue V (Unit {0}))

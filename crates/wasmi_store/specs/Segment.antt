@@ -38,15 +38,11 @@ module _ {I : Type 0} (steps : I → Option ℕ → I → Type 0) where
     pub some : 0 < length items
     pub short : length items ≤ most_items
 
-  -- why no segment was read
-  abbrev pub IsRefusal : I → SegmentError → I → Type 0
-  IsRefusal s TooManyItems t = ReadsTooMany most_items steps s t
-  IsRefusal s OutOfSystemMemory t = IsOutOfMemory s t
-
-  -- the answer after calls from s to t: the segment of all items that came, or the refusal
+  -- the answer after calls from s to t: the segment of all items that came, or why none was read
   abbrev pub IsReading : I → RefType → Result SegmentValue SegmentError → I → Type 0
   IsReading s ty (Ok segment) t = (segment.ty ≡ ty) × ReadsAll most_items steps s segment.items t
-  IsReading s ty (Err error) t = IsRefusal s error t
+  IsReading s ty (Err TooManyItems) t = ReadsTooMany most_items steps s t
+  IsReading s ty (Err OutOfSystemMemory) t = IsOutOfMemory s t
 
 -- the answer after reading the iterator that x becomes
 pub record IsReadingOf {X I : Type 0} (becomes : X → I → Type 0) (steps : I → Option ℕ → I → Type 0) (ty : RefType)

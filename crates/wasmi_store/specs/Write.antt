@@ -48,17 +48,13 @@ module _ {V E : Type 0} (w : MeteredWrite V E) (s : MeteredValue V (Unit {0})) w
     abbrev pub IsRefusedFor : E → Type 0
     IsRefusedFor cause = (result ≡ Err cause) × (s' ≡ s)
 
-    -- the write ends in a value: what is due is taken, or isn't left
-    abbrev pub IsPaidFor : V → Type 0
-    IsPaidFor value = MatchBool (covers s.meter write_due)
-        ((result ≡ Ok tt) × (s' ≡ metered value (option_map (λ m. meter_after m write_due) s.meter)))
-        (IsRefusedFor (w.unpaid write_due))
-
-    -- how it ends, by the tests in their order: what stands before it, its ranges, its fuel
+    -- how it ends, by the tests in their order: what stands before it, its ranges, its fuel, which is taken or isn't left
     abbrev pub EndsBy : Option E → Option V → Type 0
     EndsBy (Some cause) written = IsRefusedFor cause
     EndsBy None None = IsRefusedFor w.outside
-    EndsBy None (Some value) = IsPaidFor value
+    EndsBy None (Some value) = MatchBool (covers s.meter write_due)
+        ((result ≡ Ok tt) × (s' ≡ metered value (option_map (λ m. meter_after m write_due) s.meter)))
+        (IsRefusedFor (w.unpaid write_due))
 
     -- how it ends
     abbrev pub Writes : Type 0

@@ -99,10 +99,6 @@ impl<'r> LinearMemory<&'r mut [u8]> {
     }
 
     /// As `new`, with a limiter that is known again after this call.
-    ///
-    /// # Errors
-    ///
-    /// Those of `new`.
     pub fn new_lending<L: ResourceLimiter>(
         alloc: Global,
         ty: MemoryType,
@@ -202,10 +198,6 @@ impl<R: Region> LinearMemory<R> {
     }
 
     /// As `grow`, with a meter that isn't optional.
-    ///
-    /// # Errors
-    ///
-    /// Those of `grow`.
     pub fn grow_metered<L: ResourceLimiter>(
         &mut self,
         additional: u64,
@@ -235,10 +227,6 @@ impl<R: Region> LinearMemory<R> {
     }
 
     /// As `grow_metered`, with a limiter that is known again after this call.
-    ///
-    /// # Errors
-    ///
-    /// Those of `grow`.
     pub fn grow_lending<L: ResourceLimiter>(
         &mut self,
         additional: u64,
@@ -304,10 +292,6 @@ impl<R: Region> LinearMemory<R> {
     }
 
     /// As `fill`, with a meter that isn't optional.
-    ///
-    /// # Errors
-    ///
-    /// Those of `fill`.
     pub fn fill_metered(
         &mut self,
         dst: u64,
@@ -344,10 +328,6 @@ impl<R: Region> LinearMemory<R> {
     }
 
     /// As `copy_within`, with a meter that isn't optional.
-    ///
-    /// # Errors
-    ///
-    /// Those of `copy_within`.
     pub fn copy_within_metered(
         &mut self,
         dst: u64,
@@ -385,10 +365,6 @@ impl<R: Region> LinearMemory<R> {
     }
 
     /// As `copy`, with a meter that isn't optional.
-    ///
-    /// # Errors
-    ///
-    /// Those of `copy`.
     pub fn copy_metered<S: Region>(
         &mut self,
         dst: u64,
@@ -428,10 +404,6 @@ impl<R: Region> LinearMemory<R> {
     }
 
     /// As `init`, with a meter that isn't optional.
-    ///
-    /// # Errors
-    ///
-    /// Those of `init`.
     pub fn init_metered(
         &mut self,
         segment: &[u8],

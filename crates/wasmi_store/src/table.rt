@@ -92,10 +92,6 @@ impl Table {
     }
 
     /// As `new`, with a limiter that is known again after this call.
-    ///
-    /// # Errors
-    ///
-    /// Those of `new`.
     pub fn new_lending<L: ResourceLimiter>(
         alloc: Global,
         ty: TableType,
@@ -177,10 +173,6 @@ impl Table {
     }
 
     /// As `grow`, with a meter that isn't optional.
-    ///
-    /// # Errors
-    ///
-    /// Those of `grow`.
     pub fn grow_metered<L: ResourceLimiter>(
         &mut self,
         delta: u64,
@@ -198,10 +190,6 @@ impl Table {
     }
 
     /// As `grow_metered`, with a limiter that is known again after this call.
-    ///
-    /// # Errors
-    ///
-    /// Those of `grow`.
     pub fn grow_lending<L: ResourceLimiter>(
         &mut self,
         delta: u64,
@@ -346,10 +334,6 @@ impl Table {
     }
 
     /// As `init`, with a meter that isn't optional.
-    ///
-    /// # Errors
-    ///
-    /// Those of `init`.
     pub fn init_metered(
         &mut self,
         element: ElementSegmentRef,
@@ -390,10 +374,6 @@ impl Table {
     }
 
     /// As `copy`, with a meter that isn't optional.
-    ///
-    /// # Errors
-    ///
-    /// Those of `copy`.
     pub fn copy_metered(
         &mut self,
         dst: u64,
@@ -433,10 +413,6 @@ impl Table {
     }
 
     /// As `copy_within`, with a meter that isn't optional.
-    ///
-    /// # Errors
-    ///
-    /// Those of `copy_within`.
     pub fn copy_within_metered(
         &mut self,
         dst: u64,
@@ -471,10 +447,6 @@ impl Table {
     }
 
     /// As `fill`, with a meter that isn't optional.
-    ///
-    /// # Errors
-    ///
-    /// Those of `fill`.
     pub fn fill_metered(
         &mut self,
         dst: u64,

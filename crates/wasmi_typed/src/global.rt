@@ -131,11 +131,6 @@ impl Global {
     }
 
     /// Writes `new_value`, where the variable is no constant and the value is of its type.
-    ///
-    /// # Errors
-    ///
-    /// In the order of the tests: `ImmutableWrite` if the variable is a constant; `TypeMismatch` if
-    /// the value is of another type.
     pub fn set(&mut self, new_value: TypedRawVal) -> Result<(), GlobalError>
         ensures { SetsGlobal self.old new_value result self.new }
     {

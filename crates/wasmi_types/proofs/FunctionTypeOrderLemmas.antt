@@ -2,7 +2,7 @@
 use Rattle.std.proofs.Common.{◌≡◌, ℕ, Bool, true, false, not, List, [], ◌∷◌, length, map, refl, ap, ◌∙◌, nat_le, if◌then◌else◌}
 use Rattle.std.proofs.Math.Seq.{take-append_seam, drop-append_seam}
 use Rattle.std.specs.declared.cmp.Ordering.{Ordering}
-use Rattle.std.specs.declared.cmp.Ordering.TheVariants.{Less, Equal, Greater}
+use Rattle.std.specs.declared.cmp.Ordering.TheVariants.{Less, Equal}
 use Rattle.std.specs.Ordering.{bool_cmp, nat_cmp, ordering_then, is_eq}
 use Rattle.std.specs.Cmp.Lexicographic.{slice_cmp, bytes_decides, texts_ties, on_texts}
 use Rattle.std.specs.Cmp.{tied_itself}
@@ -31,20 +31,14 @@ then-assoc : (x y z : Ordering) → ordering_then (ordering_then x y) z ≡ orde
 then-assoc Less y z = refl
 then-assoc x y z = refl
 
--- Equal after an ordering changes nothing
-then-equal : (x : Ordering) → ordering_then x Equal ≡ x
-then-equal = elim [ Less ↦ refl | Equal ↦ refl | Greater ↦ refl ]
-
 -- what is compared place by place is compared as lists of these places
-by_places : (v w : Bool) (m n m' n' : ℕ) (xs ys : List ℕ)
-    → ordering_then
+by_places : (v w : Bool) (m n m' n' : ℕ) (xs ys : List ℕ) → ordering_then
     (ordering_then (ordering_then (bool_cmp (not v) (not w)) (nat_cmp m m'))
     (nat_cmp (if v then n else 0) (if w then n' else 0))) (slice_cmp nat_cmp xs ys)
     ≡ slice_cmp nat_cmp (if v then 0 ∷ m ∷ n ∷ xs else 1 ∷ m ∷ xs) (if w then 0 ∷ m' ∷ n' ∷ ys else 1 ∷ m' ∷ ys)
 by_places true true m n m' n' xs ys = then-assoc (nat_cmp m m') (nat_cmp n n') (slice_cmp nat_cmp xs ys)
-by_places true false m n m' n' xs ys = refl
-by_places false true m n m' n' xs ys = refl
-by_places false false m n m' n' xs ys = ap (λ o. ordering_then o (slice_cmp nat_cmp xs ys)) (then-equal (nat_cmp m m'))
+by_places false false m n m' n' xs ys = then-assoc (nat_cmp m m') Equal (slice_cmp nat_cmp xs ys)
+by_places v w m n m' n' xs ys = refl
 
 -- the size, the number of parameters, the number of results of a small one, and the entries
 abbrev pub places_cmp : (v w : Bool) (m n m' n' : ℕ) (xs ys : List ValType) → Ordering
@@ -59,8 +53,7 @@ is_small ty = nat_le (entry_count ty) 21
 -- the order compares the size, the numbers of parameters and of results of a small one, and the entries
 pub function_type_cmp-places : (a b : FunctionType)
     → places_cmp (not (is_small a)) (not (is_small b)) (length a.params) (if is_small a then length a.results else 0)
-    (length b.params) (if is_small b then length b.results else 0) (entries a) (entries b)
-    ≡ function_type_cmp a b
+    (length b.params) (if is_small b then length b.results else 0) (entries a) (entries b) ≡ function_type_cmp a b
 function_type_cmp-places a b =
     ap (ordering_then _) (cmp-entries (entries a) (entries b)) ∙ by_places (is_small a) (is_small b) _ _ _ _ _ _
 

@@ -10,9 +10,7 @@ use mir.Val.{SFits, bits, hbits}
 
 -- a width has at most as many signed numbers from 0 on as unsigned ones
 pub half_below : (w : Width) → 2 ^ hbits w ≤ 2 ^ bits w
-half_below w =
-    elim w as (λ v. 2 ^ hbits v ≤ 2 ^ bits v)
-    [ w8 ↦ lit≤ tt | w16 ↦ lit≤ tt | w32 ↦ lit≤ tt | w64 ↦ lit≤ tt | w128 ↦ lit≤ tt ]
+half_below = elim [ w8 ↦ lit≤ tt | w16 ↦ lit≤ tt | w32 ↦ lit≤ tt | w64 ↦ lit≤ tt | w128 ↦ lit≤ tt ]
 
 -- a number cut to a width is below 2 to the power of it
 pub wrap_below : (w : Width) (z : ℤ) → wrap w z < 2 ^ bits w
@@ -31,8 +29,7 @@ wrap_signed w (negsuc n) f =
 
 -- the number below 2 to the power of a width is cut to it from the signed number with its bits
 pub wrap_of_bits : (w : Width) (n : ℕ) → n < 2 ^ bits w → wrap w (cast_signed w n) ≡ n
-wrap_of_bits w n below =
-    wrap_signed w (cast_signed w n) (sfits_to_z (record { fits = below })) ∙ of_z-to_z w n below
+wrap_of_bits w n below = wrap_signed w (cast_signed w n) (sfits_to_z (record { fits = below })) ∙ of_z-to_z w n below
 
 -- the unsigned number with the bits of a signed one is cut to the same number
 pub wrap_of_image : (w : Width) (z : ℤ) → SFits w z → wrap w (pos (cast_unsigned w z)) ≡ wrap w z

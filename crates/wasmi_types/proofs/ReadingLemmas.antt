@@ -40,8 +40,7 @@ module _ {P R : Type 0} {of_params : P → Option ValType → P → Type 0} {of_
   -- memory was refused after all of both
   pub refused_end : {m : ℕ} {all : List ValType} → before ≡ [] → ReadsTypes of_params p before n p' entries
       → ReadsTypes of_results r entries m r' all → 21 < length all → IsOutOfMemory of_params of_results p r p' r'
-  refused_end none first second many =
-      refused_memory none first second.types (some_from_all second.read)
+  refused_end none first second many = refused_memory none first second.types (some_from_all second.read)
       (omega (arith, many, ap length second.kept, length-append entries second.types))
 
   -- the function type of all entries is what both gave

@@ -68,8 +68,7 @@ IsStored count (Big types) = (21 < count) × (length (rc_slice_items types) ≡ 
 
 -- the entries of so many parameters and so many results, at most 1,000 of each, are kept
 abbrev pub IsKept : ℕ → ℕ → Kept → Type 0
-IsKept params results kept =
-    (params ≤ 1000) × (results ≤ 1000) × (params + results ≤ length (kept_types kept))
+IsKept params results kept = (params ≤ 1000) × (results ≤ 1000) × (params + results ≤ length (kept_types kept))
     × IsStored (params + results) kept
 
 -- these entries are kept

@@ -1,12 +1,12 @@
 -- What the implementations of `Eq`, `Ord` and `Hash` for function types name: the test of both lists is an equivalence,
 -- answers as the order does and holds of the same alone. One order key is that of one function type.
-use Rattle.std.specs.Prelude.{◌≡◌, ℕ, zero, suc, Bool, true, false, ◌&&◌, List, [], ◌∷◌, length, map, drop, slice_index, nat_le, if◌then◌else◌, refl}
+use Rattle.std.specs.Prelude.{◌≡◌, ℕ, Bool, true, false, ◌&&◌, List, [], ◌∷◌, length, map, drop, slice_index, slice_index_or, nat_le, if◌then◌else◌, refl}
 use Rattle.std.proofs.Common.{ap, sym, ◌∙◌}
 use Rattle.std.proofs.Math.Seq.{take-append_seam, drop-append_seam}
 use Rattle.std.specs.Bool.{Decides, one_answer}
 use Rattle.std.specs.Ordering.{nat_cmp, eq_by_cmp}
-use Rattle.std.specs.Cmp.{IsEquivalence, and_equiv, on_equiv, first_so, second_so, unsigned_ties}
-use Rattle.std.specs.Cmp.Lexicographic.{pointwise_decides, bytes_decides, lists_ties, lists_equiv}
+use Rattle.std.specs.Cmp.{IsEquivalence, first_so, second_so, unsigned_ties}
+use Rattle.std.specs.Cmp.Lexicographic.{pointwise_decides, bytes_decides, lists_ties}
 use Rattle.wasmi_types.specs.declared.value.ValType.{ValType}
 use Rattle.wasmi_types.specs.declared.value.ValType.TheVariants.{I32, I64, F32, F64, V128, FuncRef, ExternRef}
 use Rattle.wasmi_types.specs.FunctionType.{FunctionType, entries, entry_count, same_lists, type_number, order_key, function_type_cmp}
@@ -14,18 +14,11 @@ use denote.Enum.Bare.{sameb, same_true, true_same}
 use Rattle.wasmi_types.specs.contracts.value.ValType.{the_type}
 
 -- the value type at a place
-type_at : ℕ → ValType
-type_at zero = I32
-type_at (suc zero) = I64
-type_at (suc (suc zero)) = F32
-type_at (suc (suc (suc zero))) = F64
-type_at (suc (suc (suc (suc zero)))) = V128
-type_at (suc (suc (suc (suc (suc zero))))) = FuncRef
-type_at (suc (suc (suc (suc (suc (suc n)))))) = ExternRef
+abbrev type_at : ℕ → ValType
+type_at n = slice_index_or (I32 ∷ I64 ∷ F32 ∷ F64 ∷ V128 ∷ FuncRef ∷ []) n ExternRef
 
 -- the place of a value type leads back to it
 type_at-type_number : (x : ValType) → type_at (type_number x) ≡ x
-unfolding type_at
 type_at-type_number I32 = refl
 type_at-type_number x = refl
 
@@ -38,9 +31,8 @@ types_from_numbers (x ∷ xs) = λ i. type_at-type_number x i ∷ types_from_num
 same_key : (v w : Bool) (m n m' n' : ℕ) (xs ys : List ℕ)
     → (if v then 0 ∷ m ∷ n ∷ xs else 1 ∷ m ∷ xs) ≡ (if w then 0 ∷ m' ∷ n' ∷ ys else 1 ∷ m' ∷ ys) → (m ≡ m') × (xs ≡ ys)
 same_key true true m n m' n' xs ys e = (ap (λ l. slice_index l 1) e, ap (drop 3) e)
-same_key true false m n m' n' xs ys e = absurd (cc e)
-same_key false true m n m' n' xs ys e = absurd (cc e)
 same_key false false m n m' n' xs ys e = (ap (λ l. slice_index l 1) e, ap (drop 2) e)
+same_key v w m n m' n' xs ys e = absurd (cc e)
 
 -- one order key, one function type
 pub order_key-one : (a b : FunctionType) → order_key a ≡ order_key b → a ≡ b
@@ -84,14 +76,7 @@ module _ {E : ValType → ValType → Bool} (decides : (x y : ValType) → Decid
 
   -- the test of both lists is an equivalence
   pub same_lists_equiv : IsEquivalence (same_lists E)
-  same_lists_equiv =
-      let types : IsEquivalence E = equivalence_from_decides decides in
-      and_equiv (on_equiv (λ (ty : FunctionType). ty.params) (lists_equiv types))
-      (on_equiv (λ (ty : FunctionType). ty.results) (lists_equiv types))
-
-  -- the same function types have the same of anything
-  pub same_lists_alike : {B : Type 0} (f : FunctionType → B) (a b : FunctionType) → same_lists E a b ≡ true → f a ≡ f b
-  same_lists_alike f a b e = ap f ((same_lists_decides a b).0 e)
+  same_lists_equiv = equivalence_from_decides same_lists_decides
 
 -- the derived `==` decides whether two value types, the entries of function types, are the same
 pub same_type_decides : (x y : ValType) → Decides (sameb the_type x y) (x ≡ y)

@@ -35,6 +35,30 @@ module _ {I : Type 0} (steps : I → Option ValType → I → Type 0) where
     pub run : Yields steps s xs t ⊎ YieldsThen steps s xs None t
     pub short : length xs ≤ 1000
 
+  -- a call from s to t gave a type that was appended, or was refused memory after 21, or gave the end
+  abbrev pub ReadsNextType : (I → Type 0) → I → List ValType → Result Bool AllocError → I → List ValType → Type 0
+  ReadsNextType can s before (Ok true) t after = (x : ValType) × steps s (Some x) t × (after ≡ before ++ x ∷ []) × can t
+  ReadsNextType can s before (Ok false) t after = steps s None t × (after ≡ before)
+  ReadsNextType can s before (Err error) t after = (x : ValType) × steps s (Some x) t × (21 ≤ length before)
+
+  -- calls from s to t gave so many types, at most 1,000, and then the end; they follow those before
+  pub record ReadsTypes (s : I) (before : List ValType) (count : ℕ) (t : I) (after : List ValType) : Type 0 where
+    pub types : List ValType
+    pub read : ReadsAll 1000 steps s types t
+    pub kept : after ≡ before ++ types
+    pub counted : count ≡ length types
+
+  -- memory was refused for types that follow those before
+  pub record IsReadingOutOfMemory (s : I) (before : List ValType) (t : I) : Type 0 where
+    pub types : List ValType
+    pub read : ReadsSome s types t
+    pub many : 21 < length before + length types
+
+  -- why the parameters or the results were not read
+  abbrev pub IsReadingRefusal : FuncTypeError → I → List ValType → FuncTypeError → I → Type 0
+  IsReadingRefusal too_many s before error t =
+      ((error ≡ too_many) × ReadsTooMany 1000 steps s t) ⊎ ((error ≡ OutOfMemory) × IsReadingOutOfMemory s before t)
+
 module _ {P R : Type 0} (of_params : P → Option ValType → P → Type 0)
     (of_results : R → Option ValType → R → Type 0) where
   -- memory was refused: the parameters from p to p' and then the results from r to r' were more than 21 together
@@ -70,28 +94,3 @@ pub record IsReadingOf {X Y P R : Type 0} (params_becomes : X → P → Type 0)
   pub params_made : params_becomes x params_before
   pub results_made : results_becomes y results_before
   pub reads : IsReading of_params of_results params_before results_before answer params_after results_after
-
-module _ {I : Type 0} (steps : I → Option ValType → I → Type 0) where
-  -- a call from s to t gave a type that was appended, or was refused memory after 21, or gave the end
-  abbrev pub ReadsNextType : (I → Type 0) → I → List ValType → Result Bool AllocError → I → List ValType → Type 0
-  ReadsNextType can s before (Ok true) t after = (x : ValType) × steps s (Some x) t × (after ≡ before ++ x ∷ []) × can t
-  ReadsNextType can s before (Ok false) t after = steps s None t × (after ≡ before)
-  ReadsNextType can s before (Err error) t after = (x : ValType) × steps s (Some x) t × (21 ≤ length before)
-
-  -- calls from s to t gave so many types, at most 1,000, and then the end; they follow those before
-  pub record ReadsTypes (s : I) (before : List ValType) (count : ℕ) (t : I) (after : List ValType) : Type 0 where
-    pub types : List ValType
-    pub read : ReadsAll 1000 steps s types t
-    pub kept : after ≡ before ++ types
-    pub counted : count ≡ length types
-
-  -- memory was refused for types that follow those before
-  pub record IsReadingOutOfMemory (s : I) (before : List ValType) (t : I) : Type 0 where
-    pub types : List ValType
-    pub read : ReadsSome steps s types t
-    pub many : 21 < length before + length types
-
-  -- why the parameters or the results were not read
-  abbrev pub IsReadingRefusal : FuncTypeError → I → List ValType → FuncTypeError → I → Type 0
-  IsReadingRefusal too_many s before error t =
-      ((error ≡ too_many) × ReadsTooMany 1000 steps s t) ⊎ ((error ≡ OutOfMemory) × IsReadingOutOfMemory s before t)

@@ -35,6 +35,5 @@ address_bits index.I64 = 64
 
 -- of two address types the one with the narrower addresses
 abbrev pub narrower : IndexType → IndexType → IndexType
-narrower index.I64 index.I64 = index.I64
-narrower index.I64 index.I32 = index.I32
+narrower index.I64 other = other
 narrower index.I32 _ = index.I32

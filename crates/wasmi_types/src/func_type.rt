@@ -6,9 +6,9 @@ ghost use Rattle.std.specs.Cmp.{partial_equiv_from_equiv, partial_order_from_agr
 ghost use Rattle.std.specs.Cmp.Lexicographic.{on_texts};
 ghost use Rattle.std.specs.Ordering.{as_partial_cmp};
 ghost use Rattle.std.specs.Rc.{rc_slice_items};
-ghost use Rattle.std.proofs.Common.{refl};
+ghost use Rattle.std.proofs.Common.{refl, ap};
 ghost use Rattle.wasmi_types.specs.FunctionType.{entries, entry_count, same_lists, order_key, function_type_cmp, lists_input, func_type_error_text, KeepsEntries};
-ghost use Rattle.wasmi_types.specs.FunctionTypeProofs.{same_lists_equiv, same_lists_by_cmp, same_lists_alike, same_type_decides};
+ghost use Rattle.wasmi_types.specs.FunctionTypeProofs.{same_lists_decides, same_lists_equiv, same_lists_by_cmp, same_type_decides};
 ghost use Rattle.wasmi_types.specs.Reading.{EachBecomes, IsReading, IsReadingOf, AfterAll, ReadsNextType, ReadsTypes, IsReadingRefusal};
 
 use crate::ValType;
@@ -119,9 +119,8 @@ impl FuncType {
         R: Iterator<Item = ValType>,
         requires params { P.can_next params.old }
         requires results { AfterAll P.next_gives params.old (R.can_next results.old) }
-        ensures reading { IsReading P.next_gives R.next_gives params.old results.old result
-            params.new
-            results.new }
+        ensures reading { IsReading
+            P.next_gives R.next_gives params.old results.old result params.new results.new }
     {
         let mut entries = Entries::new(alloc);
         let len_params = entries.read(params, FuncTypeError::TooManyFunctionParams)?;
@@ -285,8 +284,8 @@ impl PartialOrd for FuncType {
 impl Hash for FuncType {
     ghost hash_input = { lists_input ⟦<ValType as Hash>⟧.hash_input };
 
-    ghost respects_eq = { same_lists_alike same_type_decides
-        (lists_input ⟦<ValType as Hash>⟧.hash_input) };
+    ghost respects_eq = { λ a b e. ap (lists_input ⟦<ValType as Hash>⟧.hash_input)
+        ((same_lists_decides same_type_decides a b).0 e) };
 
     fn hash<H: Hasher>(&self, state: &mut H) {
         self.params().hash(state);

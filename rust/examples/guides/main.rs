@@ -201,11 +201,16 @@ mod pool {
         // One page of 64 KiB for both tenants together, and no tables. Each asks for a page: the second
         // one is denied.
         let mut pool = Pool::new(65_536, 0);
+        host(&mut pool, &calls)
+    }
+
+    /// Adds two tenants, runs the calls on each, and prints what they hold.
+    fn host(pool: &mut Pool, calls: &[Call]) -> Result<(), Box<dyn std::error::Error>> {
         for _tenant in 0..2 {
-            add(&mut pool)?;
+            add(pool)?;
         }
         for tenant in 0..pool.len() {
-            run(&mut pool, tenant, &calls)?;
+            run(pool, tenant, calls)?;
         }
         for tenant in 0..pool.len() {
             let bytes = pool.held_bytes(tenant).unwrap_or(0);
@@ -289,17 +294,22 @@ mod set_up {
         ValType, run_into_lending, run_lending,
     };
 
-    /// Sets a machine up, and runs the guests on it one after another.
+    /// Makes a machine with a region, sets it up, and runs the guests on it.
     pub fn main() -> Result<(), Box<dyn std::error::Error>> {
         let mut region = [0; 64];
         let fuel = Fuel::new(false, FuelCostsProvider::default());
         let mut machine = Machine::with_region(fuel, &mut region);
-        set_up(&mut machine)?;
+        host(&mut machine)
+    }
+
+    /// Sets the machine up, and runs the guests on it one after another.
+    fn host(machine: &mut Machine) -> Result<(), Box<dyn std::error::Error>> {
+        set_up(machine)?;
         let mut replies = Replies::with_capacity(3)?;
 
         let mut done = 0u32;
         for guest in 0..1000u32 {
-            if runs(&mut machine, guest, &mut replies)? {
+            if runs(machine, guest, &mut replies)? {
                 done = done.saturating_add(1);
             }
         }

@@ -192,9 +192,8 @@ pub mod access {
         ///     ≡ le_bytes Self.Bytes.LEN (wrap Self.width (Self.number self))
         /// ensures number: number_of (Self.Bytes.bytes_of result)
         ///     ≡ wrap Self.width (Self.number self)
-        /// ensures round_trip: Self.of_number
-        ///     (number_of_bits Self.is_signed Self.width (number_of (Self.Bytes.bytes_of result)))
-        ///     ≡ self
+        /// ensures round_trip: Self.of_number (number_of_bits Self.is_signed Self.width
+        ///     (number_of (Self.Bytes.bytes_of result))) ≡ self
         /// ```
         ///
         /// Definitions: [`le_bytes`](crate::specs::types::NumbersSpecs#le_bytes), [`wrap`](crate::specs::types::NumbersSpecs#wrap), [`number_of`](crate::specs::types::NumbersSpecs#number_of), [`number_of_bits`](crate::specs::raw::NumberSpecs#number_of_bits).
@@ -225,8 +224,7 @@ pub mod access {
     /// # Contract
     ///
     /// ```text
-    /// ensures: MatchResult result
-    ///     (λ address. address ≡ ptr + offset)
+    /// ensures: MatchResult result (λ address. address ≡ ptr + offset)
     ///     (λ trap. (trap ≡ TrapCode.MemoryOutOfBounds) × (2 ^ 64 ≤ ptr + offset))
     /// ```
     #[inline(always)]
@@ -295,12 +293,15 @@ pub mod access {
 
     /// The number at `ptr + offset`, read as a `U` and extended to a `T`.
     ///
+    /// # Errors
+    ///
+    /// [`MemoryOutOfBounds`](crate::TrapCode::MemoryOutOfBounds) if the bytes end past the memory.
+    ///
     /// # Contract
     ///
     /// ```text
-    /// ensures: result
-    ///     ≡ loaded U.Bytes.LEN (λ n. T.of_number (number_of_bits U.is_signed U.width n)) memory.now
-    ///     (ptr + offset)
+    /// ensures: result ≡ loaded U.Bytes.LEN
+    ///     (λ n. T.of_number (number_of_bits U.is_signed U.width n)) memory.now (ptr + offset)
     /// ```
     ///
     /// Definitions: [`loaded`](crate::specs::accesses::LoadStoreSpecs#loaded), [`number_of_bits`](crate::specs::raw::NumberSpecs#number_of_bits).
@@ -317,11 +318,14 @@ pub mod access {
 
     /// The number at `address`, read as a `U` and extended to a `T`.
     ///
+    /// # Errors
+    ///
+    /// [`MemoryOutOfBounds`](crate::TrapCode::MemoryOutOfBounds) if the bytes end past the memory.
+    ///
     /// # Contract
     ///
     /// ```text
-    /// ensures: result
-    ///     ≡ loaded U.Bytes.LEN
+    /// ensures: result ≡ loaded U.Bytes.LEN
     ///     (λ n. T.of_number (number_of_bits U.is_signed U.width n)) memory.now address
     /// ```
     ///
@@ -546,14 +550,14 @@ mod convert {
     impl WrapInto<i8> for i32 {
         #[inline]
         fn wrap_into(self) -> i8 {
-            ((self.cast_unsigned() % 256) as u8).cast_signed()
+            <i64 as WrapInto<i8>>::wrap_into(self as i64)
         }
     }
 
     impl WrapInto<i16> for i32 {
         #[inline]
         fn wrap_into(self) -> i16 {
-            ((self.cast_unsigned() % 65536) as u16).cast_signed()
+            <i64 as WrapInto<i16>>::wrap_into(self as i64)
         }
     }
 
@@ -744,8 +748,7 @@ pub mod laws {
     ///     → IsStore old a (le_bytes k n) new (Ok (tt {0}))
     ///     → loaded k value new a ≡ Ok (value (n % 2 ^ (8 * k)))
     /// ensures outside: (k n a : ℕ) (old new : List ℕ)
-    ///     → IsStore old a (le_bytes k n) new (Ok (tt {0}))
-    ///     → IsSameOutside old new a k
+    ///     → IsStore old a (le_bytes k n) new (Ok (tt {0})) → IsSameOutside old new a k
     /// ```
     ///
     /// Definitions: [`IsStore`](crate::specs::accesses::LoadStoreSpecs#IsStore), [`le_bytes`](crate::specs::types::NumbersSpecs#le_bytes), [`loaded`](crate::specs::accesses::LoadStoreSpecs#loaded), [`IsSameOutside`](crate::specs::accesses::LoadStoreSpecs#IsSameOutside).

@@ -632,9 +632,8 @@ mod lanes {
         ///
         /// ```text
         /// requires callable: F.IsAlwaysCallable f
-        /// ensures lanes: (i : ℕ) → i < LANES
-        ///     → (holds : Bool) × F.post f (item self i) (item other i) holds
-        ///     × (item result i ≡ (if holds then ALL_ONES else ALL_ZEROS))
+        /// ensures lanes: (i : ℕ) → i < LANES → (holds : Bool) × F.post f (item self i)
+        ///     (item other i) holds × (item result i ≡ (if holds then ALL_ONES else ALL_ZEROS))
         /// ```
         ///
         /// `F` is the type of the closure.
@@ -651,8 +650,7 @@ mod lanes {
         /// ```text
         /// requires callable: F.IsAlwaysCallable f
         /// ensures steps: ReducesTo
-        ///     (λ i before after. F.post f i (item self i) before after) LANES acc
-        ///     result
+        ///     (λ i before after. F.post f i (item self i) before after) LANES acc result
         /// ```
         ///
         /// Definitions: [`ReducesTo`](crate::specs::lanes::VectorSpecs#ReducesTo).
@@ -1004,9 +1002,8 @@ mod lanes {
         ///
         /// ```text
         /// requires callable: F.IsAlwaysCallable f
-        /// ensures lanes: (i : ℕ) → i < Self.LANES
-        ///     → F.post f (S.item a (Self.LANES + i)) (S.item b (Self.LANES + i))
-        ///     (Self.item result i)
+        /// ensures lanes: (i : ℕ) → i < Self.LANES → F.post f
+        ///     (S.item a (Self.LANES + i)) (S.item b (Self.LANES + i)) (Self.item result i)
         /// ```
         ///
         /// `F` is the type of the closure. `S` is a type with the trait `FromWide`.
@@ -1159,13 +1156,11 @@ pub mod laws {
     /// ensures unary: (read : ℕ → L.Item) (row : L.Item → ℕ) (a i : ℕ) → i < L.LANES
     ///     → lane L.Item.width (unary_of_lanes L.Item.width read row a) i
     ///     ≡ row (read (lane L.Item.width a i)) % 2 ^ bits L.Item.width
-    /// ensures binary: (read : ℕ → L.Item) (row : L.Item → L.Item → ℕ) (a b i : ℕ) → i < L.LANES
-    ///     → lane L.Item.width (binary_of_lanes L.Item.width read row a b) i
-    ///     ≡ row (read (lane L.Item.width a i))
-    ///     (read (lane L.Item.width b i)) % 2 ^ bits L.Item.width
+    /// ensures binary: (read : ℕ → L.Item) (row : L.Item → L.Item → ℕ) (a b i : ℕ)
+    ///     → i < L.LANES → lane L.Item.width (binary_of_lanes L.Item.width read row a b) i ≡ row
+    ///     (read (lane L.Item.width a i)) (read (lane L.Item.width b i)) % 2 ^ bits L.Item.width
     /// ensures comparison: (read : ℕ → L.Item) (test : L.Item → L.Item → Bool) (a b i : ℕ)
-    ///     → i < L.LANES
-    ///     → lane L.Item.width (comparison_of_lanes L.Item.width read test a b) i
+    ///     → i < L.LANES → lane L.Item.width (comparison_of_lanes L.Item.width read test a b) i
     ///     ≡ (if test (read (lane L.Item.width a i))
     ///     (read (lane L.Item.width b i)) then 2 ^ bits L.Item.width - 1 else 0)
     /// ```
@@ -1194,8 +1189,7 @@ pub mod laws {
     /// # Contract
     ///
     /// ```text
-    /// ensures: (widths : List ℕ) → AreLanes tops 0 widths
-    ///     → result ≡ word_of_lanes
+    /// ensures: (widths : List ℕ) → AreLanes tops 0 widths → result ≡ word_of_lanes
     ///     (λ start width. (field start width a + field start width b) % 2 ^ width) 0 widths
     /// ```
     ///
@@ -1211,10 +1205,8 @@ pub mod laws {
     /// # Contract
     ///
     /// ```text
-    /// ensures: (widths : List ℕ) → AreLanes tops 0 widths
-    ///     → result ≡ word_of_lanes
-    ///     (λ start width. (field start width a + (2 ^ width - field start width b)) % 2 ^ width) 0
-    ///     widths
+    /// ensures: (widths : List ℕ) → AreLanes tops 0 widths → result ≡ word_of_lanes (λ start width.
+    ///     (field start width a + (2 ^ width - field start width b)) % 2 ^ width) 0 widths
     /// ```
     ///
     /// Definitions: [`AreLanes`](crate::specs::lanes::WordsSpecs#AreLanes), [`word_of_lanes`](crate::specs::lanes::WordsSpecs#word_of_lanes), [`field`](crate::specs::lanes::WordsSpecs#field).
@@ -1229,10 +1221,8 @@ pub mod laws {
     /// # Contract
     ///
     /// ```text
-    /// ensures: (widths : List ℕ) → AreLanes tops 0 widths
-    ///     → result ≡ word_of_lanes
-    ///     (λ start width. if field start width a == field start width b then 0 else 2 ^
-    ///     (width - 1)) 0 widths
+    /// ensures: (widths : List ℕ) → AreLanes tops 0 widths → result ≡ word_of_lanes (λ start width.
+    ///     if field start width a == field start width b then 0 else 2 ^ (width - 1)) 0 widths
     /// ```
     ///
     /// Definitions: [`AreLanes`](crate::specs::lanes::WordsSpecs#AreLanes), [`word_of_lanes`](crate::specs::lanes::WordsSpecs#word_of_lanes), [`field`](crate::specs::lanes::WordsSpecs#field).
@@ -1255,12 +1245,10 @@ pub mod on_vectors {
     ///
     /// ```text
     /// requires callable: F.IsAlwaysCallable f
-    /// ensures each: (i : ℕ) → i < L.LANES
-    ///     → F.post f (L.Item.read (lane L.Item.width a i))
-    ///     (L.Item.read (lane L.Item.width result i))
-    /// ensures lanes: (row : L.Item → ℕ)
-    ///     → ComputesLane L.Item.Fits L.Item.image (λ x z. F.post f x z) row
-    ///     → result ≡ unary_of_lanes L.Item.width L.Item.read row a
+    /// ensures each: (i : ℕ) → i < L.LANES → F.post f
+    ///     (L.Item.read (lane L.Item.width a i)) (L.Item.read (lane L.Item.width result i))
+    /// ensures lanes: (row : L.Item → ℕ) → ComputesLane L.Item.Fits L.Item.image
+    ///     (λ x z. F.post f x z) row → result ≡ unary_of_lanes L.Item.width L.Item.read row a
     /// ```
     ///
     /// Definitions: [`lane`](crate::specs::lanes::VectorSpecs#lane), [`ComputesLane`](crate::specs::lanes::VectorSpecs#ComputesLane), [`unary_of_lanes`](crate::specs::lanes::VectorSpecs#unary_of_lanes).
@@ -1278,12 +1266,10 @@ pub mod on_vectors {
     ///
     /// ```text
     /// requires callable: F.IsAlwaysCallable f
-    /// ensures each: (i : ℕ) → i < L.LANES
-    ///     → F.post f (L.Item.read (lane L.Item.width a i)) (L.Item.read (lane L.Item.width b i))
-    ///     (L.Item.read (lane L.Item.width result i))
-    /// ensures lanes: (row : L.Item → L.Item → ℕ)
-    ///     → ComputesLaneOfTwo L.Item.Fits L.Item.image (λ x y z. F.post f x y z) row
-    ///     → result ≡ binary_of_lanes L.Item.width L.Item.read row a b
+    /// ensures each: (i : ℕ) → i < L.LANES → F.post f (L.Item.read (lane L.Item.width a i))
+    ///     (L.Item.read (lane L.Item.width b i)) (L.Item.read (lane L.Item.width result i))
+    /// ensures lanes: (row : L.Item → L.Item → ℕ) → ComputesLaneOfTwo L.Item.Fits L.Item.image
+    ///     (λ x y z. F.post f x y z) row → result ≡ binary_of_lanes L.Item.width L.Item.read row a b
     /// ```
     ///
     /// Definitions: [`lane`](crate::specs::lanes::VectorSpecs#lane), [`ComputesLaneOfTwo`](crate::specs::lanes::VectorSpecs#ComputesLaneOfTwo), [`binary_of_lanes`](crate::specs::lanes::VectorSpecs#binary_of_lanes).
@@ -1713,8 +1699,7 @@ mod simd_lane {
     ///
     /// ```text
     /// requires inside: (i : ℕ) → i < 16 → lane w8 indices i < 16
-    /// ensures lanes: (i : ℕ) → i < 16
-    ///     → slice_index result i ≡ lane w8 vector (lane w8 indices i)
+    /// ensures lanes: (i : ℕ) → i < 16 → slice_index result i ≡ lane w8 vector (lane w8 indices i)
     /// ```
     ///
     /// Definitions: [`lane`](crate::specs::lanes::VectorSpecs#lane).
@@ -1778,11 +1763,9 @@ pub mod words {
     /// # Contract
     ///
     /// ```text
-    /// ensures lanes: (start width : ℕ) → IsLane tops start width
-    ///     → field start width result
+    /// ensures lanes: (start width : ℕ) → IsLane tops start width → field start width result
     ///     ≡ (field start width a + (2 ^ width - field start width b)) % 2 ^ width
-    /// ensures last: (start width : ℕ) → IsLastLane tops start width
-    ///     → field start width result
+    /// ensures last: (start width : ℕ) → IsLastLane tops start width → field start width result
     ///     ≡ (field start width a + (2 ^ width - field start width b)) % 2 ^ width
     /// ```
     ///
@@ -1798,8 +1781,7 @@ pub mod words {
     /// # Contract
     ///
     /// ```text
-    /// ensures lanes: (start width : ℕ) → IsLane tops start width
-    ///     → field start width result
+    /// ensures lanes: (start width : ℕ) → IsLane tops start width → field start width result
     ///     ≡ (if field start width a == field start width b then 0 else 2 ^ (width - 1))
     /// ensures tops_alone: bit_and result tops ≡ result
     /// ```

@@ -131,10 +131,6 @@ mod load_store {
         ///
         /// # Errors
         ///
-        /// [`MemoryOutOfBounds`](crate::TrapCode::MemoryOutOfBounds) if the bytes end past the memory; then nothing is written.
-        ///
-        /// # Errors
-        ///
         /// [`MemoryOutOfBounds`](crate::TrapCode::MemoryOutOfBounds) if the bytes would end past the memory; then nothing is written.
         ///
         /// # Contract
@@ -1156,10 +1152,6 @@ mod vector {
 
     impl StoreLaneOp {
         /// Stores the lane at `ptr + offset`.
-        ///
-        /// # Errors
-        ///
-        /// [`MemoryOutOfBounds`](crate::TrapCode::MemoryOutOfBounds) if the bytes end past the memory; then nothing is written.
         ///
         /// # Errors
         ///

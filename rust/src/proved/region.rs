@@ -419,15 +419,8 @@ pub mod memory {
         len: u32,
         fuel: &mut Fuel,
     ) -> Result<(), MemoryError> {
-        copy_items(
-            bytes,
-            dst,
-            segment,
-            u64::from(src),
-            u64::from(len),
-            OUTSIDE,
-            fuel,
-        )
+        let (src, len) = (u64::from(src), u64::from(len));
+        copy_items(bytes, dst, segment, src, len, OUTSIDE, fuel)
     }
 }
 pub mod table {

@@ -120,9 +120,8 @@ pub mod value {
         /// # Contract
         ///
         /// ```text
-        /// ensures: unsigned_abs (Self.Uint.number result)
-        ///     ≡ ishr_u Self.width (unsigned_abs (Self.Uint.number lhs))
-        ///     (unsigned_abs (Self.Uint.number rhs))
+        /// ensures: unsigned_abs (Self.Uint.number result) ≡ ishr_u Self.width
+        ///     (unsigned_abs (Self.Uint.number lhs)) (unsigned_abs (Self.Uint.number rhs))
         /// ```
         ///
         /// Definitions: [`ishr_u`](crate::specs::scalar::NumericsSpecs#ishr_u).

@@ -272,8 +272,7 @@ mod scalar {
         ///
         /// # Errors
         ///
-        /// Divisions and remainders alone can trap: by zero with [`IntegerDivisionByZero`](crate::TrapCode::IntegerDivisionByZero), and a signed
-        /// division of the least number by -1 with [`IntegerOverflow`](crate::TrapCode::IntegerOverflow).
+        /// Divisions and remainders alone can trap: by zero with [`IntegerDivisionByZero`](crate::TrapCode::IntegerDivisionByZero), and a signed division of the least number by -1 with [`IntegerOverflow`](crate::TrapCode::IntegerOverflow).
         ///
         /// # Contract
         ///

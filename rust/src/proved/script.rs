@@ -481,10 +481,8 @@ mod printing {
         pool: &Pool,
         index: usize,
     ) -> fmt::Result {
-        let Some(bytes) = pool.held_bytes(index) else {
-            return Ok(());
-        };
-        let Some(elements) = pool.held_elements(index) else {
+        let (Some(bytes), Some(elements)) = (pool.held_bytes(index), pool.held_elements(index))
+        else {
             return Ok(());
         };
         printer.print_line(("held ", &index, " ", &bytes, " ", &elements))

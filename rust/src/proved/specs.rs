@@ -87,8 +87,7 @@ abbrev pub <b id="IsStored">IsStored</b> : ℕ → Kept → Type 0
 
 -- the entries of so many parameters and so many results, at most 1,000 of each, are kept
 abbrev pub <b id="IsKept">IsKept</b> : ℕ → ℕ → Kept → Type 0
-<a href="../../types/FunctionTypeSpecs/index.html#IsKept">IsKept</a> <a href="../../types/FunctionTypeSpecs/index.html#params">params</a> <a href="../../types/FunctionTypeSpecs/index.html#results">results</a> kept =
-    (<a href="../../types/FunctionTypeSpecs/index.html#params">params</a> ≤ 1000) × (<a href="../../types/FunctionTypeSpecs/index.html#results">results</a> ≤ 1000) × (<a href="../../types/FunctionTypeSpecs/index.html#params">params</a> + <a href="../../types/FunctionTypeSpecs/index.html#results">results</a> ≤ length (<a href="../../types/FunctionTypeSpecs/index.html#kept_types">kept_types</a> kept))
+<a href="../../types/FunctionTypeSpecs/index.html#IsKept">IsKept</a> <a href="../../types/FunctionTypeSpecs/index.html#params">params</a> <a href="../../types/FunctionTypeSpecs/index.html#results">results</a> kept = (<a href="../../types/FunctionTypeSpecs/index.html#params">params</a> ≤ 1000) × (<a href="../../types/FunctionTypeSpecs/index.html#results">results</a> ≤ 1000) × (<a href="../../types/FunctionTypeSpecs/index.html#params">params</a> + <a href="../../types/FunctionTypeSpecs/index.html#results">results</a> ≤ length (<a href="../../types/FunctionTypeSpecs/index.html#kept_types">kept_types</a> kept))
     × <a href="../../types/FunctionTypeSpecs/index.html#IsStored">IsStored</a> (<a href="../../types/FunctionTypeSpecs/index.html#params">params</a> + <a href="../../types/FunctionTypeSpecs/index.html#results">results</a>) kept
 
 -- these entries are kept
@@ -107,13 +106,13 @@ abbrev pub <b id="func_type_error_text">func_type_error_text</b> : FuncTypeError
     pub mod FunctionTypeSpecs {}
     #[doc = r####"What the implementations of \`Eq\`, \`Ord\` and \`Hash\` for function types name: the test of both lists is an equivalence, answers as the order does and holds of the same alone. One order key is that of one function type.
 
-<pre><code>use Rattle.std.specs.Prelude.{◌≡◌, ℕ, zero, suc, Bool, true, false, ◌&amp;&amp;◌, List, [], ◌∷◌, length, map, drop, slice_index, nat_le, if◌then◌else◌, refl}
+<pre><code>use Rattle.std.specs.Prelude.{◌≡◌, ℕ, Bool, true, false, ◌&amp;&amp;◌, List, [], ◌∷◌, length, map, drop, slice_index, slice_index_or, nat_le, if◌then◌else◌, refl}
 use Rattle.std.proofs.Common.{ap, sym, ◌∙◌}
 use Rattle.std.proofs.Math.Seq.{take-append_seam, drop-append_seam}
 use Rattle.std.specs.Bool.{Decides, one_answer}
 use Rattle.std.specs.Ordering.{nat_cmp, eq_by_cmp}
-use Rattle.std.specs.Cmp.{IsEquivalence, and_equiv, on_equiv, first_so, second_so, unsigned_ties}
-use Rattle.std.specs.Cmp.Lexicographic.{pointwise_decides, bytes_decides, lists_ties, lists_equiv}
+use Rattle.std.specs.Cmp.{IsEquivalence, first_so, second_so, unsigned_ties}
+use Rattle.std.specs.Cmp.Lexicographic.{pointwise_decides, bytes_decides, lists_ties}
 use Rattle.wasmi_types.specs.declared.value.ValType.{ValType}
 use Rattle.wasmi_types.specs.declared.value.ValType.TheVariants.{I32, I64, F32, F64, V128, FuncRef, ExternRef}
 use Rattle.wasmi_types.specs.FunctionType.{<a href="../../types/FunctionTypeSpecs/index.html#FunctionType">FunctionType</a>, <a href="../../types/FunctionTypeSpecs/index.html#entries">entries</a>, <a href="../../types/FunctionTypeSpecs/index.html#entry_count">entry_count</a>, <a href="../../types/FunctionTypeSpecs/index.html#same_lists">same_lists</a>, <a href="../../types/FunctionTypeSpecs/index.html#type_number">type_number</a>, <a href="../../types/FunctionTypeSpecs/index.html#order_key">order_key</a>, <a href="../../types/FunctionTypeSpecs/index.html#function_type_cmp">function_type_cmp</a>}
@@ -121,23 +120,16 @@ use denote.Enum.Bare.{sameb, same_true, true_same}
 use Rattle.wasmi_types.specs.contracts.value.ValType.{the_type}
 
 -- the value type at a place
-type_at : ℕ → ValType
-type_at zero = I32
-type_at (suc zero) = I64
-type_at (suc (suc zero)) = F32
-type_at (suc (suc (suc zero))) = F64
-type_at (suc (suc (suc (suc zero)))) = V128
-type_at (suc (suc (suc (suc (suc zero))))) = FuncRef
-type_at (suc (suc (suc (suc (suc (suc n)))))) = ExternRef
+abbrev <b id="type_at">type_at</b> : ℕ → ValType
+<a href="../../types/FunctionTypeProofsSpecs/index.html#type_at">type_at</a> n = slice_index_or (I32 ∷ I64 ∷ F32 ∷ F64 ∷ V128 ∷ FuncRef ∷ []) n ExternRef
 
 -- the place of a value type leads back to it
-type_at-type_number : (x : ValType) → type_at (<a href="../../types/FunctionTypeSpecs/index.html#type_number">type_number</a> x) ≡ x
-unfolding type_at
+type_at-type_number : (x : ValType) → <a href="../../types/FunctionTypeProofsSpecs/index.html#type_at">type_at</a> (<a href="../../types/FunctionTypeSpecs/index.html#type_number">type_number</a> x) ≡ x
 type_at-type_number I32 = refl
 type_at-type_number x = refl
 
 -- the places of value types lead back to them
-types_from_numbers : (xs : List ValType) → map type_at (map <a href="../../types/FunctionTypeSpecs/index.html#type_number">type_number</a> xs) ≡ xs
+types_from_numbers : (xs : List ValType) → map <a href="../../types/FunctionTypeProofsSpecs/index.html#type_at">type_at</a> (map <a href="../../types/FunctionTypeSpecs/index.html#type_number">type_number</a> xs) ≡ xs
 types_from_numbers [] = refl
 types_from_numbers (x ∷ xs) = λ i. type_at-type_number x i ∷ types_from_numbers xs i
 
@@ -145,9 +137,8 @@ types_from_numbers (x ∷ xs) = λ i. type_at-type_number x i ∷ types_from_num
 same_key : (v w : Bool) (m n m&#x27; n&#x27; : ℕ) (xs ys : List ℕ)
     → (if v then 0 ∷ m ∷ n ∷ xs else 1 ∷ m ∷ xs) ≡ (if w then 0 ∷ m&#x27; ∷ n&#x27; ∷ ys else 1 ∷ m&#x27; ∷ ys) → (m ≡ m&#x27;) × (xs ≡ ys)
 same_key true true m n m&#x27; n&#x27; xs ys e = (ap (λ l. slice_index l 1) e, ap (drop 3) e)
-same_key true false m n m&#x27; n&#x27; xs ys e = absurd (cc e)
-same_key false true m n m&#x27; n&#x27; xs ys e = absurd (cc e)
 same_key false false m n m&#x27; n&#x27; xs ys e = (ap (λ l. slice_index l 1) e, ap (drop 2) e)
+same_key v w m n m&#x27; n&#x27; xs ys e = absurd (cc e)
 
 -- one order key, one function type
 pub <b id="order_key-one">order_key-one</b> : (a b : <a href="../../types/FunctionTypeSpecs/index.html#FunctionType">FunctionType</a>) → <a href="../../types/FunctionTypeSpecs/index.html#order_key">order_key</a> a ≡ <a href="../../types/FunctionTypeSpecs/index.html#order_key">order_key</a> b → a ≡ b
@@ -155,7 +146,7 @@ pub <b id="order_key-one">order_key-one</b> : (a b : <a href="../../types/Functi
     let parts = same_key (nat_le (<a href="../../types/FunctionTypeSpecs/index.html#entry_count">entry_count</a> a) 21) (nat_le (<a href="../../types/FunctionTypeSpecs/index.html#entry_count">entry_count</a> b) 21) (length a.params) (length a.results)
     (length b.params) (length b.results) _ _ e in
     let joined : <a href="../../types/FunctionTypeSpecs/index.html#entries">entries</a> a ≡ <a href="../../types/FunctionTypeSpecs/index.html#entries">entries</a> b =
-    sym (types_from_numbers (<a href="../../types/FunctionTypeSpecs/index.html#entries">entries</a> a)) ∙ ap (map type_at) parts.1 ∙ types_from_numbers (<a href="../../types/FunctionTypeSpecs/index.html#entries">entries</a> b) in
+    sym (types_from_numbers (<a href="../../types/FunctionTypeSpecs/index.html#entries">entries</a> a)) ∙ ap (map <a href="../../types/FunctionTypeProofsSpecs/index.html#type_at">type_at</a>) parts.1 ∙ types_from_numbers (<a href="../../types/FunctionTypeSpecs/index.html#entries">entries</a> b) in
     let params : a.params ≡ b.params =
     rw (← take-append_seam a.params a.results, parts.0, joined) (take-append_seam b.params b.results) in
     let results : a.results ≡ b.results =
@@ -191,14 +182,7 @@ module _ {E : ValType → ValType → Bool} (decides : (x y : ValType) → Decid
 
   -- the test of both lists is an equivalence
   pub <b id="same_lists_equiv">same_lists_equiv</b> : IsEquivalence (<a href="../../types/FunctionTypeSpecs/index.html#same_lists">same_lists</a> E)
-  <a href="../../types/FunctionTypeProofsSpecs/index.html#same_lists_equiv">same_lists_equiv</a> =
-      let types : IsEquivalence E = equivalence_from_decides decides in
-      and_equiv (on_equiv (λ (ty : <a href="../../types/FunctionTypeSpecs/index.html#FunctionType">FunctionType</a>). ty.params) (lists_equiv types))
-      (on_equiv (λ (ty : <a href="../../types/FunctionTypeSpecs/index.html#FunctionType">FunctionType</a>). ty.results) (lists_equiv types))
-
-  -- the same function types have the same of anything
-  pub <b id="same_lists_alike">same_lists_alike</b> : {B : Type 0} (f : <a href="../../types/FunctionTypeSpecs/index.html#FunctionType">FunctionType</a> → B) (a b : <a href="../../types/FunctionTypeSpecs/index.html#FunctionType">FunctionType</a>) → <a href="../../types/FunctionTypeSpecs/index.html#same_lists">same_lists</a> E a b ≡ true → f a ≡ f b
-  <a href="../../types/FunctionTypeProofsSpecs/index.html#same_lists_alike">same_lists_alike</a> f a b e = ap f ((<a href="../../types/FunctionTypeProofsSpecs/index.html#same_lists_decides">same_lists_decides</a> a b).0 e)
+  <a href="../../types/FunctionTypeProofsSpecs/index.html#same_lists_equiv">same_lists_equiv</a> = equivalence_from_decides <a href="../../types/FunctionTypeProofsSpecs/index.html#same_lists_decides">same_lists_decides</a>
 
 -- the derived `==` decides whether two value types, the entries of function types, are the same
 pub <b id="same_type_decides">same_type_decides</b> : (x y : ValType) → Decides (sameb the_type x y) (x ≡ y)
@@ -267,6 +251,30 @@ module _ {I : Type 0} (steps : I → Option ValType → I → Type 0) where
     pub <b id="run">run</b> : Yields steps s xs t ⊎ YieldsThen steps s xs None t
     pub <b id="short">short</b> : length xs ≤ 1000
 
+  -- a call from s to t gave a type that was appended, or was refused memory after 21, or gave the end
+  abbrev pub <b id="ReadsNextType">ReadsNextType</b> : (I → Type 0) → I → List ValType → Result Bool AllocError → I → List ValType → Type 0
+  <a href="../../types/ReadingSpecs/index.html#ReadsNextType">ReadsNextType</a> can s before (Ok true) t after = (x : ValType) × steps s (Some x) t × (after ≡ before ++ x ∷ []) × can t
+  <a href="../../types/ReadingSpecs/index.html#ReadsNextType">ReadsNextType</a> can s before (Ok false) t after = steps s None t × (after ≡ before)
+  <a href="../../types/ReadingSpecs/index.html#ReadsNextType">ReadsNextType</a> can s before (Err error) t after = (x : ValType) × steps s (Some x) t × (21 ≤ length before)
+
+  -- calls from s to t gave so many types, at most 1,000, and then the end; they follow those before
+  pub record <b id="ReadsTypes">ReadsTypes</b> (s : I) (before : List ValType) (count : ℕ) (t : I) (after : List ValType) : Type 0 where
+    pub <b id="types">types</b> : List ValType
+    pub <b id="read">read</b> : <a href="../../types/ReadingSpecs/index.html#ReadsAll">ReadsAll</a> 1000 steps s <a href="../../types/ReadingSpecs/index.html#types">types</a> t
+    pub <b id="kept">kept</b> : after ≡ before ++ <a href="../../types/ReadingSpecs/index.html#types">types</a>
+    pub <b id="counted">counted</b> : count ≡ length <a href="../../types/ReadingSpecs/index.html#types">types</a>
+
+  -- memory was refused for types that follow those before
+  pub record <b id="IsReadingOutOfMemory">IsReadingOutOfMemory</b> (s : I) (before : List ValType) (t : I) : Type 0 where
+    pub <b id="types">types</b> : List ValType
+    pub <b id="read">read</b> : <a href="../../types/ReadingSpecs/index.html#ReadsSome">ReadsSome</a> s <a href="../../types/ReadingSpecs/index.html#types">types</a> t
+    pub <b id="many">many</b> : 21 &lt; length before + length <a href="../../types/ReadingSpecs/index.html#types">types</a>
+
+  -- why the parameters or the results were not read
+  abbrev pub <b id="IsReadingRefusal">IsReadingRefusal</b> : FuncTypeError → I → List ValType → FuncTypeError → I → Type 0
+  <a href="../../types/ReadingSpecs/index.html#IsReadingRefusal">IsReadingRefusal</a> too_many s before error t =
+      ((error ≡ too_many) × <a href="../../types/ReadingSpecs/index.html#ReadsTooMany">ReadsTooMany</a> 1000 steps s t) ⊎ ((error ≡ OutOfMemory) × <a href="../../types/ReadingSpecs/index.html#IsReadingOutOfMemory">IsReadingOutOfMemory</a> s before t)
+
 module _ {P R : Type 0} (of_params : P → Option ValType → P → Type 0)
     (of_results : R → Option ValType → R → Type 0) where
   -- memory was refused: the parameters from p to p&#x27; and then the results from r to r&#x27; were more than 21 together
@@ -302,31 +310,6 @@ pub record <b id="IsReadingOf">IsReadingOf</b> {X Y P R : Type 0} (params_become
   pub <b id="params_made">params_made</b> : params_becomes x <a href="../../types/ReadingSpecs/index.html#params_before">params_before</a>
   pub <b id="results_made">results_made</b> : results_becomes y <a href="../../types/ReadingSpecs/index.html#results_before">results_before</a>
   pub <b id="reads">reads</b> : <a href="../../types/ReadingSpecs/index.html#IsReading">IsReading</a> of_params of_results <a href="../../types/ReadingSpecs/index.html#params_before">params_before</a> <a href="../../types/ReadingSpecs/index.html#results_before">results_before</a> answer <a href="../../types/ReadingSpecs/index.html#params_after">params_after</a> <a href="../../types/ReadingSpecs/index.html#results_after">results_after</a>
-
-module _ {I : Type 0} (steps : I → Option ValType → I → Type 0) where
-  -- a call from s to t gave a type that was appended, or was refused memory after 21, or gave the end
-  abbrev pub <b id="ReadsNextType">ReadsNextType</b> : (I → Type 0) → I → List ValType → Result Bool AllocError → I → List ValType → Type 0
-  <a href="../../types/ReadingSpecs/index.html#ReadsNextType">ReadsNextType</a> can s before (Ok true) t after = (x : ValType) × steps s (Some x) t × (after ≡ before ++ x ∷ []) × can t
-  <a href="../../types/ReadingSpecs/index.html#ReadsNextType">ReadsNextType</a> can s before (Ok false) t after = steps s None t × (after ≡ before)
-  <a href="../../types/ReadingSpecs/index.html#ReadsNextType">ReadsNextType</a> can s before (Err error) t after = (x : ValType) × steps s (Some x) t × (21 ≤ length before)
-
-  -- calls from s to t gave so many types, at most 1,000, and then the end; they follow those before
-  pub record <b id="ReadsTypes">ReadsTypes</b> (s : I) (before : List ValType) (count : ℕ) (t : I) (after : List ValType) : Type 0 where
-    pub <b id="types">types</b> : List ValType
-    pub <b id="read">read</b> : <a href="../../types/ReadingSpecs/index.html#ReadsAll">ReadsAll</a> 1000 steps s <a href="../../types/ReadingSpecs/index.html#types">types</a> t
-    pub <b id="kept">kept</b> : after ≡ before ++ <a href="../../types/ReadingSpecs/index.html#types">types</a>
-    pub <b id="counted">counted</b> : count ≡ length <a href="../../types/ReadingSpecs/index.html#types">types</a>
-
-  -- memory was refused for types that follow those before
-  pub record <b id="IsReadingOutOfMemory">IsReadingOutOfMemory</b> (s : I) (before : List ValType) (t : I) : Type 0 where
-    pub <b id="types">types</b> : List ValType
-    pub <b id="read">read</b> : <a href="../../types/ReadingSpecs/index.html#ReadsSome">ReadsSome</a> steps s <a href="../../types/ReadingSpecs/index.html#types">types</a> t
-    pub <b id="many">many</b> : 21 &lt; length before + length <a href="../../types/ReadingSpecs/index.html#types">types</a>
-
-  -- why the parameters or the results were not read
-  abbrev pub <b id="IsReadingRefusal">IsReadingRefusal</b> : FuncTypeError → I → List ValType → FuncTypeError → I → Type 0
-  <a href="../../types/ReadingSpecs/index.html#IsReadingRefusal">IsReadingRefusal</a> too_many s before error t =
-      ((error ≡ too_many) × <a href="../../types/ReadingSpecs/index.html#ReadsTooMany">ReadsTooMany</a> 1000 steps s t) ⊎ ((error ≡ OutOfMemory) × <a href="../../types/ReadingSpecs/index.html#IsReadingOutOfMemory">IsReadingOutOfMemory</a> s before t)
 </code></pre>
 "####]
     pub mod ReadingSpecs {}
@@ -442,8 +425,7 @@ abbrev pub <b id="address_bits">address_bits</b> : IndexType → ℕ
 
 -- of two address types the one with the narrower addresses
 abbrev pub <b id="narrower">narrower</b> : IndexType → IndexType → IndexType
-<a href="../../types/ValueSpecs/index.html#narrower">narrower</a> index.I64 index.I64 = index.I64
-<a href="../../types/ValueSpecs/index.html#narrower">narrower</a> index.I64 index.I32 = index.I32
+<a href="../../types/ValueSpecs/index.html#narrower">narrower</a> index.I64 other = other
 <a href="../../types/ValueSpecs/index.html#narrower">narrower</a> index.I32 _ = index.I32
 </code></pre>
 "####]
@@ -666,8 +648,7 @@ abbrev pub <b id="IsStore">IsStore</b> : {V : Type 0} → List ℕ → ℕ → L
 
 -- the n bytes into which a load copies the memory at a: they are those, or the load traps and they are the same
 abbrev pub <b id="IsCopy">IsCopy</b> : List ℕ → ℕ → ℕ → List ℕ → List ℕ → Result (Unit {0}) TrapCode → Type 0
-<a href="../../accesses/LoadStoreSpecs/index.html#IsCopy">IsCopy</a> memory a n old new result = MatchResult result
-    (λ _. <a href="../../accesses/LoadStoreSpecs/index.html#accessed">accessed</a> a (<a href="../../types/AccessSpecs/index.html#at">at</a> memory a n) ≡ Some new)
+<a href="../../accesses/LoadStoreSpecs/index.html#IsCopy">IsCopy</a> memory a n old new result = MatchResult result (λ _. <a href="../../accesses/LoadStoreSpecs/index.html#accessed">accessed</a> a (<a href="../../types/AccessSpecs/index.html#at">at</a> memory a n) ≡ Some new)
     (λ trap. (trap ≡ MemoryOutOfBounds) × (<a href="../../accesses/LoadStoreSpecs/index.html#accessed">accessed</a> a (<a href="../../types/AccessSpecs/index.html#at">at</a> memory a n) ≡ None) × (new ≡ old))
 
 -- after a store, the bytes before a and those from a + n on are the same
@@ -851,9 +832,9 @@ abbrev pub <b id="sub128">sub128</b> : ℕ → ℕ → ℕ
 }
 /// Definitions of `wasmi_lanes`.
 pub mod lanes {
-    #[doc = r####"The signed and unsigned integers of a width are the items of lanes of the width; the numbers of the lanes of a word.
+    #[doc = r####"The signed and unsigned integers of a width are the items of lanes of the width.
 
-<pre><code>use Rattle.std.specs.Prelude.{ℕ, pos, negsuc, ◌-◌, ◌*◌, ◌^◌, ◌&lt;◌, ◌≡◌, refl, FitsSigned}
+<pre><code>use Rattle.std.specs.Prelude.{ℕ, pos, negsuc, ◌-◌, ◌^◌, ◌&lt;◌, ◌≡◌, refl, FitsSigned}
 use Rattle.std.specs.Int.{cast_unsigned}
 use Rattle.std.proofs.lemmas.Int.{of_z-to_z}
 use Rattle.std.proofs.Math.Facts.{sfits_to_z}
@@ -861,11 +842,9 @@ use mir.Syntax.{w128}
 use mir.Val.{Fits}
 use Rattle.wasmi_types.specs.Numbers.{Width, w8, w16, w32, w64, bits, signed}
 use Rattle.wasmi_lanes.specs.Vector.{<a href="../../lanes/VectorSpecs/index.html#ReadsLanes">ReadsLanes</a>, <a href="../../lanes/VectorSpecs/index.html#unsigned">unsigned</a>}
-use Rattle.wasmi_lanes.specs.Words.{<a href="../../lanes/WordsSpecs/index.html#IsWordLane">IsWordLane</a>, <a href="../../lanes/WordsSpecs/index.html#lanes_in_word">lanes_in_word</a>, <a href="../../lanes/WordsSpecs/index.html#in_each_lane">in_each_lane</a>}
 
 -- the unsigned integers of a width
-pub <b id="unsigned_lanes">unsigned_lanes</b> : (w : Width)
-    → <a href="../../lanes/VectorSpecs/index.html#ReadsLanes">ReadsLanes</a> w <a href="../../lanes/VectorSpecs/index.html#unsigned">unsigned</a> (λ item. item) (λ item. item &lt; 2 ^ bits w) (2 ^ bits w - 1) 0
+pub <b id="unsigned_lanes">unsigned_lanes</b> : (w : Width) → <a href="../../lanes/VectorSpecs/index.html#ReadsLanes">ReadsLanes</a> w <a href="../../lanes/VectorSpecs/index.html#unsigned">unsigned</a> (λ item. item) (λ item. item &lt; 2 ^ bits w) (2 ^ bits w - 1) 0
 <a href="../../lanes/LaneProofsSpecs/index.html#unsigned_lanes">unsigned_lanes</a> w = record {
   image_of_ones = refl;
   image_of_zeros = refl;
@@ -893,15 +872,6 @@ pub <b id="signed_lanes">signed_lanes</b> : (w : Width) → <a href="../../lanes
   image_of_read = of_z-to_z w;
   read_fits = <a href="../../lanes/LaneProofsSpecs/index.html#signed_fits">signed_fits</a> w;
 }
-
--- the numbers of the lanes of a word are each what the width asks for
-pub <b id="word_lane">word_lane</b> : {w : Width} {lane_bits tops ones : ℕ}
-    → lane_bits ≡ bits w
-    → <a href="../../lanes/WordsSpecs/index.html#lanes_in_word">lanes_in_word</a> w * bits w ≡ 64
-    → tops ≡ <a href="../../lanes/WordsSpecs/index.html#in_each_lane">in_each_lane</a> w (2 ^ (bits w - 1))
-    → ones ≡ <a href="../../lanes/WordsSpecs/index.html#in_each_lane">in_each_lane</a> w 1
-    → <a href="../../lanes/WordsSpecs/index.html#IsWordLane">IsWordLane</a> w lane_bits tops ones
-<a href="../../lanes/LaneProofsSpecs/index.html#word_lane">word_lane</a> wide whole highest lowest = record { wide = wide; whole = whole; highest = highest; lowest = lowest }
 </code></pre>
 "####]
     pub mod LaneProofsSpecs {}
@@ -985,8 +955,7 @@ abbrev pub <b id="ComputesLane">ComputesLane</b> : {A : Type 0} → (A → Type 
 
 -- what is made of two items in range has the number that the row names for them
 abbrev pub <b id="ComputesLaneOfTwo">ComputesLaneOfTwo</b> : {A : Type 0} → (A → Type 0) → (A → ℕ) → (A → A → A → Type 0) → (A → A → ℕ) → Type 0
-<a href="../../lanes/VectorSpecs/index.html#ComputesLaneOfTwo">ComputesLaneOfTwo</a> {A} Fits image Makes row =
-    (x y z : A) → Fits x → Fits y → Fits z → Makes x y z → image z ≡ row x y
+<a href="../../lanes/VectorSpecs/index.html#ComputesLaneOfTwo">ComputesLaneOfTwo</a> {A} Fits image Makes row = (x y z : A) → Fits x → Fits y → Fits z → Makes x y z → image z ≡ row x y
 </code></pre>
 "####]
     pub mod VectorSpecs {}
@@ -1041,14 +1010,12 @@ pub record <b id="IsWordLane">IsWordLane</b> (width : Width) (lane_bits tops one
 
 -- every lane of w bits of a word is 0 or its highest bit alone
 abbrev pub <b id="AreMarks">AreMarks</b> : Width → ℕ → Type 0
-<a href="../../lanes/WordsSpecs/index.html#AreMarks">AreMarks</a> w marks =
-    (i : ℕ) → i &lt; <a href="../../lanes/WordsSpecs/index.html#lanes_in_word">lanes_in_word</a> w
+<a href="../../lanes/WordsSpecs/index.html#AreMarks">AreMarks</a> w marks = (i : ℕ) → i &lt; <a href="../../lanes/WordsSpecs/index.html#lanes_in_word">lanes_in_word</a> w
     → (<a href="../../lanes/WordsSpecs/index.html#field">field</a> (bits w * i) (bits w) marks ≡ 0) ⊎ (<a href="../../lanes/WordsSpecs/index.html#field">field</a> (bits w * i) (bits w) marks ≡ 2 ^ (bits w - 1))
 
 -- the lanes that have their highest bit in marks are all ones in word, the others all zeros
 abbrev pub <b id="AreFilled">AreFilled</b> : Width → ℕ → ℕ → Type 0
-<a href="../../lanes/WordsSpecs/index.html#AreFilled">AreFilled</a> w marks word =
-    (i : ℕ) → i &lt; <a href="../../lanes/WordsSpecs/index.html#lanes_in_word">lanes_in_word</a> w
+<a href="../../lanes/WordsSpecs/index.html#AreFilled">AreFilled</a> w marks word = (i : ℕ) → i &lt; <a href="../../lanes/WordsSpecs/index.html#lanes_in_word">lanes_in_word</a> w
     → <a href="../../lanes/WordsSpecs/index.html#field">field</a> (bits w * i) (bits w) word ≡ (if <a href="../../lanes/WordsSpecs/index.html#field">field</a> (bits w * i) (bits w) marks == 0 then 0 else 2 ^ bits w - 1)
 </code></pre>
 "####]
@@ -3147,15 +3114,11 @@ module _ {I : Type 0} (steps : I → Option ℕ → I → Type 0) where
     pub <b id="some">some</b> : 0 &lt; length <a href="../../store/SegmentSpecs/index.html#items">items</a>
     pub <b id="short">short</b> : length <a href="../../store/SegmentSpecs/index.html#items">items</a> ≤ <a href="../../store/SegmentSpecs/index.html#most_items">most_items</a>
 
-  -- why no segment was read
-  abbrev pub <b id="IsRefusal">IsRefusal</b> : I → SegmentError → I → Type 0
-  <a href="../../store/SegmentSpecs/index.html#IsRefusal">IsRefusal</a> s TooManyItems t = <a href="../../types/ReadingSpecs/index.html#ReadsTooMany">ReadsTooMany</a> <a href="../../store/SegmentSpecs/index.html#most_items">most_items</a> steps s t
-  <a href="../../store/SegmentSpecs/index.html#IsRefusal">IsRefusal</a> s OutOfSystemMemory t = <a href="../../store/SegmentSpecs/index.html#IsOutOfMemory">IsOutOfMemory</a> s t
-
-  -- the answer after calls from s to t: the segment of all items that came, or the refusal
+  -- the answer after calls from s to t: the segment of all items that came, or why none was read
   abbrev pub <b id="IsReading">IsReading</b> : I → RefType → Result <a href="../../store/SegmentSpecs/index.html#SegmentValue">SegmentValue</a> SegmentError → I → Type 0
   <a href="../../store/SegmentSpecs/index.html#IsReading">IsReading</a> s <a href="../../store/SegmentSpecs/index.html#ty">ty</a> (Ok segment) t = (segment.ty ≡ <a href="../../store/SegmentSpecs/index.html#ty">ty</a>) × <a href="../../types/ReadingSpecs/index.html#ReadsAll">ReadsAll</a> <a href="../../store/SegmentSpecs/index.html#most_items">most_items</a> steps s segment.items t
-  <a href="../../store/SegmentSpecs/index.html#IsReading">IsReading</a> s <a href="../../store/SegmentSpecs/index.html#ty">ty</a> (Err error) t = <a href="../../store/SegmentSpecs/index.html#IsRefusal">IsRefusal</a> s error t
+  <a href="../../store/SegmentSpecs/index.html#IsReading">IsReading</a> s <a href="../../store/SegmentSpecs/index.html#ty">ty</a> (Err TooManyItems) t = <a href="../../types/ReadingSpecs/index.html#ReadsTooMany">ReadsTooMany</a> <a href="../../store/SegmentSpecs/index.html#most_items">most_items</a> steps s t
+  <a href="../../store/SegmentSpecs/index.html#IsReading">IsReading</a> s <a href="../../store/SegmentSpecs/index.html#ty">ty</a> (Err OutOfSystemMemory) t = <a href="../../store/SegmentSpecs/index.html#IsOutOfMemory">IsOutOfMemory</a> s t
 
 -- the answer after reading the iterator that x becomes
 pub record <b id="IsReadingOf">IsReadingOf</b> {X I : Type 0} (becomes : X → I → Type 0) (steps : I → Option ℕ → I → Type 0) (<a href="../../store/SegmentSpecs/index.html#ty">ty</a> : RefType)
@@ -3447,17 +3410,13 @@ module _ {V E : Type 0} (w : <a href="../../store/WriteSpecs/index.html#MeteredW
     abbrev pub <b id="IsRefusedFor">IsRefusedFor</b> : E → Type 0
     <a href="../../store/WriteSpecs/index.html#IsRefusedFor">IsRefusedFor</a> cause = (result ≡ Err cause) × (s&#x27; ≡ s)
 
-    -- the write ends in a value: what is due is taken, or isn&#x27;t left
-    abbrev pub <b id="IsPaidFor">IsPaidFor</b> : V → Type 0
-    <a href="../../store/WriteSpecs/index.html#IsPaidFor">IsPaidFor</a> value = MatchBool (<a href="../../meter/AttemptSpecs/index.html#covers">covers</a> s.meter <a href="../../store/WriteSpecs/index.html#write_due">write_due</a>)
-        ((result ≡ Ok tt) × (s&#x27; ≡ <a href="../../store/GrowthSpecs/index.html#metered">metered</a> value (option_map (λ m. <a href="../../meter/MeterSpecs/index.html#meter_after">meter_after</a> m <a href="../../store/WriteSpecs/index.html#write_due">write_due</a>) s.meter)))
-        (<a href="../../store/WriteSpecs/index.html#IsRefusedFor">IsRefusedFor</a> (w.unpaid <a href="../../store/WriteSpecs/index.html#write_due">write_due</a>))
-
-    -- how it ends, by the tests in their order: what stands before it, its ranges, its fuel
+    -- how it ends, by the tests in their order: what stands before it, its ranges, its fuel, which is taken or isn&#x27;t left
     abbrev pub <b id="EndsBy">EndsBy</b> : Option E → Option V → Type 0
     <a href="../../store/WriteSpecs/index.html#EndsBy">EndsBy</a> (Some cause) <a href="../../store/WriteSpecs/index.html#written">written</a> = <a href="../../store/WriteSpecs/index.html#IsRefusedFor">IsRefusedFor</a> cause
     <a href="../../store/WriteSpecs/index.html#EndsBy">EndsBy</a> None None = <a href="../../store/WriteSpecs/index.html#IsRefusedFor">IsRefusedFor</a> w.outside
-    <a href="../../store/WriteSpecs/index.html#EndsBy">EndsBy</a> None (Some value) = <a href="../../store/WriteSpecs/index.html#IsPaidFor">IsPaidFor</a> value
+    <a href="../../store/WriteSpecs/index.html#EndsBy">EndsBy</a> None (Some value) = MatchBool (<a href="../../meter/AttemptSpecs/index.html#covers">covers</a> s.meter <a href="../../store/WriteSpecs/index.html#write_due">write_due</a>)
+        ((result ≡ Ok tt) × (s&#x27; ≡ <a href="../../store/GrowthSpecs/index.html#metered">metered</a> value (option_map (λ m. <a href="../../meter/MeterSpecs/index.html#meter_after">meter_after</a> m <a href="../../store/WriteSpecs/index.html#write_due">write_due</a>) s.meter)))
+        (<a href="../../store/WriteSpecs/index.html#IsRefusedFor">IsRefusedFor</a> (w.unpaid <a href="../../store/WriteSpecs/index.html#write_due">write_due</a>))
 
     -- how it ends
     abbrev pub <b id="Writes">Writes</b> : Type 0
@@ -3868,7 +3827,7 @@ module _ {S : Type 0} (w : <a href="../../machine/StateSpecs/index.html#World">W
     pub mod EffectsSpecs {}
     #[doc = r####"Exchanges: what passes between a machine and its limiter in one turn, the question of each call, the size that grows by it, and what growths and writes over a range are charged.
 
-<pre><code>use Rattle.std.specs.Prelude.{◌≡◌, ◌≢◌, ◌≤◌, ◌-◌, ◌⊎◌, ◌++◌, ℕ, Option, Some, None, Ok, Err, true, nat_eq, is_none, if◌then◌else◌, List, [], ◌∷◌, slice_get, slice_set}
+<pre><code>use Rattle.std.specs.Prelude.{◌≡◌, ◌≢◌, ◌≤◌, ◌-◌, ◌⊎◌, ◌++◌, ℕ, Option, Some, None, Ok, true, nat_eq, is_none, if◌then◌else◌, List, [], ◌∷◌, slice_get, slice_set}
 use Rattle.std.specs.Option.{option_map, option_and_then}
 use Rattle.wasmi_meter.specs.declared.limiter.Kind.{Kind}
 use Rattle.wasmi_meter.specs.declared.limiter.Kind.TheVariants.{Bytes, Elements}
@@ -3877,7 +3836,7 @@ use Rattle.wasmi_meter.specs.declared.error.TableError.TheVariants as table_erro
 use Rattle.wasmi_meter.specs.Limiter.{<a href="../../meter/LimiterSpecs/index.html#Question">Question</a>, <a href="../../meter/LimiterSpecs/index.html#Answer">Answer</a>, <a href="../../meter/LimiterSpecs/index.html#IsDenial">IsDenial</a>, <a href="../../meter/LimiterSpecs/index.html#Failure">Failure</a>, <a href="../../meter/LimiterSpecs/index.html#MemoryFailure">MemoryFailure</a>, <a href="../../meter/LimiterSpecs/index.html#TableFailure">TableFailure</a>, <a href="../../meter/LimiterSpecs/index.html#kind_of">kind_of</a>, <a href="../../meter/LimiterSpecs/index.html#NoticeAnswer">NoticeAnswer</a>, <a href="../../meter/LimiterSpecs/index.html#Rules">Rules</a>}
 use Rattle.wasmi_meter.specs.declared.fuel.CustomFuelCosts.{CustomFuelCosts}
 use Rattle.wasmi_meter.specs.Meter.{<a href="../../meter/MeterSpecs/index.html#copy_cost">copy_cost</a>, <a href="../../meter/MeterSpecs/index.html#Meter">Meter</a>, <a href="../../meter/MeterSpecs/index.html#due">due</a>}
-use Rattle.wasmi_meter.specs.Attempt.{<a href="../../meter/AttemptSpecs/index.html#Request">Request</a>, <a href="../../meter/AttemptSpecs/index.html#optional_due">optional_due</a>}
+use Rattle.wasmi_meter.specs.Attempt.{<a href="../../meter/AttemptSpecs/index.html#Request">Request</a>, <a href="../../meter/AttemptSpecs/index.html#error_of_failure">error_of_failure</a>, <a href="../../meter/AttemptSpecs/index.html#optional_due">optional_due</a>}
 use Rattle.wasmi_store.specs.Buffer.{<a href="../../store/BufferSpecs/index.html#Owned">Owned</a>, <a href="../../store/BufferSpecs/index.html#Lent">Lent</a>}
 use Rattle.wasmi_typed.specs.declared.typed_ref.TypedRawRef.{TypedRawRef}
 use Rattle.wasmi_store.specs.Write.{<a href="../../store/WriteSpecs/index.html#item_price">item_price</a>}
@@ -3940,10 +3899,10 @@ abbrev pub <b id="AsksFor">AsksFor</b> : Option <a href="../../meter/LimiterSpec
 
 -- the reply where what was permitted failed, by the answer to the notice
 abbrev pub <b id="failed_reply">failed_reply</b> : <a href="../../meter/LimiterSpecs/index.html#Failure">Failure</a> → <a href="../../meter/LimiterSpecs/index.html#NoticeAnswer">NoticeAnswer</a> → Reply
-<a href="../../machine/ExchangeSpecs/index.html#failed_reply">failed_reply</a> (<a href="../../meter/LimiterSpecs/index.html#MemoryFailure">MemoryFailure</a> error) (Ok _) = Memory error
-<a href="../../machine/ExchangeSpecs/index.html#failed_reply">failed_reply</a> (<a href="../../meter/LimiterSpecs/index.html#MemoryFailure">MemoryFailure</a> error) (Err _) = Memory memory_error.ResourceLimiterDeniedAllocation
-<a href="../../machine/ExchangeSpecs/index.html#failed_reply">failed_reply</a> (<a href="../../meter/LimiterSpecs/index.html#TableFailure">TableFailure</a> error) (Ok _) = Table error
-<a href="../../machine/ExchangeSpecs/index.html#failed_reply">failed_reply</a> (<a href="../../meter/LimiterSpecs/index.html#TableFailure">TableFailure</a> error) (Err _) = Table table_error.ResourceLimiterDeniedAllocation
+<a href="../../machine/ExchangeSpecs/index.html#failed_reply">failed_reply</a> (<a href="../../meter/LimiterSpecs/index.html#MemoryFailure">MemoryFailure</a> error) answer =
+    Memory (<a href="../../meter/AttemptSpecs/index.html#error_of_failure">error_of_failure</a> memory_error.ResourceLimiterDeniedAllocation error answer)
+<a href="../../machine/ExchangeSpecs/index.html#failed_reply">failed_reply</a> (<a href="../../meter/LimiterSpecs/index.html#TableFailure">TableFailure</a> error) answer =
+    Table (<a href="../../meter/AttemptSpecs/index.html#error_of_failure">error_of_failure</a> table_error.ResourceLimiterDeniedAllocation error answer)
 
 -- the reply to an exchange: a denial is a refusal, a permission that stands is none, and a failure is told
 abbrev pub <b id="RepliesTo">RepliesTo</b> : <a href="../../machine/ExchangeSpecs/index.html#Exchange">Exchange</a> → Reply → Type 0
@@ -3984,12 +3943,10 @@ abbrev pub <b id="NothingGrows">NothingGrows</b> : (Kind → List ℕ) → (Kind
 
 -- what has grown by an exchange: after a permission that stands, the size in the place, as was asked; else nothing
 abbrev pub <b id="GrowsBy">GrowsBy</b> : <a href="../../machine/ExchangeSpecs/index.html#Place">Place</a> → <a href="../../machine/ExchangeSpecs/index.html#Exchange">Exchange</a> → (Kind → List ℕ) → (Kind → List ℕ) → Type 0
-<a href="../../machine/ExchangeSpecs/index.html#GrowsBy">GrowsBy</a> place <a href="../../machine/ExchangeSpecs/index.html#Nothing">Nothing</a> <a href="../../machine/StateSpecs/index.html#sizes">sizes</a> sizes&#x27; = <a href="../../machine/ExchangeSpecs/index.html#NothingGrows">NothingGrows</a> <a href="../../machine/StateSpecs/index.html#sizes">sizes</a> sizes&#x27;
-<a href="../../machine/ExchangeSpecs/index.html#GrowsBy">GrowsBy</a> place (<a href="../../machine/ExchangeSpecs/index.html#Denial">Denial</a> question answer) <a href="../../machine/StateSpecs/index.html#sizes">sizes</a> sizes&#x27; = <a href="../../machine/ExchangeSpecs/index.html#NothingGrows">NothingGrows</a> <a href="../../machine/StateSpecs/index.html#sizes">sizes</a> sizes&#x27;
 <a href="../../machine/ExchangeSpecs/index.html#GrowsBy">GrowsBy</a> place (<a href="../../machine/ExchangeSpecs/index.html#Permission">Permission</a> question) <a href="../../machine/StateSpecs/index.html#sizes">sizes</a> sizes&#x27; =
     <a href="../../machine/ExchangeSpecs/index.html#GrowsAsAsked">GrowsAsAsked</a> place question (<a href="../../machine/StateSpecs/index.html#sizes">sizes</a> question.kind) (sizes&#x27; question.kind)
     × ((kind : Kind) → kind ≢ question.kind → sizes&#x27; kind ≡ <a href="../../machine/StateSpecs/index.html#sizes">sizes</a> kind)
-<a href="../../machine/ExchangeSpecs/index.html#GrowsBy">GrowsBy</a> place (<a href="../../machine/ExchangeSpecs/index.html#Notice">Notice</a> question failure notice_answer) <a href="../../machine/StateSpecs/index.html#sizes">sizes</a> sizes&#x27; = <a href="../../machine/ExchangeSpecs/index.html#NothingGrows">NothingGrows</a> <a href="../../machine/StateSpecs/index.html#sizes">sizes</a> sizes&#x27;
+<a href="../../machine/ExchangeSpecs/index.html#GrowsBy">GrowsBy</a> place <a href="../../machine/ExchangeSpecs/index.html#exchange">exchange</a> <a href="../../machine/StateSpecs/index.html#sizes">sizes</a> sizes&#x27; = <a href="../../machine/ExchangeSpecs/index.html#NothingGrows">NothingGrows</a> <a href="../../machine/StateSpecs/index.html#sizes">sizes</a> sizes&#x27;
 
 -- the bytes of one of a kind, as they are paid for
 abbrev pub <b id="bytes_of_one">bytes_of_one</b> : Kind → ℕ
@@ -4009,10 +3966,9 @@ abbrev pub <b id="failed_charge">failed_charge</b> : <a href="../../meter/Limite
 
 -- what a growth is charged by its exchange: nothing before a permission, and its price where it stands
 abbrev pub <b id="growth_charge">growth_charge</b> : <a href="../../machine/ExchangeSpecs/index.html#Exchange">Exchange</a> → <a href="../../meter/MeterSpecs/index.html#Meter">Meter</a> → ℕ
-<a href="../../machine/ExchangeSpecs/index.html#growth_charge">growth_charge</a> <a href="../../machine/ExchangeSpecs/index.html#Nothing">Nothing</a> m = 0
-<a href="../../machine/ExchangeSpecs/index.html#growth_charge">growth_charge</a> (<a href="../../machine/ExchangeSpecs/index.html#Denial">Denial</a> question answer) m = 0
 <a href="../../machine/ExchangeSpecs/index.html#growth_charge">growth_charge</a> (<a href="../../machine/ExchangeSpecs/index.html#Permission">Permission</a> question) m = <a href="../../machine/ExchangeSpecs/index.html#growth_due">growth_due</a> m question
 <a href="../../machine/ExchangeSpecs/index.html#growth_charge">growth_charge</a> (<a href="../../machine/ExchangeSpecs/index.html#Notice">Notice</a> question failure notice_answer) m = <a href="../../machine/ExchangeSpecs/index.html#failed_charge">failed_charge</a> failure (<a href="../../machine/ExchangeSpecs/index.html#growth_due">growth_due</a> m question)
+<a href="../../machine/ExchangeSpecs/index.html#growth_charge">growth_charge</a> <a href="../../machine/ExchangeSpecs/index.html#exchange">exchange</a> m = 0
 
 -- What tools/generate writes begins.
 -- how many elements a call pays for that writes over a range of a table: an initialization by no item pays for none
@@ -4196,7 +4152,6 @@ module _ {S : Type 0} (rules : <a href="../../meter/LimiterSpecs/index.html#Rule
       (calls calls&#x27; : List Call) (u v w : <a href="../../machine/StateSpecs/index.html#World">World</a> S) (<a href="../../machine/LawsSpecs/index.html#replies">replies</a> replies&#x27; : List Reply) → <a href="../../machine/StepsSpecs/index.html#IsRunOf">IsRunOf</a> rules calls u <a href="../../machine/LawsSpecs/index.html#replies">replies</a> v
       → <a href="../../machine/StepsSpecs/index.html#IsRunOf">IsRunOf</a> rules calls&#x27; v replies&#x27; w → <a href="../../machine/StepsSpecs/index.html#IsRunOf">IsRunOf</a> rules (calls ++ calls&#x27;) u (<a href="../../machine/LawsSpecs/index.html#replies">replies</a> ++ replies&#x27;) w
 
-module _ {S : Type 0} (rules : <a href="../../meter/LimiterSpecs/index.html#Rules">Rules</a> S) where
   -- a run that makes no memory in a region and grows none past its own is a run of the same machine with memories of
   -- their own
   abbrev pub <b id="LentRunsAreOwned">LentRunsAreOwned</b> : Type 0
@@ -4310,7 +4265,7 @@ abbrev pub <b id="RunInRegions">RunInRegions</b> : {S : Type 0} → <a href="../
 </code></pre>
 "####]
     pub mod LentMemorySpecs {}
-    #[doc = r####"The calls on memories: their replies, what each does to the slots and to the spare region, and what a store or a write over a range writes.
+    #[doc = r####"The calls on memories: their replies, what each does to the slots and to the spare region, and what a growth, a store or a write over a range writes.
 
 <pre><code>use Rattle.std.specs.Prelude.{◌≡◌, ◌⊎◌, ◌*◌, ◌&lt;◌, ℕ, Option, Some, None, Result, List, length, MatchOption}
 use Rattle.std.specs.Option.{option_map, option_map_or}
@@ -4334,7 +4289,7 @@ use Rattle.wasmi_machine.specs.State.{<a href="../../machine/StateSpecs/index.ht
 use Rattle.wasmi_machine.specs.Effects.{<a href="../../machine/EffectsSpecs/index.html#reply_of">reply_of</a>, <a href="../../machine/EffectsSpecs/index.html#OnLive">OnLive</a>, <a href="../../machine/EffectsSpecs/index.html#Creates">Creates</a>, <a href="../../machine/EffectsSpecs/index.html#ChangesAt">ChangesAt</a>, <a href="../../machine/EffectsSpecs/index.html#MeteredSlots">MeteredSlots</a>, <a href="../../machine/EffectsSpecs/index.html#WritesAt">WritesAt</a>, <a href="../../machine/EffectsSpecs/index.html#WritesFrom">WritesFrom</a>}
 use Rattle.wasmi_machine.specs.declared.memories.Stored.TheVariants as stored
 
--- the bytes that a growth by so many pages has appended, by its reply
+-- how many bytes a growth of a memory by so many pages has appended, by its reply
 abbrev pub <b id="bytes_appended">bytes_appended</b> : Option <a href="../../store/MemorySpecs/index.html#MemoryValue">MemoryValue</a> → ℕ → Reply → ℕ
 <a href="../../machine/MemoryEffectsSpecs/index.html#bytes_appended">bytes_appended</a> None pages reply = 0
 <a href="../../machine/MemoryEffectsSpecs/index.html#bytes_appended">bytes_appended</a> (Some x) pages (Number size) = pages * <a href="../../store/MemorySpecs/index.html#page_bytes">page_bytes</a> x.ty.page
@@ -4627,10 +4582,6 @@ pub record <b id="MemoryPart">MemoryPart</b> : Type 0 where
 abbrev pub <b id="memory_part">memory_part</b> : <a href="../../machine/StateSpecs/index.html#State">State</a> → <a href="../../machine/StateSpecs/index.html#MemoryPart">MemoryPart</a>
 <a href="../../machine/StateSpecs/index.html#memory_part">memory_part</a> s = record { <a href="../../machine/StateSpecs/index.html#slots">slots</a> = s.memories; <a href="../../machine/StateSpecs/index.html#spare">spare</a> = s.spare }
 
--- the state with other memories and another spare region
-abbrev pub <b id="with_memory_part">with_memory_part</b> : <a href="../../machine/StateSpecs/index.html#State">State</a> → <a href="../../machine/StateSpecs/index.html#MemoryPart">MemoryPart</a> → <a href="../../machine/StateSpecs/index.html#State">State</a>
-<a href="../../machine/StateSpecs/index.html#with_memory_part">with_memory_part</a> s part = record s { <a href="../../machine/StateSpecs/index.html#memories">memories</a> = part.slots; <a href="../../machine/StateSpecs/index.html#spare">spare</a> = part.spare }
-
 -- the state with other tables
 abbrev pub <b id="with_tables">with_tables</b> : <a href="../../machine/StateSpecs/index.html#State">State</a> → List (Slot <a href="../../store/TableSpecs/index.html#TableValue">TableValue</a>) → <a href="../../machine/StateSpecs/index.html#State">State</a>
 <a href="../../machine/StateSpecs/index.html#with_tables">with_tables</a> s <a href="../../machine/StateSpecs/index.html#tables">tables</a> = record s { <a href="../../machine/StateSpecs/index.html#tables">tables</a> = <a href="../../machine/StateSpecs/index.html#tables">tables</a> }
@@ -4762,7 +4713,7 @@ use Rattle.wasmi_store.specs.Memory.{<a href="../../store/MemorySpecs/index.html
 use Rattle.wasmi_store.specs.Table.{<a href="../../store/TableSpecs/index.html#TableTypeValue">TableTypeValue</a>, <a href="../../store/TableSpecs/index.html#size_of">size_of</a>, <a href="../../store/TableSpecs/index.html#MakesTable">MakesTable</a>, <a href="../../store/TableSpecs/index.html#GrowsTableCharging">GrowsTableCharging</a>}
 use Rattle.wasmi_machine.specs.declared.calls.Call.{Call}
 use Rattle.wasmi_machine.specs.declared.calls.Reply.{Reply}
-use Rattle.wasmi_machine.specs.State.{<a href="../../machine/StateSpecs/index.html#World">World</a>, <a href="../../machine/StateSpecs/index.html#Turn">Turn</a>, <a href="../../machine/StateSpecs/index.html#TurnOutcome">TurnOutcome</a>, <a href="../../machine/StateSpecs/index.html#outcome_of">outcome_of</a>, <a href="../../machine/StateSpecs/index.html#world">world</a>, <a href="../../machine/StateSpecs/index.html#State">State</a>, <a href="../../machine/StateSpecs/index.html#live_at">live_at</a>, <a href="../../machine/StateSpecs/index.html#with_memories">with_memories</a>, <a href="../../machine/StateSpecs/index.html#memory_part">memory_part</a>, <a href="../../machine/StateSpecs/index.html#with_memory_part">with_memory_part</a>, <a href="../../machine/StateSpecs/index.html#with_tables">with_tables</a>, <a href="../../machine/StateSpecs/index.html#with_segments">with_segments</a>, <a href="../../machine/StateSpecs/index.html#with_data_segments">with_data_segments</a>, <a href="../../machine/StateSpecs/index.html#with_globals">with_globals</a>, <a href="../../machine/StateSpecs/index.html#with_registers">with_registers</a>, <a href="../../machine/StateSpecs/index.html#byte_count">byte_count</a>}
+use Rattle.wasmi_machine.specs.State.{<a href="../../machine/StateSpecs/index.html#World">World</a>, <a href="../../machine/StateSpecs/index.html#Turn">Turn</a>, <a href="../../machine/StateSpecs/index.html#TurnOutcome">TurnOutcome</a>, <a href="../../machine/StateSpecs/index.html#outcome_of">outcome_of</a>, <a href="../../machine/StateSpecs/index.html#world">world</a>, <a href="../../machine/StateSpecs/index.html#State">State</a>, <a href="../../machine/StateSpecs/index.html#live_at">live_at</a>, <a href="../../machine/StateSpecs/index.html#with_memories">with_memories</a>, <a href="../../machine/StateSpecs/index.html#memory_part">memory_part</a>, <a href="../../machine/StateSpecs/index.html#with_tables">with_tables</a>, <a href="../../machine/StateSpecs/index.html#with_segments">with_segments</a>, <a href="../../machine/StateSpecs/index.html#with_data_segments">with_data_segments</a>, <a href="../../machine/StateSpecs/index.html#with_globals">with_globals</a>, <a href="../../machine/StateSpecs/index.html#with_registers">with_registers</a>, <a href="../../machine/StateSpecs/index.html#byte_count">byte_count</a>}
 use Rattle.wasmi_machine.specs.Effects.{<a href="../../machine/EffectsSpecs/index.html#reply_of">reply_of</a>, <a href="../../machine/EffectsSpecs/index.html#AddsItem">AddsItem</a>, <a href="../../machine/EffectsSpecs/index.html#Creates">Creates</a>, <a href="../../machine/EffectsSpecs/index.html#DropsAt">DropsAt</a>, <a href="../../machine/EffectsSpecs/index.html#ActsAt">ActsAt</a>, <a href="../../machine/EffectsSpecs/index.html#ChangesPart">ChangesPart</a>, <a href="../../machine/EffectsSpecs/index.html#OnlyReplies">OnlyReplies</a>, <a href="../../machine/EffectsSpecs/index.html#Changes">Changes</a>, <a href="../../machine/EffectsSpecs/index.html#Asks">Asks</a>, <a href="../../machine/EffectsSpecs/index.html#ActsMetered">ActsMetered</a>, <a href="../../machine/EffectsSpecs/index.html#ActsMeteredUnasked">ActsMeteredUnasked</a>, <a href="../../machine/EffectsSpecs/index.html#WritesRangeAt">WritesRangeAt</a>, <a href="../../machine/EffectsSpecs/index.html#item_bytes">item_bytes</a>}
 use Rattle.wasmi_ops.specs.LoadStoreOps.{<a href="../../ops/LoadStoreOpsSpecs/index.html#stored_bytes">stored_bytes</a>}
 use Rattle.wasmi_machine.specs.ValueEffects.{<a href="../../machine/ValueEffectsSpecs/index.html#SetsFuel">SetsFuel</a>, <a href="../../machine/ValueEffectsSpecs/index.html#get_fuel_reply">get_fuel_reply</a>, <a href="../../machine/ValueEffectsSpecs/index.html#CreatesSegment">CreatesSegment</a>, <a href="../../machine/ValueEffectsSpecs/index.html#DropsItemsAt">DropsItemsAt</a>, <a href="../../machine/ValueEffectsSpecs/index.html#DropsDataAt">DropsDataAt</a>, <a href="../../machine/ValueEffectsSpecs/index.html#SetsGlobalAt">SetsGlobalAt</a>, <a href="../../machine/ValueEffectsSpecs/index.html#global_reply">global_reply</a>}
@@ -4998,8 +4949,8 @@ abbrev pub <b id="HasEffect">HasEffect</b> : {S : Type 0} → <a href="../../met
     <a href="../../machine/EffectsSpecs/index.html#Asks">Asks</a> w outcome w&#x27; (<a href="../../machine/StepsSpecs/index.html#LacksSlot">LacksSlot</a> w.state.reserved.memories w.state.memories) (<a href="../../machine/StateSpecs/index.html#with_memories">with_memories</a> w.state)
     (<a href="../../machine/EffectsSpecs/index.html#Creates">Creates</a> reply.Memory (<a href="../../store/MemorySpecs/index.html#MakesMemory">MakesMemory</a> rules <a href="../../store/BufferSpecs/index.html#Owned">Owned</a> ty) w.state.memories)
 <a href="../../machine/StepsSpecs/index.html#HasEffect">HasEffect</a> rules (<a href="../../machine/StepsSpecs/index.html#LentMemoryMade">LentMemoryMade</a> ty) w outcome w&#x27; =
-    <a href="../../machine/EffectsSpecs/index.html#Asks">Asks</a> w outcome w&#x27; (<a href="../../machine/StepsSpecs/index.html#LacksSlot">LacksSlot</a> w.state.reserved.memories w.state.memories) (<a href="../../machine/StateSpecs/index.html#with_memory_part">with_memory_part</a> w.state)
-    (<a href="../../machine/MemoryEffectsSpecs/index.html#CreatesLent">CreatesLent</a> rules ty (<a href="../../machine/StateSpecs/index.html#memory_part">memory_part</a> w.state))
+    <a href="../../machine/EffectsSpecs/index.html#Asks">Asks</a> w outcome w&#x27; (<a href="../../machine/StepsSpecs/index.html#LacksSlot">LacksSlot</a> w.state.reserved.memories w.state.memories)
+    (λ part. record w.state { memories = part.slots; spare = part.spare }) (<a href="../../machine/MemoryEffectsSpecs/index.html#CreatesLent">CreatesLent</a> rules ty (<a href="../../machine/StateSpecs/index.html#memory_part">memory_part</a> w.state))
 <a href="../../machine/StepsSpecs/index.html#HasEffect">HasEffect</a> rules (<a href="../../machine/StepsSpecs/index.html#MemoryGrown">MemoryGrown</a> k pages) w outcome w&#x27; = <a href="../../machine/EffectsSpecs/index.html#ActsMetered">ActsMetered</a> w outcome w&#x27; w.state.memories (<a href="../../machine/StateSpecs/index.html#with_memories">with_memories</a> w.state)
     (<a href="../../machine/EffectsSpecs/index.html#ActsAt">ActsAt</a> k (<a href="../../machine/EffectsSpecs/index.html#reply_of">reply_of</a> reply.Number reply.Memory) (<a href="../../store/MemorySpecs/index.html#GrowsMemoryCharging">GrowsMemoryCharging</a> rules pages))
     (<a href="../../machine/MemoryEffectsSpecs/index.html#bytes_appended">bytes_appended</a> (<a href="../../machine/StateSpecs/index.html#live_at">live_at</a> w.state.memories k) pages)
@@ -5370,10 +5321,7 @@ abbrev pub <b id="IsLiveSlot">IsLiveSlot</b> : {X : Type 0} → Slot X → Type 
 abbrev pub <b id="IsLive">IsLive</b> : (location : <a href="../../laws/PlacesSpecs/index.html#Location">Location</a>) → <a href="../../laws/PlacesSpecs/index.html#Content">Content</a> location → Type 0
 <a href="../../laws/PlacesSpecs/index.html#IsLive">IsLive</a> (<a href="../../laws/PlacesSpecs/index.html#MemoryAt">MemoryAt</a> k) x = <a href="../../laws/PlacesSpecs/index.html#IsLiveSlot">IsLiveSlot</a> x
 <a href="../../laws/PlacesSpecs/index.html#IsLive">IsLive</a> (<a href="../../laws/PlacesSpecs/index.html#TableAt">TableAt</a> k) x = <a href="../../laws/PlacesSpecs/index.html#IsLiveSlot">IsLiveSlot</a> x
-<a href="../../laws/PlacesSpecs/index.html#IsLive">IsLive</a> (<a href="../../laws/PlacesSpecs/index.html#SegmentAt">SegmentAt</a> k) x = Unit {0}
-<a href="../../laws/PlacesSpecs/index.html#IsLive">IsLive</a> (<a href="../../laws/PlacesSpecs/index.html#DataAt">DataAt</a> k) x = Unit {0}
-<a href="../../laws/PlacesSpecs/index.html#IsLive">IsLive</a> (<a href="../../laws/PlacesSpecs/index.html#GlobalAt">GlobalAt</a> k) x = Unit {0}
-<a href="../../laws/PlacesSpecs/index.html#IsLive">IsLive</a> (<a href="../../laws/PlacesSpecs/index.html#RegisterAt">RegisterAt</a> k) x = Unit {0}
+<a href="../../laws/PlacesSpecs/index.html#IsLive">IsLive</a> location x = Unit {0}
 
 -- something is at an index, and this holds of it
 abbrev pub <b id="HasAt">HasAt</b> : (location : <a href="../../laws/PlacesSpecs/index.html#Location">Location</a>) → <a href="../../machine/StateSpecs/index.html#State">State</a> → (<a href="../../laws/PlacesSpecs/index.html#Content">Content</a> location → Type 0) → Type 0
@@ -5470,10 +5418,6 @@ module _ {S : Type 0} (rules : <a href="../../meter/LimiterSpecs/index.html#Rule
 abbrev pub <b id="with_memory_at">with_memory_at</b> : <a href="../../machine/StateSpecs/index.html#State">State</a> → ℕ → <a href="../../store/MemorySpecs/index.html#MemoryValue">MemoryValue</a> → <a href="../../machine/StateSpecs/index.html#State">State</a>
 <a href="../../laws/PlacesSpecs/index.html#with_memory_at">with_memory_at</a> s k x = <a href="../../machine/StateSpecs/index.html#with_memories">with_memories</a> s (slice_set s.memories k (Live x))
 
--- the state with this table at an index
-abbrev pub <b id="with_table_at">with_table_at</b> : <a href="../../machine/StateSpecs/index.html#State">State</a> → ℕ → <a href="../../store/TableSpecs/index.html#TableValue">TableValue</a> → <a href="../../machine/StateSpecs/index.html#State">State</a>
-<a href="../../laws/PlacesSpecs/index.html#with_table_at">with_table_at</a> s k x = <a href="../../machine/StateSpecs/index.html#with_tables">with_tables</a> s (slice_set s.tables k (Live x))
-
 -- the state with another meter, as a growth of what is at an index leaves it
 abbrev pub <b id="with_meter">with_meter</b> : <a href="../../machine/StateSpecs/index.html#State">State</a> → <a href="../../meter/MeterSpecs/index.html#Meter">Meter</a> → <a href="../../machine/StateSpecs/index.html#State">State</a>
 <a href="../../laws/PlacesSpecs/index.html#with_meter">with_meter</a> s m = record s { meter = m }
@@ -5496,7 +5440,7 @@ module _ {S : Type 0} (rules : <a href="../../meter/LimiterSpecs/index.html#Rule
       (l&#x27; : S) → <a href="../../machine/StateSpecs/index.html#live_at">live_at</a> w.state.tables k ≡ Some x
       → <a href="../../store/TableSpecs/index.html#GrowsTable">GrowsTable</a> rules n init (<a href="../../store/GrowthSpecs/index.html#metered_value">metered_value</a> x (Some w.state.meter) w.limiter) result (<a href="../../store/GrowthSpecs/index.html#metered_value">metered_value</a> x&#x27; (Some m&#x27;) l&#x27;)
       → <a href="../../machine/StepsSpecs/index.html#RepliesWith">RepliesWith</a> rules (GrowTable k n init) w (<a href="../../machine/EffectsSpecs/index.html#reply_of">reply_of</a> Number Table result)
-      (<a href="../../machine/StateSpecs/index.html#world">world</a> (<a href="../../laws/PlacesSpecs/index.html#with_meter">with_meter</a> (<a href="../../laws/PlacesSpecs/index.html#with_table_at">with_table_at</a> w.state k x&#x27;) m&#x27;) l&#x27;)
+      (<a href="../../machine/StateSpecs/index.html#world">world</a> (<a href="../../laws/PlacesSpecs/index.html#with_meter">with_meter</a> (<a href="../../machine/StateSpecs/index.html#with_tables">with_tables</a> w.state (slice_set w.state.tables k (Live x&#x27;))) m&#x27;) l&#x27;)
 
   -- bytes that are read of a memory by itself are those that the machine answers, and a read past its end is refused
   abbrev pub <b id="MemoriesReadAlike">MemoriesReadAlike</b> : Type 0
@@ -5663,7 +5607,7 @@ use Rattle.wasmi_machine.specs.Determinism.{<a href="../../machine/DeterminismSp
 use Rattle.wasmi_machine.specs.State.{<a href="../../machine/StateSpecs/index.html#State">State</a>}
 use Rattle.wasmi_machine.specs.declared.slots.SlotCounts.{SlotCounts}
 use Rattle.wasmi_laws.specs.Reserved.{<a href="../../laws/ReservedSpecs/index.html#FitsSlots">FitsSlots</a>, <a href="../../laws/ReservedSpecs/index.html#IsReservedFor">IsReservedFor</a>}
-use Rattle.wasmi_budget.specs.Laws.{<a href="../../budget/LawsSpecs/index.html#PoolTurn">PoolTurn</a>, <a href="../../budget/LawsSpecs/index.html#Added">Added</a>, <a href="../../budget/LawsSpecs/index.html#Ran">Ran</a>, <a href="../../budget/LawsSpecs/index.html#Reserved">Reserved</a>, <a href="../../budget/LawsSpecs/index.html#ReservedElements">ReservedElements</a>, <a href="../../budget/LawsSpecs/index.html#Removed">Removed</a>, <a href="../../budget/LawsSpecs/index.html#Refused">Refused</a>, <a href="../../budget/LawsSpecs/index.html#PoolRun">PoolRun</a>}
+use Rattle.wasmi_budget.specs.Laws.{<a href="../../budget/LawsSpecs/index.html#PoolTurn">PoolTurn</a>, <a href="../../budget/LawsSpecs/index.html#Ran">Ran</a>, <a href="../../budget/LawsSpecs/index.html#Reserved">Reserved</a>, <a href="../../budget/LawsSpecs/index.html#PoolRun">PoolRun</a>}
 use Rattle.wasmi_budget.specs.Pool.{<a href="../../budget/PoolSpecs/index.html#PoolValue">PoolValue</a>, <a href="../../budget/PoolSpecs/index.html#machine_of">machine_of</a>}
 
 -- what a list is of each run of the tenant of an index, one after another
@@ -5671,11 +5615,7 @@ abbrev pub <b id="of_runs">of_runs</b> : {A : Type 0} → (List Call → List Re
 <a href="../../laws/ReservedPoolsSpecs/index.html#of_runs">of_runs</a> list index [] = []
 <a href="../../laws/ReservedPoolsSpecs/index.html#of_runs">of_runs</a> list index (<a href="../../budget/LawsSpecs/index.html#Ran">Ran</a> i calls replies ∷ turns) =
     if nat_eq i index then list calls replies ++ <a href="../../laws/ReservedPoolsSpecs/index.html#of_runs">of_runs</a> list index turns else <a href="../../laws/ReservedPoolsSpecs/index.html#of_runs">of_runs</a> list index turns
-<a href="../../laws/ReservedPoolsSpecs/index.html#of_runs">of_runs</a> list index (<a href="../../budget/LawsSpecs/index.html#Added">Added</a> s ∷ turns) = <a href="../../laws/ReservedPoolsSpecs/index.html#of_runs">of_runs</a> list index turns
-<a href="../../laws/ReservedPoolsSpecs/index.html#of_runs">of_runs</a> list index (<a href="../../budget/LawsSpecs/index.html#Reserved">Reserved</a> i more ∷ turns) = <a href="../../laws/ReservedPoolsSpecs/index.html#of_runs">of_runs</a> list index turns
-<a href="../../laws/ReservedPoolsSpecs/index.html#of_runs">of_runs</a> list index (<a href="../../budget/LawsSpecs/index.html#ReservedElements">ReservedElements</a> i table elements reply ∷ turns) = <a href="../../laws/ReservedPoolsSpecs/index.html#of_runs">of_runs</a> list index turns
-<a href="../../laws/ReservedPoolsSpecs/index.html#of_runs">of_runs</a> list index (<a href="../../budget/LawsSpecs/index.html#Removed">Removed</a> i s ∷ turns) = <a href="../../laws/ReservedPoolsSpecs/index.html#of_runs">of_runs</a> list index turns
-<a href="../../laws/ReservedPoolsSpecs/index.html#of_runs">of_runs</a> list index (<a href="../../budget/LawsSpecs/index.html#Refused">Refused</a> ∷ turns) = <a href="../../laws/ReservedPoolsSpecs/index.html#of_runs">of_runs</a> list index turns
+<a href="../../laws/ReservedPoolsSpecs/index.html#of_runs">of_runs</a> list index (turn ∷ turns) = <a href="../../laws/ReservedPoolsSpecs/index.html#of_runs">of_runs</a> list index turns
 
 -- the calls of all runs of the tenant of an index, one after another
 abbrev pub <b id="calls_of">calls_of</b> : ℕ → List <a href="../../budget/LawsSpecs/index.html#PoolTurn">PoolTurn</a> → List Call
@@ -5940,15 +5880,13 @@ abbrev pub <b id="PermittingRun">PermittingRun</b> : ℕ → <a href="../../budg
 -- the runs and reservations of the tenant of an index, as those of the only tenant
 abbrev pub <b id="own_turns">own_turns</b> : ℕ → List <a href="../../budget/LawsSpecs/index.html#PoolTurn">PoolTurn</a> → List <a href="../../budget/LawsSpecs/index.html#PoolTurn">PoolTurn</a>
 <a href="../../budget/LawsSpecs/index.html#own_turns">own_turns</a> index [] = []
-<a href="../../budget/LawsSpecs/index.html#own_turns">own_turns</a> index (<a href="../../budget/LawsSpecs/index.html#Added">Added</a> s ∷ turns) = <a href="../../budget/LawsSpecs/index.html#own_turns">own_turns</a> index turns
 <a href="../../budget/LawsSpecs/index.html#own_turns">own_turns</a> index (<a href="../../budget/LawsSpecs/index.html#Ran">Ran</a> i calls replies ∷ turns) =
     if nat_eq i index then <a href="../../budget/LawsSpecs/index.html#Ran">Ran</a> 0 calls replies ∷ <a href="../../budget/LawsSpecs/index.html#own_turns">own_turns</a> index turns else <a href="../../budget/LawsSpecs/index.html#own_turns">own_turns</a> index turns
 <a href="../../budget/LawsSpecs/index.html#own_turns">own_turns</a> index (<a href="../../budget/LawsSpecs/index.html#Reserved">Reserved</a> i more ∷ turns) =
     if nat_eq i index then <a href="../../budget/LawsSpecs/index.html#Reserved">Reserved</a> 0 more ∷ <a href="../../budget/LawsSpecs/index.html#own_turns">own_turns</a> index turns else <a href="../../budget/LawsSpecs/index.html#own_turns">own_turns</a> index turns
 <a href="../../budget/LawsSpecs/index.html#own_turns">own_turns</a> index (<a href="../../budget/LawsSpecs/index.html#ReservedElements">ReservedElements</a> i table elements reply ∷ turns) =
     if nat_eq i index then <a href="../../budget/LawsSpecs/index.html#ReservedElements">ReservedElements</a> 0 table elements reply ∷ <a href="../../budget/LawsSpecs/index.html#own_turns">own_turns</a> index turns else <a href="../../budget/LawsSpecs/index.html#own_turns">own_turns</a> index turns
-<a href="../../budget/LawsSpecs/index.html#own_turns">own_turns</a> index (<a href="../../budget/LawsSpecs/index.html#Removed">Removed</a> i s ∷ turns) = <a href="../../budget/LawsSpecs/index.html#own_turns">own_turns</a> index turns
-<a href="../../budget/LawsSpecs/index.html#own_turns">own_turns</a> index (<a href="../../budget/LawsSpecs/index.html#Refused">Refused</a> ∷ turns) = <a href="../../budget/LawsSpecs/index.html#own_turns">own_turns</a> index turns
+<a href="../../budget/LawsSpecs/index.html#own_turns">own_turns</a> index (turn ∷ turns) = <a href="../../budget/LawsSpecs/index.html#own_turns">own_turns</a> index turns
 
 -- after all calls the caps are the same, and all machines together are within them
 abbrev pub <b id="CapsHold">CapsHold</b> : Type 0
@@ -7295,19 +7233,11 @@ abbrev pub <b id="IsReadError">IsReadError</b> : Option (List ℕ) → Type 0 �
 abbrev pub <b id="replies_text">replies_text</b> : List Call → List Reply → List ℕ
 <a href="../../script/OutcomesSpecs/index.html#replies_text">replies_text</a> calls replies = flat_map (λ turn. <a href="../../script/PrintingSpecs/index.html#line">line</a> (<a href="../../script/TextsSpecs/index.html#reply_text">reply_text</a> turn.0 turn.1)) (zip calls replies)
 
--- what a quota holds
-abbrev pub <b id="amounts_text">amounts_text</b> : ℕ → ℕ → List ℕ
-<a href="../../script/OutcomesSpecs/index.html#amounts_text">amounts_text</a> bytes elements = codes "held " ++ (decimal bytes ++ (codes " " ++ decimal elements))
-
--- what the tenant of an index holds
-abbrev pub <b id="tenant_text">tenant_text</b> : ℕ → <a href="../../machine/StateSpecs/index.html#State">State</a> → List ℕ
-<a href="../../script/OutcomesSpecs/index.html#tenant_text">tenant_text</a> index machine =
-    codes "held " ++
-    (decimal index ++ (codes " " ++ (decimal (<a href="../../machine/StateSpecs/index.html#total">total</a> machine Bytes) ++ (codes " " ++ decimal (<a href="../../machine/StateSpecs/index.html#total">total</a> machine Elements)))))
-
 -- the line of a tenant; none where it was removed
 abbrev pub <b id="tenant_line">tenant_line</b> : ℕ → Option <a href="../../machine/StateSpecs/index.html#State">State</a> → List ℕ
-<a href="../../script/OutcomesSpecs/index.html#tenant_line">tenant_line</a> index (Some machine) = <a href="../../script/PrintingSpecs/index.html#line">line</a> (<a href="../../script/OutcomesSpecs/index.html#tenant_text">tenant_text</a> index machine)
+<a href="../../script/OutcomesSpecs/index.html#tenant_line">tenant_line</a> index (Some machine) =
+    <a href="../../script/PrintingSpecs/index.html#line">line</a> (codes "held " ++ (decimal index
+    ++ (codes " " ++ (decimal (<a href="../../machine/StateSpecs/index.html#total">total</a> machine Bytes) ++ (codes " " ++ decimal (<a href="../../machine/StateSpecs/index.html#total">total</a> machine Elements))))))
 <a href="../../script/OutcomesSpecs/index.html#tenant_line">tenant_line</a> index None = []
 
 -- a line for each tenant
@@ -7317,7 +7247,7 @@ abbrev pub <b id="tenants_text">tenants_text</b> : List (Option <a href="../../m
 -- what is held after a run
 abbrev pub <b id="held_text">held_text</b> : Held → List ℕ
 <a href="../../script/OutcomesSpecs/index.html#held_text">held_text</a> <a href="../../machine/ExchangeSpecs/index.html#Nothing">Nothing</a> = []
-<a href="../../script/OutcomesSpecs/index.html#held_text">held_text</a> (Quota held) = <a href="../../script/PrintingSpecs/index.html#line">line</a> (<a href="../../script/OutcomesSpecs/index.html#amounts_text">amounts_text</a> held.bytes held.elements)
+<a href="../../script/OutcomesSpecs/index.html#held_text">held_text</a> (Quota held) = <a href="../../script/PrintingSpecs/index.html#line">line</a> (codes "held " ++ (decimal held.bytes ++ (codes " " ++ decimal held.elements)))
 <a href="../../script/OutcomesSpecs/index.html#held_text">held_text</a> (Tenants pool) = <a href="../../script/OutcomesSpecs/index.html#tenants_text">tenants_text</a> pool.machines
 
 -- a script with its replies, or why it isn&#x27;t run
@@ -7404,11 +7334,6 @@ abbrev pub <b id="PrintsText">PrintsText</b> : {W E : Type 0} → (W → Option 
 <a href="../../script/PrintingSpecs/index.html#PrintsText">PrintsText</a> contents text old result new =
     OnOk result (<a href="../../script/PrintingSpecs/index.html#Prints">Prints</a> contents old new text) × OnErr result (<a href="../../script/PrintingSpecs/index.html#PrintsFront">PrintsFront</a> contents old new text)
 
--- a text is out: the writer gets what waits and the text
-pub record <b id="PrintsOut">PrintsOut</b> {W : Type 0} (contents : W → Option (List ℕ)) (old new : Printer W) (text : List ℕ) : Type 0 where
-  pub <b id="writer">writer</b> : new.writer.ghost_name ≡ old.writer.ghost_name
-  pub <b id="sent">sent</b> : Appends (contents old.writer.now) (contents new.writer.now) (old.chunk.bytes ++ text)
-
 -- what waits is out
 pub record <b id="Sends">Sends</b> {W : Type 0} (contents : W → Option (List ℕ)) (old new : Printer W) : Type 0 where
   pub <b id="writer">writer</b> : new.writer.ghost_name ≡ old.writer.ghost_name
@@ -7452,7 +7377,6 @@ use Rattle.wasmi_meter.specs.Limiter.{<a href="../../meter/LimiterSpecs/index.ht
 use Rattle.wasmi_meter.specs.declared.limiter.NoLimits.{NoLimits}
 use Rattle.wasmi_meter.specs.declared.quota.Quota.{Quota}
 use Rattle.wasmi_meter.specs.declared.limiter.Kind.TheVariants.{Bytes, Elements}
-use Rattle.wasmi_meter.specs.declared.quota.Holdings.{Holdings}
 use Rattle.wasmi_meter.specs.declared.quota.Amounts.{Amounts}
 use Rattle.wasmi_meter.specs.Capped.{<a href="../../script/ScriptRunsSpecs/index.html#nothing">nothing</a>, <a href="../../meter/CappedSpecs/index.html#quota_rules">quota_rules</a>, <a href="../../meter/CappedSpecs/index.html#cap_of">cap_of</a>, <a href="../../meter/CappedSpecs/index.html#holdings">holdings</a>}
 use Rattle.wasmi_machine.specs.declared.calls.Call.{Call}
@@ -7475,15 +7399,11 @@ use Rattle.wasmi_meter.specs.declared.answer_list.LimiterAnswer.{LimiterAnswer}
 use Rattle.wasmi_meter.specs.AnswerList.{<a href="../../meter/AnswerListSpecs/index.html#AnswersAhead">AnswersAhead</a>, <a href="../../meter/AnswerListSpecs/index.html#answer_list_rules">answer_list_rules</a>, <a href="../../meter/AnswerListSpecs/index.html#new_answers">new_answers</a>}
 use Rattle.wasmi_grammar.specs.Headers.{<a href="../../grammar/HeadersSpecs/index.html#start_of">start_of</a>, <a href="../../grammar/HeadersSpecs/index.html#tenant_start">tenant_start</a>}
 
--- what a limiter holds that has permitted nothing yet
-abbrev pub <b id="nothing_held">nothing_held</b> : Holdings
-<a href="../../script/ScriptRunsSpecs/index.html#nothing_held">nothing_held</a> = record { held = <a href="../../script/ScriptRunsSpecs/index.html#nothing">nothing</a>; last = None }
-
 -- a quota of these caps that holds nothing yet
 pub record <b id="IsNewQuota">IsNewQuota</b> (caps : Amounts) (quota : Quota) : Type 0 where
   pub <b id="bytes">bytes</b> : <a href="../../meter/CappedSpecs/index.html#cap_of">cap_of</a> quota Bytes ≡ caps.bytes
   pub <b id="elements">elements</b> : <a href="../../meter/CappedSpecs/index.html#cap_of">cap_of</a> quota Elements ≡ caps.elements
-  pub <b id="nothing">nothing</b> : <a href="../../meter/CappedSpecs/index.html#holdings">holdings</a> quota ≡ <a href="../../script/ScriptRunsSpecs/index.html#nothing_held">nothing_held</a>
+  pub <b id="nothing">nothing</b> : <a href="../../meter/CappedSpecs/index.html#holdings">holdings</a> quota ≡ record { held = <a href="../../script/ScriptRunsSpecs/index.html#nothing">nothing</a>; last = None }
 
 -- The replies, with what is held, are those of a run of the calls from a machine, under a limiter that has these
 -- answers.
@@ -7492,24 +7412,21 @@ abbrev pub <b id="IsListedReplay">IsListedReplay</b> : List LimiterAnswer → <a
     × <a href="../../machine/StepsSpecs/index.html#IsRunOf">IsRunOf</a> (<a href="../../meter/LimiterSpecs/index.html#optional_rules">optional_rules</a> <a href="../../meter/AnswerListSpecs/index.html#answer_list_rules">answer_list_rules</a>) calls
     (record { state = start; limiter = Some (<a href="../../meter/AnswerListSpecs/index.html#new_answers">new_answers</a> answers) }) replies after
 
--- The replies are those of a run of the calls from a machine, without a limiter or under the one that a line asks for.
--- What is held is what a quota then holds, which is all that the machine has.
-abbrev pub <b id="IsReplayUnder">IsReplayUnder</b> : Option LimiterLine → <a href="../../machine/StateSpecs/index.html#State">State</a> → List Call → List Reply → Held → Type 0
-<a href="../../script/ScriptRunsSpecs/index.html#IsReplayUnder">IsReplayUnder</a> None start calls replies held = (held ≡ <a href="../../machine/ExchangeSpecs/index.html#Nothing">Nothing</a>) × (after : <a href="../../machine/StateSpecs/index.html#World">World</a> (Option NoLimits))
-    × <a href="../../machine/StepsSpecs/index.html#IsRunOf">IsRunOf</a> (<a href="../../meter/LimiterSpecs/index.html#optional_rules">optional_rules</a> <a href="../../meter/LimiterSpecs/index.html#unlimited_rules">unlimited_rules</a>) calls (record { state = start; limiter = None }) replies after
-<a href="../../script/ScriptRunsSpecs/index.html#IsReplayUnder">IsReplayUnder</a> (Some (Lines.Quota caps)) start calls replies held =
-    (quota : Quota) × <a href="../../script/ScriptRunsSpecs/index.html#IsNewQuota">IsNewQuota</a> caps quota × (end : <a href="../../machine/StateSpecs/index.html#State">State</a>) × (after : Quota)
-    × <a href="../../machine/StepsSpecs/index.html#IsRunOf">IsRunOf</a> (<a href="../../meter/LimiterSpecs/index.html#optional_rules">optional_rules</a> <a href="../../meter/CappedSpecs/index.html#quota_rules">quota_rules</a>) calls (record { state = start; limiter = Some quota }) replies
-    (record { state = end; limiter = Some after })
-    × <a href="../../machine/StateSpecs/index.html#HoldsTotals">HoldsTotals</a> (<a href="../../meter/CappedSpecs/index.html#holdings">holdings</a> after) end × (held ≡ Holding.Quota (<a href="../../meter/CappedSpecs/index.html#holdings">holdings</a> after).held)
-<a href="../../script/ScriptRunsSpecs/index.html#IsReplayUnder">IsReplayUnder</a> (Some (Lines.Answers answers)) start calls replies held =
-    <a href="../../script/ScriptRunsSpecs/index.html#IsListedReplay">IsListedReplay</a> answers.items start calls replies held
-<a href="../../script/ScriptRunsSpecs/index.html#IsReplayUnder">IsReplayUnder</a> (Some (Lines.Tenants line)) start calls replies held = ⊥
-
--- the replies are those of a run of the calls on a new machine with the meter, the reserved slots and the region of these
--- header lines
+-- The replies are those of a run of the calls on a new machine with the meter, the reserved slots and the region of
+-- these header lines, without a limiter or under the one that a line asks for. What is held is what a quota then holds,
+-- which is all that the machine has.
 abbrev pub <b id="IsReplayOnOne">IsReplayOnOne</b> : Option LimiterLine → Header → List Call → <a href="../../budget/LawsSpecs/index.html#Ran">Ran</a> → Type 0
-<a href="../../script/ScriptRunsSpecs/index.html#IsReplayOnOne">IsReplayOnOne</a> limiter header calls ran = <a href="../../script/ScriptRunsSpecs/index.html#IsReplayUnder">IsReplayUnder</a> limiter (<a href="../../grammar/HeadersSpecs/index.html#start_of">start_of</a> header) calls ran.replies.items ran.held
+<a href="../../script/ScriptRunsSpecs/index.html#IsReplayOnOne">IsReplayOnOne</a> None header calls ran = (ran.held ≡ <a href="../../machine/ExchangeSpecs/index.html#Nothing">Nothing</a>) × (after : <a href="../../machine/StateSpecs/index.html#World">World</a> (Option NoLimits))
+    × <a href="../../machine/StepsSpecs/index.html#IsRunOf">IsRunOf</a> (<a href="../../meter/LimiterSpecs/index.html#optional_rules">optional_rules</a> <a href="../../meter/LimiterSpecs/index.html#unlimited_rules">unlimited_rules</a>) calls (record { state = <a href="../../grammar/HeadersSpecs/index.html#start_of">start_of</a> header; limiter = None })
+    ran.replies.items after
+<a href="../../script/ScriptRunsSpecs/index.html#IsReplayOnOne">IsReplayOnOne</a> (Some (Lines.Quota caps)) header calls ran =
+    (quota : Quota) × <a href="../../script/ScriptRunsSpecs/index.html#IsNewQuota">IsNewQuota</a> caps quota × (end : <a href="../../machine/StateSpecs/index.html#State">State</a>) × (after : Quota)
+    × <a href="../../machine/StepsSpecs/index.html#IsRunOf">IsRunOf</a> (<a href="../../meter/LimiterSpecs/index.html#optional_rules">optional_rules</a> <a href="../../meter/CappedSpecs/index.html#quota_rules">quota_rules</a>) calls (record { state = <a href="../../grammar/HeadersSpecs/index.html#start_of">start_of</a> header; limiter = Some quota })
+    ran.replies.items (record { state = end; limiter = Some after })
+    × <a href="../../machine/StateSpecs/index.html#HoldsTotals">HoldsTotals</a> (<a href="../../meter/CappedSpecs/index.html#holdings">holdings</a> after) end × (ran.held ≡ Holding.Quota (<a href="../../meter/CappedSpecs/index.html#holdings">holdings</a> after).held)
+<a href="../../script/ScriptRunsSpecs/index.html#IsReplayOnOne">IsReplayOnOne</a> (Some (Lines.Answers answers)) header calls ran =
+    <a href="../../script/ScriptRunsSpecs/index.html#IsListedReplay">IsListedReplay</a> answers.items (<a href="../../grammar/HeadersSpecs/index.html#start_of">start_of</a> header) calls ran.replies.items ran.held
+<a href="../../script/ScriptRunsSpecs/index.html#IsReplayOnOne">IsReplayOnOne</a> (Some (Lines.Tenants line)) header calls ran = ⊥
 
 -- a pool of new machines, as many as a line says, under its caps
 abbrev pub <b id="new_pool">new_pool</b> : TenantsLine → <a href="../../machine/StateSpecs/index.html#State">State</a> → <a href="../../budget/PoolSpecs/index.html#PoolValue">PoolValue</a>

@@ -199,8 +199,7 @@ mod global {
         ///
         /// # Errors
         ///
-        /// In the order of the tests: [`ImmutableWrite`](crate::GlobalError::ImmutableWrite) if the variable is a constant; [`TypeMismatch`](crate::GlobalError::TypeMismatch) if
-        /// the value is of another type.
+        /// In the order of the tests: [`ImmutableWrite`](crate::GlobalError::ImmutableWrite) if the variable is a constant; [`TypeMismatch`](crate::GlobalError::TypeMismatch) if the value is of another type.
         ///
         /// # Contract
         ///

@@ -126,9 +126,8 @@ mod func_type {
         /// ```text
         /// requires params: P.can_next params.old
         /// requires results: AfterAll P.next_gives params.old (R.can_next results.old)
-        /// ensures reading: IsReading P.next_gives R.next_gives params.old results.old result
-        ///     params.new
-        ///     results.new
+        /// ensures reading: IsReading
+        ///     P.next_gives R.next_gives params.old results.old result params.new results.new
         /// ```
         ///
         /// Definitions: [`AfterAll`](crate::specs::types::ReadingSpecs#AfterAll), [`IsReading`](crate::specs::types::ReadingSpecs#IsReading).

@@ -821,7 +821,6 @@ pub mod simd {
         u32::vector_of(items.shuffle(u32x4::splat(0), [0, 1, 4, 5]))
     }
 
-    // The instructions `extend_low_*_s`, for each lane type.
     /// # Contract
     ///
     /// ```text
@@ -836,7 +835,6 @@ pub mod simd {
         T::Wide::vector_of(T::low_signed(v))
     }
 
-    // The instructions `extend_low_*_u`, for each lane type.
     /// # Contract
     ///
     /// ```text
@@ -851,7 +849,6 @@ pub mod simd {
         T::Wide::vector_of(T::low(v))
     }
 
-    // The instructions `extend_high_*_s`, for each lane type.
     /// # Contract
     ///
     /// ```text
@@ -866,7 +863,6 @@ pub mod simd {
         T::Wide::vector_of(T::high_signed(v))
     }
 
-    // The instructions `extend_high_*_u`, for each lane type.
     /// # Contract
     ///
     /// ```text
@@ -1238,7 +1234,6 @@ pub mod simd {
         dots::<u8>(lhs, rhs)
     }
 
-    // The instructions `extmul_low_*_s`, for each lane type.
     /// # Contract
     ///
     /// ```text
@@ -1253,7 +1248,6 @@ pub mod simd {
         T::Wide::vector_of(T::products(T::low_signed(lhs), T::low_signed(rhs)))
     }
 
-    // The instructions `extmul_low_*_u`, for each lane type.
     /// # Contract
     ///
     /// ```text
@@ -1268,7 +1262,6 @@ pub mod simd {
         T::Wide::vector_of(T::products(T::low(lhs), T::low(rhs)))
     }
 
-    // The instructions `extmul_high_*_s`, for each lane type.
     /// # Contract
     ///
     /// ```text
@@ -1283,7 +1276,6 @@ pub mod simd {
         T::Wide::vector_of(T::products(T::high_signed(lhs), T::high_signed(rhs)))
     }
 
-    // The instructions `extmul_high_*_u`, for each lane type.
     /// # Contract
     ///
     /// ```text
@@ -1298,7 +1290,6 @@ pub mod simd {
         T::Wide::vector_of(T::products(T::high(lhs), T::high(rhs)))
     }
 
-    // The instructions `extadd_pairwise_*_s`, for each lane type.
     /// # Contract
     ///
     /// ```text
@@ -1313,7 +1304,6 @@ pub mod simd {
         T::Wide::vector_of(T::sums(T::even_signed(v), T::odd_signed(v)))
     }
 
-    // The instructions `extadd_pairwise_*_u`, for each lane type.
     /// # Contract
     ///
     /// ```text
@@ -1335,7 +1325,6 @@ pub mod simd {
         T::Wide::vector_of(T::sums(T::even(v), T::odd(v)))
     }
 
-    // The instructions `dot_*_s`, for each lane type.
     /// # Contract
     ///
     /// ```text
@@ -1698,7 +1687,6 @@ pub mod simd {
         (low >> 63) as u32 | (((high >> 63) as u32) << 1)
     }
 
-    // The instructions `all_true`, for each lane type.
     /// # Contract
     ///
     /// ```text

@@ -3183,8 +3183,8 @@ pub mod machine {
     }
 }
 pub mod memory {
-    //! The calls on memories whose bytes are the first of a region that lies with C. `number` is set to
-    //! the fuel that is needed where less is left.
+    //! How a memory whose bytes are the first of a region that lies with C is made, grows, is read and is
+    //! written. `number` is set to the fuel that is needed where less is left.
 
     use crate::generated::c::host::{HostAnswers, Question};
     use crate::generated::c::numbers::{
@@ -5215,8 +5215,8 @@ pub mod status {
     }
 }
 pub mod table {
-    //! The calls on tables whose elements are the first of a region of references that lies with C.
-    //! `number` is set to the fuel that is needed where less is left.
+    //! How a table whose elements are the first of a region of references that lies with C is made,
+    //! grows, is read and is written. `number` is set to the fuel that is needed where less is left.
 
     use crate::generated::c::host::{HostAnswers, Question};
     use crate::generated::c::numbers::{

@@ -1,9 +1,7 @@
-use Rattle.std.proofs.Common.{inr}
 use Rattle.wasmi_c.specs.MemoryCalls.{by_pages, of_memory}
 use Rattle.wasmi_c.proofs.PlacementLemmas.{by_quota}
 use Rattle.wasmi_c.proofs.memory.grow.Goals as goal
 
 pub returns-clause-grown : goal.returns-clause-grown
 returns-clause-grown c =
-    let grown = by_quota of_memory (by_pages c.args.pages) c.in-Some.ty _ _ c.grow_under.ensures.grown in
-    inr (c.in-Some.ty, c.in-Some.ensures, grown)
+    by_quota of_memory (by_pages c.args.pages) c.in-Some.ty _ _ c.in-Some.ensures c.grow_under.ensures.grown

@@ -1,7 +1,7 @@
-use Rattle.std.proofs.Common.{◌≡◌, Some, None, ◌++◌, refl, arith}
+use Rattle.std.proofs.Common.{◌≡◌, Some, None, ◌++◌, refl, arith, add-one}
 use Rattle.wasmi_meter.specs.Limiter.{optional_rules}
 use Rattle.wasmi_core.specs.State.{world}
-use Rattle.wasmi_example_callers.proofs.InterpreterLemmas.{reaches_more, execution, execution_run}
+use Rattle.wasmi_example_callers.proofs.InterpreterLemmas.{execution, execution_run}
 use Rattle.wasmi_example_callers.proofs.interpreter.execute.Goals as goal
 
 pub returns-in-Err-clause-executed : goal.returns-in-Err-clause-executed
@@ -18,7 +18,6 @@ returns-in-Err-clause-executed g c =
     )
 
 pub returns-in-Err-clause-run : goal.returns-in-Err-clause-run
-unfolding returns-in-Err-clause-executed
 returns-in-Err-clause-run g c =
     execution_run (optional_rules g.L.ResourceLimiter.rules) c.runs_join.ensures.turns c.charges_are_spent.ensures
     c.fuel_bounds_writing.ensures c.args.program.now (world c.args.machine.now (Some c.args.limiter.now)) _
@@ -39,7 +38,6 @@ returns-clause-executed g c =
     )
 
 pub returns-clause-run : goal.returns-clause-run
-unfolding returns-clause-executed
 returns-clause-run g c =
     execution_run (optional_rules g.L.ResourceLimiter.rules) c.runs_join.ensures.turns c.charges_are_spent.ensures
     c.fuel_bounds_writing.ensures c.args.program.now (world c.args.machine.now (Some c.args.limiter.now)) _
@@ -48,9 +46,13 @@ returns-clause-run g c =
 pub loop-executed-preserved : goal.loop-executed-preserved
 loop-executed-preserved g c = (
   c.loop-executed.invariant.0 ++ c.in-Ok.ensures.0,
-  reaches_more (optional_rules g.L.ResourceLimiter.rules) c.args.program.now
-      (world c.args.machine.now (Some c.args.limiter.now)) c.loop-executed.executed c.loop-executed.place
-      c.loop-executed.invariant.0 (world c.loop-executed.machine (Some c.loop-executed.limiter))
-      c.loop-executed.invariant.1 c.in-Ok.ensures.0 c.in-Ok.next
-      (world c.step.new.machine (Some c.step.new.limiter)) c.in-Ok.ensures.1,
+  rw (add-one c.loop-executed.executed) (
+    c.loop-executed.place,
+    c.loop-executed.invariant.0,
+    world c.loop-executed.machine (Some c.loop-executed.limiter),
+    c.loop-executed.invariant.1,
+    c.in-Ok.ensures.0,
+    c.in-Ok.ensures.1,
+    refl,
+  ),
 )

@@ -8,7 +8,6 @@ swizzle c = indices_may_index (indices_are c.args.indices) c.requires.inside
 
 pub returns : goal.returns
 returns c = record {
-  lanes = λ i inside.
-      picked_inside_at (indices_are c.args.indices) c.requires.inside c.bytes_of.result i inside
+  lanes = λ i inside. picked_inside_at (indices_are c.args.indices) c.requires.inside c.bytes_of.result i inside
       ∙ c.bytes_of.ensures.lanes (lane w8 c.args.indices i) (c.requires.inside i inside);
 }

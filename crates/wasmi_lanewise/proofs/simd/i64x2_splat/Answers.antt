@@ -1,13 +1,7 @@
-use Rattle.std.proofs.Common.{ℕ, zero, suc, ◌≡◌, ◌+◌, ◌*◌, ◌%◌, ◌<◌, ◌^◌, ◌∷◌, [], ◌∙◌, refl, ap, arith, rules, length, mod-eq_of_lt}
-use Rattle.wasmi_lanewise.proofs.Common.{number_l, ints, to_z-of_z, w32, w64, wrap, lane, splat_of, number_of_digits, lanes_make_vector}
+use Rattle.std.proofs.Common.{ℕ, ◌≡◌, ◌+◌, ◌*◌, ◌%◌, ◌<◌, ◌^◌, ◌∷◌, [], ◌∙◌, ap, arith, rules, length}
+use Rattle.wasmi_lanewise.proofs.Common.{number_l, ints, to_z-of_z, w32, w64, wrap, lane, splat_of, number_of_digits, first_lanes}
 use Rattle.std.proofs.lemmas.List.{get_or_append_left}
 use Rattle.wasmi_lanewise.proofs.simd.i64x2_splat.Goals as goal
-
--- both words of a vector with n in each
-word_of_both : (n i : ℕ) → n < 2 ^ 64 → i < 2 → lane w64 (n + 2 ^ 64 * n) i ≡ n
-word_of_both n zero below inside = omega arith
-word_of_both n (suc zero) below inside = omega arith
-word_of_both n (suc (suc i)) below inside = absurd (omega arith)
 
 -- the number of the two lower lanes of v, twice
 number_of_both : (v n x y : ℕ) → v ≡ n → n < 2 ^ 64 → x ≡ lane w32 v 0 → y ≡ lane w32 v 1
@@ -15,13 +9,13 @@ number_of_both : (v n x y : ℕ) → v ≡ n → n < 2 ^ 64 → x ≡ lane w32 v
 number_of_both v n x y is below is_x is_y = omega arith
 
 pub returns : goal.returns
-unfolding splat_of
+unfolding splat_of first_lanes
 returns c =
     let n = c.cast_unsigned.result in
     let both : ℕ = n + 2 ^ 64 * n in
     let same : n ≡ wrap w64 c.args.item = search (arith, ints, to_z-of_z, c.cast_unsigned.ensures) in
     let is : c.from_word_pair.result ≡ n = omega arith in
-    let small : both < 2 ^ 128 = omega arith in
+    let both_is : both % 2 ^ 128 ≡ splat_of w64 n = omega arith in
     let items = c.lanes_of-items.result in
     let long : length items ≡ 4 = search rules in
     let first = get_or_append_left items items 0 0 (omega arith) ∙ c.lanes_of-items.ensures.lanes 0 (omega arith) in
@@ -29,6 +23,5 @@ returns c =
     c.from_bytes.ensures.number
     ∙ number_of_digits 8 16 _
     ∙ ap (λ k. k % 2 ^ 128) (number_of_both c.from_word_pair.result n _ _ is (omega arith) first second)
-    ∙ mod-eq_of_lt small
-    ∙ lanes_make_vector w64 2 both (λ _. n) refl small (λ i inside. word_of_both n i (omega arith) inside)
+    ∙ both_is
     ∙ ap (splat_of w64) same

@@ -1,6 +1,6 @@
-use Rattle.std.proofs.Common.{◌-◌, ◌%◌, ◌<◌, ◌≡◌, ◌∙◌, refl, ap, slice_index, nat_lt, if◌then◌else◌, arith, rules, w8}
+use Rattle.std.proofs.Common.{◌-◌, ◌%◌, ◌<◌, ◌≡◌, ◌∙◌, refl, ap, slice_index, nat_lt, if◌then◌else◌, arith, rules, w8, mod-eq_of_lt}
 use Rattle.wasmi_lanewise.proofs.Common.{lane, lanes_make_vector}
-use Rattle.wasmi_lanewise.proofs.ChosenLemmas.{chosen_at, first_or_other}
+use Rattle.wasmi_lanewise.proofs.ChosenLemmas.{chosen_at, chosen_same}
 use Rattle.wasmi_lanewise.proofs.simd.i8x16_shuffle.Goals as goal
 
 pub returns : goal.returns
@@ -12,8 +12,10 @@ returns c =
     c.from_bytes.ensures.lanes i inside
     ∙ chosen_at c.bytes_of_indices-indices.result (search rules) c.picked-low.result c.picked-high.result i
     (search rules) (search rules) inside
-    ∙ first_or_other (index i) _ _ (lane w8 c.args.b (index i - 16)) (lane w8 c.args.a)
-    (c.picked-low.ensures.lanes i inside ∙ c.bytes_of.ensures.lanes (index i % 16) (omega arith))
+    ∙ chosen_same (index i)
+    (λ below.
+    c.picked-low.ensures.lanes i inside ∙ c.bytes_of.ensures.lanes (index i % 16) (omega arith)
+    ∙ ap (lane w8 c.args.a) (mod-eq_of_lt below))
     (λ above.
     let same : index i % 16 ≡ index i - 16 = omega arith in
     c.picked-high.ensures.lanes i inside ∙ c.bytes_of-2.ensures.lanes (index i % 16) (omega arith)

@@ -1,9 +1,7 @@
 use Rattle.std.proofs.Common.{◌-◌, ◌/◌, ◌%◌, ◌^◌, refl, arith}
-use Rattle.wasmi_lanewise.proofs.WordLemmas.{inverted_is}
 use Rattle.wasmi_lanewise.proofs.simd.v128_not.Goals as goal
 
 pub returns : goal.returns
 returns c =
     let v = c.args.v in
-    inverted_is v _ (omega arith)
-    (c.from_u64x2.ensures (2 ^ 64 - 1 - v % 2 ^ 64) (2 ^ 64 - 1 - v / 2 ^ 64) (rw c.u64x2_of.ensures refl))
+    omega (arith, c.from_u64x2.ensures (2 ^ 64 - 1 - v % 2 ^ 64) (2 ^ 64 - 1 - v / 2 ^ 64) (rw c.u64x2_of.ensures refl))

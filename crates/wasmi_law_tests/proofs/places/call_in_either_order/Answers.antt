@@ -1,5 +1,5 @@
-use Rattle.std.proofs.Common.{Some, [], refl, ◌∷◌, ◌≢◌}
-use Rattle.wasmi_law_tests.proofs.Common.{All-nil, same_Some, world, IsIndependent, LeavesAlone, MemoryAt, NumberStore, store_call}
+use Rattle.std.proofs.Common.{[], refl, ◌∷◌, ◌≢◌}
+use Rattle.wasmi_law_tests.proofs.Common.{All-nil, same_Some, IsIndependent, LeavesAlone, MemoryAt, NumberStore, store_call}
 use Rattle.wasmi_law_tests.proofs.RunsLemmas.{turn_with}
 use Rattle.wasmi_law_tests.proofs.places.call_in_either_order.Goals as goal
 
@@ -30,17 +30,5 @@ stores_apart it other differ = record {
 
 pub returns-clause-stores : goal.returns-clause-stores
 returns-clause-stores g c =
-    λ it that is is_that differ.
-    let t = world c.args.machine.now (Some c.args.limiter.now) in
-    let u = world c.step_lending-reply.new.self (Some c.step_lending-reply.new.limiter) in
-    let v = world c.step_lending-other_reply.new.self (Some c.step_lending-other_reply.new.limiter) in
-    let first = rw is at c.step_lending-reply.ensures.step in
-    let second = rw is_that at c.step_lending-other_reply.ensures.step in
-    let turn = turn_with (store_call it) c.step_lending-reply.result first.0 first.1 in
-    let other = turn_with (store_call that) c.step_lending-other_reply.result second.0 second.1 in (
-      other ∷ turn ∷ [],
-      refl,
-      refl,
-      c.independent_calls_commute.ensures t turn other v tt tt (stores_apart it that differ)
-          (u, first.2, (v, second.2, refl)),
-    )
+    λ it that is is_that differ. rw (is, is_that) at
+    (returns-clause-independent g c (rw is tt) (rw is_that tt) (rw (is, is_that) (stores_apart it that differ)))

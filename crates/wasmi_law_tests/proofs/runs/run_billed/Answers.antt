@@ -1,7 +1,5 @@
-use Rattle.std.proofs.Common.{◌≡◌, ◌≤◌, arith, is_some, refl}
-use Rattle.wasmi_law_tests.proofs.RunsLemmas.{if_ok_too, holds_after}
-use Rattle.wasmi_meter.specs.Limiter.{optional_rules}
-use Rattle.wasmi_meter.specs.Meter.{amount_left}
+use Rattle.std.proofs.Common.{arith}
+use Rattle.wasmi_law_tests.proofs.RunsLemmas.{if_ok_too, by_result}
 use Rattle.wasmi_law_tests.proofs.runs.run_billed.Goals as goal
 
 pub returns-clause-billed : goal.returns-clause-billed
@@ -32,21 +30,15 @@ returns-clause-spent g c = λ sets_no_fuel. if_ok_too c.run_lending.result c.run
 
 pub returns-clause-costs : goal.returns-clause-costs
 returns-clause-costs g c =
-    holds_after _ (optional_rules g.L.ResourceLimiter.rules) (λ replies. replies.items) _ _ _
-    (λ s. s.meter.costs ≡ c.args.machine.now.meter.costs) c.run_lending.result
-    (λ turns made ran. c.meters_are_kept.ensures.costs _ turns _ ran) refl c.run_lending.ensures.run
-    c.run_lending.ensures.err
+    by_result c.run_lending.result c.run_lending.ensures.run c.run_lending.ensures.err
+    (λ replies ran. c.meters_are_kept.ensures.costs _ ran.0 _ ran.3) (λ same. rw same.0)
 
 pub returns-clause-switch : goal.returns-clause-switch
 returns-clause-switch g c =
-    holds_after _ (optional_rules g.L.ResourceLimiter.rules) (λ replies. replies.items) _ _ _
-    (λ s. is_some s.meter.left ≡ is_some c.args.machine.now.meter.left) c.run_lending.result
-    (λ turns made ran. c.meters_are_kept.ensures.switch _ turns _ ran) refl c.run_lending.ensures.run
-    c.run_lending.ensures.err
+    by_result c.run_lending.result c.run_lending.ensures.run c.run_lending.ensures.err
+    (λ replies ran. c.meters_are_kept.ensures.switch _ ran.0 _ ran.3) (λ same. rw same.0)
 
 pub returns-clause-fuel : goal.returns-clause-fuel
 returns-clause-fuel g c =
-    λ others. holds_after _ (optional_rules g.L.ResourceLimiter.rules) (λ replies. replies.items) _ _ _
-    (λ s. amount_left s.meter ≤ amount_left c.args.machine.now.meter) c.run_lending.result
-    (λ turns made ran. c.meters_are_kept.ensures.fuel _ turns _ ran (rw made others))
-    (omega arith) c.run_lending.ensures.run c.run_lending.ensures.err
+    λ others. by_result c.run_lending.result c.run_lending.ensures.run c.run_lending.ensures.err
+    (λ replies ran. c.meters_are_kept.ensures.fuel _ ran.0 _ ran.3 (rw ran.1 others)) (λ same. rw same.0 (omega arith))

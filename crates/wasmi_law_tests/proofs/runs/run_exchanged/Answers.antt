@@ -1,8 +1,7 @@
-use Rattle.std.proofs.Common.{◌≡◌, ◌≤◌, ℕ, Some, arith, slice_get}
-use Rattle.wasmi_law_tests.proofs.Common.{optional_rules, sizes, total}
-use Rattle.wasmi_law_tests.proofs.RunsLemmas.{if_ok_too, holds_after}
+use Rattle.std.proofs.Common.{arith}
+use Rattle.wasmi_law_tests.proofs.Common.{optional_rules}
+use Rattle.wasmi_law_tests.proofs.RunsLemmas.{if_ok_too, by_result}
 use Rattle.wasmi_law_tests.proofs.RegionsLemmas.{grows_in_regions}
-use Rattle.wasmi_meter.specs.declared.limiter.Kind.{Kind}
 use Rattle.wasmi_law_tests.proofs.runs.run_exchanged.Goals as goal
 
 pub returns-clause-exchanged : goal.returns-clause-exchanged
@@ -25,15 +24,11 @@ returns-clause-permitted g c =
 
 pub returns-clause-sizes : goal.returns-clause-sizes
 returns-clause-sizes g c =
-    holds_after _ (optional_rules g.L.ResourceLimiter.rules) (λ replies. replies.items) _ _ _
-    (λ s. (kind : Kind) (k n : ℕ) → slice_get (sizes c.args.machine.now kind) k ≡ Some n
-    → (m : ℕ) × (slice_get (sizes s kind) k ≡ Some m) × (n ≤ m)) c.run_lending.result
-    (λ turns made ran. c.sizes_never_shrink.ensures.sizes _ turns _ ran)
-    (λ kind k n found. (n, found, omega arith)) c.run_lending.ensures.run c.run_lending.ensures.err
+    by_result c.run_lending.result c.run_lending.ensures.run c.run_lending.ensures.err
+    (λ replies ran. c.sizes_never_shrink.ensures.sizes _ ran.0 _ ran.3)
+    (λ same kind k n found. rw same.0 (n, found, omega arith))
 
 pub returns-clause-totals : goal.returns-clause-totals
 returns-clause-totals g c =
-    holds_after _ (optional_rules g.L.ResourceLimiter.rules) (λ replies. replies.items) _ _ _
-    (λ s. (kind : Kind) → total c.args.machine.now kind ≤ total s kind) c.run_lending.result
-    (λ turns made ran. c.sizes_never_shrink.ensures.totals _ turns _ ran)
-    (λ kind. omega arith) c.run_lending.ensures.run c.run_lending.ensures.err
+    by_result c.run_lending.result c.run_lending.ensures.run c.run_lending.ensures.err
+    (λ replies ran. c.sizes_never_shrink.ensures.totals _ ran.0 _ ran.3) (λ same kind. rw same.0 (omega arith))

@@ -1,14 +1,25 @@
-use Rattle.wasmi_law_tests.proofs.RunsLemmas.{held_after, within_quota, if_ok_too}
+use Rattle.wasmi_law_tests.proofs.Common.{same_Some}
+use Rattle.wasmi_law_tests.proofs.RunsLemmas.{by_result, if_ok_too}
+use Rattle.wasmi_laws.proofs.RunsLemmas.{held_within}
 use Rattle.wasmi_law_tests.proofs.runs.run_within_quota.Goals as goal
 
 pub returns-clause-held : goal.returns-clause-held
-returns-clause-held c = λ held. held_after (λ replies. replies.items) c.totals_are_held.ensures _ _ _ _ _ _ held
-    c.run_lending.ensures.run c.run_lending.ensures.err
+returns-clause-held c = λ held.
+    by_result c.run_lending.result c.run_lending.ensures.run c.run_lending.ensures.err
+    (λ replies ran.
+    let after = c.totals_are_held.ensures _ _ held ran.0 _ ran.3 in
+    rw (same_Some c.run_lending.new.limiter after.0 after.1) after.2)
+    (λ same. rw (same.0, same.1) held)
 
 pub returns-clause-caps : goal.returns-clause-caps
-returns-clause-caps c = λ held within kind.
-    within_quota (λ replies. replies.items) c.quotas_stay_within.ensures _ _ _ _ _ _ within
-    (returns-clause-held c held) c.run_lending.ensures.run c.run_lending.ensures.err kind
+returns-clause-caps c = λ held within.
+    let capped =
+    held_within c.run_lending.new.machine c.args.quota.now c.run_lending.new.limiter (returns-clause-held c held) in
+    by_result c.run_lending.result c.run_lending.ensures.run c.run_lending.ensures.err
+    (λ replies ran.
+    let after = c.quotas_stay_within.ensures _ _ within ran.0 _ ran.3 in
+    let is = same_Some c.run_lending.new.limiter after.0 after.1 in capped (rw is after.2) (rw is after.3))
+    (λ same. capped (rw same.1 within) (λ kind. rw same.1))
 
 pub returns-clause-turns : goal.returns-clause-turns
 returns-clause-turns c = λ held within. if_ok_too c.run_lending.result c.run_lending.ensures.run (λ replies ran. (

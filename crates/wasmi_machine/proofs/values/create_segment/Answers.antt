@@ -5,7 +5,7 @@ use Rattle.std.specs.declared.iter.Copied.{Copied}
 use Rattle.wasmi_machine.proofs.Common.{SegmentValue, IsReadingOf, RefType}
 use Rattle.wasmi_store.specs.declared.table.element.SegmentError.{SegmentError}
 use Rattle.wasmi_machine.specs.ValueEffects.{IsSegmentOf}
-use Rattle.wasmi_machine.proofs.ValueEffectsLemmas.{first_copied, last_copied, segment_read}
+use Rattle.wasmi_machine.proofs.ValueEffectsLemmas.{segment_read}
 use Rattle.wasmi_machine.proofs.values.create_segment.Goals as goal
 
 -- what is read of copies of items is the segment of these
@@ -14,8 +14,7 @@ copies_read : {ty : RefType} {items : List ℕ} {source : Iter ℕ} {copies : Co
     → IsReadingOf (λ x i. i ≡ x) (copied_steps iter_steps) ty copies answer → copied_source copies ≡ source
     → iter_rest source ≡ items → IsSegmentOf ty items answer
 copies_read {ty} {answer} read of_source rest = rw (read.made, of_source, rest) at
-    (segment_read _ (λ s. iter_rest (copied_source s)) first_copied last_copied ty read.before read.after answer
-    read.reads)
+    (segment_read ty read.before read.after answer read.reads)
 
 pub returns-in-Ok-clause-made : goal.returns-in-Ok-clause-made
 returns-in-Ok-clause-made c = inr (

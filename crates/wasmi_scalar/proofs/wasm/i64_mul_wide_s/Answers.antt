@@ -8,14 +8,11 @@ pub returns : goal.returns
 returns c =
     let a : ℤ = c.args.lhs in
     let b : ℤ = c.args.rhs in
-    let fits_a : FitsSigned w128 a = search rules in
-    let fits_b : FitsSigned w128 b = search rules in
     let fits : FitsSigned w128 (a *ℤ b) = search rules in
-    signed_of-is c.split128.result.0 c.split128.result.1 (a *ℤ b) (search rules) (search rules) fits
-    (simp (
+    signed_of-is c.split128.result.0 c.split128.result.1 (a *ℤ b) (search rules) (search rules) fits (simp (
       to_z-of_z w64 a c.ranges.lhs,
       to_z-of_z w64 b c.ranges.rhs,
-      to_z-of_z w128 a fits_a,
-      to_z-of_z w128 b fits_b,
+      to_z-of_z w128 a (search rules),
+      to_z-of_z w128 b (search rules),
       to_z-of_z w128 (a *ℤ b) fits,
     ) at (c.split128.ensures ∙ c.cast_unsigned.ensures))

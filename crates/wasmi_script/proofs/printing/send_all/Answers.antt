@@ -25,8 +25,7 @@ loop-rest-preserved g c =
 pub returns-in-Ok-eq0-clause-front : goal.returns-in-Ok-eq0-clause-front
 returns-in-Ok-eq0-clause-front g c =
     let (front, split, appended) = c.loop-rest.invariant in
-    let rest = c.loop-rest.rest.now in
-    let gone = takes_front _ _ _ _ front rest c.in-Ok-eq0.field-0 split appended c.in-Ok-eq0.ensures.bytes in
+    let gone = takes_front _ _ _ _ front _ c.in-Ok-eq0.field-0 split appended c.in-Ok-eq0.ensures.bytes in
     (_, _, gone.0, gone.1)
 
 pub returns-in-Err-clause-front : goal.returns-in-Err-clause-front
@@ -37,9 +36,7 @@ returns-in-Err-clause-front g c =
 pub returns-clause-ok : goal.returns-clause-ok
 returns-clause-ok g c _ =
     let (front, split, appended) = c.loop-rest.invariant in
-    let rest = c.loop-rest.rest.now in
-    let empty : rest ≡ [] = drop_of_length-le rest {i = 0} (search rules) in
-    rw (split, empty, append-nil front) appended
+    rw (split, drop_of_length-le c.loop-rest.rest.now {i = 0} (search rules), append-nil front) appended
 
 pub returns-clause-front : goal.returns-clause-front
 returns-clause-front g c =

@@ -12,17 +12,15 @@ run_at part = record { tenant = part.0; calls = part.1.now }
 pub loop-index-preserved : goal.loop-index-preserved
 loop-index-preserved c =
     let parts = parts_in c.args.script.now.parts in
-    let i = c.loop-index.index in
     let start = new_pool c.args.line (tenant_start c.args.script.now.header) in
     let found = sym c.get.ensures ∙ ap (option_map run_at) c.unwrap-tenant.ensures in
     rw c.in_ok-append.ensures.items
-    (next_part parts i c.loop-index.replies.items _ c.in-Ok.answered.items start c.loop-index.pool
+    (next_part parts c.loop-index.index c.loop-index.replies.items _ c.in-Ok.answered.items start c.loop-index.pool
     c.run.new.self found c.loop-index.invariant c.in-Ok.ensures.ran)
 
 pub returns : goal.returns
 returns c =
     let parts = parts_in c.args.script.now.parts in
-    let start = new_pool c.args.line (tenant_start c.args.script.now.header) in
     let all : take c.loop-index.index parts ≡ parts =
     take_all c.loop-index.index parts (omega (arith, c.loop-index-test.false, c.len-index-end.ensures)) in (
       c.loop-index.pool,

@@ -5,5 +5,4 @@ use Rattle.wasmi_access.proofs.integer.U128LittleEndianConvert.from_le_bytes.Goa
 
 pub returns-clause-round_trip : goal.returns-clause-round_trip
 returns-clause-round_trip c =
-    le_bytes-unsigned w128 c.args.bytes 15 c.from_le_bytes.result (search rules) (search rules)
-    (search rules) c.from_le_bytes.ensures
+    le_bytes-unsigned w128 c.args.bytes 15 _ (search rules) (search rules) (search rules) c.from_le_bytes.ensures

@@ -4,14 +4,10 @@ use Rattle.wasmi_types.proofs.NumbersLemmas.{wrap_unsigned}
 use Rattle.wasmi_access.proofs.ByteLemmas.{number_of-bytes}
 use Rattle.wasmi_access.proofs.integer.U128LittleEndianConvert.into_le_bytes.Goals as goal
 
-pub returns-clause-bytes : goal.returns-clause-bytes
-returns-clause-bytes c =
-    rw (c.to_le_bytes.ensures, wrap_unsigned w128 c.args.self (search rules))
-
-pub returns-clause-number : goal.returns-clause-number
-returns-clause-number c =
-    rw (c.to_le_bytes.ensures, wrap_unsigned w128 c.args.self (search rules))
-    (number_of-bytes 16 c.args.self (search rules))
-
-pub returns-clause-round_trip : goal.returns-clause-round_trip
-returns-clause-round_trip c = rw c.to_le_bytes.ensures (number_of-bytes 16 c.args.self (search rules))
+pub returns : goal.returns
+returns c = record {
+  bytes = rw (c.to_le_bytes.ensures, wrap_unsigned w128 c.args.self (search rules));
+  number = rw (c.to_le_bytes.ensures, wrap_unsigned w128 c.args.self (search rules))
+      (number_of-bytes 16 c.args.self (search rules));
+  round_trip = rw c.to_le_bytes.ensures (number_of-bytes 16 c.args.self (search rules));
+}

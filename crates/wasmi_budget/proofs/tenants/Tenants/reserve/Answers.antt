@@ -18,11 +18,10 @@ returns-in_err-reserve-clause-no_tenant c =
 
 pub returns : goal.returns
 returns c =
-    let there = its_value c.self.invariant c.self.view_is c.deref.ensures.value _ _ c.in-Some.ensures.found
-    c.index_mut-counted.ensures.value in
+    let becomes = becomes_at c.self.invariant c.self.view_is c.deref.ensures.value _ _ c.in-Some.ensures.found
+    c.index_mut-counted.ensures.value _ _ c.in_ok-reserve.ensures.reserved in
     record {
-      reserved = becomes_at c.self.invariant c.self.view_is c.deref.ensures.value _ _ c.in-Some.ensures.found
-          c.index_mut-counted.ensures.value _ _ c.in_ok-reserve.ensures.reserved;
-      no_tenant = (λ error. absurd cc, λ none. absurd (cc (none, there)));
+      reserved = becomes;
+      no_tenant = (λ error. absurd cc, λ none. absurd (cc (none, becomes.found)));
       refused = tt;
     }

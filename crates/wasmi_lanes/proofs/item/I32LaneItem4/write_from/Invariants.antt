@@ -3,6 +3,5 @@ use Rattle.wasmi_types.specs.Numbers.{w32, signed}
 use Rattle.wasmi_lanes.proofs.item.I32LaneItem4.write_from.Given as goal
 
 abbrev pub invariant-loop-i : goal.invariant-loop-i
-invariant-loop-i l =
-    (length l.bits ≡ 4)
+invariant-loop-i l = (length l.bits ≡ 4)
     × ((k : ℕ) → k < l.i → slice_index_or l.items k (pos 0) ≡ signed w32 (slice_index_or l.bits k 0))

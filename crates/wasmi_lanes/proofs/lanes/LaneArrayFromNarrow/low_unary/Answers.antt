@@ -4,8 +4,7 @@ use Rattle.wasmi_lanes.proofs.LanesLemmas.{set_more}
 use Rattle.wasmi_lanes.proofs.lanes.LaneArrayFromNarrow.low_unary.Goals as goal
 
 pub loop-i-preserved : goal.loop-i-preserved
-loop-i-preserved g c =
-    set_more (λ k. goal.F-post g c.args.f (get_or c.args.narrow.items k g.T.LaneInteger.ALL_ZEROS))
+loop-i-preserved g c = set_more (λ k. goal.F-post g c.args.f (get_or c.args.narrow.items k g.T.LaneInteger.ALL_ZEROS))
     c.loop-i.items c.loop-i.i c.f.result _ (search rules) c.loop-i.invariant
     (grind (arith, get_or_default, g.T.Narrower.twice))
 

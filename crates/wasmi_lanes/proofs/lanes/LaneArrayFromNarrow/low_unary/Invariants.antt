@@ -3,7 +3,5 @@ use Rattle.wasmi_lanes.proofs.lanes.LaneArrayFromNarrow.low_unary.Given as goal
 
 abbrev pub invariant-loop-i : goal.invariant-loop-i
 invariant-loop-i g l =
-    let default = g.T.LaneInteger.ALL_ZEROS in
-    (k : ℕ) → k < l.i
-    → goal.F-post g l.f (slice_index_or l.fn.narrow.items k default)
+    (k : ℕ) → k < l.i → goal.F-post g l.f (slice_index_or l.fn.narrow.items k g.T.LaneInteger.ALL_ZEROS)
     (slice_index_or l.items k (g.U.LaneInteger.ALL_ZEROS))

@@ -6,8 +6,7 @@ use Rattle.wasmi_lanes.proofs.lanes.LaneArrayFromNarrow.pairwise_binary.Goals as
 pub loop-i-preserved : goal.loop-i-preserved
 loop-i-preserved g c =
     let default = g.T.LaneInteger.ALL_ZEROS in
-    set_more
-    (λ k. goal.F-post g c.args.f
+    set_more (λ k. goal.F-post g c.args.f
     (get_or c.args.a.items (2 * k) default ∷ get_or c.args.a.items (2 * k + 1) default ∷ [])
     (get_or c.args.b.items (2 * k) default ∷ get_or c.args.b.items (2 * k + 1) default ∷ []))
     c.loop-i.items c.loop-i.i c.f.result _ (search rules) c.loop-i.invariant

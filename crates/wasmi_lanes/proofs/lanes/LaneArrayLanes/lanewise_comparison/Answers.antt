@@ -7,8 +7,7 @@ pub loop-i-preserved : goal.loop-i-preserved
 loop-i-preserved g c =
     let item = g.T.LaneInteger in
     let default = item.ALL_ZEROS in
-    set_more
-    (λ k chosen. (holds : Bool)
+    set_more (λ k chosen. (holds : Bool)
     × goal.F-post g c.args.f (get_or c.args.self.items k default) (get_or c.args.other.items k default) holds
     × (chosen ≡ (if holds then item.ALL_ONES else default)))
     c.loop-i.items c.loop-i.i c.ones_if.result _ (search rules) c.loop-i.invariant

@@ -1,6 +1,6 @@
-use Rattle.std.proofs.Common.{ℕ, ◌≡◌, ◌+◌, ◌*◌, ◌<◌, ◌∙◌, ap, refl, arith, slice_index_or}
-use Rattle.wasmi_lanes.proofs.Common.{w16, lane, BYTES_OF_U16}
-use Rattle.wasmi_lanes.proofs.VariableLaneLemmas.{byte_picked, first_two_bytes, indices_inside, joined_halves}
+use Rattle.std.proofs.Common.{ℕ, ◌/◌, ◌%◌, ◌^◌, ◌<◌, ◌∙◌, ap, refl, arith, slice_index_or}
+use Rattle.wasmi_lanes.proofs.Common.{BYTES_OF_U16}
+use Rattle.wasmi_lanes.proofs.VariableLaneLemmas.{indices_inside, lane_picked}
 use Rattle.wasmi_lanes.proofs.simd_lane.U16VariableLane.lane_at.Goals as goal
 
 -- the indices of the bytes of a lane
@@ -14,11 +14,6 @@ bytes_at-bytes-requires c =
 
 pub returns : goal.returns
 returns c =
-    let v = c.args.vector in
-    let k = c.from-2.result in
-    let at : k ≡ c.args.at = c.from-2.ensures ∙ c.from.ensures.0 in
-    let below : k < 8 = omega (arith, c.from-2.ensures, c.from.ensures.0, c.from.ensures.1) in
-    first_two_bytes c.bytes_at-bytes.result _ _
-    (byte_picked word (λ m. 2 * m) 8 v k 0 c.bytes_at-bytes.result c.bytes_at-bytes.ensures.lanes below (omega arith) refl)
-    (byte_picked word (λ m. 2 * m + 1) 8 v k 1 c.bytes_at-bytes.result c.bytes_at-bytes.ensures.lanes below (omega arith) refl)
-    ∙ joined_halves 8 v k ∙ ap (lane w16 v) at
+    let below : c.from-2.result < 8 = omega (arith, c.from-2.ensures, c.from.ensures.0, c.from.ensures.1) in
+    lane_picked word 2 8 c.args.vector c.from-2.result _ c.bytes_at-bytes.ensures.lanes below (omega arith) refl
+    ∙ ap (λ place. c.args.vector / 2 ^ place % 2 ^ 16) (omega (arith, c.from-2.ensures, c.from.ensures.0))

@@ -3,8 +3,6 @@ use Rattle.wasmi_lanes.proofs.VariableLaneLemmas.{lane_written}
 use Rattle.wasmi_lanes.proofs.simd_lane.U32VariableLane.with_lane.Goals as goal
 
 pub returns : goal.returns
-returns c =
-    lane_written w32 4 c.args.vector c.args.at c.args.item c.lanes_of.result refl refl
-    (ap (replicate 4) (c.from-2.ensures ∙ c.from.ensures.0))
+returns c = lane_written w32 4 _ _ _ _ refl refl (ap (replicate 4) (c.from-2.ensures ∙ c.from.ensures.0))
     (record { long = search rules; are = c.lanes_of.ensures.lanes }) c.vector_of.ensures.lanes
     c.vector_of.ensures.in_range

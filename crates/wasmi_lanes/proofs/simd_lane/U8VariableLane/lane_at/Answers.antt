@@ -1,6 +1,6 @@
-use Rattle.std.proofs.Common.{◌≡◌, ◌<◌, ◌∙◌, ap, refl, arith, w8}
-use Rattle.wasmi_lanes.specs.Vector.{lane}
-use Rattle.wasmi_lanes.proofs.VariableLaneLemmas.{byte_picked, first_byte, indices_inside}
+use Rattle.std.proofs.Common.{ℕ, ◌≡◌, ◌/◌, ◌%◌, ◌^◌, ◌<◌, ◌∙◌, ap, refl, arith}
+use Rattle.wasmi_lanes.proofs.Common.{and_mask, number_l}
+use Rattle.wasmi_lanes.proofs.VariableLaneLemmas.{indices_inside, lane_picked}
 use Rattle.wasmi_lanes.proofs.simd_lane.U8VariableLane.lane_at.Goals as goal
 
 pub bytes_at-bytes-requires : goal.bytes_at-bytes-requires
@@ -10,10 +10,9 @@ bytes_at-bytes-requires c =
 
 pub returns : goal.returns
 returns c =
-    let v = c.args.vector in
-    let k = c.from-2.result in
-    let at : k ≡ c.args.at = c.from-2.ensures ∙ c.from.ensures.0 in
-    let below : k < 16 = omega (arith, c.from-2.ensures, c.from.ensures.0, c.from.ensures.1) in
-    first_byte c.bytes_at-bytes.result _
-    (byte_picked (λ m. m) (λ m. m) 16 v k 0 c.bytes_at-bytes.result c.bytes_at-bytes.ensures.lanes below (omega arith) refl)
-    ∙ ap (lane w8 v) at
+    let below : c.from-2.result < 16 = omega (arith, c.from-2.ensures, c.from.ensures.0, c.from.ensures.1) in
+    let number : ℕ = number_l 256 c.bytes_at-bytes.result in
+    let lowest : number % 2 ^ 32 % 2 ^ 8 ≡ number % 2 ^ 8 = omega arith in
+    and_mask (number % 2 ^ 32) 8 ∙ lowest
+    ∙ lane_picked (λ m. m) 1 16 c.args.vector c.from-2.result _ c.bytes_at-bytes.ensures.lanes below (omega arith) refl
+    ∙ ap (λ place. c.args.vector / 2 ^ place % 2 ^ 8) (omega (arith, c.from-2.ensures, c.from.ensures.0))

@@ -1,13 +1,11 @@
-use Rattle.std.proofs.Common.{◌-◌, ◌^◌, ◌∙◌, arith, nat_lt}
-use Rattle.wasmi_types.specs.Numbers.{bits}
-use Rattle.wasmi_lanewise.proofs.OrderLemmas.{chosen_numbers, lane_of_ones, lane_of_zeros}
+use Rattle.std.proofs.Common.{◌∙◌, arith, nat_lt, ap₂, if◌then◌else◌}
+use Rattle.wasmi_lanewise.proofs.OrderLemmas.{lane_of_ones, lane_of_zeros}
 use Rattle.wasmi_lanewise.proofs.simd.order.ones_if_less.Goals as goal
 
 pub returns-clause-lanes : goal.returns-clause-lanes
 returns-clause-lanes g c = λ i inside.
     let w = g.T.LaneInteger.width in
-    c.vector_of.ensures.lanes i inside
-    ∙ chosen_numbers (2 ^ bits w - 1) 0 (λ k. nat_lt (g.T.SimdLane.at c.args.a k) (g.T.SimdLane.at c.args.b k))
-    c.choose_if_less.ensures.lanes
-    (λ k h. c.lanes_of-ones.ensures.lanes k h ∙ lane_of_ones w _ k (omega (arith, c.from_word_pair.ensures)) h)
-    (λ k h. c.lanes_of-zeros.ensures.lanes k h ∙ lane_of_zeros w _ k (omega (arith, c.from_word_pair-2.ensures))) i inside
+    c.vector_of.ensures.lanes i inside ∙ c.choose_if_less.ensures.lanes i inside
+    ∙ ap₂ (λ p q. if nat_lt (g.T.SimdLane.at c.args.a i) (g.T.SimdLane.at c.args.b i) then p else q)
+    (c.lanes_of-ones.ensures.lanes i inside ∙ lane_of_ones w _ i (omega (arith, c.from_word_pair.ensures)) inside)
+    (c.lanes_of-zeros.ensures.lanes i inside ∙ lane_of_zeros w _ i (omega (arith, c.from_word_pair-2.ensures)))

@@ -1,6 +1,6 @@
 use Rattle.std.proofs.Common.{◌+◌, ◌-◌, ◌%◌, ◌^◌, arith, ⊎_elim}
 use Rattle.wasmi_lanewise.proofs.Common.{binary_of_lanes, u64x2_of, InnerLane, inner_lanes, binary_by_words}
-use Rattle.wasmi_lanewise.proofs.WordLemmas.{inverted_word_pair, inverted_words}
+use Rattle.wasmi_lanewise.proofs.WordLemmas.{inverted_word_pair}
 use Rattle.wasmi_lanewise.proofs.simd.words.differences.Goals as goal
 
 pub returns : goal.returns
@@ -15,4 +15,4 @@ returns g c =
     c.word_sub.type_inv c.word_sub-2.type_inv
     (λ start width. ⊎_elim (c.word_sub.ensures.lanes start width) (c.word_sub.ensures.last start width))
     (λ start width. ⊎_elim (c.word_sub-2.ensures.lanes start width) (c.word_sub-2.ensures.last start width))
-    (inverted_words c.word_sub.type_inv c.word_sub-2.type_inv c.from_word_pair.ensures c.v128_not-2.ensures)
+    (omega (arith, c.from_word_pair.ensures, c.v128_not-2.ensures))

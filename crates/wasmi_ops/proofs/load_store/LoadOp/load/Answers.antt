@@ -15,7 +15,6 @@ returns c =
     let rest = drop address memory in
     let whole : take (length memory - address) rest ≡ rest =
     take_all (length memory - address) rest (omega (arith, length-drop address memory)) in
-    c.load_front.ensures
-    ∙ ap (λ bytes. loaded_raw op bytes 0) whole
+    c.load_front.ensures ∙ ap (λ bytes. loaded_raw op bytes 0) whole
     ∙ raw_front op memory address c.if-address-memory.false (omega arith)
     ∙ ap (loaded_raw op memory) c.in_ok-address.ensures

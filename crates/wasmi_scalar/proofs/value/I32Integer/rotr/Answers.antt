@@ -3,7 +3,6 @@ use Rattle.wasmi_scalar.proofs.NumericsLemmas.{amount_is, rotated_to_right}
 use Rattle.wasmi_scalar.proofs.value.I32Integer.rotr.Goals as goal
 
 pub returns : goal.returns
-returns c =
-    rotated_to_right w32 c.args.lhs c.args.rhs c.rotate_right.result c.cast_unsigned.result (lit< tt)
+returns c = rotated_to_right w32 c.args.lhs c.args.rhs c.rotate_right.result c.cast_unsigned.result (lit< tt)
     c.ranges.lhs (search rules)
     (amount_is w32 c.args.rhs c.cast_unsigned.result c.ranges.rhs c.cast_unsigned.ensures) c.rotate_right.ensures

@@ -1,12 +1,11 @@
-use Rattle.wasmi_meter.specs.Limiter.{optional_rules}
 use Rattle.wasmi_store.specs.Memory.{growth_of}
-use Rattle.wasmi_store.proofs.GrowthLemmas.{charged_unmetered}
+use Rattle.wasmi_store.proofs.GrowthLemmas.{grows_unmetered}
 use Rattle.wasmi_store.proofs.memory.LinearMemory.grow.Goals as goal
 
 pub returns-in-Some-clause-grown : goal.returns-in-Some-clause-grown
 returns-in-Some-clause-grown g c = rw c.in-Some.is c.grow_metered.ensures.grown
 
 pub returns-in-None-clause-grown : goal.returns-in-None-clause-grown
-returns-in-None-clause-grown g c = rw c.in-None.is
-    (charged_unmetered (optional_rules g.L.ResourceLimiter.rules) _ _ (growth_of c.args.self.now c.args.additional) _ _ _ _ _
-    (rw c.unmetered-off.ensures at c.grow_metered-in-None.ensures.grown))
+returns-in-None-clause-grown g c =
+    let e = rw c.unmetered-off.ensures at c.grow_metered-in-None.ensures.grown in
+    rw c.in-None.is (e.0, grows_unmetered _ _ _ (growth_of c.args.self.now c.args.additional) _ _ _ _ _ e.1)

@@ -1,13 +1,8 @@
-use Rattle.std.proofs.Common.{◌≡◌, ℕ, ◌+◌, ◌-◌, length, ap, arith, refl, sym, ◌∙◌}
-use Rattle.wasmi_store.proofs.Common.{err_from_is_err_and, optional_rules, cond-false, MatchBool-at_true, memory_of, BufferValue, with_zeros}
+use Rattle.std.proofs.Common.{ap, arith, refl, sym, ◌∙◌}
+use Rattle.wasmi_store.proofs.Common.{err_from_is_err_and, optional_rules, cond-false, MatchBool-at_true, memory_of, with_zeros}
 use Rattle.wasmi_store.proofs.GrowthLemmas.{growing, grows_unasked, grows_refused, grows_met}
 use Rattle.wasmi_store.proofs.MemoryLemmas.{memory_growth, growth_asked, growth_permitted}
 use Rattle.wasmi_store.proofs.memory.LinearMemory.grow_metered.Goals as goal
-
--- zeros up to a size that is n greater are n zeros
-zeros_added : (b b' : BufferValue) (n : ℕ) {size : ℕ} → size ≡ length b.bytes + n
-    → b' ≡ with_zeros b (size - length b.bytes) → b' ≡ with_zeros b n
-zeros_added b b' n sized grown = grown ∙ ap (with_zeros b) (omega arith)
 
 pub returns-in_default-clause-grown : goal.returns-in_default-clause-grown
 returns-in_default-clause-grown g c = rw (← c.self.view_is)
@@ -43,5 +38,5 @@ returns-clause-grown g c =
     c.len-old_size.ensures c.maximum_size-maximum.ensures) refl c.in_ok-decide_growth.ensures.permitted in
     let fits = sym (rw (← c.len-old_size.ensures) at c.has_room-has_room.ensures) in
     rw (← c.self.view_is) (grows_met permits (fits ∙ c.in_ok-decide_growth.ensures.room) c.decide_growth.new.fuel
-    c.in_ok-decide_growth.ensures.paid _ (ap (memory_of c.self.inside.ty) (zeros_added _ _ _
-    (rw c.len-old_size.ensures at c.in-Some.ensures.size).1 c.in_default-grow.ensures.ok)) _ pages)
+    c.in_ok-decide_growth.ensures.paid _ (ap (memory_of c.self.inside.ty) (c.in_default-grow.ensures.ok
+    ∙ ap (with_zeros _) (omega (arith, (rw c.len-old_size.ensures at c.in-Some.ensures.size).1)))) _ pages)

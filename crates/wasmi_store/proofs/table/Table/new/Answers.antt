@@ -1,15 +1,16 @@
 use Rattle.std.proofs.Common.{◌∙◌, refl}
-use Rattle.wasmi_store.proofs.Common.{err_from_is_err_and, optional_rules, new_table}
+use Rattle.wasmi_store.proofs.Common.{ElementTypeMismatch, cond-false, err_from_is_err_and, optional_rules, new_table}
 use Rattle.wasmi_store.specs.Table.{creation_of}
-use Rattle.wasmi_store.proofs.GrowthLemmas.{permitted_by, makes_denied, makes_refused}
-use Rattle.wasmi_store.proofs.TableLemmas.{makes_mismatched, making_asked}
+use Rattle.wasmi_store.proofs.GrowthLemmas.{permitted_by, makes_denied, makes_refused, makes_unasked}
+use Rattle.wasmi_store.proofs.TableLemmas.{making_asked}
 use Rattle.wasmi_store.proofs.table.Table.new.Goals as goal
 
 pub returns-in_err-ensure_element_type_matches-clause-made : goal.returns-in_err-ensure_element_type_matches-clause-made
 returns-in_err-ensure_element_type_matches-clause-made g c =
     let p = err_from_is_err_and c.from_residual.result c.from_residual.ensures.1 in
     let e = c.in_err-ensure_element_type_matches.ensures in
-    rw (p.1, p.2, e.0) (makes_mismatched (optional_rules g.L.ResourceLimiter.rules) c.args.ty c.args.init _ e.1)
+    rw (p.1, p.2, e.0) (makes_unasked (optional_rules g.L.ResourceLimiter.rules)
+    (creation_of c.args.ty c.args.init.ty) (new_table c.args.ty c.args.init.raw) _ ElementTypeMismatch (cond-false _ _ _ e.1))
 
 pub returns-in_err-permission-clause-made : goal.returns-in_err-permission-clause-made
 returns-in_err-permission-clause-made g c =

@@ -1,4 +1,4 @@
-use Rattle.std.proofs.Common.{◌≡◌, ℕ, ◌<◌, ◌≤◌, List, ◌++◌, length, take, refl, ap, sym, arith, ◌∙◌, length-append}
+use Rattle.std.proofs.Common.{◌≡◌, ℕ, ◌<◌, List, ◌++◌, length, take, refl, ap, sym, arith, ◌∙◌, length-append}
 use Rattle.std.proofs.lemmas.Grind.{common_steps}
 use Rattle.std.proofs.lemmas.List.{take_all}
 use Rattle.std.specs.Rc.{rc_slice_items}
@@ -9,8 +9,7 @@ use Rattle.wasmi_types.proofs.func_type.Entries.kept.Goals as goal
 whole : {n : ℕ} (inline rest : List ValType) {xs : List ValType} → take n inline ++ rest ≡ xs → length inline ≡ 21
     → (n < 21 → length rest ≡ 0) → 0 < length rest → inline ++ rest ≡ xs
 whole {n = n} inline rest view size none some =
-    let full : length inline ≤ n = grind arith in
-    ap (λ ys. ys ++ rest) (sym (take_all n inline full)) ∙ view
+    ap (λ ys. ys ++ rest) (sym (take_all n inline (grind arith))) ∙ view
 
 pub returns-clause-kept : goal.returns-clause-kept
 returns-clause-kept c =

@@ -1,4 +1,4 @@
-use Rattle.std.proofs.Common.{refl, ap, length, arith, length-append}
+use Rattle.std.proofs.Common.{refl, arith, length-append}
 use Rattle.std.proofs.lemmas.Result.{err_from_is_err_and}
 use Rattle.wasmi_types.proofs.ReadingLemmas.{refused_results, refused_end, read_end}
 use Rattle.wasmi_types.proofs.func_type.FuncType.read.Goals as goal
@@ -19,11 +19,10 @@ returns-in-Ok g c = record {
 }
 
 pub returns : goal.returns
-returns g c =
-    record {
-      reading = refused_end c.new-entries.ensures c.in_ok-len_params.ensures.ok c.in_ok-len_results.ensures.ok
-          (c.in-Err.ensures.refused refl);
-    }
+returns g c = record {
+  reading = refused_end c.new-entries.ensures c.in_ok-len_params.ensures.ok c.in_ok-len_results.ensures.ok
+      (c.in-Err.ensures.refused refl);
+}
 
 pub read-requires-2 : goal.read-requires-2
 read-requires-2 g c =
@@ -34,16 +33,7 @@ from_entries-requires g c =
     let first = c.in_ok-len_params.ensures.ok in
     let second = c.in_ok-len_results.ensures.ok in
     record {
-      count = omega (
-        arith,
-        first.counted,
-        second.counted,
-        ap length first.kept,
-        ap length second.kept,
-        ap length c.new-entries.ensures,
-        length-append c.new-entries.result first.types,
-        length-append c.read.new.self second.types,
-      );
+      count = rw (second.kept, first.kept, c.new-entries.ensures, length-append, ← first.counted, ← second.counted);
       params = omega (arith, first.counted, first.read.short);
       results = omega (arith, second.counted, second.read.short);
     }

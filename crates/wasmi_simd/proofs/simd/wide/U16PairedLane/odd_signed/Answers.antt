@@ -4,7 +4,5 @@ use Rattle.wasmi_simd.proofs.EvenOddLemmas.{odd_signed_at}
 use Rattle.wasmi_simd.proofs.simd.wide.U16PairedLane.odd_signed.Goals as goal
 
 pub returns : goal.returns
-returns c = record {
-  lanes = odd_signed_at u16x8_widened c.args.v c.i32x4_of.result
-      (record { long = search rules; are = c.i32x4_of.ensures.lanes });
-}
+returns c = record
+    { lanes = odd_signed_at u16x8_widened c.args.v c.i32x4_of.result (search rules) c.i32x4_of.ensures.lanes }
