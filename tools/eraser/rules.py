@@ -43,7 +43,7 @@ COMMENTS = re.compile(r"(?:^ *«[dc]\d+»\n)*\Z", re.M)
 GHOST_ITEM = re.compile(r"((?:^ *«d\d+»\n)*)^ *(«g\d+»)\n(?: *\n)?", re.M)
 TIDY = re.compile(r"(?:ghost )?(.*?)\{(.*)\}[;,]?\Z", re.S)
 # The one drop that is left out: it takes the fields apart and drops one, as Rust's own drop does.
-TAKES_APART = re.compile(r"(?:#\[inline\]\s*)?fn drop\(self\)\s*\{\s*let \w+ \{\s*(\w+),(?:\s*\w+: _,?)*\s*\} = self;\s*drop\(\1\);\s*\}")
+TAKES_APART = re.compile(r"(?:#\[inline\]\s*)?fn drop\(self\)\s*\{\s*let \w+ \{\s*(\w+)(?:,\s*\w+: _)*,?\s*\} = self;\s*drop\(\1\);\s*\}")
 RUNTIME = r"rt: (?:[^,;(){}]|\([^()]*\))*|rt"
 ALLOCATORS = r"alloc: (?:Global|Allocator)\b|alloc|self\.alloc|machine\.store\.alloc|self\.(?:items|bytes)\.allocator\(\)|rt\.alloc\(\)"
 # The shim's traits and types, and what a text has that needs them.

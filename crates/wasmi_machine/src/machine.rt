@@ -24,9 +24,16 @@ use wasmi_typed::Global;
 /// be made; `'r` is its lifetime.
 ///
 /// Its state is valid at any time: see [`crate::laws::states_are_valid`].
-#[derive(Drop)]
 pub struct Machine<'r> {
     pub(crate) store: MachineStore<'r>,
+}
+
+// A drop is one call, so that the proof of each function in which a machine ends has one step for it.
+impl<'r> Drop for Machine<'r> {
+    fn drop(self) {
+        let Machine { store } = self;
+        drop(store);
+    }
 }
 
 /// Shows the name alone.
