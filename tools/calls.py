@@ -284,13 +284,14 @@ def read_arms(parser):
 
 
 def answers(parser):
-    """The answers for these arms where a command is refused, since its operands are. The search finds that it is else the call that they write."""
+    """The answers for these arms: a command is refused since its operands are, and else is the call that they write."""
     def made(its):
         text = []
         for call in (it for it in of_parser(its, parser) if reads_each(it)):
             word, first = call.row["word"], call.variables[0]
-            goal = f"returns-in_err-{first}-in-{word}"
-            text.append(f"pub {goal} : goal.{goal}\n{goal} c = record {{ call = refused_named _ (search rules) c.in-{word}.is c.in_err-{first}-in-{word}.ensures }}\n")
+            for goal, answer in ((f"returns-in_err-{first}-in-{word}", f"refused_named _ (search rules) c.in-{word}.is c.in_err-{first}-in-{word}.ensures"),
+                                 (f"returns-in_ok-{first}-in-{word}", f"(sym c.in-{word}.is, c.in_ok-{first}-in-{word}.ensures)")):
+                text.append(f"pub {goal} : goal.{goal}\n{goal} c = record {{ call = {answer} }}\n")
         return "\n".join(text)
     return made
 

@@ -22,6 +22,7 @@ SINGLE = {
 }
 # A shape of several lists: its enum in wasmi_c, which has a variant for each list, or for an instruction that is in none.
 SEVERAL = {"unary": "Unary", "binary": "Binary", "load": "Load", "store": "Store"}
+MATCHED = {"load"}  # the shapes of which a match is made too, by a macro that has the rows
 TEXTS = {
     "unary": "one operand", "binary": "two operands", "ternary": "three operands", "extract_lane": "a lane taken from a vector",
     "replace_lane": "a lane that takes an item", "load": "loads", "store": "stores", "load_lane": "loads of a lane",
@@ -115,15 +116,19 @@ def source(named):
         rows, name = [rows_of(shape)[function] for function in named[shape]], f"{shape.upper()}_INSTRUCTIONS"
         uses.append(f"use crate::instruction::{shape}::{enum};\n")
         kinds |= {kind for _, kind, _ in rows if kind}
-        value = f"{shape}_numbers!(numbered! {enum})"
+        indent = 12 if shape in MATCHED else 8
+        groups = "".join(
+            f"{' ' * (indent - 4)}{part} {kind} {{\n{wrapped([f'{variant},' for _, _, variant in group], indent)}{' ' * (indent - 4)}}}\n"
+            for (part, kind), group in itertools.groupby(rows, key=lambda row: row[:2]))
         if any(kind is None for _, kind, _ in rows):
             value = "[\n" + "".join(f"    {enum}::{part}({kind}::{variant}),\n" if kind else f"    {enum}::{part},\n" for part, kind, variant in rows) + "]"
-        else:
+        elif shape in MATCHED:
+            value = f"{shape}_numbers!(numbered! {enum})"
             text += f"\n/// The rows of `{name}`.\nmacro_rules! {shape}_numbers {{\n    ($make:ident! $($with:tt)*) => {{ $make! {{ [$($with)*]\n"
-            for (part, kind), group in itertools.groupby(rows, key=lambda row: row[:2]):
-                text += f"        {part} {kind} {{\n{wrapped([f'{variant},' for _, _, variant in group], 12)}        }}\n"
-            text += "    } };\n}\n"
+            text += f"{groups}    }} }};\n}}\n"
             macros += f"pub(crate) use {shape}_numbers;\n"
+        else:
+            value = f"numbered! {{\n    [{enum}]\n{groups}}}"
         text += f"\n/// The instructions that `{enum}` has, by number.\npub const {name}: [{enum}; {len(rows)}] = {value};\n"
     macros = "".join(sorted(macros.splitlines(True)))
     return f"{HEAD}{''.join(sorted(uses))}{imports_of(kinds)}{text}\n{macros}"

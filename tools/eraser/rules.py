@@ -42,8 +42,8 @@ LEFT = re.compile(r"\b(?:ghost|requires|ensures|Model|HostRuntime|unsafe|rt|Abor
 COMMENTS = re.compile(r"(?:^ *«[dc]\d+»\n)*\Z", re.M)
 GHOST_ITEM = re.compile(r"((?:^ *«d\d+»\n)*)^ *(«g\d+»)\n(?: *\n)?", re.M)
 TIDY = re.compile(r"(?:ghost )?(.*?)\{(.*)\}[;,]?\Z", re.S)
-# The one drop that is left out: it takes the fields apart and drops one, as Rust's own drop does.
-TAKES_APART = re.compile(r"(?:#\[inline\]\s*)?fn drop\(self\)\s*\{\s*let \w+ \{\s*(\w+)(?:,\s*\w+: _)*,?\s*\} = self;\s*drop\(\1\);\s*\}")
+# The drops that are left out: they take the fields apart and drop them, as Rust's own drop does. tools/erased compares their order.
+TAKES_APART = re.compile(r"(?:#\[inline\]\s*)?fn drop\(self\)\s*\{\s*let \w+ \{[\w:,\s]*\} = self;\s*(?:drop\(\w+\);\s*)+\}")
 RUNTIME = r"rt: (?:[^,;(){}]|\([^()]*\))*|rt"
 ALLOCATORS = r"alloc: (?:Global|Allocator)\b|alloc|self\.alloc|machine\.store\.alloc|self\.(?:items|bytes)\.allocator\(\)|rt\.alloc\(\)"
 # The shim's traits and types, and what a text has that needs them.

@@ -4,7 +4,7 @@ use Rattle.std.proofs.Common.{◌≡◌, ◌≢◌, ◌∙◌, ◌<◌, ◌≤�
 use Rattle.std.specs.Prelude.{All, MatchResult, ◌↔◌, is_some, nat_eq, remove, if◌then◌else◌}
 use Rattle.std.specs.List.{range_with_len}
 use Rattle.std.proofs.lemmas.Bool.{cases_eq, cases_lt, ne_eqb, eq-eqb}
-use Rattle.std.specs.Result.{result_ok}
+use Rattle.std.specs.Result.{IsErrAnd, result_ok}
 use Rattle.std.proofs.lemmas.List.Sorted.{searched}
 use Rattle.std.specs.List.Sorted.{IsBinarySearchResult}
 use Rattle.std.specs.Ordering.{nat_cmp}
@@ -339,6 +339,19 @@ module _ {next : ℕ} {indices : List ℕ} {machines : List State} (listed : IsL
         part_runs kept index there part put,
         part_kept kept index there part put,
       )
+
+-- an error that can only be this one
+pub only_error : {T E : Type 0} (e : E) (r : Result T E) → IsErrAnd r (λ x. x ≡ e) → r ≡ Err e
+only_error e (Ok t) is = absurd is
+only_error e (Err x) is = ap Err is
+
+-- where there is a value, no result tells of a lack of it: neither an accepted one nor another error
+module _ {T E X : Type 0} {x : X} (o : Option X) (there : o ≡ Some x) (e : E) where
+  pub found_ok : (t : T) → (Ok t ≡ Err e) ↔ (o ≡ None)
+  found_ok t = (λ error. absurd cc, λ none. absurd cc)
+
+  pub found_err : (e' : E) (r : Result T E) → (e' ≡ e → ⊥) → r ≡ Err e' → (r ≡ Err e) ↔ (o ≡ None)
+  found_err e' r other is = (λ error. let same : e' ≡ e = cc in absurd (other same), λ none. absurd cc)
 
 -- a search among rising indices finds the place of an index, or says that it isn't among them
 pub searched_place : (indices : List ℕ) (j : ℕ) (r : Result ℕ ℕ) (place : Option ℕ) → Rises indices

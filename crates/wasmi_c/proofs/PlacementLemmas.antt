@@ -1,12 +1,13 @@
 -- Creations and growths of what lies with C, and writes to it: what they take of its meter, and that they are under the
 -- quota of some numbers, or under a limiter that allows the host's answers.
-use Rattle.std.proofs.Common.{◌≡◌, Bool, true, false, ℕ, ◌-◌, Option, Some, None, Result, refl, ap, inl, inr, Ok, List, take, drop, length, ◌++◌, ◌∙◌}
-use Rattle.wasmi_c.proofs.Common.{take_at, drop_at, nat_eq, if◌then◌else◌, option_map, unwrap_or, Rules, Question, Answer, Failure, NoticeAnswer, optional_rules, AskedIf, NoticedIf, Meter, meter_after, meter_of, with_left, KeepsMeter, MeteredRegion, SameRest, limiter_of, quota_numbers_rules, Embedded, embedded, WritesBytesAs, of_memory, WritesTableAs, of_table, TableTypeValue, TableValue, TableWrite, WritesTable, table_of, Quota, quota_rules, Placed, Lent, MemoryTypeValue, creation_of}
+use Rattle.std.proofs.Common.{◌≡◌, Bool, true, false, ℕ, ◌-◌, Option, Some, None, Result, refl, ap, inl, inr, Ok, List, take, drop, length, ◌++◌, ◌∙◌, ◌⊎◌, ◌+◌, ◌/◌, ◌≤◌, arith}
+use Rattle.wasmi_c.proofs.Common.{take_at, drop_at, nat_eq, if◌then◌else◌, option_map, unwrap_or, Rules, Question, Answer, Failure, NoticeAnswer, optional_rules, AskedIf, NoticedIf, Meter, meter_after, meter_of, with_left, KeepsMeter, MeteredRegion, SameRest, limiter_of, quota_numbers_rules, KeepsQuota, page_bytes, by_pages, MemoryValue, Embedded, embedded, WritesBytesAs, of_memory, WritesTableAs, of_table, TableTypeValue, TableValue, TableWrite, WritesTable, table_of, Quota, quota_rules, Placed, Lent, MemoryTypeValue, creation_of}
 use Rattle.std.specs.Prelude.{OnErr}
+use Rattle.std.proofs.lemmas.Grind.{common_steps}
 use Rattle.wasmi_store.specs.Growth.{Growth, Grows, metered_value, metered}
-use Rattle.wasmi_store.specs.Memory.{IsValid, MakesMemory, named_type}
+use Rattle.wasmi_store.specs.Memory.{IsValid, MakesMemory, in_bounds, named_type}
 use Rattle.wasmi_store.specs.Write.{BulkWrites, item_price}
-use Rattle.wasmi_region.specs.Memory.{made_in}
+use Rattle.wasmi_region.specs.Memory.{made_in, memory_in}
 use Rattle.wasmi_meter.specs.declared.error.MemoryError.TheVariants.{OutOfBoundsAccess, OutOfFuel}
 use Rattle.wasmi_store.proofs.GrowthLemmas.{grows_too}
 use Rattle.wasmi_store.proofs.WriteLemmas.{items_taken, write_takes}
@@ -220,6 +221,12 @@ module _ {H T V E : Type 0} (p : Placement H T V E) (growth : List ℕ → V →
       (growth_by grown (limiter_of q) (limiter_of q') (ap seen) (follows grown.request (Some q) (Some q')) g.grows.1) in
       inr (ty, at, acts)
 
+  -- a growth keeps the numbers of a quota
+  pub keeps_quota : {h h' : H} {region region' : List ℕ} {m m' : MeterNumbers} {n n' status : ℕ} {q q' : QuotaNumbers}
+      → GrowsAs p quota_numbers_rules growth ty (embedded h region m (Some q) n) status
+      (embedded h' region' m' (Some q') n') → KeepsQuota q q'
+  keeps_quota g = grind (arith, common_steps)
+
   -- a growth of the library on a region under a lent limiter, with what is left of its meter, is one of what lies with C
   pub grown_with : {S : Type 0} {rules : Rules S} {s s' : Embedded H S} {status : ℕ} {result : Result ℕ E} {m' : Meter}
       (l l' : Option S) → l ≡ s.limiter → l' ≡ s'.limiter → s'.meter ≡ with_left s.meter m'.left
@@ -243,6 +250,14 @@ module _ {H T V E : Type 0} (p : Placement H T V E) (growth : List ℕ → V →
         status_is = tells.0;
         number_is = tells.1;
       }
+
+-- a growth of a memory by 0 pages, or by more than its type allows, asks no limiter
+pub pages_unasked : {S : Type 0} {rules : Rules (Option S)} {ty ty' : MemoryTypeValue} {pages size : ℕ}
+    (region : List ℕ) {x x' : MemoryValue} {m m' : Option Meter} {l l' : S} {result : Result ℕ MemoryError} {charge : ℕ}
+    → Grows rules (by_pages pages region (memory_in ty region size)) (metered_value x m (Some l)) result charge
+    (metered_value x' m' (Some l')) → Some ty' ≡ Some ty → size ≤ length region
+    → (pages ≡ 0) ⊎ (in_bounds ty' (size / page_bytes ty'.page + pages) ≡ false) → l' ≡ l
+pages_unasked region grows same within none = grind (arith, common_steps)
 
 module _ {V E S : Type 0} (rules : Rules S) (e : Request V E) (a a' : HostAnswers) (l : Limited S)
     (allows : Allows rules e a' l) where

@@ -62,7 +62,7 @@ pub struct PoolHandle {
 }
 
 impl PoolHandle {
-    /// Whether there is a pool.
+    /// Whether the handle has a pool.
     pub fn is_made(&self) -> bool
         ensures { result ≡ is_some self.now.pool.held }
     {

@@ -29,7 +29,6 @@ pub enum BillError {
 
 /// Runs calls, and returns their bill: the fuel that the calls were charged, one by one. The bill
 /// and what is left add up to what was left before. No call may set the fuel.
-#[tactic(auto, using(crate::proofs::HostLemmas::ran_billed))]
 pub fn run_and_bill<L: ResourceLimiter>(
     machine: &mut Machine,
     calls: &[Call],

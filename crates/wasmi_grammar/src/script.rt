@@ -17,12 +17,20 @@ use wasmi_machine::{Call, SlotCounts};
 use wasmi_operands::{LineError, operand, read_words};
 
 /// What a script asks for: what its lines say that were taken in.
-#[derive(Drop)]
 pub struct Script {
     /// What its header lines say.
     pub header: Header,
     /// Its calls by parts.
     pub parts: Parts,
+}
+
+// A drop is one call, as that of `Machine`.
+impl Drop for Script {
+    fn drop(self) {
+        let Script { header, parts } = self;
+        drop(header);
+        drop(parts);
+    }
 }
 
 /// Calls by parts, which `as` lines separate: without one there is one part, tenant 0's.

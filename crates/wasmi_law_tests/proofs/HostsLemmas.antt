@@ -1,5 +1,5 @@
--- Calls by a handle, on its machine or on a tenant of its pool, and what a memory and a table that are made under one
--- quota, or end, leave of it.
+-- Calls by a handle, on its machine or on a tenant of its pool, which leave the machines of the other tenants, and what
+-- a memory and a table that are made under one quota, or end, leave of it.
 use Rattle.std.proofs.Common.{[], ◌≡◌, Option, Some, List, ◌∷◌, map, refl, sym, ap, ◌∙◌, arith, ℕ, true, None, inl, inr, ◌≢◌, ◌≤◌, false}
 use Rattle.wasmi_law_tests.proofs.Common.{MatchOption, KeepsTenant, RunsList, IsWithinCaps, get_or-set_other, KeepsQuota, Placed, limiter_of, quota_of, HoldsSums, OneQuotaHoldsEach, sizes_made}
 use Rattle.wasmi_machine.specs.declared.calls.Call.{Call}

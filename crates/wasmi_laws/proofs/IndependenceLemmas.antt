@@ -152,7 +152,7 @@ record Moves (changed : Option Location) (Becomes : State → State → Type 0) 
 
 module _ (location : Location) (Effect : List (Content location) → Reply → List (Content location) → Type 0)
     (s : State) (reply : Reply) (s' : State) where
-  -- the list in which the location is
+  -- the part of the location whose change is looked at
   abbrev p : Part location
   p = part_at location
 

@@ -2,7 +2,7 @@
 -- are one, and sizes and validity are kept.
 use Rattle.std.proofs.Common.{Err, List, None, Ok, Option, Result, Some, ap, inl, inr, length, map, refl, subst, sym, ℕ, ◌∙◌, ◌≡◌, ◌⊎◌}
 use Rattle.wasmi_machine.proofs.Common.{All-get_or, All-push, All-set, get_or_from_slice_get, slice_get_within, All, slice_get, slice_set, IsNotOutOfMemory, ActsAt, AddsEntry, ChangesAt, ChangesFound, Creates, DropsAt, IfNoRoom, OnLive, reply_of, live_at, slot_count, IsValidSlot, Change, Reply, Slot, Gone, Live, AttemptOutcome, Met, MeteredValue, answer_of, value_after, with_value, Rules, Grows, Growth, Makes}
-use Rattle.wasmi_machine.proofs.SlotsLemmas.{live_slot, set_read}
+use Rattle.wasmi_machine.proofs.SlotsLemmas.{live_slot, put_back}
 use Rattle.wasmi_machine.proofs.TotalLemmas.{counts_kept}
 use Rattle.wasmi_machine.specs.Laws.{IsRefusal}
 use Rattle.wasmi_machine.specs.declared.calls.Reply.TheVariants as replied
@@ -23,11 +23,6 @@ pub both_live : {X : Type 0} (o : Option X) (Missing Missing' : Type 0) (Fact Fa
     → OnLive o Missing Fact → OnLive o Missing' Fact' → OnLive o (Missing × Missing') (λ x. Fact x × Fact' x)
 both_live None Missing Missing' Fact Fact' h h' = (h, h')
 both_live (Some x) Missing Missing' Fact Fact' h h' = (h, h')
-
--- the same value is put back into its slot
-pub put_back : {X : Type 0} (slots : List (Slot X)) (k : ℕ) (x x' : X) → live_at slots k ≡ Some x → x' ≡ x
-    → slice_set slots k (Live x') ≡ slots
-put_back slots k x x' found same = rw same (set_read slots k (Live x) (live_slot (slice_get slots k) x found))
 
 -- what a refusal leaves
 module _ {E : Type 0} (refusal : E → Reply) where

@@ -7,9 +7,9 @@ use Rattle.wasmi_meter.specs.declared.error.TableError.TheVariants.{OutOfFuel}
 use Rattle.wasmi_store.specs.Write.{MeteredWrite, WritesCharging, copied, filled, item_price}
 use Rattle.wasmi_store.proofs.WriteLemmas.{PaidWrite, write_ends, writes_once}
 use Rattle.wasmi_machine.specs.State.{IsRefusal}
-use Rattle.wasmi_machine.proofs.EffectLemmas.{HasOneEnding, acts_same, on_both, on_live, on_live_too, put_back, slot_kept}
+use Rattle.wasmi_machine.proofs.EffectLemmas.{HasOneEnding, acts_same, on_both, on_live, on_live_too, slot_kept}
 use Rattle.wasmi_machine.proofs.MemoryEffectsLemmas.{memory_as_long, with_bytes}
-use Rattle.wasmi_machine.proofs.SlotsLemmas.{set_other, overwrite_length}
+use Rattle.wasmi_machine.proofs.SlotsLemmas.{put_back, set_other, overwrite_length}
 use Rattle.wasmi_machine.proofs.StepsLemmas.{KeepsMemories, KeepsTables, PartOf, the_memories, the_tables, valid_by}
 use Rattle.wasmi_machine.proofs.TableEffectsLemmas.{table_as_long}
 use Rattle.wasmi_machine.proofs.TotalLemmas.{each_kind}

@@ -5,6 +5,13 @@ use Rattle.wasmi_machine.proofs.Common.{ActsMetered, ActsMeteredUnasked, Asks, C
 use Rattle.std.specs.Global.{Global}
 use denote.RawPtr.{null_ptr}
 
+-- the state with another count of slots that are reserved, of memories or of tables
+abbrev pub memories_reserved : ℕ → State → State
+memories_reserved n s = record s { reserved = record s.reserved { memories = n } }
+
+abbrev pub tables_reserved : ℕ → State → State
+tables_reserved n s = record s { reserved = record s.reserved { tables = n } }
+
 -- the outcome of a free turn by what a call replies
 abbrev pub free_outcome : Reply → TurnOutcome
 free_outcome reply = record { reply = reply; charge = 0; written = 0 }
@@ -41,12 +48,49 @@ module _ {S : Type 0} {w : World S} {reply : Reply} where
         (λ outcome. Changes w outcome (record w { state = with_part part }) (ChangesPart with_part Relation))
     alters effect = (0, 0, changes_part effect)
 
-    -- a call that makes something under the limiter is answered
-    pub asks : {Lacks : Type 0} {Relation : S → Reply → A → S → Type 0} {l : S} → Relation w.limiter reply part l
-        → IfNoRoom reply Lacks
-        → IsAnswered reply (λ outcome. Asks w outcome (world (with_part part) l) Lacks with_part Relation)
-    asks effect room =
-        (0, 0, record { free = (refl, refl); part = part; limiter = _; effect = effect; room = room; after = refl })
+  -- the new state also has a count, which is proved to be the old one
+  module _ {A : Type 0} {with_part : A → State} (counted : ℕ → State → State) (part : A) {n m : ℕ}
+      (same : n ≡ m) where
+    module _ (kept : counted m (with_part part) ≡ with_part part) where
+      -- a turn of a call that changes one part of the state
+      pub changes_kept : {Relation : Reply → A → Type 0} → Relation reply part → Changes w (free_outcome reply)
+          (record w { state = counted n (with_part part) }) (ChangesPart with_part Relation)
+      changes_kept effect = rw (same, kept) (changes_part part effect)
+
+      -- a call that changes one part of the state is answered
+      pub alters_kept : {Relation : Reply → A → Type 0} → Relation reply part → IsAnswered reply (λ outcome.
+          Changes w outcome (record w { state = counted n (with_part part) }) (ChangesPart with_part Relation))
+      alters_kept effect = (0, 0, changes_kept effect)
+
+      -- a call that makes something under the limiter is answered
+      pub asks_kept : {Lacks : Type 0} {Relation : S → Reply → A → S → Type 0} {l : S} → Relation w.limiter reply part l
+          → IfNoRoom reply Lacks → IsAnswered reply (λ outcome.
+          Asks w outcome (world (counted n (with_part part)) l) Lacks with_part Relation)
+      asks_kept effect room = (
+        0,
+        0,
+        record {
+          free = (refl, refl);
+          part = part;
+          limiter = _;
+          effect = effect;
+          room = room;
+          after = rw (same, kept) refl;
+        },
+      )
+
+    -- a call that acts on one part, with some charge and without the limiter, is answered
+    pub acts_kept : {old : A} {bytes : Reply → ℕ} {meter : Meter}
+        (kept : counted m (record (with_part part) { meter = meter }) ≡ record (with_part part) { meter = meter })
+        {Relation : MeteredValue A (Unit {0}) → Reply → ℕ → MeteredValue A (Unit {0}) → Type 0}
+        → WithCharge Relation (metered old (Some w.state.meter)) reply (metered part (Some meter))
+        → IsAnswered reply (λ outcome. ActsMeteredUnasked w outcome
+        (record w { state = counted n (record (with_part part) { meter = meter }) }) old with_part Relation bytes)
+    acts_kept kept (charge, effect) = (
+      charge,
+      _,
+      record { part = part; meter = _; effect = effect; wrote = refl; after = rw (same, kept) refl },
+    )
 
   module _ {A : Type 0} {old : A} {with_part : A → State} {bytes : Reply → ℕ} (part : A) {meter : Meter} where
     -- a call that acts on one part of the state, with some charge, is answered
@@ -59,14 +103,6 @@ module _ {S : Type 0} {w : World S} {reply : Reply} where
       bytes reply,
       record { part = part; meter = meter; limiter = _; effect = effect; wrote = refl; after = refl },
     )
-
-    -- a call that acts on one part, with some charge and without the limiter, is answered
-    pub acts_unasked : {Relation : MeteredValue A (Unit {0}) → Reply → ℕ → MeteredValue A (Unit {0}) → Type 0}
-        → WithCharge Relation (metered old (Some w.state.meter)) reply (metered part (Some meter))
-        → IsAnswered reply (λ outcome. ActsMeteredUnasked w outcome
-        (record w { state = record (with_part part) { meter = meter } }) old with_part Relation bytes)
-    acts_unasked (charge, effect) =
-        (charge, bytes reply, record { part = part; meter = meter; effect = effect; wrote = refl; after = refl })
 
 -- a turn is one from another world too, also with another limiter, by what it does to that world
 module _ {S T : Type 0} {v v' : World S} {w w' : World T} {outcome : TurnOutcome} where

@@ -189,7 +189,6 @@ impl<T: Counted> Slots<T> {
     }
 
     /// How many bytes or elements all of them have; dropped ones count with their last size.
-    #[tactic(auto, using(std::proofs::lemmas::Grind::common_steps))]
     pub(crate) fn total(&self) -> u128
         ensures { result ≡ sum (map (slot_count T.Counted.count) self.now.slots.items) }
     {

@@ -1,4 +1,5 @@
--- What the errors of fuel meters, limiters, linear memories and tables print.
+-- What the errors of fuel meters, limiters, linear memories and tables print: words, and the number after them, if
+-- there is one.
 use Rattle.std.specs.Prelude.{ℕ, List, ◌++◌, Option, None, Some, codes}
 use Rattle.std.specs.Fmt.{decimal}
 use Rattle.wasmi_meter.specs.declared.error.LimiterError.{LimiterError}
@@ -10,7 +11,7 @@ use Rattle.wasmi_meter.specs.declared.error.TableError.TheVariants as table
 use Rattle.wasmi_meter.specs.declared.fuel.FuelError.{FuelError}
 use Rattle.wasmi_meter.specs.declared.fuel.FuelError.TheVariants as fuel
 
--- words, and the number after them, if there is one
+-- the text of an error: its words, and the number after them, if there is one
 abbrev pub numbered : List ℕ → Option ℕ → List ℕ
 numbered words None = words
 numbered words (Some number) = words ++ decimal number

@@ -27,12 +27,20 @@ const CHUNK: usize = 4096;
 const LONGEST: usize = 256;
 
 /// A script and the outcome of its run.
-#[derive(Drop)]
 pub struct Replayed {
     /// What was run.
     pub script: Script,
     /// The outcome.
     pub ran: Ran,
+}
+
+// A drop is one call, as that of `Machine`.
+impl Drop for Replayed {
+    fn drop(self) {
+        let Replayed { script, ran } = self;
+        drop(script);
+        drop(ran);
+    }
 }
 
 /// Prints the outcome to its last byte, and flushes the writer.

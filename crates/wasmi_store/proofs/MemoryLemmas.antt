@@ -1,6 +1,6 @@
 -- The making and the growth of a memory, by what was tested on the way; and sizes in bytes and in pages after a growth
 -- or a write.
-use Rattle.std.proofs.Common.{◌≡◌, ℕ, ◌+◌, ◌-◌, ◌*◌, ◌/◌, ◌%◌, ◌^◌, Bool, true, false, Option, Some, None, List, ◌++◌, length, replicate, Ok, Err, refl, sym, arith}
+use Rattle.std.proofs.Common.{◌≡◌, ℕ, ◌<◌, ◌+◌, ◌-◌, ◌*◌, ◌/◌, ◌%◌, ◌^◌, Bool, true, false, Option, Some, None, List, ◌++◌, length, replicate, Ok, Err, refl, sym, arith}
 use Rattle.wasmi_store.proofs.Common.{cond-true, cond-false, if◌then◌else◌, nat_lt, refill, length_refill, length-replicate, MemoryError, Question, Answer, Rules, Meter, due, copy_cost, Permits, BufferValue, zeros_in, fits_room, MemoryTypeValue, page_bytes, minimum_bytes, maximum_bytes, in_bounds, MemoryValue, pages_of, new_memory, size_question, MakesMemory, PermitsMinimum, IsPermitted, ReachesCharge, IsAsked, Growth}
 use Rattle.std.proofs.lemmas.List.{length-append}
 use Rattle.std.proofs.lemmas.Option.{cond_some}
@@ -29,6 +29,11 @@ pages_added : (page : PageSize) (size n : ℕ) → size % page_bytes page ≡ 0
     × ((size + n * page_bytes page) / page_bytes page ≡ size / page_bytes page + n)
 pages_added Byte size n whole = (omega arith, omega arith)
 pages_added Wasm size n whole = (omega arith, omega arith)
+
+-- with a page or more there are more bytes
+pub more_with_pages : {size n : ℕ} (page : PageSize) → (n ≡ 0 → ⊥) → size < size + n * page_bytes page
+more_with_pages Byte some = omega (arith, some)
+more_with_pages Wasm some = omega (arith, some)
 
 -- bytes that grow by pages within the bounds of their type stay sized
 pub sized_grown : (ty : MemoryTypeValue) (xs : List ℕ) (pages : ℕ) → IsSized ty (length xs)

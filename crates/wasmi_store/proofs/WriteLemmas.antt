@@ -1,12 +1,13 @@
 -- Writes over a range: one of a list of items as one of the memory or table that has them, one without a meter, and how
 -- a write ends: refused or paid for, in one way.
-use Rattle.std.proofs.Common.{subst, ◌≡◌, ℕ, ◌⊎◌, inl, inr, Bool, true, false, Option, Some, None, Ok, Err, List, length, drop, refl, sym, ap, ◌∙◌, Vec, Global}
+use Rattle.std.proofs.Common.{subst, ◌≡◌, ℕ, ◌≤◌, ◌⊎◌, inl, inr, Bool, true, false, Option, Some, None, Ok, Err, List, length, drop, refl, sym, ap, ◌∙◌, Vec, Global}
 use Rattle.wasmi_store.proofs.Common.{MatchBool, refill, take_at, MemoryError, TableError, CustomFuelCosts, OutOfFuel, MeteredValue, covers, optional_due, Meter, meter_after, meter_after_nothing, metered, WithCharge, MeteredWrite, EndsBy, IsRefusedFor, Writes, WritesCharging, write_charge, write_due, items_write, WritesItems, BulkWrites, item_price, MemoryValue, bytes_write, elements_write, element_price, with_elements, TableValue, TableTypeValue, TableWrite, with_items_is}
 use Rattle.std.specs.Prelude.{Result}
 use Rattle.std.specs.Option.{option_map}
 use Rattle.wasmi_store.proofs.GrowthLemmas.{on_both_tests, on_test_too}
 use Rattle.wasmi_meter.specs.declared.error.MemoryError.TheVariants as memory
-use Rattle.std.specs.Vec.{with_items}
+use Rattle.std.specs.Vec.{with_items, vec_capacity}
+use Rattle.wasmi_store.specs.Table.{IsSized}
 
 module _ {A V E : Type 0} (put : List A → V) (outside : E) (price : Option (CustomFuelCosts → ℕ)) (unpaid : ℕ → E)
     (xs : List A) (m : Option Meter) (result : Result (Unit {0}) E) (xs' : List A) (m' : Option Meter) where
@@ -56,6 +57,13 @@ module _ (ty : TableTypeValue) (reserved : ℕ) where
       (metered (table_with (with_items v ws).items) m')
   table_writes v {write} ws same long writes =
       rw (with_items_is v ws (long ∙ ap length same ∙ sym v.ok.0), ← same) (charging write writes)
+
+-- a table whose elements are written over, by as many, stays sized, with as much reserved
+pub table_kept : {ty : TableTypeValue} {reserved : ℕ} (v : Vec ℕ Global) {lent : List ℕ} (ws : List ℕ) → lent ≡ v.items
+    → length ws ≡ length lent → IsSized ty (length v.items) × (reserved ≤ vec_capacity v)
+    → IsSized ty (length (with_items v ws).items) × (reserved ≤ vec_capacity (with_items v ws))
+table_kept v ws same long kept =
+    let as_many = long ∙ ap length same in rw (with_items_is v ws (as_many ∙ sym v.ok.0), as_many) kept
 
 -- a write over bytes that a memory lends, of as many bytes, leaves the written ones
 pub refilled_by : (xs lent ws : List ℕ) → lent ≡ xs → length ws ≡ length lent → refill (length xs) xs ws ≡ ws

@@ -27,7 +27,7 @@ impl IndexType {
         }
     }
 
-    /// Whether addresses have 64 bits.
+    /// Whether it is the type of 64 bits.
     pub fn is_64(&self) -> bool
         ensures { IsTrue result ↔ (self.now ≡ IndexType.I64) }
     {

@@ -2639,7 +2639,7 @@ abbrev pub <b id="copy_cost">copy_cost</b> : CustomFuelCosts → ℕ → ℕ →
 </code></pre>
 "####]
     pub mod MeterSpecs {}
-    #[doc = r####"What the errors of fuel meters, limiters, linear memories and tables print.
+    #[doc = r####"What the errors of fuel meters, limiters, linear memories and tables print: words, and the number after them, if there is one.
 
 <pre><code>use Rattle.std.specs.Prelude.{ℕ, List, ◌++◌, Option, None, Some, codes}
 use Rattle.std.specs.Fmt.{decimal}
@@ -2652,7 +2652,7 @@ use Rattle.wasmi_meter.specs.declared.error.TableError.TheVariants as table
 use Rattle.wasmi_meter.specs.declared.fuel.FuelError.{FuelError}
 use Rattle.wasmi_meter.specs.declared.fuel.FuelError.TheVariants as fuel
 
--- words, and the number after them, if there is one
+-- the text of an error: its words, and the number after them, if there is one
 abbrev pub <b id="numbered">numbered</b> : List ℕ → Option ℕ → List ℕ
 <a href="../../meter/TextsSpecs/index.html#numbered">numbered</a> words None = words
 <a href="../../meter/TextsSpecs/index.html#numbered">numbered</a> words (Some number) = words ++ decimal number

@@ -840,8 +840,8 @@ mod memory {
         }
     }
     mod ty {
-        //! The types of linear memories: page sizes, limits in pages and in bytes, subtypes, and the
-        //! builder of a type.
+        //! The types of linear memories: whether addresses have 64 bits, page sizes, limits in pages and in
+        //! bytes, subtypes, and the builder of a type.
 
         use crate::proved::meter::MemoryError;
         use crate::proved::types::IndexType;
@@ -2419,7 +2419,8 @@ mod table {
         }
     }
     mod ty {
-        //! The types of tables: the type of the elements, limits in elements, and subtypes.
+        //! The types of tables: whether indices have 64 bits, the type of the elements, limits in elements,
+        //! and subtypes.
 
         use crate::proved::meter::TableError;
         use crate::proved::store::memory::is_no_looser;

@@ -643,7 +643,7 @@ mod index_ty {
             }
         }
 
-        /// Whether addresses have 64 bits.
+        /// Whether it is the type of 64 bits.
         ///
         /// # Contract
         ///

@@ -1,12 +1,11 @@
 //! The instructions of two operands.
-ghost use Rattle.std.specs.Prelude.{◌≡◌, length};
-ghost use Rattle.wasmi_c.specs.declared.instruction.binary.Binary.TheVariants.{Scalar, Vector, Shift};
+ghost use Rattle.std.specs.Prelude.{◌≡◌, ◌<◌, ◌+◌, ◌*◌, length};
 ghost use Rattle.wasmi_c.specs.Instruction.{Leaves, each_of_two, binary_numbered, binary_outcome, binary_result, binary_results, binary_value};
 
 use crate::instruction::list::numbered;
-use crate::instruction::numbers::{BINARY_INSTRUCTIONS, binary_numbers};
+use crate::instruction::numbers::BINARY_INSTRUCTIONS;
 use crate::instruction::result::{InstructionResult, Refusal, leave, op_or_return, result_of};
-use crate::instruction::rows::part_once;
+use crate::instruction::rows::by_digit;
 use crate::status::DONE;
 use wasmi_ops::{BinaryOp, ShiftOp};
 use wasmi_raw::{RawVal, ReadAs};
@@ -38,7 +37,7 @@ impl Binary {
 
     // The code of each instruction has its own loop.
     #[inline(always)]
-    #[tactic(auto, using(crate::proofs::InstructionLemmas::arrays), unfolding(crate::specs::Instruction::each_of_two, crate::specs::Instruction::binary_outcome))]
+    #[tactic(auto, unfolding(crate::specs::Instruction::each_of_two))]
     fn each(self, a: &[RawVal], b: &[RawVal], results: &mut [InstructionResult]) -> u8
         ensures { Leaves (each_of_two (binary_outcome self) a.now b.now (length results.old))
             results.old results.new result }
@@ -74,37 +73,65 @@ pub fn binary_each(number: u16, a: &[RawVal], b: &[RawVal], results: &mut [Instr
     ensures { Leaves (binary_results number a.now b.now (length results.old))
         results.old results.new result }
 {
-    op_or_return!(op, binary_numbered(number).ok_or(Refusal::Unknown));
-    // The instruction is looked at once, and not at each element.
-    match op {
-        Binary::Scalar(op) => each_scalar(op, a, b, results),
-        Binary::Vector(op) => each_vector(op, a, b, results),
-        Binary::Shift(op) => each_shift(op, a, b, results),
-    }
+    // The number is looked at once, and not at each element.
+    each_by_digits(number / 16, number % 16, a, b, results)
 }
 
-fn each_scalar(
-    op: ScalarBinaryOp,
+// A row has sixteen numbers: instructions past the last row take an arm more.
+fn each_by_digits(
+    high: u16,
+    low: u16,
     a: &[RawVal],
     b: &[RawVal],
     results: &mut [InstructionResult],
 ) -> u8
-    ensures { Leaves (each_of_two (binary_outcome (Scalar op)) a.now b.now (length results.old))
+    requires high { high < 4096 }
+    requires low { low < 16 }
+    ensures outcome { Leaves (binary_results (high * 16 + low) a.now b.now (length results.old))
         results.old results.new result }
 {
-    binary_numbers!(part_once! Scalar [op Binary each(a, b, results)])
+    match high {
+        0 => each_in_row::<0>(low, a, b, results),
+        1 => each_in_row::<1>(low, a, b, results),
+        2 => each_in_row::<2>(low, a, b, results),
+        3 => each_in_row::<3>(low, a, b, results),
+        4 => each_in_row::<4>(low, a, b, results),
+        5 => each_in_row::<5>(low, a, b, results),
+        6 => each_in_row::<6>(low, a, b, results),
+        7 => each_in_row::<7>(low, a, b, results),
+        8 => each_in_row::<8>(low, a, b, results),
+        9 => each_in_row::<9>(low, a, b, results),
+        10 => each_in_row::<10>(low, a, b, results),
+        _ => Refusal::Unknown.into(),
+    }
 }
 
-fn each_vector(op: BinaryOp, a: &[RawVal], b: &[RawVal], results: &mut [InstructionResult]) -> u8
-    ensures { Leaves (each_of_two (binary_outcome (Vector op)) a.now b.now (length results.old))
+fn each_in_row<const HIGH: u16>(
+    low: u16,
+    a: &[RawVal],
+    b: &[RawVal],
+    results: &mut [InstructionResult],
+) -> u8
+    requires high { HIGH < 4096 }
+    requires low { low < 16 }
+    ensures outcome { Leaves (binary_results (HIGH * 16 + low) a.now b.now (length results.old))
         results.old results.new result }
 {
-    binary_numbers!(part_once! Vector [op Binary each(a, b, results)])
+    by_digit!(low, each_at[HIGH](a, b, results))
 }
 
-fn each_shift(op: ShiftOp, a: &[RawVal], b: &[RawVal], results: &mut [InstructionResult]) -> u8
-    ensures { Leaves (each_of_two (binary_outcome (Shift op)) a.now b.now (length results.old))
+// The code of each number has its own loop.
+#[inline(always)]
+fn each_at<const HIGH: u16, const LOW: u16>(
+    a: &[RawVal],
+    b: &[RawVal],
+    results: &mut [InstructionResult],
+) -> u8
+    requires high { HIGH < 4096 }
+    requires low { LOW < 16 }
+    ensures outcome { Leaves (binary_results (HIGH * 16 + LOW) a.now b.now (length results.old))
         results.old results.new result }
 {
-    binary_numbers!(part_once! Shift [op Binary each(a, b, results)])
+    op_or_return!(op, binary_numbered(HIGH * 16 + LOW).ok_or(Refusal::Unknown));
+    op.each(a, b, results)
 }

@@ -1,4 +1,5 @@
-//! What is made of the rows of `numbers`: the parts of a shape in the order of its numbers.
+//! What is made of the rows of `numbers`: the parts of a shape in the order of its numbers; and a
+//! call by a digit of a number.
 
 /// The instructions in the order of their numbers.
 macro_rules! numbered {
@@ -23,24 +24,9 @@ macro_rules! gathered {
             [Scalar $call [$kind] $($found)* $($row)*] $($rest)*
         }
     };
-    ([Make $call:tt $old:tt $($found:tt)*] Make $kind:ident { $($row:tt)* } $($rest:tt)*) => {
-        $crate::instruction::rows::gathered! {
-            [Make $call [$kind] $($found)* $($row)*] $($rest)*
-        }
-    };
     ([Vector $call:tt $old:tt $($found:tt)*] Vector $kind:ident { $($row:tt)* } $($rest:tt)*) => {
         $crate::instruction::rows::gathered! {
             [Vector $call [$kind] $($found)* $($row)*] $($rest)*
-        }
-    };
-    ([Test $call:tt $old:tt $($found:tt)*] Test $kind:ident { $($row:tt)* } $($rest:tt)*) => {
-        $crate::instruction::rows::gathered! {
-            [Test $call [$kind] $($found)* $($row)*] $($rest)*
-        }
-    };
-    ([Shift $call:tt $old:tt $($found:tt)*] Shift $kind:ident { $($row:tt)* } $($rest:tt)*) => {
-        $crate::instruction::rows::gathered! {
-            [Shift $call [$kind] $($found)* $($row)*] $($rest)*
         }
     };
     ([$part:ident $call:tt $old:tt $($found:tt)*] $other:ident $kind:ident $rows:tt $($rest:tt)*) => {
@@ -63,6 +49,33 @@ macro_rules! op_once {
     };
 }
 
+/// A call for each digit in base 16, which is a constant of the function that is called. The code
+/// of a number is found by two digits: one match over all numbers would be proved at several times
+/// the cost.
+macro_rules! by_digit {
+    ($digit:ident, $call:ident [$high:ident] $operands:tt) => {
+        match $digit {
+            0 => $call::<$high, 0> $operands,
+            1 => $call::<$high, 1> $operands,
+            2 => $call::<$high, 2> $operands,
+            3 => $call::<$high, 3> $operands,
+            4 => $call::<$high, 4> $operands,
+            5 => $call::<$high, 5> $operands,
+            6 => $call::<$high, 6> $operands,
+            7 => $call::<$high, 7> $operands,
+            8 => $call::<$high, 8> $operands,
+            9 => $call::<$high, 9> $operands,
+            10 => $call::<$high, 10> $operands,
+            11 => $call::<$high, 11> $operands,
+            12 => $call::<$high, 12> $operands,
+            13 => $call::<$high, 13> $operands,
+            14 => $call::<$high, 14> $operands,
+            _ => $call::<$high, 15> $operands,
+        }
+    };
+}
+
+pub(crate) use by_digit;
 pub(crate) use gathered;
 pub(crate) use numbered;
 pub(crate) use op_once;

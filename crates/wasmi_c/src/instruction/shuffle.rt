@@ -8,7 +8,6 @@ use wasmi_lanewise::simd;
 use wasmi_raw::RawVal;
 
 /// The lanes of these indices, if there are such lanes.
-#[tactic(auto, using(crate::proofs::InstructionLemmas::lanes_there))]
 pub fn lanes_of(indices: [u8; 16]) -> Option<[ImmLaneIdx32; 16]>
     ensures { result ≡ lanes_of indices }
 {

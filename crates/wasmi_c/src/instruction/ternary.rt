@@ -46,7 +46,7 @@ pub fn ternary_each(
     each(op, a, b, c, values)
 }
 
-#[tactic(auto, using(crate::proofs::InstructionLemmas::arrays), unfolding(crate::specs::Instruction::each_of_three))]
+#[tactic(auto, unfolding(crate::specs::Instruction::each_of_three))]
 fn each(op: TernaryOp, a: &[RawVal], b: &[RawVal], c: &[RawVal], values: &mut [RawVal]) -> u8
     ensures { Leaves (each_of_three (ternary_value op) a.now b.now c.now (length values.old))
         values.old values.new result }

@@ -1,12 +1,11 @@
 //! The instructions of one operand.
-ghost use Rattle.std.specs.Prelude.{◌≡◌, length};
-ghost use Rattle.wasmi_c.specs.declared.instruction.unary.Unary.TheVariants.{Scalar, Make, Vector, Test};
+ghost use Rattle.std.specs.Prelude.{◌≡◌, ◌<◌, ◌+◌, ◌*◌, length};
 ghost use Rattle.wasmi_c.specs.Instruction.{Leaves, each_of, unary_numbered, unary_result, unary_results, unary_value};
 
 use crate::instruction::list::numbered;
-use crate::instruction::numbers::{UNARY_INSTRUCTIONS, unary_numbers};
+use crate::instruction::numbers::UNARY_INSTRUCTIONS;
 use crate::instruction::result::{Refusal, leave, op_or_return};
-use crate::instruction::rows::part_once;
+use crate::instruction::rows::by_digit;
 use crate::status::DONE;
 use wasmi_ops::{MakeOp, TestOp, UnaryOp};
 use wasmi_raw::RawVal;
@@ -75,40 +74,43 @@ pub fn unary_by_number(number: u16, a: RawVal, value: &mut RawVal) -> u8
 pub fn unary_each(number: u16, a: &[RawVal], values: &mut [RawVal]) -> u8
     ensures { Leaves (unary_results number a.now (length values.old)) values.old values.new result }
 {
-    op_or_return!(op, unary_numbered(number).ok_or(Refusal::Unknown));
-    // The instruction is looked at once, and not at each element.
-    match op {
-        Unary::Scalar(op) => each_scalar(op, a, values),
-        Unary::Make(op) => each_make(op, a, values),
-        Unary::Vector(op) => each_vector(op, a, values),
-        Unary::Test(op) => each_test(op, a, values),
+    // The number is looked at once, and not at each element.
+    each_by_digits(number / 16, number % 16, a, values)
+}
+
+// A row has sixteen numbers: instructions past the last row take an arm more.
+fn each_by_digits(high: u16, low: u16, a: &[RawVal], values: &mut [RawVal]) -> u8
+    requires high { high < 4096 }
+    requires low { low < 16 }
+    ensures outcome { Leaves (unary_results (high * 16 + low) a.now (length values.old))
+        values.old values.new result }
+{
+    match high {
+        0 => each_in_row::<0>(low, a, values),
+        1 => each_in_row::<1>(low, a, values),
+        2 => each_in_row::<2>(low, a, values),
+        3 => each_in_row::<3>(low, a, values),
+        _ => Refusal::Unknown.into(),
     }
 }
 
-fn each_scalar(op: ScalarUnaryOp, a: &[RawVal], values: &mut [RawVal]) -> u8
-    ensures { Leaves (each_of (unary_value (Scalar op)) a.now (length values.old))
+fn each_in_row<const HIGH: u16>(low: u16, a: &[RawVal], values: &mut [RawVal]) -> u8
+    requires high { HIGH < 4096 }
+    requires low { low < 16 }
+    ensures outcome { Leaves (unary_results (HIGH * 16 + low) a.now (length values.old))
         values.old values.new result }
 {
-    unary_numbers!(part_once! Scalar [op Unary each(a, values)])
+    by_digit!(low, each_at[HIGH](a, values))
 }
 
-fn each_make(op: MakeOp, a: &[RawVal], values: &mut [RawVal]) -> u8
-    ensures { Leaves (each_of (unary_value (Make op)) a.now (length values.old))
+// The code of each number has its own loop.
+#[inline(always)]
+fn each_at<const HIGH: u16, const LOW: u16>(a: &[RawVal], values: &mut [RawVal]) -> u8
+    requires high { HIGH < 4096 }
+    requires low { LOW < 16 }
+    ensures outcome { Leaves (unary_results (HIGH * 16 + LOW) a.now (length values.old))
         values.old values.new result }
 {
-    unary_numbers!(part_once! Make [op Unary each(a, values)])
-}
-
-fn each_vector(op: UnaryOp, a: &[RawVal], values: &mut [RawVal]) -> u8
-    ensures { Leaves (each_of (unary_value (Vector op)) a.now (length values.old))
-        values.old values.new result }
-{
-    unary_numbers!(part_once! Vector [op Unary each(a, values)])
-}
-
-fn each_test(op: TestOp, a: &[RawVal], values: &mut [RawVal]) -> u8
-    ensures { Leaves (each_of (unary_value (Test op)) a.now (length values.old))
-        values.old values.new result }
-{
-    unary_numbers!(part_once! Test [op Unary each(a, values)])
+    op_or_return!(op, unary_numbered(HIGH * 16 + LOW).ok_or(Refusal::Unknown));
+    op.each(a, values)
 }

@@ -44,7 +44,7 @@ pub struct Handle {
 }
 
 impl Handle {
-    /// Whether there is a machine.
+    /// Whether the handle has a machine.
     pub fn is_made(&self) -> bool
         ensures { result ≡ is_some self.now.machine.held }
     {

@@ -1,4 +1,5 @@
-//! A machine on the heap, or none, as C holds it.
+//! Where the machine of a handle lies on the heap: a box that C sees, put together, taken apart and
+//! lent.
 ghost use Rattle.std.specs.Coded.{coded_option};
 ghost use Rattle.std.specs.Prelude.{◌≡◌, Option, IsSome};
 ghost use Rattle.wasmi_c.specs.HeldBox.{box_or_none_owns, global_token, machine_row};

@@ -1,4 +1,5 @@
-//! A pool on the heap, or none, as C holds it.
+//! Where the pool of a handle lies on the heap: a box that C sees, put together, taken apart and
+//! lent.
 ghost use Rattle.std.specs.Coded.{coded_option};
 ghost use Rattle.std.specs.Prelude.{◌≡◌, Option, IsSome};
 ghost use Rattle.wasmi_budget.specs.Pool.{PoolValue};

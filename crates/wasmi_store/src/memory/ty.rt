@@ -1,5 +1,5 @@
-//! The types of linear memories: page sizes, limits in pages and in bytes, subtypes, and the
-//! builder of a type.
+//! The types of linear memories: whether addresses have 64 bits, page sizes, limits in pages and in
+//! bytes, subtypes, and the builder of a type.
 ghost use Rattle.std.specs.Prelude.{◌≡◌, ◌+◌, ◌-◌, ◌*◌, ◌/◌, ◌%◌, ◌^◌, ◌↔◌, Option, Some, None, IsTrue, true, false, MatchOption, MatchResult, IsSomeAnd, nat_lt, if◌then◌else◌, min};
 ghost use Rattle.wasmi_types.specs.Value.{address_bits};
 ghost use Rattle.wasmi_store.specs.Memory.{IsNoLooser, page_bytes, page_log2, page_of_log2, minimum_bytes, maximum_bytes, in_bounds, IsSubtype, IsValid, default_settings, named_type};

@@ -1,4 +1,5 @@
-//! The types of tables: the type of the elements, limits in elements, and subtypes.
+//! The types of tables: whether indices have 64 bits, the type of the elements, limits in elements,
+//! and subtypes.
 ghost use Rattle.std.specs.Prelude.{◌≡◌, ◌≤◌, ◌+◌, ◌-◌, ◌^◌, ◌↔◌, IfSome, IsTrue, true, false, MatchOption, MatchResult};
 ghost use Rattle.wasmi_types.specs.Value.{address_bits};
 ghost use Rattle.wasmi_store.specs.Table.{IsSubtype, IsValid, is_indexable, is_within_maximum, same_type};

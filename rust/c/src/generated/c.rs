@@ -196,11 +196,11 @@ pub mod instruction {
         //! The instructions of two operands.
 
         use crate::generated::c::instruction::list::numbered;
-        use crate::generated::c::instruction::numbers::{BINARY_INSTRUCTIONS, binary_numbers};
+        use crate::generated::c::instruction::numbers::BINARY_INSTRUCTIONS;
         use crate::generated::c::instruction::result::{
             InstructionResult, Refusal, leave, op_or_return, result_of,
         };
-        use crate::generated::c::instruction::rows::part_once;
+        use crate::generated::c::instruction::rows::by_digit;
         use crate::generated::c::status::DONE;
         use crate::proved::ops::{BinaryOp, ShiftOp};
         use crate::proved::raw::{RawVal, ReadAs};
@@ -293,61 +293,78 @@ pub mod instruction {
             b: &[RawVal],
             results: &mut [InstructionResult],
         ) -> u8 {
-            op_or_return!(op, binary_numbered(number).ok_or(Refusal::Unknown));
-            // The instruction is looked at once, and not at each element.
-            match op {
-                Binary::Scalar(op) => each_scalar(op, a, b, results),
-                Binary::Vector(op) => each_vector(op, a, b, results),
-                Binary::Shift(op) => each_shift(op, a, b, results),
+            // The number is looked at once, and not at each element.
+            each_by_digits(number / 16, number % 16, a, b, results)
+        }
+
+        // A row has sixteen numbers: instructions past the last row take an arm more.
+        /// # Contract
+        ///
+        /// ```text
+        /// requires high: high < 4096
+        /// requires low: low < 16
+        /// ensures outcome: Leaves (binary_results (high * 16 + low) a.now b.now (length results.old))
+        ///     results.old results.new result
+        /// ```
+        #[inline]
+        fn each_by_digits(
+            high: u16,
+            low: u16,
+            a: &[RawVal],
+            b: &[RawVal],
+            results: &mut [InstructionResult],
+        ) -> u8 {
+            match high {
+                0 => each_in_row::<0>(low, a, b, results),
+                1 => each_in_row::<1>(low, a, b, results),
+                2 => each_in_row::<2>(low, a, b, results),
+                3 => each_in_row::<3>(low, a, b, results),
+                4 => each_in_row::<4>(low, a, b, results),
+                5 => each_in_row::<5>(low, a, b, results),
+                6 => each_in_row::<6>(low, a, b, results),
+                7 => each_in_row::<7>(low, a, b, results),
+                8 => each_in_row::<8>(low, a, b, results),
+                9 => each_in_row::<9>(low, a, b, results),
+                10 => each_in_row::<10>(low, a, b, results),
+                _ => Refusal::Unknown.into(),
             }
         }
 
         /// # Contract
         ///
         /// ```text
-        /// ensures: Leaves (each_of_two (binary_outcome (Scalar op)) a.now b.now (length results.old))
+        /// requires high: HIGH < 4096
+        /// requires low: low < 16
+        /// ensures outcome: Leaves (binary_results (HIGH * 16 + low) a.now b.now (length results.old))
         ///     results.old results.new result
         /// ```
         #[inline]
-        fn each_scalar(
-            op: ScalarBinaryOp,
+        fn each_in_row<const HIGH: u16>(
+            low: u16,
             a: &[RawVal],
             b: &[RawVal],
             results: &mut [InstructionResult],
         ) -> u8 {
-            binary_numbers!(part_once! Scalar [op Binary each(a, b, results)])
+            by_digit!(low, each_at[HIGH](a, b, results))
         }
 
+        // The code of each number has its own loop.
         /// # Contract
         ///
         /// ```text
-        /// ensures: Leaves (each_of_two (binary_outcome (Vector op)) a.now b.now (length results.old))
+        /// requires high: HIGH < 4096
+        /// requires low: LOW < 16
+        /// ensures outcome: Leaves (binary_results (HIGH * 16 + LOW) a.now b.now (length results.old))
         ///     results.old results.new result
         /// ```
-        #[inline]
-        fn each_vector(
-            op: BinaryOp,
+        #[inline(always)]
+        fn each_at<const HIGH: u16, const LOW: u16>(
             a: &[RawVal],
             b: &[RawVal],
             results: &mut [InstructionResult],
         ) -> u8 {
-            binary_numbers!(part_once! Vector [op Binary each(a, b, results)])
-        }
-
-        /// # Contract
-        ///
-        /// ```text
-        /// ensures: Leaves (each_of_two (binary_outcome (Shift op)) a.now b.now (length results.old))
-        ///     results.old results.new result
-        /// ```
-        #[inline]
-        fn each_shift(
-            op: ShiftOp,
-            a: &[RawVal],
-            b: &[RawVal],
-            results: &mut [InstructionResult],
-        ) -> u8 {
-            binary_numbers!(part_once! Shift [op Binary each(a, b, results)])
+            op_or_return!(op, binary_numbered(HIGH * 16 + LOW).ok_or(Refusal::Unknown));
+            op.each(a, b, results)
         }
     }
     pub mod lanes {
@@ -760,76 +777,66 @@ pub mod instruction {
         };
         use crate::proved::scalar_ops::{ScalarBinaryOp, ScalarUnaryOp};
 
-        /// The rows of `UNARY_INSTRUCTIONS`.
-        macro_rules! unary_numbers {
-    ($make:ident! $($with:tt)*) => { $make! { [$($with)*]
-        Scalar ScalarUnaryOp {
-            I32Clz, I32Ctz, I32Popcnt, I32Eqz, I64Clz, I64Ctz, I64Popcnt, I64Eqz, I32WrapI64,
-            I64ExtendI32S, I64ExtendI32U, I32Extend8S, I32Extend16S, I64Extend8S, I64Extend16S,
-            I64Extend32S,
-        }
-        Make MakeOp {
-            I8x16Splat, I16x8Splat, I32x4Splat, I64x2Splat, V128Widen8x8S, V128Widen8x8U,
-            V128Widen16x4S, V128Widen16x4U, V128Widen32x2S, V128Widen32x2U, V128Low32Zero,
-            V128Low64Zero,
-        }
-        Vector UnaryOp {
-            V128Not, I8x16Neg, I16x8Neg, I32x4Neg, I64x2Neg, I8x16Abs, I16x8Abs, I32x4Abs,
-            I64x2Abs, I8x16Popcnt, I16x8ExtendLowI8x16S, I16x8ExtendLowI8x16U,
-            I16x8ExtendHighI8x16S, I16x8ExtendHighI8x16U, I32x4ExtendLowI16x8S,
-            I32x4ExtendLowI16x8U, I32x4ExtendHighI16x8S, I32x4ExtendHighI16x8U,
-            I64x2ExtendLowI32x4S, I64x2ExtendLowI32x4U, I64x2ExtendHighI32x4S,
-            I64x2ExtendHighI32x4U, I16x8ExtaddPairwiseI8x16S, I16x8ExtaddPairwiseI8x16U,
-            I32x4ExtaddPairwiseI16x8S, I32x4ExtaddPairwiseI16x8U,
-        }
-        Test TestOp {
-            I8x16AllTrue, I16x8AllTrue, I32x4AllTrue, I64x2AllTrue, V128AnyTrue, I8x16Bitmask,
-            I16x8Bitmask, I32x4Bitmask, I64x2Bitmask,
-        }
-    } };
-}
-
         /// The instructions that `Unary` has, by number.
-        pub const UNARY_INSTRUCTIONS: [Unary; 63] = unary_numbers!(numbered! Unary);
-
-        /// The rows of `BINARY_INSTRUCTIONS`.
-        macro_rules! binary_numbers {
-    ($make:ident! $($with:tt)*) => { $make! { [$($with)*]
-        Scalar ScalarBinaryOp {
-            I32Add, I32Sub, I32Mul, I32Bitand, I32Bitor, I32Bitxor, I32Shl, I32ShrS, I32ShrU,
-            I32Rotl, I32Rotr, I32DivS, I32DivU, I32RemS, I32RemU, I32Eq, I32Ne, I32LtS, I32LtU,
-            I32LeS, I32LeU, I32GtS, I32GtU, I32GeS, I32GeU, I64Add, I64Sub, I64Mul, I64Bitand,
-            I64Bitor, I64Bitxor, I64Shl, I64ShrS, I64ShrU, I64Rotl, I64Rotr, I64DivS, I64DivU,
-            I64RemS, I64RemU, I64Eq, I64Ne, I64LtS, I64LtU, I64LeS, I64LeU, I64GtS, I64GtU, I64GeS,
-            I64GeU, I64Add128, I64Sub128, I64MulWideS, I64MulWideU,
-        }
-        Vector BinaryOp {
-            I8x16Add, I16x8Add, I32x4Add, I64x2Add, I8x16Sub, I16x8Sub, I32x4Sub, I64x2Sub,
-            I8x16Mul, I16x8Mul, I32x4Mul, I64x2Mul, I8x16AddSatS, I8x16AddSatU, I16x8AddSatS,
-            I16x8AddSatU, I8x16SubSatS, I8x16SubSatU, I16x8SubSatS, I16x8SubSatU, I16x8Q15mulrSatS,
-            I8x16MinS, I8x16MinU, I16x8MinS, I16x8MinU, I32x4MinS, I32x4MinU, I8x16MaxS, I8x16MaxU,
-            I16x8MaxS, I16x8MaxU, I32x4MaxS, I32x4MaxU, I8x16AvgrU, I16x8AvgrU, V128And, V128Or,
-            V128Xor, V128Andnot, I8x16Eq, I16x8Eq, I32x4Eq, I64x2Eq, I8x16Ne, I16x8Ne, I32x4Ne,
-            I64x2Ne, I8x16LtS, I16x8LtS, I32x4LtS, I64x2LtS, I8x16LtU, I16x8LtU, I32x4LtU,
-            I8x16LeS, I16x8LeS, I32x4LeS, I64x2LeS, I8x16LeU, I16x8LeU, I32x4LeU, I8x16GtS,
-            I16x8GtS, I32x4GtS, I64x2GtS, I8x16GtU, I16x8GtU, I32x4GtU, I8x16GeS, I16x8GeS,
-            I32x4GeS, I64x2GeS, I8x16GeU, I16x8GeU, I32x4GeU, I8x16Swizzle, I16x8ExtmulLowI8x16S,
-            I16x8ExtmulLowI8x16U, I16x8ExtmulHighI8x16S, I16x8ExtmulHighI8x16U,
-            I32x4ExtmulLowI16x8S, I32x4ExtmulLowI16x8U, I32x4ExtmulHighI16x8S,
-            I32x4ExtmulHighI16x8U, I64x2ExtmulLowI32x4S, I64x2ExtmulLowI32x4U,
-            I64x2ExtmulHighI32x4S, I64x2ExtmulHighI32x4U, I8x16NarrowI16x8S, I8x16NarrowI16x8U,
-            I16x8NarrowI32x4S, I16x8NarrowI32x4U, I32x4DotI16x8S, I16x8RelaxedDotI8x16I7x16S,
-            I8x16RelaxedSwizzle, I16x8RelaxedQ15mulrS,
-        }
-        Shift ShiftOp {
-            I8x16Shl, I8x16ShrS, I8x16ShrU, I16x8Shl, I16x8ShrS, I16x8ShrU, I32x4Shl, I32x4ShrS,
-            I32x4ShrU, I64x2Shl, I64x2ShrS, I64x2ShrU,
-        }
-    } };
-}
+        pub const UNARY_INSTRUCTIONS: [Unary; 63] = numbered! {
+            [Unary]
+            Scalar ScalarUnaryOp {
+                I32Clz, I32Ctz, I32Popcnt, I32Eqz, I64Clz, I64Ctz, I64Popcnt, I64Eqz, I32WrapI64,
+                I64ExtendI32S, I64ExtendI32U, I32Extend8S, I32Extend16S, I64Extend8S, I64Extend16S,
+                I64Extend32S,
+            }
+            Make MakeOp {
+                I8x16Splat, I16x8Splat, I32x4Splat, I64x2Splat, V128Widen8x8S, V128Widen8x8U,
+                V128Widen16x4S, V128Widen16x4U, V128Widen32x2S, V128Widen32x2U, V128Low32Zero,
+                V128Low64Zero,
+            }
+            Vector UnaryOp {
+                V128Not, I8x16Neg, I16x8Neg, I32x4Neg, I64x2Neg, I8x16Abs, I16x8Abs, I32x4Abs, I64x2Abs,
+                I8x16Popcnt, I16x8ExtendLowI8x16S, I16x8ExtendLowI8x16U, I16x8ExtendHighI8x16S,
+                I16x8ExtendHighI8x16U, I32x4ExtendLowI16x8S, I32x4ExtendLowI16x8U, I32x4ExtendHighI16x8S,
+                I32x4ExtendHighI16x8U, I64x2ExtendLowI32x4S, I64x2ExtendLowI32x4U, I64x2ExtendHighI32x4S,
+                I64x2ExtendHighI32x4U, I16x8ExtaddPairwiseI8x16S, I16x8ExtaddPairwiseI8x16U,
+                I32x4ExtaddPairwiseI16x8S, I32x4ExtaddPairwiseI16x8U,
+            }
+            Test TestOp {
+                I8x16AllTrue, I16x8AllTrue, I32x4AllTrue, I64x2AllTrue, V128AnyTrue, I8x16Bitmask,
+                I16x8Bitmask, I32x4Bitmask, I64x2Bitmask,
+            }
+        };
 
         /// The instructions that `Binary` has, by number.
-        pub const BINARY_INSTRUCTIONS: [Binary; 162] = binary_numbers!(numbered! Binary);
+        pub const BINARY_INSTRUCTIONS: [Binary; 162] = numbered! {
+            [Binary]
+            Scalar ScalarBinaryOp {
+                I32Add, I32Sub, I32Mul, I32Bitand, I32Bitor, I32Bitxor, I32Shl, I32ShrS, I32ShrU, I32Rotl,
+                I32Rotr, I32DivS, I32DivU, I32RemS, I32RemU, I32Eq, I32Ne, I32LtS, I32LtU, I32LeS, I32LeU,
+                I32GtS, I32GtU, I32GeS, I32GeU, I64Add, I64Sub, I64Mul, I64Bitand, I64Bitor, I64Bitxor,
+                I64Shl, I64ShrS, I64ShrU, I64Rotl, I64Rotr, I64DivS, I64DivU, I64RemS, I64RemU, I64Eq,
+                I64Ne, I64LtS, I64LtU, I64LeS, I64LeU, I64GtS, I64GtU, I64GeS, I64GeU, I64Add128,
+                I64Sub128, I64MulWideS, I64MulWideU,
+            }
+            Vector BinaryOp {
+                I8x16Add, I16x8Add, I32x4Add, I64x2Add, I8x16Sub, I16x8Sub, I32x4Sub, I64x2Sub, I8x16Mul,
+                I16x8Mul, I32x4Mul, I64x2Mul, I8x16AddSatS, I8x16AddSatU, I16x8AddSatS, I16x8AddSatU,
+                I8x16SubSatS, I8x16SubSatU, I16x8SubSatS, I16x8SubSatU, I16x8Q15mulrSatS, I8x16MinS,
+                I8x16MinU, I16x8MinS, I16x8MinU, I32x4MinS, I32x4MinU, I8x16MaxS, I8x16MaxU, I16x8MaxS,
+                I16x8MaxU, I32x4MaxS, I32x4MaxU, I8x16AvgrU, I16x8AvgrU, V128And, V128Or, V128Xor,
+                V128Andnot, I8x16Eq, I16x8Eq, I32x4Eq, I64x2Eq, I8x16Ne, I16x8Ne, I32x4Ne, I64x2Ne,
+                I8x16LtS, I16x8LtS, I32x4LtS, I64x2LtS, I8x16LtU, I16x8LtU, I32x4LtU, I8x16LeS, I16x8LeS,
+                I32x4LeS, I64x2LeS, I8x16LeU, I16x8LeU, I32x4LeU, I8x16GtS, I16x8GtS, I32x4GtS, I64x2GtS,
+                I8x16GtU, I16x8GtU, I32x4GtU, I8x16GeS, I16x8GeS, I32x4GeS, I64x2GeS, I8x16GeU, I16x8GeU,
+                I32x4GeU, I8x16Swizzle, I16x8ExtmulLowI8x16S, I16x8ExtmulLowI8x16U, I16x8ExtmulHighI8x16S,
+                I16x8ExtmulHighI8x16U, I32x4ExtmulLowI16x8S, I32x4ExtmulLowI16x8U, I32x4ExtmulHighI16x8S,
+                I32x4ExtmulHighI16x8U, I64x2ExtmulLowI32x4S, I64x2ExtmulLowI32x4U, I64x2ExtmulHighI32x4S,
+                I64x2ExtmulHighI32x4U, I8x16NarrowI16x8S, I8x16NarrowI16x8U, I16x8NarrowI32x4S,
+                I16x8NarrowI32x4U, I32x4DotI16x8S, I16x8RelaxedDotI8x16I7x16S, I8x16RelaxedSwizzle,
+                I16x8RelaxedQ15mulrS,
+            }
+            Shift ShiftOp {
+                I8x16Shl, I8x16ShrS, I8x16ShrU, I16x8Shl, I16x8ShrS, I16x8ShrU, I32x4Shl, I32x4ShrS,
+                I32x4ShrU, I64x2Shl, I64x2ShrS, I64x2ShrU,
+            }
+        };
 
         /// The rows of `LOAD_INSTRUCTIONS`.
         macro_rules! load_numbers {
@@ -861,9 +868,7 @@ pub mod instruction {
             Store::V128Store,
         ];
 
-        pub(crate) use binary_numbers;
         pub(crate) use load_numbers;
-        pub(crate) use unary_numbers;
     }
     pub mod result {
         //! What a call of an instruction gives, as C reads it, or why it writes nothing.
@@ -1026,7 +1031,8 @@ pub mod instruction {
         }
     }
     mod rows {
-        //! What is made of the rows of `numbers`: the parts of a shape in the order of its numbers.
+        //! What is made of the rows of `numbers`: the parts of a shape in the order of its numbers; and a
+        //! call by a digit of a number.
 
         /// The instructions in the order of their numbers.
         macro_rules! numbered {
@@ -1051,24 +1057,9 @@ pub mod instruction {
             [Scalar $call [$kind] $($found)* $($row)*] $($rest)*
         }
     };
-    ([Make $call:tt $old:tt $($found:tt)*] Make $kind:ident { $($row:tt)* } $($rest:tt)*) => {
-        $crate::generated::c::instruction::rows::gathered! {
-            [Make $call [$kind] $($found)* $($row)*] $($rest)*
-        }
-    };
     ([Vector $call:tt $old:tt $($found:tt)*] Vector $kind:ident { $($row:tt)* } $($rest:tt)*) => {
         $crate::generated::c::instruction::rows::gathered! {
             [Vector $call [$kind] $($found)* $($row)*] $($rest)*
-        }
-    };
-    ([Test $call:tt $old:tt $($found:tt)*] Test $kind:ident { $($row:tt)* } $($rest:tt)*) => {
-        $crate::generated::c::instruction::rows::gathered! {
-            [Test $call [$kind] $($found)* $($row)*] $($rest)*
-        }
-    };
-    ([Shift $call:tt $old:tt $($found:tt)*] Shift $kind:ident { $($row:tt)* } $($rest:tt)*) => {
-        $crate::generated::c::instruction::rows::gathered! {
-            [Shift $call [$kind] $($found)* $($row)*] $($rest)*
         }
     };
     ([$part:ident $call:tt $old:tt $($found:tt)*] $other:ident $kind:ident $rows:tt $($rest:tt)*) => {
@@ -1091,6 +1082,33 @@ pub mod instruction {
     };
 }
 
+        /// A call for each digit in base 16, which is a constant of the function that is called. The code
+        /// of a number is found by two digits: one match over all numbers would be proved at several times
+        /// the cost.
+        macro_rules! by_digit {
+    ($digit:ident, $call:ident [$high:ident] $operands:tt) => {
+        match $digit {
+            0 => $call::<$high, 0> $operands,
+            1 => $call::<$high, 1> $operands,
+            2 => $call::<$high, 2> $operands,
+            3 => $call::<$high, 3> $operands,
+            4 => $call::<$high, 4> $operands,
+            5 => $call::<$high, 5> $operands,
+            6 => $call::<$high, 6> $operands,
+            7 => $call::<$high, 7> $operands,
+            8 => $call::<$high, 8> $operands,
+            9 => $call::<$high, 9> $operands,
+            10 => $call::<$high, 10> $operands,
+            11 => $call::<$high, 11> $operands,
+            12 => $call::<$high, 12> $operands,
+            13 => $call::<$high, 13> $operands,
+            14 => $call::<$high, 14> $operands,
+            _ => $call::<$high, 15> $operands,
+        }
+    };
+}
+
+        pub(crate) use by_digit;
         pub(crate) use gathered;
         pub(crate) use numbered;
         pub(crate) use op_once;
@@ -1311,9 +1329,9 @@ pub mod instruction {
         //! The instructions of one operand.
 
         use crate::generated::c::instruction::list::numbered;
-        use crate::generated::c::instruction::numbers::{UNARY_INSTRUCTIONS, unary_numbers};
+        use crate::generated::c::instruction::numbers::UNARY_INSTRUCTIONS;
         use crate::generated::c::instruction::result::{Refusal, leave, op_or_return};
-        use crate::generated::c::instruction::rows::part_once;
+        use crate::generated::c::instruction::rows::by_digit;
         use crate::generated::c::status::DONE;
         use crate::proved::ops::{MakeOp, TestOp, UnaryOp};
         use crate::proved::raw::RawVal;
@@ -1402,58 +1420,56 @@ pub mod instruction {
         /// ```
         #[inline]
         pub fn unary_each(number: u16, a: &[RawVal], values: &mut [RawVal]) -> u8 {
-            op_or_return!(op, unary_numbered(number).ok_or(Refusal::Unknown));
-            // The instruction is looked at once, and not at each element.
-            match op {
-                Unary::Scalar(op) => each_scalar(op, a, values),
-                Unary::Make(op) => each_make(op, a, values),
-                Unary::Vector(op) => each_vector(op, a, values),
-                Unary::Test(op) => each_test(op, a, values),
+            // The number is looked at once, and not at each element.
+            each_by_digits(number / 16, number % 16, a, values)
+        }
+
+        // A row has sixteen numbers: instructions past the last row take an arm more.
+        /// # Contract
+        ///
+        /// ```text
+        /// requires high: high < 4096
+        /// requires low: low < 16
+        /// ensures outcome: Leaves (unary_results (high * 16 + low) a.now (length values.old))
+        ///     values.old values.new result
+        /// ```
+        #[inline]
+        fn each_by_digits(high: u16, low: u16, a: &[RawVal], values: &mut [RawVal]) -> u8 {
+            match high {
+                0 => each_in_row::<0>(low, a, values),
+                1 => each_in_row::<1>(low, a, values),
+                2 => each_in_row::<2>(low, a, values),
+                3 => each_in_row::<3>(low, a, values),
+                _ => Refusal::Unknown.into(),
             }
         }
 
         /// # Contract
         ///
         /// ```text
-        /// ensures: Leaves (each_of (unary_value (Scalar op)) a.now (length values.old))
+        /// requires high: HIGH < 4096
+        /// requires low: low < 16
+        /// ensures outcome: Leaves (unary_results (HIGH * 16 + low) a.now (length values.old))
         ///     values.old values.new result
         /// ```
         #[inline]
-        fn each_scalar(op: ScalarUnaryOp, a: &[RawVal], values: &mut [RawVal]) -> u8 {
-            unary_numbers!(part_once! Scalar [op Unary each(a, values)])
+        fn each_in_row<const HIGH: u16>(low: u16, a: &[RawVal], values: &mut [RawVal]) -> u8 {
+            by_digit!(low, each_at[HIGH](a, values))
         }
 
+        // The code of each number has its own loop.
         /// # Contract
         ///
         /// ```text
-        /// ensures: Leaves (each_of (unary_value (Make op)) a.now (length values.old))
+        /// requires high: HIGH < 4096
+        /// requires low: LOW < 16
+        /// ensures outcome: Leaves (unary_results (HIGH * 16 + LOW) a.now (length values.old))
         ///     values.old values.new result
         /// ```
-        #[inline]
-        fn each_make(op: MakeOp, a: &[RawVal], values: &mut [RawVal]) -> u8 {
-            unary_numbers!(part_once! Make [op Unary each(a, values)])
-        }
-
-        /// # Contract
-        ///
-        /// ```text
-        /// ensures: Leaves (each_of (unary_value (Vector op)) a.now (length values.old))
-        ///     values.old values.new result
-        /// ```
-        #[inline]
-        fn each_vector(op: UnaryOp, a: &[RawVal], values: &mut [RawVal]) -> u8 {
-            unary_numbers!(part_once! Vector [op Unary each(a, values)])
-        }
-
-        /// # Contract
-        ///
-        /// ```text
-        /// ensures: Leaves (each_of (unary_value (Test op)) a.now (length values.old))
-        ///     values.old values.new result
-        /// ```
-        #[inline]
-        fn each_test(op: TestOp, a: &[RawVal], values: &mut [RawVal]) -> u8 {
-            unary_numbers!(part_once! Test [op Unary each(a, values)])
+        #[inline(always)]
+        fn each_at<const HIGH: u16, const LOW: u16>(a: &[RawVal], values: &mut [RawVal]) -> u8 {
+            op_or_return!(op, unary_numbered(HIGH * 16 + LOW).ok_or(Refusal::Unknown));
+            op.each(a, values)
         }
     }
 }
@@ -2014,7 +2030,7 @@ pub mod machine {
         }
 
         impl Handle {
-            /// Whether there is a machine.
+            /// Whether the handle has a machine.
             ///
             /// # Contract
             ///
@@ -4099,7 +4115,7 @@ pub mod pool {
     }
 
     impl PoolHandle {
-        /// Whether there is a pool.
+        /// Whether the handle has a pool.
         ///
         /// # Contract
         ///

@@ -1,7 +1,7 @@
 use Rattle.std.proofs.Common.{◌≡◌, Some, None, ap, inl, refl, rules, sym}
 use Rattle.wasmi_c.proofs.Common.{live_at, pages_of}
 use Rattle.std.specs.Prelude.{Ok}
-use Rattle.wasmi_machine.proofs.EffectLemmas.{put_back}
+use Rattle.wasmi_machine.proofs.SlotsLemmas.{put_back}
 use Rattle.wasmi_machine.specs.declared.calls.Reply.TheVariants.{Number}
 use Rattle.wasmi_c.proofs.pool.size_reply.Goals as goal
 

@@ -1,5 +1,6 @@
+use Rattle.std.proofs.Common.{◌≡◌, ◌∙◌, refl}
 use Rattle.wasmi_meter.specs.declared.limiter.Kind.TheVariants.{Bytes, Elements}
-use Rattle.wasmi_budget.proofs.TenantLemmas.{all_before, part_fits, part_held}
+use Rattle.wasmi_budget.proofs.TenantLemmas.{all_before, of_error, part_fits, part_held}
 use Rattle.wasmi_budget.proofs.tenant.CountedMachine.run.Goals as goal
 
 pub new-tenant-requires : goal.new-tenant-requires
@@ -14,3 +15,9 @@ leave-requires c = record {
   before = all_before c.self.view_is c.self.invariant c.requires.part c.new-tenant.ensures.value
       c.in_ok-replies.ensures.run;
 }
+
+pub returns-in_err-replies-clause-err : goal.returns-in_err-replies-clause-err
+returns-in_err-replies-clause-err c =
+    let err : (c.run_reserving.new.machine ≡ c.args.self.now) × (c.args.all.now ≡ c.args.all.now) =
+    (c.in_err-replies.ensures.err.0 ∙ c.self.view_is, refl) in
+    of_error _ err

@@ -1,7 +1,7 @@
-use Rattle.std.proofs.Common.{◌≡◌, Err, refl, rules}
-use Rattle.wasmi_budget.specs.declared.error.RunIntoError.TheVariants.{TooManyCalls}
+use Rattle.std.proofs.Common.{refl, rules}
+use Rattle.wasmi_budget.specs.declared.error.RunIntoError.TheVariants.{NoTenant, TooManyCalls}
 use Rattle.wasmi_budget.proofs.PoolLemmas.{is_part}
-use Rattle.wasmi_budget.proofs.TenantsLemmas.{its_value, no_value, ran_at, value_put_back}
+use Rattle.wasmi_budget.proofs.TenantsLemmas.{found_err, found_ok, its_value, no_value, only_error, ran_at, value_put_back}
 use Rattle.wasmi_budget.proofs.tenants.Tenants.run_into.Goals as goal
 
 pub returns-in_default-clause-no_tenant : goal.returns-in_default-clause-no_tenant
@@ -18,19 +18,22 @@ run_into-requires c = record {
 
 pub returns-in_err-run_into-clause-no_tenant : goal.returns-in_err-run_into-clause-no_tenant
 returns-in_err-run_into-clause-no_tenant c =
-    let there = its_value c.self.invariant c.self.view_is c.deref.ensures.value _ _ c.in-Some.ensures.found
-    c.index_mut-counted.ensures.value in
-    let refused : c.from_residual.result ≡ Err TooManyCalls = search rules in
-    (λ error. absurd cc, λ none. absurd (cc (none, there)))
+    found_err _ (its_value c.self.invariant c.self.view_is c.deref.ensures.value _ _ c.in-Some.ensures.found
+    c.index_mut-counted.ensures.value) NoTenant TooManyCalls _ (λ same. absurd cc)
+    (only_error _ _ c.from_residual.ensures.1)
 
 pub returns-in_err-run_into-clause-refused : goal.returns-in_err-run_into-clause-refused
-returns-in_err-run_into-clause-refused c =
-    let refused : c.from_residual.result ≡ Err TooManyCalls = search rules in
-    rw refused (
-      value_put_back c.self.invariant c.self.view_is _ _ _ c.in_err-run_into.ensures.err.0
-          c.index_mut-counted.ensures.value,
-      c.in_err-run_into.ensures.err.2,
-    )
+returns-in_err-run_into-clause-refused c = rw (only_error TooManyCalls _ c.from_residual.ensures.1) (
+  value_put_back c.self.invariant c.self.view_is _ _ _ c.in_err-run_into.ensures.err.0
+      c.index_mut-counted.ensures.value,
+  c.in_err-run_into.ensures.err.2,
+)
+
+pub returns-in_err-run_into-clause-kept : goal.returns-in_err-run_into-clause-kept
+returns-in_err-run_into-clause-kept c =
+    let put = value_put_back c.self.invariant c.self.view_is _ _ _ c.in_err-run_into.ensures.err.0
+    c.index_mut-counted.ensures.value in
+    rw (put, c.in_err-run_into.ensures.err.1) c.requires.kept
 
 pub returns : goal.returns
 returns c =
@@ -38,10 +41,10 @@ returns c =
     c.index_mut-counted.ensures.value c.requires.kept c.in_ok-run_into.ensures.run in
     record {
       ran = ran.0;
-      no_tenant = (λ error. absurd cc, λ none. absurd (cc (none, ran.0.found)));
+      no_tenant = found_ok _ ran.0.found _ _;
       too_many = λ error. absurd cc;
       accepted = search rules;
       refused = tt;
-      capacity = search rules;
+      capacity = c.run_into.ensures.capacity;
       kept = ran.1;
     }

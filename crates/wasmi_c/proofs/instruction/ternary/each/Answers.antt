@@ -1,7 +1,11 @@
 use Rattle.std.proofs.Common.{arith}
+use Rattle.std.proofs.lemmas.Grind.{common_steps}
 use Rattle.wasmi_c.proofs.Common.{ternary_value}
-use Rattle.wasmi_c.proofs.InstructionLemmas.{each_three_written}
+use Rattle.wasmi_c.proofs.InstructionLemmas.{arrays, each_three_written}
 use Rattle.wasmi_c.proofs.instruction.ternary.each.Goals as goal
+
+pub loop-i-preserved : goal.loop-i-preserved
+loop-i-preserved c = λ k x y z u below. grind (arith, common_steps, arrays, c.loop-i.invariant k x y z u)
 
 pub returns : goal.returns
 returns c =

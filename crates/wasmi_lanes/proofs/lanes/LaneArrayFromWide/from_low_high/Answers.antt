@@ -12,5 +12,14 @@ loop-i-preserved g c =
     (grind (arith, g.T.Narrower.twice)) c.loop-i.invariant
     (grind (arith, get_or_default)) (grind (arith, get_or_default))
 
+pub offset_bounds-items-i : goal.offset_bounds-items-i
+offset_bounds-items-i g c = grind (arith, common_steps, g.T.Narrower.twice)
+
 pub offset_bounds-items-i-in-loop-i : goal.offset_bounds-items-i-in-loop-i
 offset_bounds-items-i-in-loop-i g c = grind (arith, common_steps, g.T.Narrower.twice)
+
+pub returns : goal.returns
+returns g c = record {
+  low = λ i below. c.loop-i.invariant.0 i (omega (arith, c.loop-i-test.false));
+  high = λ i below. c.loop-i.invariant.1 i (omega (arith, c.loop-i-test.false));
+}

@@ -1,13 +1,13 @@
 use Rattle.std.proofs.Common.{refl}
-use Rattle.wasmi_machine.proofs.StoreLemmas.{acts, acts_unasked, asks, alters, replies}
+use Rattle.wasmi_machine.proofs.StoreLemmas.{tables_reserved, acts, acts_kept, asks_kept, alters_kept, replies}
 use Rattle.wasmi_machine.proofs.Common.{live_at, Table}
 use Rattle.wasmi_machine.proofs.RangeLemmas.{range_from}
 use Rattle.wasmi_machine.proofs.store.MachineStore.step_table.Goals as goal
 
 pub returns-in-NewTable-clause-step : goal.returns-in-NewTable-clause-step
 returns-in-NewTable-clause-step g c =
-    rw (c.in-NewTable.is, ← c.self.view_is, c.create.ensures.reserved)
-    (asks _ c.create.ensures.made c.create.ensures.room)
+    rw (c.in-NewTable.is, ← c.self.view_is)
+    (asks_kept tables_reserved _ c.create.ensures.reserved refl c.create.ensures.made c.create.ensures.room)
 
 pub returns-in-GrowTable-clause-step : goal.returns-in-GrowTable-clause-step
 returns-in-GrowTable-clause-step g c =
@@ -15,7 +15,8 @@ returns-in-GrowTable-clause-step g c =
 
 pub returns-in-DropTable-clause-step : goal.returns-in-DropTable-clause-step
 returns-in-DropTable-clause-step g c =
-    rw (c.in-DropTable.is, ← c.self.view_is, c.drop_live.ensures.reserved) (alters _ c.drop_live.ensures.dropped)
+    rw (c.in-DropTable.is, ← c.self.view_is)
+    (alters_kept tables_reserved _ c.drop_live.ensures.reserved refl c.drop_live.ensures.dropped)
 
 pub returns-in_err-live-in-GetElement-clause-step : goal.returns-in_err-live-in-GetElement-clause-step
 returns-in_err-live-in-GetElement-clause-step g c = rw (c.in-GetElement.is, ← c.self.view_is)
@@ -27,7 +28,8 @@ returns-in_ok-live-in-GetElement-clause-step g c = rw (c.in-GetElement.is, ← c
 
 pub returns-in-SetElement-clause-step : goal.returns-in-SetElement-clause-step
 returns-in-SetElement-clause-step g c =
-    rw (c.in-SetElement.is, ← c.self.view_is, c.set.ensures.reserved) (alters _ c.set.ensures.set)
+    rw (c.in-SetElement.is, ← c.self.view_is)
+    (alters_kept tables_reserved _ c.set.ensures.reserved refl c.set.ensures.set)
 
 -- no element segment of that index
 pub returns-in_err-segment-in-InitTable-clause-step : goal.returns-in_err-segment-in-InitTable-clause-step
@@ -38,7 +40,7 @@ returns-in_err-segment-in-InitTable-clause-step g c =
       ← c.get-in-InitTable.ensures,
       c.in_err-segment-in-InitTable.was,
       c.from_residual-in_err-segment-in-InitTable.ensures,
-    ) (acts_unasked _ (0, (refl, refl, refl)))
+    ) (acts_kept tables_reserved _ refl refl (0, (refl, refl, refl)))
 
 pub returns-in_ok-segment-in-InitTable-clause-step : goal.returns-in_ok-segment-in-InitTable-clause-step
 returns-in_ok-segment-in-InitTable-clause-step g c =
@@ -47,13 +49,12 @@ returns-in_ok-segment-in-InitTable-clause-step g c =
       ← c.self.view_is,
       ← c.get-in-InitTable.ensures,
       c.in_ok-segment-in-InitTable.was,
-      c.init.ensures.reserved,
-    ) (acts_unasked _ (rw c.from.ensures at c.init.ensures.copied))
+    ) (acts_kept tables_reserved _ c.init.ensures.reserved refl (rw c.from.ensures at c.init.ensures.copied))
 
 pub returns-in-CopyTable-clause-step : goal.returns-in-CopyTable-clause-step
 returns-in-CopyTable-clause-step g c =
-    rw (c.in-CopyTable.is, ← c.self.view_is, c.copy.ensures.reserved)
-    (acts_unasked _ (
+    rw (c.in-CopyTable.is, ← c.self.view_is)
+    (acts_kept tables_reserved _ c.copy.ensures.reserved refl (
       c.copy.ensures.copied.0,
       range_from Table (live_at c.self.inside.tables.slots.items c.in-CopyTable.src_table) c.in-CopyTable.dst_table _ _ _ _ _
           c.copy.ensures.copied.1,
@@ -61,4 +62,5 @@ returns-in-CopyTable-clause-step g c =
 
 pub returns-in-FillTable-clause-step : goal.returns-in-FillTable-clause-step
 returns-in-FillTable-clause-step g c =
-    rw (c.in-FillTable.is, ← c.self.view_is, c.fill.ensures.reserved) (acts_unasked _ c.fill.ensures.filled)
+    rw (c.in-FillTable.is, ← c.self.view_is)
+    (acts_kept tables_reserved _ c.fill.ensures.reserved refl c.fill.ensures.filled)

@@ -1,5 +1,5 @@
 use Rattle.std.proofs.Common.{refl}
-use Rattle.wasmi_machine.proofs.StoreLemmas.{changes_part}
+use Rattle.wasmi_machine.proofs.StoreLemmas.{memories_reserved, changes_part, changes_kept}
 use Rattle.wasmi_machine.proofs.store.MachineStore.step_vector_access.Goals as goal
 
 pub returns-in_err-memory-in-VectorLoad : goal.returns-in_err-memory-in-VectorLoad
@@ -56,7 +56,7 @@ returns-in_err-vector-in-VectorStore g c = record {
 
 pub returns-in_ok-vector-in-VectorStore : goal.returns-in_ok-vector-in-VectorStore
 returns-in_ok-vector-in-VectorStore g c = record {
-  step = λ l. rw (c.in-VectorStore.is, ← c.self.view_is, c.store.ensures.reserved) (changes_part _
+  step = λ l. rw (c.in-VectorStore.is, ← c.self.view_is) (changes_kept memories_reserved _ c.store.ensures.reserved refl
       (rw (← c.vector-in-VectorStore.ensures, c.in_ok-vector-in-VectorStore.was) c.store.ensures.stored));
 }
 
@@ -72,6 +72,7 @@ returns-in_err-vector-in-StoreLane g c = record {
 
 pub returns-in_ok-vector-in-StoreLane : goal.returns-in_ok-vector-in-StoreLane
 returns-in_ok-vector-in-StoreLane g c = record {
-  step = λ l. rw (c.in-StoreLane.is, ← c.self.view_is, c.store-in-StoreLane.ensures.reserved) (changes_part _
+  step = λ l. rw (c.in-StoreLane.is, ← c.self.view_is) (
+      changes_kept memories_reserved _ c.store-in-StoreLane.ensures.reserved refl
       (rw (← c.vector-in-StoreLane.ensures, c.in_ok-vector-in-StoreLane.was) c.store-in-StoreLane.ensures.stored));
 }

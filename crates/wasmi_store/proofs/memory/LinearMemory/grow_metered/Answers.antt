@@ -1,7 +1,7 @@
-use Rattle.std.proofs.Common.{ap, arith, refl, sym, ◌∙◌}
-use Rattle.wasmi_store.proofs.Common.{err_from_is_err_and, optional_rules, cond-false, MatchBool-at_true, memory_of, with_zeros}
+use Rattle.std.proofs.Common.{◌≡◌, ◌-◌, ◌*◌, length, ap, arith, refl, sym, ◌∙◌}
+use Rattle.wasmi_store.proofs.Common.{err_from_is_err_and, optional_rules, cond-false, MatchBool-at_true, memory_of, page_bytes, with_zeros}
 use Rattle.wasmi_store.proofs.GrowthLemmas.{growing, grows_unasked, grows_refused, grows_met}
-use Rattle.wasmi_store.proofs.MemoryLemmas.{memory_growth, growth_asked, growth_permitted}
+use Rattle.wasmi_store.proofs.MemoryLemmas.{memory_growth, growth_asked, growth_permitted, more_with_pages, sized_grown}
 use Rattle.wasmi_store.proofs.memory.LinearMemory.grow_metered.Goals as goal
 
 pub returns-in_default-clause-grown : goal.returns-in_default-clause-grown
@@ -40,3 +40,20 @@ returns-clause-grown g c =
     rw (← c.self.view_is) (grows_met permits (fits ∙ c.in_ok-decide_growth.ensures.room) c.decide_growth.new.fuel
     c.in_ok-decide_growth.ensures.paid _ (ap (memory_of c.self.inside.ty) (c.in_default-grow.ensures.ok
     ∙ ap (with_zeros _) (omega (arith, (rw c.len-old_size.ensures at c.in-Some.ensures.size).1)))) _ pages)
+
+pub decide_growth-requires : goal.decide_growth-requires
+decide_growth-requires g c =
+    let sized = c.len-old_size.ensures in
+    let found = rw sized at c.in-Some.ensures.size in
+    record { grows = rw (sized, found.1) (more_with_pages c.self.inside.ty.page c.if-additional-eq0.false) }
+
+pub grow-requires : goal.grow-requires
+grow-requires g c = record { grows = omega (arith, (rw c.len-old_size.ensures at c.in-Some.ensures.size).1) }
+
+pub invariant_of-self-2 : goal.invariant_of-self-2
+invariant_of-self-2 g c =
+    let found = rw c.len-old_size.ensures at c.in-Some.ensures.size in
+    let added : c.in-Some.size - length c.self.inside.buffer.bytes
+    ≡ c.args.additional * page_bytes c.self.inside.ty.page = omega (arith, found.1) in
+    rw (c.in_default-grow.ensures.ok, added)
+    (sized_grown c.self.inside.ty _ c.args.additional c.self.invariant found.0)
