@@ -1,7 +1,7 @@
 -- Texts that a printer prints one after the other, whole or in part, and texts that are written one after the other to
 -- the front of bytes.
 use Rattle.std.proofs.Common.{◌≡◌, ◌∙◌, ◌+◌, ◌<◌, ℕ, zero, suc, List, [], ◌∷◌, ◌++◌, length, take, drop, get_or, map, add-one, take-append-drop, drop-cons, None, Some, Result, Ok, Err, IfSome, OnOk, OnErr, refl, sym, ap, append_assoc, append-nil, ◌-◌, ◌%◌, ◌^◌, min, arith, length-append, length-take, length-drop}
-use Rattle.wasmi_script.proofs.Common.{Appends, WritesText, decimal, on_ok_weaker, on_err_weaker, flat_map_more, take_more, drop-drop, drop_at, drop_min, take_all, take_at, take_min, Appends-nil, Appends-trans, AppendsFront, AddsText, Flushes, Prints, PrintsFront, PrintsText, SendsFront, AddsToFront, FillsFront, HasFront}
+use Rattle.wasmi_script.proofs.Common.{WritesText, decimal, on_ok_weaker, on_err_weaker, flat_map_more, take_more, drop-drop, drop_at, drop_min, take_all, take_at, take_min, Appends-nil, Appends-trans, AppendsFront, AddsText, Flushes, Prints, PrintsFront, PrintsText, SendsFront, AddsToFront, FillsFront, HasFront}
 use Rattle.std.proofs.lemmas.Fmt.{contents_after_writes, decimal_digit}
 use Rattle.std.specs.List.{flat_map}
 use Rattle.std.proofs.lemmas.List.Concat.{flat_map-append}
@@ -97,29 +97,6 @@ module _ {W : Type 0} (contents : W → Option (List ℕ)) where
       prints_front p q r text [] [] text (sym (append-nil text)) prints.0
       (record { writer = sent.writer; sent = rw append-nil sent.sent })
   flushed (Err e) (Err e') p q r text prints same = rw same prints.1
-
-  -- a text is printed and flushed by a printer in which nothing waited; w is what the writer is then
-  pub out : {E : Type 0} (printed result : Result (Unit {0}) E) (p q r : Printer W) (w : W) (text : List ℕ)
-      (IsFlushed : W → Type 0) → p.chunk.bytes ≡ [] → (r.writer.ghost_name ≡ p.writer.ghost_name → w ≡ r.writer.now)
-      → PrintsText contents text p printed q → Flushes contents printed q result r
-      → OnOk result (IsFlushed r.writer.now) → record {
-        ok : OnOk result (Appends (contents p.writer.now) (contents w) text);
-        flushed : OnOk result (IsFlushed w);
-        front : OnErr result (AppendsFront (contents p.writer.now) (contents w) text);
-      }
-  out (Ok x) (Ok y) p q r w text IsFlushed empty tie prints sent flushed =
-      let is = tie (sent.writer ∙ prints.0.writer) in
-      let (front, split, first) = prints.0.passed in
-      let whole : text ≡ front ++ q.chunk.bytes = rw empty at split in
-      record {
-        ok = rw (is, whole) (Appends-trans _ _ _ front q.chunk.bytes first sent.sent);
-        flushed = rw is flushed;
-        front = tt;
-      }
-  out (Err e) (Ok y) p q r w text IsFlushed empty tie prints sent flushed = absurd sent
-  out printed (Err e) p q r w text IsFlushed empty tie prints sent done =
-      let front = flushed printed (Err e) p q r text prints sent in
-      record { ok = tt; flushed = tt; front = rw (tie front.writer) (rw empty at front.sent) }
 
   -- a text waits beside what waited
   waits : (p q : Printer W) (text : List ℕ) → q.writer ≡ p.writer → q.chunk.bytes ≡ p.chunk.bytes ++ text

@@ -1,9 +1,10 @@
 use Rattle.std.proofs.Common.{rules}
-use Rattle.wasmi_script.proofs.PrintingLemmas.{out}
+use Rattle.std.proofs.lemmas.Result.{on_err_weaker}
+use Rattle.wasmi_script.proofs.PrintingLemmas.{flushed}
 use Rattle.wasmi_script.proofs.printing.print.Goals as goal
 
-pub returns : goal.returns
-returns g c =
-    out g.W.Write.contents c.print_outcome-printed.result c.flush-flushed.result _ _ _ _ _ g.W.Output.is_flushed
-    c.new.ensures (λ same. search (rules, same)) c.print_outcome-printed.ensures c.flush-flushed.ensures.sent
-    c.flush-flushed.ensures.flushed
+pub returns-clause-front : goal.returns-clause-front
+returns-clause-front g c =
+    on_err_weaker c.flush-flushed.result (λ front. search (rules, front.sent))
+    (flushed g.W.Write.contents c.print_outcome-printed.result c.flush-flushed.result _ _ _ _
+    c.print_outcome-printed.ensures c.flush-flushed.ensures.sent)
